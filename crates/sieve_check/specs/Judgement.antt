@@ -1,0 +1,25 @@
+-- What a script's text is: a script without a fault, or the line and kind of its first one.
+use Rattle.std.specs.Prelude.{ℕ, List, codes}
+use Rattle.sieve_check.specs.Script.{Commands, script_of, no_commands}
+use Rattle.sieve_check.specs.Rule.{rule_word}
+use Rattle.sieve_check.specs.declared.rule.Rule.{Rule}
+use Rattle.sieve_check.specs.declared.judged.FaultKind.{FaultKind}
+use Rattle.sieve_check.specs.declared.judged.FaultKind.TheVariants.{Syntax, Breach}
+use Rattle.sieve_check.specs.declared.judged.Judged.{Judged}
+use Rattle.sieve_check.specs.declared.judged.Judged.TheVariants.{Sound, Faulty}
+
+pub data Judgement : Type 0 where
+  sound : (commands : Commands) → Judgement
+  faulty : (line : ℕ) (kind : FaultKind) → Judgement
+
+-- the word by which a report names a fault
+abbrev pub fault_word : FaultKind → List ℕ
+fault_word Syntax = codes "syntax"
+fault_word (Breach rule) = rule_word rule
+
+unfoldable pub judgement_of : List ℕ → Judgement
+judgement_of text = sound no_commands
+
+abbrev pub judged_as : Judged → Judgement
+judged_as (Sound checked) = sound (script_of checked)
+judged_as (Faulty line kind) = faulty line kind

@@ -1,0 +1,22 @@
+-- The words of the rules, as a report prints them.
+use Rattle.std.specs.Prelude.{ℕ, List, codes}
+use Rattle.sieve_check.specs.declared.rule.Rule.{Rule}
+use Rattle.sieve_check.specs.declared.rule.Rule.TheVariants.{RequirePlace, UnknownCapability, UnknownCommand, NotRequired, ElsePlace, BadTag, BadArguments, UnknownComparator, BadVariableName, GlobalAfterSet, BadNamespace, MatchIndex, NumberTooLarge, BadEnvelopePart, NotAddressHeader, TooManyVariables}
+
+abbrev pub rule_word : Rule → List ℕ
+rule_word RequirePlace = codes "require-place"
+rule_word UnknownCapability = codes "unknown-capability"
+rule_word UnknownCommand = codes "unknown-command"
+rule_word NotRequired = codes "not-required"
+rule_word ElsePlace = codes "else-place"
+rule_word BadTag = codes "bad-tag"
+rule_word BadArguments = codes "bad-arguments"
+rule_word UnknownComparator = codes "unknown-comparator"
+rule_word BadVariableName = codes "bad-variable-name"
+rule_word GlobalAfterSet = codes "global-after-set"
+rule_word BadNamespace = codes "bad-namespace"
+rule_word MatchIndex = codes "match-index"
+rule_word NumberTooLarge = codes "number-too-large"
+rule_word BadEnvelopePart = codes "bad-envelope-part"
+rule_word NotAddressHeader = codes "not-address-header"
+rule_word TooManyVariables = codes "too-many-variables"

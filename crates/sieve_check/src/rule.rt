@@ -1,0 +1,66 @@
+ghost use Rattle.std.specs.Prelude.{◌≡◌};
+ghost use Rattle.sieve_check.specs.Rule.{rule_word};
+
+/// A rule that a script without a syntax fault can break. The numbers are in the order in which the rules are
+/// reported where two are broken at one place.
+#[derive(Clone, Copy, Debug, PartialEq, Eq)]
+pub enum Rule {
+    /// A `require` stands after another command (RFC 5228, section 3.2).
+    RequirePlace = 1,
+    /// A `require` names a capability that this tool lacks (RFC 5228, section 3.2).
+    UnknownCapability = 2,
+    /// There is no such command or test (RFC 5228, section 2.10.5).
+    UnknownCommand = 3,
+    /// What is used needs a capability that no `require` names (RFC 5228, section 2.10.5).
+    NotRequired = 4,
+    /// An `elsif` or `else` doesn't follow an `if` or `elsif` (RFC 5228, section 3.1).
+    ElsePlace = 5,
+    /// A tag that the command or test doesn't have, or that stands where none may (RFC 5228, section 2.6.2).
+    BadTag = 6,
+    /// The arguments, tests or block aren't those of the command or test (RFC 5228, section 2.6).
+    BadArguments = 7,
+    /// There is no such comparator (RFC 5228, section 2.7.3).
+    UnknownComparator = 8,
+    /// A variable's name isn't well-formed (RFC 5229, section 3).
+    BadVariableName = 9,
+    /// A `global` names what was set as a local variable before (RFC 6609, section 3.4.1).
+    GlobalAfterSet = 10,
+    /// A variable's namespace isn't known (RFC 5229, section 3).
+    BadNamespace = 11,
+    /// A match variable's number is too large (RFC 5229, section 3.2).
+    MatchIndex = 12,
+    /// A number is too large (RFC 5228, section 2.4.1).
+    NumberTooLarge = 13,
+    /// There is no such part of an envelope (RFC 5228, section 5.4).
+    BadEnvelopePart = 14,
+    /// The header field doesn't hold addresses (RFC 5228, section 5.1).
+    NotAddressHeader = 15,
+    /// A script sets too many local variables (RFC 5229, section 6).
+    TooManyVariables = 16,
+}
+
+impl Rule {
+    /// The word by which a report names the rule.
+    pub fn word(self) -> &'static [u8]
+        ensures { result.now ≡ rule_word self }
+    {
+        match self {
+            Rule::RequirePlace => b"require-place",
+            Rule::UnknownCapability => b"unknown-capability",
+            Rule::UnknownCommand => b"unknown-command",
+            Rule::NotRequired => b"not-required",
+            Rule::ElsePlace => b"else-place",
+            Rule::BadTag => b"bad-tag",
+            Rule::BadArguments => b"bad-arguments",
+            Rule::UnknownComparator => b"unknown-comparator",
+            Rule::BadVariableName => b"bad-variable-name",
+            Rule::GlobalAfterSet => b"global-after-set",
+            Rule::BadNamespace => b"bad-namespace",
+            Rule::MatchIndex => b"match-index",
+            Rule::NumberTooLarge => b"number-too-large",
+            Rule::BadEnvelopePart => b"bad-envelope-part",
+            Rule::NotAddressHeader => b"not-address-header",
+            Rule::TooManyVariables => b"too-many-variables",
+        }
+    }
+}

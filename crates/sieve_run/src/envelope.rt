@@ -1,0 +1,12 @@
+use sieve_code::Octets;
+
+/// What a run knows of a delivery beside the message (RFC 5228, section 5.4), each of any octets.
+#[derive(Debug, Drop)]
+pub struct Envelope {
+    /// The sender's address, empty where there is none.
+    pub from: Octets,
+    /// The recipient's address, empty where it isn't known.
+    pub to: Octets,
+    /// The mailbox that `keep` stores into.
+    pub mailbox: Octets,
+}

@@ -1,0 +1,153 @@
+ghost use Rattle.std.specs.Prelude.{◌≡◌, [], ◌∷◌, true, None, Some, IfOk};
+ghost use Rattle.std.specs.Option.{option_copied};
+ghost use Rattle.sieve_run.specs.Library.{lookup_of, present};
+ghost use Rattle.sieve_run.specs.Meter.{next_run};
+ghost use Rattle.sieve_run.specs.Run.{exec, act_of, outcome_of, verdict_at};
+ghost use Rattle.sieve_run.specs.State.{state_of};
+ghost use Rattle.sieve_run.specs.Flow.{ending_by};
+ghost use Rattle.sieve_check.specs.Script.{commands_of};
+ghost use Rattle.sieve_check.specs.Script.{script_of};
+
+use crate::envelope::Envelope;
+use crate::library::{Found, Library};
+use crate::meter::Meter;
+use crate::name::ScriptName;
+use crate::outcome::{ErrorKind, Outcome, RunError};
+use crate::state::State;
+use indexmap::IndexMap;
+use sieve_check::{Checked, Command};
+use std::alloc::{AllocError, Global};
+
+/// How a list of commands ended.
+#[derive(Debug, Drop)]
+pub(crate) enum Flow {
+    /// At its end.
+    GoesOn,
+    /// By `stop`.
+    Stopped,
+}
+
+/// Carries out commands in order.
+fn execute(
+    alloc: Global,
+    commands: &[Command],
+    envelope: &Envelope,
+    state: &mut State,
+) -> Result<Flow, AllocError>
+    ensures { IfOk result (λ flow.
+        exec (act_of envelope.now) (commands_of commands.now) (state_of state.old) ≡ ending_by flow (state_of state.new)) }
+{
+    for command in commands {
+        match command {
+            Command::Keep { .. } => state.store(alloc, envelope.mailbox.as_slice())?,
+            Command::Discard { .. } => state.discard()?,
+            Command::Stop => return Ok(Flow::Stopped),
+        }
+    }
+    Ok(Flow::GoesOn)
+}
+
+/// The outcome where the main script itself can't run: the implicit keep stands.
+fn failed_at_main(
+    alloc: Global,
+    main: &ScriptName,
+    is_present: bool,
+    kind: ErrorKind,
+) -> Result<Outcome, AllocError>
+    ensures { IfOk result (λ outcome. outcome ≡ record {
+        actions = [];
+        implicit = true;
+        error = Some (record { script = main.now; line = 0; kind = kind });
+        reads = (main.now, is_present) ∷ [] }) }
+{
+    let script = main.copy(alloc)?;
+    let reads = first_read(alloc, main, is_present)?;
+    Ok(Outcome {
+        actions: Vec::new(alloc),
+        implicit: true,
+        error: Some(RunError {
+            script,
+            line: 0,
+            kind,
+        }),
+        reads,
+    })
+}
+
+/// The record of lookups after that of the main script.
+fn first_read(
+    alloc: Global,
+    main: &ScriptName,
+    is_present: bool,
+) -> Result<IndexMap<ScriptName, bool>, AllocError>
+    ensures { IfOk result (λ reads. reads.entries ≡ (main.now, is_present) ∷ []) }
+{
+    let mut reads = IndexMap::new(alloc);
+    reads.insert(main.copy(alloc)?, is_present)?;
+    Ok(reads)
+}
+
+/// Runs the main script's commands from the start.
+fn run_main(
+    alloc: Global,
+    main: &ScriptName,
+    script: &Checked,
+    envelope: &Envelope,
+) -> Result<Outcome, AllocError>
+    ensures { IfOk result (λ outcome. outcome ≡ verdict_at envelope.now main.now (present (script_of script.now))) }
+{
+    let mut state = State {
+        actions: Vec::new(alloc),
+        cancelled: false,
+        reads: first_read(alloc, main, true)?,
+    };
+    let _ = execute(alloc, script.commands(), envelope, &mut state)?;
+    let State {
+        actions,
+        cancelled,
+        reads,
+    } = state;
+    Ok(Outcome {
+        actions,
+        implicit: !cancelled,
+        error: None,
+        reads,
+    })
+}
+
+/// The outcome where there is no main script: the implicit keep, and nothing is looked up.
+fn no_main(alloc: Global) -> Outcome
+    ensures { result ≡ record { actions = []; implicit = true; error = None; reads = [] } }
+{
+    Outcome {
+        actions: Vec::new(alloc),
+        implicit: true,
+        error: None,
+        reads: IndexMap::new(alloc),
+    }
+}
+
+/// Runs the main script on a message. The meter counts the run, also where memory runs out.
+#[tactic(auto, unfolding(crate::specs::Run::outcome_of))]
+pub fn run<L: Library>(
+    alloc: Global,
+    lib: &L,
+    main: Option<&ScriptName>,
+    envelope: &Envelope,
+    message: &[u8],
+    meter: &mut Meter,
+) -> Result<Outcome, AllocError>
+    ensures outcome { IfOk result (λ outcome. outcome ≡
+        outcome_of (λ name. lookup_of (L.texts lib.now name)) (option_copied main.entry) envelope.now message.now) }
+    ensures meter { meter.new ≡ next_run meter.old }
+{
+    meter.count();
+    let Some(name) = main else {
+        return Ok(no_main(alloc));
+    };
+    match lib.find(name) {
+        Found::Missing => failed_at_main(alloc, name, false, ErrorKind::MissingScript),
+        Found::Invalid => failed_at_main(alloc, name, true, ErrorKind::InvalidScript),
+        Found::Present(script) => run_main(alloc, name, script, envelope),
+    }
+}
