@@ -1,0 +1,201 @@
+ghost use Rattle.std.specs.Prelude.{◌≡◌, ◌≤◌, IfOk, OnOk, OnErr, Ok, length};
+ghost use Rattle.sievebench.specs.Content.{Refuses, new_content, after, put_script, put_message, set_main, script_refusal, message_refusal, main_refusal};
+
+use crate::fault::EditFault;
+use crate::script::Scripts;
+use indexmap::IndexMap;
+use sieve_code::Octets;
+use sieve_run::{Envelope, ScriptName};
+use std::alloc::{AllocError, Global};
+use std::collections::BTreeMap;
+use std::marker::Model;
+
+/// The most octets of a script's text.
+const MAX_TEXT: usize = 1_048_576;
+/// The most octets of a message.
+const MAX_MESSAGE: usize = 16_777_216;
+/// The most octets of a script's name or a message's id.
+const MAX_NAME: usize = 1_024;
+/// The most scripts.
+const MAX_SCRIPTS: usize = 1_024;
+/// The most messages.
+const MAX_MESSAGES: usize = 65_536;
+
+/// A message of a bench.
+#[derive(Debug, Drop)]
+pub(crate) struct Message {
+    pub(crate) bytes: Octets,
+}
+
+impl Model for Message {
+    ghost use Rattle.std.specs.Prelude.{ℕ, List};
+
+    ghost Value = { List ℕ };
+
+    ghost view = { λ a. a.bytes };
+}
+
+/// Scripts beside sample messages, with the main script's name and the envelope. Contracts see what it holds as
+/// plain data.
+#[derive(Debug, Drop)]
+pub struct Bench {
+    alloc: Global,
+    main: Option<ScriptName>,
+    envelope: Envelope,
+    scripts: Scripts,
+    messages: IndexMap<Octets, Message>,
+}
+
+impl Model for Bench {
+    ghost use Rattle.sievebench.specs.Content.{Content};
+
+    ghost Value = { Content };
+
+    ghost view = { λ b. record { main = b.main; envelope = b.envelope; scripts = b.scripts; messages = b.messages.entries } };
+}
+
+/// Why a script isn't put, apart from memory.
+fn refuse_script(scripts: &Scripts, name: &ScriptName, text: &[u8]) -> Option<EditFault>
+    ensures { result ≡ script_refusal scripts.now name.now text.now }
+{
+    if name.name.as_slice().len() > MAX_NAME || text.len() > MAX_TEXT {
+        return Some(EditFault::TooLarge);
+    }
+    if !scripts.by_name.contains_key(name) && scripts.by_name.len() >= MAX_SCRIPTS {
+        return Some(EditFault::Full);
+    }
+    None
+}
+
+/// Why a message isn't put, apart from memory.
+fn refuse_message(
+    messages: &IndexMap<Octets, Message>,
+    id: &Octets,
+    bytes: &[u8],
+) -> Option<EditFault>
+    ensures { result ≡ message_refusal messages.now.entries id.now bytes.now }
+{
+    if id.as_slice().len() > MAX_NAME || bytes.len() > MAX_MESSAGE {
+        return Some(EditFault::TooLarge);
+    }
+    if !messages.contains_key(id) && messages.len() >= MAX_MESSAGES {
+        return Some(EditFault::Full);
+    }
+    None
+}
+
+/// Why a main script's name isn't taken, apart from memory.
+fn refuse_main(name: &ScriptName) -> Option<EditFault>
+    ensures { result ≡ main_refusal name.now }
+{
+    if name.name.as_slice().len() > MAX_NAME {
+        Some(EditFault::TooLarge)
+    } else {
+        None
+    }
+}
+
+impl Bench {
+    /// Keeps a script's text at a name, neither of which needs to be copied.
+    pub(crate) fn keep_script(&mut self, name: ScriptName, text: Octets) -> Result<(), EditFault>
+        ensures ok { OnOk result (after self.old (put_script name text) ≡ Ok self.new) }
+        ensures err { OnErr result (self.new ≡ self.old) }
+        ensures refused { Refuses (after self.old (put_script name text)) result }
+    {
+        if let Some(fault) = refuse_script(&self.scripts, &name, text.as_slice()) {
+            return Err(fault);
+        }
+        self.scripts
+            .put(self.alloc, name, text)
+            .map_err(|_| EditFault::NoMemory)
+    }
+
+    /// Keeps a message's octets at an id, neither of which needs to be copied.
+    pub(crate) fn keep_message(&mut self, id: Octets, bytes: Octets) -> Result<(), EditFault>
+        ensures ok { OnOk result (after self.old (put_message id bytes) ≡ Ok self.new) }
+        ensures err { OnErr result (self.new ≡ self.old) }
+        ensures refused { Refuses (after self.old (put_message id bytes)) result }
+    {
+        if let Some(fault) = refuse_message(&self.messages, &id, bytes.as_slice()) {
+            return Err(fault);
+        }
+        match self.messages.insert(id, Message { bytes }) {
+            Ok(_) => Ok(()),
+            Err(_) => Err(EditFault::NoMemory),
+        }
+    }
+
+    /// Makes a script main, whose name doesn't need to be copied.
+    pub(crate) fn keep_main(&mut self, name: ScriptName) -> Result<(), EditFault>
+        ensures ok { OnOk result (after self.old (set_main name) ≡ Ok self.new) }
+        ensures err { OnErr result (self.new ≡ self.old) }
+        ensures refused { Refuses (after self.old (set_main name)) result }
+    {
+        if let Some(fault) = refuse_main(&name) {
+            return Err(fault);
+        }
+        self.main = Some(name);
+        Ok(())
+    }
+
+    /// A bench with no scripts, no messages, no main script, an empty envelope, and the mailbox `INBOX`.
+    pub fn new(alloc: Global) -> Result<Bench, AllocError>
+        ensures { IfOk result (λ bench. bench ≡ new_content) }
+    {
+        let envelope = Envelope {
+            from: Octets::from_vec(Vec::new(alloc)),
+            to: Octets::from_vec(Vec::new(alloc)),
+            mailbox: Octets::copied(alloc, b"INBOX")?,
+        };
+        Ok(Bench {
+            alloc,
+            main: None,
+            envelope,
+            scripts: Scripts {
+                by_name: BTreeMap::new(alloc),
+            },
+            messages: IndexMap::new(alloc),
+        })
+    }
+
+    /// Puts a script's text at a name, in place of the one there. A text with a fault is kept, and reported.
+    pub fn put_script(&mut self, name: &ScriptName, text: &[u8]) -> Result<(), EditFault>
+        ensures ok { OnOk result (after self.old (put_script name.now text.now) ≡ Ok self.new) }
+        ensures err { OnErr result (self.new ≡ self.old) }
+        ensures refused { Refuses (after self.old (put_script name.now text.now)) result }
+    {
+        if let Some(fault) = refuse_script(&self.scripts, name, text) {
+            return Err(fault);
+        }
+        let text = Octets::copied(self.alloc, text).map_err(|_| EditFault::NoMemory)?;
+        let name = name.copy(self.alloc).map_err(|_| EditFault::NoMemory)?;
+        self.keep_script(name, text)
+    }
+
+    /// Puts a message's octets at an id: a new id goes last, a present one keeps its place.
+    pub fn put_message(&mut self, id: &Octets, bytes: &[u8]) -> Result<(), EditFault>
+        ensures ok { OnOk result (after self.old (put_message id.now bytes.now) ≡ Ok self.new) }
+        ensures err { OnErr result (self.new ≡ self.old) }
+        ensures refused { Refuses (after self.old (put_message id.now bytes.now)) result }
+    {
+        if let Some(fault) = refuse_message(&self.messages, id, bytes) {
+            return Err(fault);
+        }
+        let bytes = Octets::copied(self.alloc, bytes).map_err(|_| EditFault::NoMemory)?;
+        let id = Octets::copied(self.alloc, id.as_slice()).map_err(|_| EditFault::NoMemory)?;
+        self.keep_message(id, bytes)
+    }
+
+    /// Makes a script main, whether or not it is there.
+    pub fn set_main(&mut self, name: &ScriptName) -> Result<(), EditFault>
+        ensures ok { OnOk result (after self.old (set_main name.now) ≡ Ok self.new) }
+        ensures err { OnErr result (self.new ≡ self.old) }
+        ensures refused { Refuses (after self.old (set_main name.now)) result }
+    {
+        if let Some(fault) = refuse_main(name) {
+            return Err(fault);
+        }
+        let name = name.copy(self.alloc).map_err(|_| EditFault::NoMemory)?;
+        self.keep_main(name)
+    }
+}

@@ -1,0 +1,12 @@
+//! A test bench for Sieve scripts (RFC 5228): scripts beside sample messages, and a report of what every message
+//! would suffer.
+#![tactic(auto)]
+
+mod bench;
+mod fault;
+mod script;
+
+pub use bench::Bench;
+pub use fault::{EditFault, ReportFault};
+pub use sieve_code::{Octets, Place};
+pub use sieve_run::{Meter, ScriptName};

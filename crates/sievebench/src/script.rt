@@ -1,0 +1,100 @@
+ghost use Rattle.std.specs.Prelude.{◌≡◌, ◌≤◌, IfOk, Some, length};
+ghost use Rattle.std.specs.BTreeMap.{is_at};
+ghost use Rattle.std.specs.Map.{lookup};
+ghost use Rattle.sieve_run.specs.Library.{lookup_of, found_as};
+ghost use Rattle.sieve_run.specs.Name.{name_cmp};
+
+use sieve_check::{FaultKind, Judged, judge};
+use sieve_code::Octets;
+use sieve_run::{Found, Library, ScriptName};
+use std::alloc::{AllocError, Global};
+use std::collections::BTreeMap;
+use std::marker::Model;
+
+/// A script's text, and what it is. Contracts see the text.
+#[derive(Debug, Drop)]
+pub(crate) struct Script {
+    text: Octets,
+    judged: Judged,
+}
+
+impl Model for Script {
+    ghost use Rattle.std.specs.Prelude.{ℕ, List, ◌≡◌, ◌≤◌, length};
+    ghost use Rattle.sieve_check.specs.Judgement.{judged_as, judgement_of};
+
+    ghost Value = { List ℕ };
+
+    ghost view = { λ a. a.text };
+
+    ghost invariant = { λ a. (judged_as a.judged ≡ judgement_of a.text) × (length a.text ≤ 1048576) };
+}
+
+impl Script {
+    /// Reads and checks a text.
+    pub(crate) fn new(alloc: Global, text: Octets) -> Result<Script, AllocError>
+        requires { length text ≤ 1048576 }
+        ensures { IfOk result (λ script. script ≡ text) }
+    {
+        let judged = judge(alloc, text.as_slice())?;
+        Ok(Script { text, judged })
+    }
+
+    /// What a run finds here.
+    fn found(&self) -> Found<'_>
+        ensures { found_as result ≡ lookup_of (Some self.now) }
+    {
+        match &self.judged {
+            Judged::Sound(checked) => Found::Present(checked),
+            Judged::Faulty { .. } => Found::Invalid,
+        }
+    }
+}
+
+/// The scripts of a bench, in the order of their names.
+#[derive(Debug, Drop)]
+pub(crate) struct Scripts {
+    pub(crate) by_name: BTreeMap<ScriptName, Script>,
+}
+
+impl Model for Scripts {
+    ghost use Rattle.std.specs.Prelude.{ℕ, List};
+    ghost use Rattle.sieve_run.specs.declared.name.ScriptName.{ScriptName};
+
+    ghost Value = { List (ScriptName × List ℕ) };
+
+    ghost view = { λ a. a.by_name.entries };
+}
+
+impl Scripts {
+    ghost use Rattle.std.specs.Prelude.{OnOk, OnErr};
+    ghost use Rattle.sievebench.specs.Content.{with_script};
+
+    /// Puts a text at a name, in place of the one there. An error changes nothing.
+    pub(crate) fn put(
+        &mut self,
+        alloc: Global,
+        name: ScriptName,
+        text: Octets,
+    ) -> Result<(), AllocError>
+        requires { length text ≤ 1048576 }
+        ensures ok { OnOk result (self.new ≡ with_script name text self.old) }
+        ensures err { OnErr result (self.new ≡ self.old) }
+    {
+        let script = Script::new(alloc, text)?;
+        self.by_name.insert(name, script)?;
+        Ok(())
+    }
+}
+
+impl Library for Scripts {
+    ghost use Rattle.sievebench.specs.Content.{text_at};
+
+    ghost texts = { text_at };
+
+    fn find(&self, name: &ScriptName) -> Found<'_> {
+        match self.by_name.get(name) {
+            None => Found::Missing,
+            Some(script) => script.found(),
+        }
+    }
+}
