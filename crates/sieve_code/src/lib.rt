@@ -1,0 +1,10 @@
+//! Where scripts live, the devices that are read and written, and how octets are written to them.
+#![tactic(auto)]
+
+mod devices;
+mod place;
+mod writers;
+
+pub use devices::{Counted, Faults, Sink, Source};
+pub use place::Place;
+pub use writers::{Piece, WriteFault, write_out, write_pieces, write_quoted};
