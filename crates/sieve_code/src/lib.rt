@@ -1,8 +1,12 @@
-//! What the crates above share with the devices that they read from and write to.
+//! Where scripts live, the devices that are read and written, and how octets are written to them.
 #![tactic(auto)]
 
-pub mod octets;
-pub mod place;
+mod devices;
+mod octets;
+mod place;
+mod writers;
 
+pub use devices::{Counted, Faults, Sink, Source};
 pub use octets::Octets;
 pub use place::Place;
+pub use writers::{Piece, WriteFault, write_out, write_pieces, write_quoted};

@@ -1,4 +1,6 @@
-/// Where a script is kept (RFC 6609, section 3.2): in the user's own store, or in the site's.
+//! Where a script is kept.
+
+/// The two places of RFC 6609, section 3: the scripts of one user, and those of the whole site.
 #[derive(Clone, Copy, Debug, PartialEq, Eq, PartialOrd, Ord, Hash)]
 pub enum Place {
     Personal,
