@@ -1,5 +1,5 @@
 -- What a script's text is: a script without a fault, or the line and kind of its first one.
-use Rattle.std.specs.Prelude.{ℕ, List, codes}
+use Rattle.std.specs.Prelude.{ℕ, List, codes, Option, None, Some}
 use Rattle.sieve_check.specs.Script.{Commands, script_of, no_commands}
 use Rattle.sieve_check.specs.Rule.{rule_word}
 use Rattle.sieve_check.specs.declared.rule.Rule.{Rule}
@@ -16,6 +16,11 @@ pub data Judgement : Type 0 where
 abbrev pub fault_word : FaultKind → List ℕ
 fault_word Syntax = codes "syntax"
 fault_word (Breach rule) = rule_word rule
+
+-- the line and the kind of the first fault, where there is one
+abbrev pub fault_of : Judgement → Option (ℕ × FaultKind)
+fault_of (sound _) = None
+fault_of (faulty line kind) = Some (line, kind)
 
 unfoldable pub judgement_of : List ℕ → Judgement
 judgement_of text = sound no_commands

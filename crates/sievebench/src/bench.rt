@@ -1,11 +1,15 @@
-ghost use Rattle.std.specs.Prelude.{◌≡◌, ◌≤◌, IfOk, OnOk, OnErr, Ok, length};
+ghost use Rattle.std.specs.Prelude.{◌≡◌, ◌≤◌, IfOk, OnOk, OnErr, Ok, Err, length};
+ghost use Rattle.sieve_code.specs.Writers.{Wrote, WroteFront};
+ghost use Rattle.sievebench.specs.Report.{report_text};
 ghost use Rattle.sievebench.specs.Content.{Refuses, new_content, after, put_script, put_message, set_main, script_refusal, message_refusal, main_refusal};
 
-use crate::fault::EditFault;
+use crate::fault::{EditFault, ReportFault};
+use crate::message::Message;
+use crate::report::{run_all, write_report};
 use crate::script::Scripts;
 use indexmap::IndexMap;
-use sieve_code::Octets;
-use sieve_run::{Envelope, ScriptName};
+use sieve_code::{Octets, Sink};
+use sieve_run::{Envelope, Meter, ScriptName};
 use std::alloc::{AllocError, Global};
 use std::collections::BTreeMap;
 use std::marker::Model;
@@ -20,20 +24,6 @@ const MAX_NAME: usize = 1_024;
 const MAX_SCRIPTS: usize = 1_024;
 /// The most messages.
 const MAX_MESSAGES: usize = 65_536;
-
-/// A message of a bench.
-#[derive(Debug, Drop)]
-pub(crate) struct Message {
-    pub(crate) bytes: Octets,
-}
-
-impl Model for Message {
-    ghost use Rattle.std.specs.Prelude.{ℕ, List};
-
-    ghost Value = { List ℕ };
-
-    ghost view = { λ a. a.bytes };
-}
 
 /// Scripts beside sample messages, with the main script's name and the envelope. Contracts see what it holds as
 /// plain data.
@@ -197,5 +187,29 @@ impl Bench {
         }
         let name = name.copy(self.alloc).map_err(|_| EditFault::NoMemory)?;
         self.keep_main(name)
+    }
+    /// Runs the main script on each message, and writes the report. A report that memory is refused for writes
+    /// nothing; one whose writer fails has written a front of the report. The scripts, the messages and the settings
+    /// stay as they are.
+    pub fn report<W: Sink>(&mut self, meter: &mut Meter, writer: &mut W) -> Result<(), ReportFault>
+        ensures ok { OnOk result (Wrote W.contents W.fault_count writer.old writer.new (report_text self.old)) }
+        ensures memory { result ≡ Err ReportFault.NoMemory → writer.new ≡ writer.old }
+        ensures write { result ≡ Err ReportFault.Write → WroteFront W.contents W.fault_count writer.old writer.new (report_text self.old) }
+        ensures content { self.new ≡ self.old }
+    {
+        let main = self.main.as_ref();
+        let reported = run_all(
+            self.alloc,
+            &self.scripts,
+            main,
+            &self.envelope,
+            &self.messages,
+            meter,
+        )
+        .map_err(|_| ReportFault::NoMemory)?;
+        match write_report(main, &self.envelope, &self.scripts, &reported, writer) {
+            Ok(()) => Ok(()),
+            Err(_) => Err(ReportFault::Write),
+        }
     }
 }

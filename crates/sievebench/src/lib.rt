@@ -4,6 +4,9 @@
 
 mod bench;
 mod fault;
+mod message;
+mod report;
+mod report_lines;
 mod script;
 
 pub use bench::Bench;

@@ -3,6 +3,7 @@ ghost use Rattle.std.specs.BTreeMap.{is_at};
 ghost use Rattle.std.specs.Map.{lookup};
 ghost use Rattle.sieve_run.specs.Library.{lookup_of, found_as};
 ghost use Rattle.sieve_run.specs.Name.{name_cmp};
+ghost use Rattle.sieve_check.specs.Judgement.{judgement_of, fault_of};
 
 use sieve_check::{FaultKind, Judged, judge};
 use sieve_code::Octets;
@@ -37,6 +38,16 @@ impl Script {
     {
         let judged = judge(alloc, text.as_slice())?;
         Ok(Script { text, judged })
+    }
+
+    /// The line and the kind of the text's first fault.
+    pub(crate) fn fault(&self) -> Option<(u64, FaultKind)>
+        ensures { result ≡ fault_of (judgement_of self.now) }
+    {
+        match self.judged {
+            Judged::Sound(_) => None,
+            Judged::Faulty { line, kind } => Some((line, kind)),
+        }
     }
 
     /// What a run finds here.

@@ -1,0 +1,86 @@
+-- How a text that is written in several steps comes about.
+use Rattle.std.proofs.Common.{◌≡◌, ℕ, ◌≤◌, List, [], ◌++◌, sym, ap, ◌∙◌, append_assoc, append-nil, refl, arith, Option, Result, Ok, Err, OnErr, ◌<◌, ◌+◌, ◌∷◌, length, get_or, drop}
+use Rattle.std.specs.List.{flat_map}
+use Rattle.std.proofs.lemmas.List.{drop_more}
+use Rattle.std.proofs.KnownBytes.{Appends-nil, Appends-trans}
+use Rattle.sieve_code.specs.Devices.{HasRisen}
+use Rattle.sieve_code.specs.Writers.{Wrote, WroteFront}
+
+-- Between two states of a device all of a text was written, but for what is left.
+pub record Writing {S : Type 0} (contents : S → Option (List ℕ)) (fault_count : S → ℕ) (old new : S) (left all : List ℕ) : Type 0 where
+  pub done : List ℕ
+  pub wrote : Wrote contents fault_count old new done
+  pub whole : done ++ left ≡ all
+
+-- the texts of what is left from an item on
+flat_map-drop : {X : Type 0} (f : X → List ℕ) (xs : List X) (i : ℕ) (x : X) → i < length xs → x ≡ get_or xs i x → flat_map f (drop i xs) ≡ f x ++ flat_map f (drop (i + 1) xs)
+flat_map-drop f xs i x within is = rw (drop_more xs i x within) (ap (λ y. f y ++ flat_map f (drop (i + 1) xs)) (sym is))
+
+-- all is left in the beginning
+pub begins : {S : Type 0} (contents : S → Option (List ℕ)) (fault_count : S → ℕ) (s : S) (all : List ℕ) → Writing contents fault_count s s all all
+begins contents fault_count s all = record {
+  done = [];
+  wrote = record { text_appended = Appends-nil (contents s); faults_kept = omega arith };
+  whole = refl;
+}
+
+-- the next part is written
+pub goes_on : {S : Type 0} (contents : S → Option (List ℕ)) (fault_count : S → ℕ) (a b c : S) (part left all : List ℕ)
+    → Writing contents fault_count a b (part ++ left) all → Wrote contents fault_count b c part → Writing contents fault_count a c left all
+goes_on contents fault_count a b c part left all so_far step = record {
+  done = so_far.done ++ part;
+  wrote = record {
+    text_appended = Appends-trans _ _ _ _ _ so_far.wrote.text_appended step.text_appended;
+    faults_kept = let one : fault_count a ≤ fault_count b = so_far.wrote.faults_kept in
+        let two : fault_count b ≤ fault_count c = step.faults_kept in
+        omega arith;
+  };
+  whole = append_assoc so_far.done part left ∙ so_far.whole;
+}
+
+-- nothing is left
+pub ends : {S : Type 0} (contents : S → Option (List ℕ)) (fault_count : S → ℕ) (a b : S) (left all : List ℕ)
+    → left ≡ [] → Writing contents fault_count a b left all → Wrote contents fault_count a b all
+ends contents fault_count a b left all none so_far =
+    rw (sym (sym (ap (λ l. so_far.done ++ l) none ∙ append-nil so_far.done) ∙ so_far.whole)) so_far.wrote
+
+-- the next part is written in part
+pub breaks_off : {S : Type 0} (contents : S → Option (List ℕ)) (fault_count : S → ℕ) (a b c : S) (part left all : List ℕ)
+    → Writing contents fault_count a b (part ++ left) all → WroteFront contents fault_count b c part → WroteFront contents fault_count a c all
+breaks_off contents fault_count a b c part left all so_far step = record {
+  front = so_far.done ++ step.front;
+  back = step.back ++ left;
+  whole = append_assoc so_far.done step.front (step.back ++ left)
+      ∙ ap (λ l. so_far.done ++ l) (sym (append_assoc step.front step.back left) ∙ ap (λ l. l ++ left) step.whole)
+      ∙ so_far.whole;
+  front_appended = Appends-trans _ _ _ _ _ so_far.wrote.text_appended step.front_appended;
+  fault_counted = let one : fault_count a ≤ fault_count b = so_far.wrote.faults_kept in
+      let two : HasRisen (fault_count b) (fault_count c) = step.fault_counted in
+      omega arith;
+}
+
+-- the same, where an error is passed on
+pub stops : {S T E : Type 0} (contents : S → Option (List ℕ)) (fault_count : S → ℕ) (r : Result T E) (a b c : S) (part rest left all : List ℕ)
+    → Writing contents fault_count a b left all → left ≡ part ++ rest → WroteFront contents fault_count b c part → OnErr r (WroteFront contents fault_count a c all)
+stops contents fault_count (Ok x) a b c part rest left all so_far cut step = tt
+stops contents fault_count (Err e) a b c part rest left all so_far cut step = breaks_off contents fault_count a b c part rest all (rw (← cut) so_far) step
+
+-- the last part is written in part, where that is what the answer says
+pub stops_last : {S T E : Type 0} (contents : S → Option (List ℕ)) (fault_count : S → ℕ) (r : Result T E) (a b c : S) (part all : List ℕ)
+    → Writing contents fault_count a b part all → OnErr r (WroteFront contents fault_count b c part) → OnErr r (WroteFront contents fault_count a c all)
+stops_last contents fault_count (Ok x) a b c part all so_far step = tt
+stops_last contents fault_count (Err e) a b c part all so_far step = breaks_off contents fault_count a b c part [] all (rw append-nil so_far) step
+
+-- the next item's text is written
+pub goes_on_at : {S X : Type 0} (contents : S → Option (List ℕ)) (fault_count : S → ℕ) (a b c : S) (f : X → List ℕ) (xs : List X) (i : ℕ) (x : X) (all : List ℕ)
+    → i < length xs → x ≡ get_or xs i x → Writing contents fault_count a b (flat_map f (drop i xs)) all → Wrote contents fault_count b c (f x) → Writing contents fault_count a c (flat_map f (drop (i + 1) xs)) all
+goes_on_at contents fault_count a b c f xs i x all within is so_far step =
+    goes_on contents fault_count a b c (f x) (flat_map f (drop (i + 1) xs)) all (rw (← flat_map-drop f xs i x within is) so_far) step
+
+-- the next item's text is written in part
+pub stops_at : {S T E X : Type 0} (contents : S → Option (List ℕ)) (fault_count : S → ℕ) (r : Result T E) (a b c : S) (f : X → List ℕ) (xs : List X) (i : ℕ) (x : X) (all : List ℕ)
+    → i < length xs → x ≡ get_or xs i x → Writing contents fault_count a b (flat_map f (drop i xs)) all → WroteFront contents fault_count b c (f x) → OnErr r (WroteFront contents fault_count a c all)
+stops_at contents fault_count r a b c f xs i x all within is so_far step =
+    stops contents fault_count r a b c (f x) (flat_map f (drop (i + 1) xs)) _ all so_far (flat_map-drop f xs i x within is) step
+
+pub ruleset writing = (begins, goes_on, goes_on_at, ends, breaks_off, stops, stops_last, stops_at)

@@ -1,0 +1,25 @@
+use Rattle.std.proofs.Common.{◌≡◌, List, [], ◌∷◌, ◌++◌, rules, ap, ◌∙◌, sym, map, append_assoc}
+use Rattle.std.specs.Option.{option_copied}
+use Rattle.sieve_run.specs.Library.{lookup_of}
+use Rattle.sieve_run.specs.Run.{outcome_of}
+use Rattle.sievebench.specs.Content.{text_at}
+use Rattle.sievebench.specs.Reported.{reported_of}
+use Rattle.std.proofs.lemmas.List.{map-append}
+use Rattle.sievebench.proofs.report.run_all.Goals as goal
+
+-- one more of what is left is done
+one_more : {A B C : Type 0} (f : A → C) (g : B → C) (done after : List A) (left rest : List B) (x : A) (y : B) (all : List C)
+    → map f done ++ map g left ≡ all → left ≡ y ∷ rest → after ≡ done ++ x ∷ [] → f x ≡ g y → map f after ++ map g rest ≡ all
+one_more f g done after left rest x y all so_far cut grown same =
+    ap (λ l. map f l ++ map g rest) grown
+    ∙ ap (λ l. l ++ map g rest) (map-append f done (x ∷ []))
+    ∙ append_assoc (map f done) (f x ∷ []) (map g rest)
+    ∙ ap (λ z. map f done ++ z ∷ map g rest) same
+    ∙ ap (λ l. map f done ++ map g l) (sym cut)
+    ∙ so_far
+
+pub loop-id-preserved : goal.loop-id-preserved
+loop-id-preserved c =
+    one_more reported_of (λ e. (e.0, outcome_of (λ name. lookup_of (text_at c.args.scripts.now name)) (option_copied c.args.main) c.args.envelope.now e.1))
+    c.loop-id.reported.items c.push.new.self.items c.loop-id.id-iterator c.next.new.self _ (c.in-Some.id.now, c.in-Some.message.now) _
+    c.loop-id.invariant (search rules) (c.in_ok-push.ensures.items) (search rules)
