@@ -1,3 +1,4 @@
 pub mod Content
 pub mod Report
+pub mod ReportFault
 pub mod Reported

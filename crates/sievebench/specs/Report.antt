@@ -70,17 +70,13 @@ verdict_lines mailbox verdict = flat_map action_line verdict.actions ++ (implici
 unfoldable pub message_line : List ℕ → List ℕ
 message_line id = codes "message " ++ quoted id ++ codes "\n"
 
--- the verdict on a message
-abbrev pub verdict_on : Content → List ℕ → Verdict
-verdict_on content message = outcome_of (λ name. lookup_of (text_at content.scripts name)) content.main content.envelope message
-
 -- the lines of a message with its verdict
 abbrev pub message_lines : List ℕ → List ℕ × Verdict → List ℕ
 message_lines mailbox (id, verdict) = message_line id ++ verdict_lines mailbox verdict
 
 -- each message's id and the verdict on it
-abbrev pub verdicts : Content → List (List ℕ × Verdict)
-verdicts content = map (λ e. (e.0, verdict_on content e.1)) content.messages
+unfoldable pub verdicts : Option ScriptName → Envelope → List (ScriptName × List ℕ) → List (List ℕ × List ℕ) → List (List ℕ × Verdict)
+verdicts main envelope scripts messages = map (λ e. (e.0, outcome_of (λ name. lookup_of (text_at scripts name)) main envelope e.1)) messages
 
 -- the last line: how many messages there are, and how many of them have an error
 unfoldable pub total_line : ℕ → ℕ → List ℕ
@@ -96,4 +92,4 @@ report_with main envelope scripts judged = main_line main ++ (envelope_line enve
 
 -- the report of a content
 abbrev pub report_text : Content → List ℕ
-report_text content = report_with content.main content.envelope content.scripts (verdicts content)
+report_text content = report_with content.main content.envelope content.scripts (verdicts content.main content.envelope content.scripts content.messages)

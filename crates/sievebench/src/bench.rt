@@ -1,6 +1,7 @@
-ghost use Rattle.std.specs.Prelude.{◌≡◌, ◌≤◌, IfOk, OnOk, OnErr, Ok, Err, length};
+ghost use Rattle.std.specs.Prelude.{◌≡◌, ◌≤◌, IfOk, OnOk, OnErr, IfErr, Ok, length};
 ghost use Rattle.sieve_code.specs.Writers.{Wrote, WroteFront};
 ghost use Rattle.sievebench.specs.Report.{report_text};
+ghost use Rattle.sievebench.specs.ReportFault.{MatchReportFault};
 ghost use Rattle.sievebench.specs.Content.{Refuses, new_content, after, put_script, put_message, set_main, script_refusal, message_refusal, main_refusal};
 
 use crate::fault::{EditFault, ReportFault};
@@ -193,20 +194,22 @@ impl Bench {
     /// stay as they are.
     pub fn report<W: Sink>(&mut self, meter: &mut Meter, writer: &mut W) -> Result<(), ReportFault>
         ensures ok { OnOk result (Wrote W.contents W.fault_count writer.old writer.new (report_text self.old)) }
-        ensures memory { result ≡ Err ReportFault.NoMemory → writer.new ≡ writer.old }
-        ensures write { result ≡ Err ReportFault.Write → WroteFront W.contents W.fault_count writer.old writer.new (report_text self.old) }
+        // Nothing is written where memory is refused, and a front of the report where the writer fails.
+        ensures err { IfErr result (λ fault. MatchReportFault fault (writer.new ≡ writer.old)
+            (WroteFront W.contents W.fault_count writer.old writer.new (report_text self.old))) }
         ensures content { self.new ≡ self.old }
     {
         let main = self.main.as_ref();
-        let reported = run_all(
+        let Ok(reported) = run_all(
             self.alloc,
             &self.scripts,
             main,
             &self.envelope,
             &self.messages,
             meter,
-        )
-        .map_err(|_| ReportFault::NoMemory)?;
+        ) else {
+            return Err(ReportFault::NoMemory);
+        };
         match write_report(main, &self.envelope, &self.scripts, &reported, writer) {
             Ok(()) => Ok(()),
             Err(_) => Err(ReportFault::Write),

@@ -2,10 +2,7 @@ ghost use Rattle.std.specs.Prelude.{◌≡◌, IfOk, OnOk, OnErr, map, length};
 ghost use Rattle.std.specs.List.{flat_map};
 ghost use Rattle.std.specs.Option.{option_copied};
 ghost use Rattle.sieve_code.specs.Writers.{Wrote, WroteFront};
-ghost use Rattle.sieve_run.specs.Library.{lookup_of};
-ghost use Rattle.sieve_run.specs.Run.{outcome_of};
-ghost use Rattle.sievebench.specs.Content.{text_at};
-ghost use Rattle.sievebench.specs.Report.{action_line, read_line, script_line, verdict_lines, message_lines, error_count, total_line, report_with};
+ghost use Rattle.sievebench.specs.Report.{action_line, read_line, script_line, verdict_lines, message_lines, error_count, total_line, report_with, verdicts};
 ghost use Rattle.sievebench.specs.Reported.{reported_of};
 
 use crate::message::Message;
@@ -27,6 +24,7 @@ pub(crate) struct Reported<'a> {
 }
 
 /// Runs the main script on each message.
+#[tactic(auto, unfolding(crate::specs::Report::verdicts))]
 pub(crate) fn run_all<'a>(
     alloc: Global,
     scripts: &Scripts,
@@ -35,8 +33,8 @@ pub(crate) fn run_all<'a>(
     messages: &'a IndexMap<Octets, Message>,
     meter: &mut Meter,
 ) -> Result<Vec<Reported<'a>>, AllocError>
-    ensures { IfOk result (λ reported. map reported_of reported.items ≡
-        map (λ e. (e.0, outcome_of (λ name. lookup_of (text_at scripts.now name)) (option_copied main.entry) envelope.now e.1)) messages.now.entries) }
+    ensures { IfOk result (λ reported.
+        map reported_of reported.items ≡ verdicts (option_copied main.entry) envelope.now scripts.now messages.now.entries) }
 {
     let mut reported = Vec::new(alloc);
     for (id, message) in messages {

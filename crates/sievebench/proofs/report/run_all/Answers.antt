@@ -3,6 +3,7 @@ use Rattle.std.specs.Option.{option_copied}
 use Rattle.sieve_run.specs.Library.{lookup_of}
 use Rattle.sieve_run.specs.Run.{outcome_of}
 use Rattle.sievebench.specs.Content.{text_at}
+use Rattle.sievebench.specs.Report.{verdicts}
 use Rattle.sievebench.specs.Reported.{reported_of}
 use Rattle.std.proofs.lemmas.List.{map-append}
 use Rattle.sievebench.proofs.report.run_all.Goals as goal
@@ -19,6 +20,7 @@ one_more f g done after left rest x y all so_far cut grown same =
     ∙ so_far
 
 pub loop-id-preserved : goal.loop-id-preserved
+unfolding verdicts
 loop-id-preserved c =
     one_more reported_of (λ e. (e.0, outcome_of (λ name. lookup_of (text_at c.args.scripts.now name)) (option_copied c.args.main) c.args.envelope.now e.1))
     c.loop-id.reported.items c.push.new.self.items c.loop-id.id-iterator c.next.new.self _ (c.in-Some.id.now, c.in-Some.message.now) _
