@@ -1,1 +1,3 @@
+pub mod Count
+pub mod Words
 pub mod Writing

@@ -8,8 +8,11 @@ mod message;
 mod report;
 mod report_lines;
 mod script;
+mod session_line;
+mod status;
 
 pub use bench::Bench;
 pub use fault::{EditFault, ReportFault};
 pub use sieve_code::{Octets, Place};
 pub use sieve_run::{Meter, ScriptName};
+pub use status::{End, SessionEnd, TestEnd, status_of};
