@@ -1,3 +1,5 @@
 pub mod Count
+pub mod Ranges
+pub mod Unread
 pub mod Words
 pub mod Writing

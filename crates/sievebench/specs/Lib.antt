@@ -1,5 +1,7 @@
 pub mod Command
 pub mod Content
+pub mod Filled
+pub mod Input
 pub mod Report
 pub mod ReportFault
 pub mod Reported

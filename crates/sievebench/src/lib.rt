@@ -4,6 +4,7 @@
 
 mod bench;
 mod fault;
+mod input;
 mod message;
 mod report;
 mod report_lines;

@@ -1,0 +1,20 @@
+-- What a session has read and not yet used.
+use Rattle.std.specs.Prelude.{ℕ, ◌+◌, ◌*◌, ◌-◌, List, length, take, drop, Option, slice_range}
+use Rattle.std.specs.Io.KnownBytes.{prepend_known}
+
+-- the octets that are read and not used, and how many reads may still be made
+pub record Input : Type 0 where
+  pub pending : List ℕ
+  pub turns : ℕ
+
+-- how many octets the buffer holds
+abbrev pub capacity : ℕ
+capacity = 65536
+
+-- the octets that are not used, read or not, where the device tells what it has left
+abbrev pub unread : Input → Option (List ℕ) → Option (List ℕ)
+unread input remaining = prepend_known input.pending remaining
+
+-- It falls with each octet that is used, and with each read.
+abbrev pub fuel : Input → ℕ
+fuel input = input.turns * (capacity + 1) + length input.pending
