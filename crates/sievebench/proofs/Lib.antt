@@ -1,4 +1,5 @@
 pub mod Count
+pub mod Lines
 pub mod Ranges
 pub mod Unread
 pub mod Words

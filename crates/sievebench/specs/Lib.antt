@@ -2,6 +2,7 @@ pub mod Command
 pub mod Content
 pub mod Filled
 pub mod Input
+pub mod Line
 pub mod Report
 pub mod ReportFault
 pub mod Reported

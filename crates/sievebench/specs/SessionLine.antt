@@ -6,10 +6,14 @@ use lib.Pointwise.{pointwise}
 use Rattle.sieve_code.specs.declared.place.Place.{Place}
 use Rattle.sieve_code.specs.declared.place.Place.TheVariants.{Personal, Global}
 
+-- a line with an octet in front of it, and what follows
+abbrev pub in_front : ℕ → List ℕ × List ℕ → List ℕ × List ℕ
+in_front b (line, rest) = (b ∷ line, rest)
+
 -- the octets before the first LF, and those after it, where there is one
 abbrev pub cut_line : List ℕ → Option (List ℕ × List ℕ)
 cut_line [] = None
-cut_line (b ∷ bs) = if b == 10 then Some ([], bs) else option_map (λ cut. (b ∷ cut.0, cut.1)) (cut_line bs)
+cut_line (b ∷ bs) = if b == 10 then Some ([], bs) else option_map (in_front b) (cut_line bs)
 
 -- the octets, without a CR at their end
 abbrev pub without_cr : List ℕ → List ℕ

@@ -149,6 +149,7 @@ impl Input {
         requires { length self.old.pending < capacity }
         ensures keeps { Keeps (unread self.old (R.remaining reader.old)) (unread self.new (R.remaining reader.new)) }
         ensures fuel { fuel self.new ≤ fuel self.old }
+        ensures faults { R.fault_count reader.old ≤ R.fault_count reader.new }
         ensures filled { MatchFilled result
             (fuel self.new < fuel self.old)
             ((self.new.pending ≡ self.old.pending) × IsAtEnd (R.remaining reader.new))

@@ -5,6 +5,7 @@
 mod bench;
 mod fault;
 mod input;
+mod line;
 mod message;
 mod report;
 mod report_lines;

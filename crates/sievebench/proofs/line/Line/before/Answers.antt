@@ -1,0 +1,15 @@
+use Rattle.std.proofs.Common.{◌≡◌, ◌∙◌, List, ℕ, ◌++◌, ◌<◌, ◌+◌, take, drop, length, ap, subst, sym, arith, length-take}
+use Rattle.sievebench.specs.SessionLine.{first_line, without_cr}
+use Rattle.sievebench.proofs.Lines.{first_line-found}
+use Rattle.sievebench.proofs.line.Line.before.Goals as goal
+
+pub returns-then-len-gt-MAX_LINE-clause-line : goal.returns-then-len-gt-MAX_LINE-clause-line
+returns-then-len-gt-MAX_LINE-clause-line c = λ left.
+    let p = c.args.pending.now in
+    let found = first_line-found p _ _ left c.requires.first in
+    rw found (rw c.len_without_cr-len.ensures.line (omega (arith, length-take c.len_without_cr-len.result p)))
+
+pub returns-else-len-gt-MAX_LINE-clause-line : goal.returns-else-len-gt-MAX_LINE-clause-line
+returns-else-len-gt-MAX_LINE-clause-line c = λ left.
+    let p = c.args.pending.now in
+    first_line-found p _ _ left c.requires.first ∙ ap (λ (l : List ℕ). (l, drop (c.args.at + 1) p ++ left)) c.len_without_cr-len.ensures.line
