@@ -1,0 +1,7 @@
+//! The syntax of Sieve (RFC 5228, sections 2 and 8): the tokens of a text, and the one generic tree that its tokens
+//! write.
+#![tactic(auto)]
+
+pub mod tree;
+
+pub use tree::{Argument, Command, Script, Test, Tests, Text};
