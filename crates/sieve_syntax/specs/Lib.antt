@@ -1,1 +1,4 @@
+pub mod Octet
+pub mod Scan
+pub mod Token
 pub mod Tree

@@ -2,6 +2,9 @@
 //! write.
 #![tactic(auto)]
 
+mod scan;
+pub mod token;
 pub mod tree;
 
+pub use token::{Token, TokenKind, tokens};
 pub use tree::{Argument, Command, Script, Test, Tests, Text};
