@@ -1,5 +1,9 @@
 pub mod Cases
 pub mod Scanning
 pub mod Spelling
-pub mod Tokens
+pub mod Finding
+pub mod Reading
+pub mod Writing
+pub mod Parsing
+pub mod Meaning
 pub mod Steps

@@ -95,9 +95,9 @@ tokens_from-spell (suc fuel) text place h enough =
     (λ q. step_bad text place (ltb-true place (length text) q) blank none)
     (λ q. let past : length text ≤ place = ltb-false place (length text) q in step_end text place (omega arith))))
 
-pub tokens_of-spell : (text : List ℕ) → Spells (tokens_of text) text
+pub tokens_of_spell : (text : List ℕ) → Spells (tokens_of text) text
 unfolding tokens_of
-tokens_of-spell text = tokens_from-spell (length text) text 0 (omega arith) (omega arith)
+tokens_of_spell text = tokens_from-spell (length text) text 0 (omega arith) (omega arith)
 
 -- NO TEXT HAS TWO LISTS OF TOKENS
 
@@ -120,6 +120,9 @@ record IsThere (text : List ℕ) (token : Token) : Type 0 where
   starts : token.start < token.end
   bare : white_at (drop token.start text) ≡ None
 
+found_is : (o : Option (TokenKind × ℕ)) (k l : TokenKind) (m n : ℕ) → o ≡ Some (l, n) → k ≡ l → m ≡ n → o ≡ Some (k, m)
+found_is o k l m n e f g = e ∙ ap (λ x. Some (x, n)) (sym f) ∙ ap (λ x. Some (k, x)) (sym g)
+
 longest-there : (text : List ℕ) (token : Token) → IsLongest text token → IsThere text token
 longest-there text token h =
     let rest = drop token.start text in
@@ -136,7 +139,7 @@ longest-there text token h =
     (subst (λ word. IsTrue (spells most.found.0 word)) (sym (range-take text token.start most.found.1)) f.spelled) in
     let same : m ≡ most.found.1 = omega arith in
     record {
-      found = most.is ∙ ap (λ k. Some (k, most.found.1)) (sym (most.only same)) ∙ ap (λ n. Some (token.kind, n)) (sym same);
+      found = found_is (longest_at rest) token.kind most.found.0 m most.found.1 most.is (most.only same) same;
       starts = omega arith;
       bare = by_option (white_at rest) (λ w. w ≡ None) (λ n e. absurd (let alone = white_at-alone rest n e in let i = most.is in cc)) (λ e. refl);
     }

@@ -2,6 +2,7 @@
 //! write.
 #![tactic(auto)]
 
+pub mod laws;
 mod scan;
 pub mod token;
 pub mod tree;

@@ -3,7 +3,7 @@ use Rattle.std.proofs.lemmas.List.{take_rest, length-drop}
 use Rattle.sieve_syntax.specs.Token.{Spells, white_at}
 use Rattle.sieve_syntax.specs.Scan.{longest_at}
 use Rattle.sieve_syntax.proofs.Spelling.{unique}
-use Rattle.sieve_syntax.proofs.Tokens.{goes_on_white, goes_on_token, ends_bad, ends_here}
+use Rattle.sieve_syntax.proofs.Finding.{goes_on_white, goes_on_token, ends_bad, ends_here}
 use Rattle.sieve_syntax.proofs.token.tokens.Goals as goal
 
 rest_length : (text : List ℕ) (place : ℕ) → length (take (length text - place) (drop place text)) ≡ length text - place
