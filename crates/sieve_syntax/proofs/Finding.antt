@@ -1,6 +1,6 @@
 -- The steps of the loop that finds the tokens: what it found so far goes on as the tokens of the rest.
-use Rattle.std.proofs.Common.{◌≡◌, ℕ, ◌+◌, ◌<◌, ◌≤◌, ◌++◌, List, [], ◌∷◌, length, take, drop, Option, Some, None, refl, sym, ap, ◌∙◌, subst, arith, append_assoc, append-nil}
-use Rattle.sieve_syntax.specs.Token.{line_feeds, line_at, white_at, SpellsFrom, Spells}
+use Rattle.std.proofs.Common.{◌≡◌, ℕ, ◌+◌, ◌<◌, ◌≤◌, ◌++◌, List, [], ◌∷◌, length, take, drop, Some, None, sym, ap, ◌∙◌, subst, arith, append_assoc, append-nil}
+use Rattle.sieve_syntax.specs.Token.{line_feeds, white_at, SpellsFrom, Spells}
 use Rattle.sieve_syntax.specs.Scan.{longest_at, token_at}
 use Rattle.sieve_syntax.specs.declared.token.Token.{Token}
 use Rattle.sieve_syntax.specs.declared.token.TokenKind.{TokenKind}

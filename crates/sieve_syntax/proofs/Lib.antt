@@ -5,5 +5,6 @@ pub mod Finding
 pub mod Reading
 pub mod Writing
 pub mod Parsing
+pub mod Running
 pub mod Meaning
 pub mod Steps

@@ -1,10 +1,13 @@
 -- The laws of `syntax_of`.
-use Rattle.std.proofs.Common.{◌≡◌, ℕ, ◌⊎◌, inl, inr, ◌↔◌, List, Result, Ok, Err, refl, sym, ap, ◌∙◌, subst}
-use Rattle.sieve_syntax.specs.Tree.{Node}
+use Rattle.std.proofs.Common.{◌≡◌, ℕ, ◌⊎◌, inl, inr, List, Result, Ok, Err, ap, ◌∙◌, subst}
+use Rattle.std.specs.Result.{IfOk}
+use Rattle.sieve_syntax.specs.Tree.{Node, nodes_of}
+use Rattle.sieve_syntax.specs.Parsed.{Parses}
+use Rattle.sieve_syntax.specs.declared.tree.Script as scripts
+use Rattle.sieve_syntax.specs.declared.parser.SyntaxFault.{SyntaxFault}
+use Rattle.sieve_syntax.specs.declared.parser.SyntaxFault.TheVariants.{Syntax, TooLarge, NoMemory}
 use Rattle.sieve_syntax.specs.Token.{Spells}
 use Rattle.sieve_syntax.specs.Scan.{tokens_of}
-use Rattle.sieve_syntax.specs.Grammar.{Writes}
-use Rattle.sieve_syntax.specs.Word.{words_of}
 use Rattle.sieve_syntax.specs.Machine.{start, read}
 use Rattle.sieve_syntax.specs.Syntax.{test_depth, block_room, IsFaultAt, IsFaultAtEnd, WritesText, IsFaultLine, syntax_of}
 use Rattle.sieve_syntax.specs.declared.token.Token.{Token}
@@ -49,3 +52,22 @@ one_tree text a b h k =
     let p = writes_ok text a h in
     let q = writes_ok text b k in
     cc
+
+-- WHAT THE PARSER RETURNED
+
+pub parses_tree : (r : Result scripts.Script SyntaxFault) (text : List ℕ) → Parses r (syntax_of text) → IfOk r (λ script. WritesText (nodes_of script) text)
+parses_tree (Ok script) text h = ok_writes text (nodes_of script) h
+parses_tree (Err fault) text h = tt
+
+pub parses_fault : (r : Result scripts.Script SyntaxFault) (text : List ℕ) → Parses r (syntax_of text) → (line : ℕ) → r ≡ Err (Syntax line) → IsFaultLine text line × ((tree : List Node) → WritesText tree text → ⊥)
+parses_fault (Ok script) text h line e = cc
+parses_fault (Err TooLarge) text h line e = cc
+parses_fault (Err NoMemory) text h line e = cc
+parses_fault (Err (Syntax at)) text h line e =
+    let same : at ≡ line = cc in
+    let fault : IsFaultLine text line = subst (IsFaultLine text) same (err_faults text at h) in
+    (fault, λ tree. fault_alone text line tree fault)
+
+pub parses_found : (r : Result scripts.Script SyntaxFault) (text : List ℕ) (found : List Token) → Spells found text → Parses r (read test_depth block_room text start found) → Parses r (syntax_of text)
+unfolding syntax_of
+parses_found r text found spelled h = subst (λ ts. Parses r (read test_depth block_room text start ts)) (unique text found (tokens_of text) spelled (tokens_of_spell text)) h

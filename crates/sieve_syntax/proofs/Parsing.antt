@@ -1,14 +1,14 @@
 -- The machine against the grammar, and against the tokens of a text.
-use Rattle.std.proofs.Common.{◌≡◌, ℕ, zero, suc, ◌+◌, ◌<◌, ◌≤◌, ◌⊎◌, inl, inr, List, [], ◌∷◌, ◌++◌, length, map, Option, Some, None, Result, Ok, Err, refl, sym, ap, ◌∙◌, subst, arith, append_assoc, append-nil}
-use Rattle.sieve_syntax.specs.Tree.{Test, Tests, no_tests, one_test, test_list, tests, Node, no_block, block, nodes, items, Text}
-use Rattle.sieve_syntax.specs.Token.{line_at, Spells}
+use Rattle.std.proofs.Common.{◌≡◌, ℕ, ◌⊎◌, inl, inr, List, [], ◌∷◌, ◌++◌, length, Option, Some, None, Result, Ok, Err, refl, sym, ap, ◌∙◌, subst, arith, append_assoc, append-nil}
+use Rattle.sieve_syntax.specs.Tree.{Tests, no_tests, one_test, test_list, tests, Node, no_block, block, nodes}
+use Rattle.sieve_syntax.specs.Token.{line_at}
 use Rattle.sieve_syntax.specs.Word.{Word, identifier, string_word, semicolon, close_brace, close_parenthesis, close_bracket, word_of, words_of}
 use Rattle.sieve_syntax.specs.Grammar.{written_nodes, NestsNodes, Writes, Begins}
-use Rattle.sieve_syntax.specs.Machine.{Head, Level, for_one, for_list, Open, Outer, State, between, in_arguments, before_string, after_string, before_test, after_tests, begun, with_argument, test_with, node_with, after_node, close_block, step, start, whole, whole_outer, read}
+use Rattle.sieve_syntax.specs.Machine.{Head, Level, for_one, for_list, Open, Outer, State, between, in_arguments, before_string, after_string, before_test, after_tests, begun, test_with, node_with, close_block, step, start, whole, whole_outer, read}
 use Rattle.sieve_syntax.specs.Syntax.{IsFaultAt, IsFaultAtEnd}
 use Rattle.sieve_syntax.specs.declared.token.Token.{Token}
 use Rattle.sieve_syntax.proofs.Cases.{by_option}
-use Rattle.sieve_syntax.proofs.Reading.{run, closed, EndsFirst, nodes-items, items-nodes, closed_one, after_list, end_list, end_node, read_no_tests, read_nodes}
+use Rattle.sieve_syntax.proofs.Reading.{run, closed, EndsFirst, items-nodes, closed_one, after_list, end_list, end_node, read_no_tests, read_nodes}
 use Rattle.sieve_syntax.proofs.Writing.{state_words, IsReached, Takes, step_takes}
 
 some_is : {A : Type 0} (a b : A) → Some a ≡ Some b → a ≡ b

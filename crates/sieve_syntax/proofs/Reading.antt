@@ -1,10 +1,10 @@
 -- The machine reads back what a tree writes.
-use Rattle.std.proofs.Common.{◌≡◌, ℕ, zero, suc, ◌+◌, ◌-◌, ◌<◌, ◌≤◌, ◌⊎◌, inl, inr, Bool, true, false, cond, nat_lt, if◌then◌else◌, List, [], ◌∷◌, ◌++◌, length, Option, Some, None, refl, sym, ap, ◌∙◌, subst, arith, append_assoc, append-nil}
+use Rattle.std.proofs.Common.{◌≡◌, ℕ, zero, suc, ◌+◌, ◌<◌, true, false, if◌then◌else◌, List, [], ◌∷◌, ◌++◌, length, Option, Some, None, refl, sym, ap, ◌∙◌, arith, append_assoc, append-nil}
 use Rattle.std.proofs.lemmas.Bool.{lt-ltb}
 use Rattle.sieve_syntax.specs.Tree.{Text, Argument, strings, number, tag, Test, test, Tests, no_tests, one_test, test_list, TestList, end_tests, more_tests, tests, test_items, Node, node, Block, no_block, block, Nodes, end_nodes, more_nodes, nodes, items}
-use Rattle.sieve_syntax.specs.Word.{Word, identifier, tag_word, number_word, string_word, semicolon, open_brace, close_brace, open_parenthesis, close_parenthesis, open_bracket, close_bracket, comma, bad}
-use Rattle.sieve_syntax.specs.Grammar.{written_more, written_texts, written_argument, written_arguments, written_test, written_tests, written_test_list, written_test_rest, written_node, written_block, written_nodes, IsArgument, AreArguments, NestsTest, NestsTests, NestsTestList, NestsNode, NestsBlock, NestsNodes}
-use Rattle.sieve_syntax.specs.Machine.{Head, Level, for_one, for_list, Open, Outer, State, between, in_arguments, before_string, after_string, before_test, after_tests, begun, with_argument, test_with, node_with, after_node, inside, close, close_block, step}
+use Rattle.sieve_syntax.specs.Word.{Word, identifier, semicolon, open_brace, close_brace, open_parenthesis, close_parenthesis, close_bracket, comma}
+use Rattle.sieve_syntax.specs.Grammar.{written_more, written_argument, written_arguments, written_test, written_tests, written_test_list, written_test_rest, written_node, written_block, written_nodes, IsArgument, AreArguments, NestsTest, NestsTests, NestsTestList, NestsNode, NestsBlock, NestsNodes}
+use Rattle.sieve_syntax.specs.Machine.{Head, Level, for_one, for_list, Outer, State, between, in_arguments, after_string, before_test, after_tests, begun, with_argument, test_with, node_with, after_node, inside, after_command, after_listed, close, close_block, step}
 
 -- the state after these words
 unfoldable pub run : ℕ → ℕ → State → List Word → Option State
@@ -78,7 +78,7 @@ module _ (depth room : ℕ) where
   read_no_tests o ls h (_ ∷ ws) ends = absurd ends
 
   pub closed_one : (o : Outer) (ls : List Level) (g h : Head) (ts : Tests) (ws : List Word) → closed depth room o (for_one g ∷ ls) h ts ws ≡ closed depth room o ls g (one_test (test_with h ts)) ws
-  unfolding closed close
+  unfolding closed close after_command after_listed
   closed_one o ls g h ts [] = refl
   closed_one o ls g h ts (w ∷ ws) = refl
 
@@ -96,12 +96,12 @@ module _ (depth room : ℕ) where
 
   pub after_list : (o : Outer) (ls : List Level) (h g : Head) (before : List Test) (ts : Tests) (ws : List Word) →
       closed depth room o (for_list h before ∷ ls) g ts (close_parenthesis ∷ ws) ≡ run depth room (after_tests o ls h (test_list (tests (before ++ test_with g ts ∷ [])))) ws
-  unfolding closed close
+  unfolding closed close after_command after_listed
   after_list o ls h g before ts ws = refl
 
   next_in_list : (o : Outer) (ls : List Level) (h g : Head) (before : List Test) (ts : Tests) (name : List ℕ) (line : ℕ) (ws : List Word) →
       closed depth room o (for_list h before ∷ ls) g ts (comma ∷ identifier name line ∷ ws) ≡ run depth room (in_arguments o (for_list h (before ++ test_with g ts ∷ []) ∷ ls) (begun name line)) ws
-  unfolding closed close run step
+  unfolding closed close after_command after_listed run step
   next_in_list o ls h g before ts name line ws = refl
 
   first_in_list : (o : Outer) (ls : List Level) (name : List ℕ) (line : ℕ) (ws : List Word) → run depth room (before_test o ls) (identifier name line ∷ ws) ≡ run depth room (in_arguments o ls (begun name line)) ws
@@ -164,11 +164,11 @@ module _ (depth room : ℕ) where
   block_ends (block ns) ws = tt
 
   pub end_node : (o : Outer) (h : Head) (ts : Tests) (ws : List Word) → closed depth room o [] h ts (semicolon ∷ ws) ≡ run depth room (between (after_node o (node_with h ts no_block))) ws
-  unfolding closed close
+  unfolding closed close after_command after_listed
   end_node o h ts ws = refl
 
   enter_block : (o : Outer) (h : Head) (ts : Tests) (ws : List Word) → length o.blocks < room → closed depth room o [] h ts (open_brace ∷ ws) ≡ run depth room (between (inside o h ts)) ws
-  unfolding closed close
+  unfolding closed close after_command after_listed
   enter_block o h ts ws fits =
       ap (λ b. elim (if b then Some (between (inside o h ts)) else None) as (λ x. Option State) [ Some next ↦ run depth room next ws | None ↦ None ]) (lt-ltb (length o.blocks) room fits)
 

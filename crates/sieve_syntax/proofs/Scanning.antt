@@ -1,14 +1,14 @@
 -- What `longest_at` and `white_at` find in a text, against the spellings.
-use Rattle.std.proofs.Common.{◌≡◌, ℕ, zero, suc, ◌+◌, ◌-◌, ◌<◌, ◌≤◌, ◌==◌, ◌&&◌, Bool, true, false, cond, if◌then◌else◌, List, [], ◌∷◌, length, take, drop, Option, Some, None, refl, sym, ap, ◌∙◌, subst, arith, rules}
-use Rattle.std.specs.List.{list_all, slice_range}
-use Rattle.sieve_syntax.specs.Octet.{begins_name, is_name_octet, is_blank, is_digit, is_between}
+use Rattle.std.proofs.Common.{◌≡◌, ℕ, zero, suc, ◌<◌, ◌≤◌, ◌==◌, true, if◌then◌else◌, List, [], ◌∷◌, length, take, Some, None, refl, sym, ap, subst, arith}
+use Rattle.std.specs.List.{list_all}
+use Rattle.sieve_syntax.specs.Octet.{begins_name, is_name_octet, is_blank}
 use Rattle.sieve_syntax.specs.Token.{is_identifier, is_one, spells, line_length, white_at}
 use Rattle.sieve_syntax.specs.Scan.{name_length, longest_at}
 use Rattle.sieve_syntax.specs.declared.token.TokenKind.{TokenKind}
-use Rattle.sieve_syntax.specs.declared.token.TokenKind.TheVariants.{Identifier, Semicolon, Bad}
+use Rattle.sieve_syntax.specs.declared.token.TokenKind.TheVariants.{Identifier, Semicolon}
 use Rattle.std.proofs.lemmas.Bool.Decides.{nat_tests}
-use Rattle.std.proofs.lemmas.Bool.{eqb-true, eq-eqb}
-use Rattle.sieve_syntax.proofs.Cases.{by_cases, by_option, and_left, and_right, both_true}
+use Rattle.std.proofs.lemmas.Bool.{eqb-true}
+use Rattle.sieve_syntax.proofs.Cases.{by_cases, and_left, and_right, both_true}
 
 pub name_bound : (cs : List ℕ) → name_length cs ≤ length cs
 unfolding name_length

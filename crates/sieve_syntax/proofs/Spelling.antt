@@ -1,9 +1,9 @@
 -- Each text has one list of tokens.
-use Rattle.std.proofs.Common.{◌≡◌, ℕ, zero, suc, ◌+◌, ◌-◌, ◌<◌, ◌≤◌, ◌⊎◌, inl, inr, Bool, true, false, IsTrue, cond, nat_lt, if◌then◌else◌, List, [], ◌∷◌, length, take, drop, Option, Some, None, refl, sym, ap, ◌∙◌, subst, arith, rules}
-use Rattle.std.specs.List.{slice_range}
+use Rattle.std.proofs.Common.{◌≡◌, ℕ, zero, suc, ◌+◌, ◌-◌, ◌<◌, ◌≤◌, ◌⊎◌, inl, inr, IsTrue, nat_lt, if◌then◌else◌, List, [], ◌∷◌, length, take, drop, get_or, Option, Some, None, refl, sym, ap, ◌∙◌, subst, arith}
+use Rattle.std.specs.List.{slice_range, All}
 use Rattle.std.proofs.lemmas.Bool.{ltb-true, ltb-false}
-use Rattle.std.proofs.lemmas.List.{length-drop, drop_all, drop-drop}
-use Rattle.sieve_syntax.specs.Token.{line_at, spells, white_at, White, nothing, white, IsLongest, IsBad, SpellsFrom, Spells}
+use Rattle.std.proofs.lemmas.List.{length-drop, drop_all}
+use Rattle.sieve_syntax.specs.Token.{line_at, spells, white_at, White, nothing, white, IsLongest, IsBad, IsInside, SpellsFrom, Spells}
 use Rattle.sieve_syntax.specs.Scan.{longest_at, token_at, tokens_from, tokens_of}
 use Rattle.sieve_syntax.specs.declared.token.Token.{Token}
 use Rattle.sieve_syntax.specs.declared.token.TokenKind.{TokenKind}
@@ -206,3 +206,26 @@ unique_from text place (t ∷ ts) (u ∷ us) h k =
 
 pub unique : (text : List ℕ) (ts us : List Token) → Spells ts text → Spells us text → ts ≡ us
 unique text ts us h k = unique_from text 0 ts us h k
+
+token_inside : (text : List ℕ) (token : Token) (more less : Type 0) → (IsLongest text token × more) ⊎ (IsBad text token × less) → IsInside text token
+token_inside text token more less (inl h) = record { some = (longest-there text token h.0).starts; inside = h.0.inside }
+token_inside text token more less (inr h) =
+    let start = h.0.start in let rest = h.0.rest in
+    record { some = omega arith; inside = omega arith }
+
+all_inside : (text : List ℕ) (t : Token) (ts : List Token) → IsInside text t → All (IsInside text) ts → (k : ℕ) (d : Token) → k < suc (length ts) → IsInside text (get_or (t ∷ ts) k d)
+all_inside text t ts first rest zero d less = first
+all_inside text t ts first rest (suc k) d less = rest k d (omega arith)
+
+none_inside : (text : List ℕ) (ts : List Token) → ts ≡ [] → All (IsInside text) ts
+none_inside text [] e = λ k d less. absurd (omega arith)
+none_inside text (t ∷ ts) e = cc
+
+-- each token of a text lies in it
+pub spelled_inside : (text : List ℕ) (place : ℕ) (ts : List Token) → SpellsFrom text place ts → All (IsInside text) ts
+spelled_inside text place [] h = λ k d less. absurd (omega arith)
+spelled_inside text place (t ∷ ts) h = all_inside text t ts (token_inside text t _ _ h.2) (later h.2 (λ more. spelled_inside text t.end ts more))
+  where
+    later : (IsLongest text t × SpellsFrom text t.end ts) ⊎ (IsBad text t × (ts ≡ [])) → (SpellsFrom text t.end ts → All (IsInside text) ts) → All (IsInside text) ts
+    later (inl a) below = below a.1
+    later (inr a) below = none_inside text ts a.1

@@ -1,6 +1,6 @@
 -- The recursions over a text, one octet on.
-use Rattle.std.proofs.Common.{◌≡◌, ℕ, suc, ◌+◌, ◌-◌, ◌<◌, ◌≤◌, ◌==◌, Bool, true, false, if◌then◌else◌, List, [], ◌∷◌, length, take, drop, get_or, refl, sym, ap, ◌∙◌, arith}
-use Rattle.std.proofs.lemmas.List.{at_drop_more, at_drop_all, take-take, drop-take}
+use Rattle.std.proofs.Common.{◌≡◌, ℕ, ◌+◌, ◌-◌, ◌<◌, ◌≤◌, ◌==◌, if◌then◌else◌, List, length, take, drop, get_or, sym, ap, ◌∙◌, arith}
+use Rattle.std.proofs.lemmas.List.{take_all, at_drop_more, at_drop_all, take-take, drop-take}
 use Rattle.std.proofs.lemmas.List.Sums.{sum_by-take-drop}
 use Rattle.std.proofs.Math.Numerals.{add-one}
 use Rattle.sieve_syntax.specs.Octet.{is_name_octet}
@@ -36,3 +36,6 @@ line_feeds_split text start end h =
     ap (λ xs. line_feeds xs + line_feeds (take n (drop start text))) (sym front)
     ∙ ap (λ xs. line_feeds (take start (take end text)) + line_feeds xs) (sym back)
     ∙ sum_by-take-drop _ (take end text) start
+
+pub line_feeds_all : (text : List ℕ) → line_feeds (take (length text) text) ≡ line_feeds text
+line_feeds_all text = ap line_feeds (take_all (length text) text (omega arith))

@@ -1,10 +1,10 @@
 -- What the machine has read is the front of what a tree writes.
-use Rattle.std.proofs.Common.{◌≡◌, ℕ, zero, suc, ◌+◌, ◌-◌, ◌<◌, ◌≤◌, ◌⊎◌, inl, inr, Bool, true, false, cond, nat_lt, if◌then◌else◌, List, [], ◌∷◌, ◌++◌, length, Option, Some, None, refl, sym, ap, ◌∙◌, subst, arith, append_assoc, append-nil}
-use Rattle.std.proofs.lemmas.Bool.{lt-ltb, ltb-true}
-use Rattle.sieve_syntax.specs.Tree.{Text, Argument, strings, number, tag, Test, test, Tests, no_tests, one_test, test_list, TestList, end_tests, more_tests, tests, test_items, Node, node, Block, no_block, block, Nodes, end_nodes, more_nodes, nodes, items}
+use Rattle.std.proofs.Common.{◌≡◌, ℕ, zero, suc, ◌+◌, ◌<◌, true, false, nat_lt, if◌then◌else◌, List, [], ◌∷◌, ◌++◌, length, Some, None, refl, sym, ap, ◌∙◌, subst, arith, append_assoc, append-nil}
+use Rattle.std.proofs.lemmas.Bool.{ltb-true}
+use Rattle.sieve_syntax.specs.Tree.{Text, Argument, strings, number, tag, Test, Tests, no_tests, one_test, test_list, tests, Node, no_block, block, nodes}
 use Rattle.sieve_syntax.specs.Word.{Word, identifier, tag_word, number_word, string_word, semicolon, open_brace, close_brace, open_parenthesis, close_parenthesis, open_bracket, close_bracket, comma, bad}
 use Rattle.sieve_syntax.specs.Grammar.{written_more, written_texts, written_argument, written_arguments, written_test, written_tests, written_test_list, written_test_rest, written_node, written_block, written_nodes, IsArgument, AreArguments, NestsTest, NestsTests, NestsTestList, NestsNode, NestsBlock, NestsNodes}
-use Rattle.sieve_syntax.specs.Machine.{Head, Level, for_one, for_list, Open, Outer, State, between, in_arguments, before_string, after_string, before_test, after_tests, begun, with_argument, test_with, node_with, after_node, inside, close, close_block, step}
+use Rattle.sieve_syntax.specs.Machine.{Head, Level, for_one, for_list, Open, Outer, State, between, in_arguments, before_string, after_string, before_test, after_tests, begun, with_argument, test_with, node_with, inside, after_command, after_listed, close, close_block, step}
 use Rattle.sieve_syntax.proofs.Cases.{by_cases}
 
 -- THE WORDS READ SO FAR
@@ -197,7 +197,7 @@ module _ (depth room : ℕ) where
 
   close_takes : (ls : List Level) (w : Word) (o : Outer) (h : Head) (ts : Tests) (s : State) (d : ℕ) → IsOuter depth room o → IsLevels depth ls d → AreArguments h.args → NestsTests ts d → close room o ls h ts w ≡ Some s →
       Takes depth room (outer_words o ++ (level_words ls ++ (head_words h ++ written_tests ts))) w s
-  unfolding close NestsTests NestsTest NestsNode NestsBlock written_tests written_test written_node written_block
+  unfolding close after_command after_listed NestsTests NestsTest NestsNode NestsBlock written_tests written_test written_node written_block
   close_takes [] semicolon o h ts s d outer levels args nests e =
       subst (Takes depth room (outer_words o ++ (head_words h ++ written_tests ts)) semicolon) (some_is _ s e) record {
         reached = record {

@@ -1,6 +1,8 @@
 pub mod Octet
 pub mod Grammar
 pub mod Machine
+pub mod Parsed
+pub mod Reader
 pub mod Scan
 pub mod Syntax
 pub mod Token

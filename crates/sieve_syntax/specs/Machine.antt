@@ -1,5 +1,5 @@
 -- A reader of words, one after another: its states, and what each word does to them.
-use Rattle.std.specs.Prelude.{ℕ, nat_lt, if◌then◌else◌, Bool, true, false, List, [], ◌∷◌, ◌++◌, length, Option, Some, None, Result, Ok, Err}
+use Rattle.std.specs.Prelude.{ℕ, nat_lt, if◌then◌else◌, true, false, List, [], ◌∷◌, ◌++◌, length, Option, Some, None, Result, Ok, Err}
 use Rattle.sieve_syntax.specs.Tree.{Text, Argument, strings, number, tag, Test, test, Tests, no_tests, one_test, test_list, tests, Node, node, Block, no_block, block, nodes}
 use Rattle.sieve_syntax.specs.Token.{line_at}
 use Rattle.sieve_syntax.specs.Word.{Word, identifier, tag_word, number_word, string_word, semicolon, open_brace, close_brace, open_parenthesis, close_parenthesis, open_bracket, close_bracket, comma, word_of}
@@ -59,15 +59,23 @@ after_node o n = record { blocks = o.blocks; done = o.done ++ n ∷ [] }
 abbrev pub inside : Outer → Head → Tests → Outer
 inside o h ts = record { blocks = record { done = o.done; head = h; tests = ts } ∷ o.blocks; done = [] }
 
--- a word behind a command or a test with all its arguments and tests
+-- a word behind a command with all its arguments and tests
+unfoldable pub after_command : ℕ → Outer → Head → Tests → Word → Option State
+after_command room o h ts semicolon = Some (between (after_node o (node_with h ts no_block)))
+after_command room o h ts open_brace = if nat_lt (length o.blocks) room then Some (between (inside o h ts)) else None
+after_command room o h ts _ = None
+
+-- a word behind a test in a list of tests
+unfoldable pub after_listed : Outer → List Level → Head → List Test → Word → Option State
+after_listed o ls h listed comma = Some (before_test o (for_list h listed ∷ ls))
+after_listed o ls h listed close_parenthesis = Some (after_tests o ls h (test_list (tests listed)))
+after_listed o ls h listed _ = None
+
+-- a word behind a command or a test with all its arguments and tests: a test that stands alone ends with what it is in
 unfoldable pub close : ℕ → Outer → List Level → Head → Tests → Word → Option State
-close room o [] h ts semicolon = Some (between (after_node o (node_with h ts no_block)))
-close room o [] h ts open_brace = if nat_lt (length o.blocks) room then Some (between (inside o h ts)) else None
-close room o [] h ts _ = None
+close room o [] h ts w = after_command room o h ts w
 close room o (for_one g ∷ ls) h ts w = close room o ls g (one_test (test_with h ts)) w
-close room o (for_list g before ∷ ls) h ts comma = Some (before_test o (for_list g (before ++ test_with h ts ∷ []) ∷ ls))
-close room o (for_list g before ∷ ls) h ts close_parenthesis = Some (after_tests o ls g (test_list (tests (before ++ test_with h ts ∷ []))))
-close room o (for_list g before ∷ ls) h ts _ = None
+close room o (for_list g before ∷ ls) h ts w = after_listed o ls g (before ++ test_with h ts ∷ []) w
 
 -- the end of the innermost block
 unfoldable pub close_block : List Open → List Node → Option State

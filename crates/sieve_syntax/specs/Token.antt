@@ -1,5 +1,5 @@
 -- The tokens of a text (RFC 5228, sections 2 and 8.1).
-use Rattle.std.specs.Prelude.{◌≡◌, ℕ, ◌+◌, ◌<◌, ◌≤◌, ◌==◌, ◌⊎◌, ◌&&◌, Bool, true, false, IsTrue, if◌then◌else◌, List, [], ◌∷◌, length, take, drop, count_by, Option, Some, None}
+use Rattle.std.specs.Prelude.{◌≡◌, ℕ, ◌+◌, ◌<◌, ◌≤◌, ◌==◌, ◌⊎◌, ◌&&◌, Bool, false, IsTrue, if◌then◌else◌, List, [], ◌∷◌, length, take, drop, count_by, Option, Some, None}
 use Rattle.std.specs.List.{list_all, slice_range}
 use Rattle.std.proofs.Common.{suc}
 use Rattle.sieve_syntax.specs.Octet.{begins_name, is_name_octet, is_blank}
@@ -65,6 +65,11 @@ pub record IsBad (text : List ℕ) (token : Token) : Type 0 where
   pub rest : token.end ≡ length text
   pub no_white : white_at (drop token.start text) ≡ None
   pub no_spelling : (kind : TokenKind) (end : ℕ) → end ≤ length text → IsTrue (spells kind (slice_range text token.start end)) → ⊥
+
+-- the token lies in the text
+pub record IsInside (text : List ℕ) (token : Token) : Type 0 where
+  pub some : token.start < token.end
+  pub inside : token.end ≤ length text
 
 -- From a place on, the text is white space and longest spellings in turn. Where none begins, a bad token ends the list.
 abbrev pub SpellsFrom : List ℕ → ℕ → List Token → Type 0

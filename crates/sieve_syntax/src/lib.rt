@@ -3,9 +3,17 @@
 #![tactic(auto)]
 
 pub mod laws;
+mod parser;
+mod reader;
 mod scan;
+mod step;
 pub mod token;
 pub mod tree;
+mod word;
 
+pub use parser::{SyntaxFault, TEXT_LIMIT, parse};
 pub use token::{Token, TokenKind, tokens};
 pub use tree::{Argument, Command, Script, Test, Tests, Text};
+
+#[cfg(test)]
+mod tests;

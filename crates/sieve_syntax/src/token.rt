@@ -1,7 +1,7 @@
 //! The tokens of a text (RFC 5228, section 2).
 
-ghost use Rattle.std.specs.Prelude.{◌≡◌, ◌+◌, ◌≤◌, List, length, take, IfOk};
-ghost use Rattle.sieve_syntax.specs.Token.{Spells, line_feeds};
+ghost use Rattle.std.specs.Prelude.{◌≡◌, ◌+◌, ◌≤◌, ◌<◌, ◌^◌, List, length, take, All, IfOk};
+ghost use Rattle.sieve_syntax.specs.Token.{IsInside, Spells, line_at, line_feeds};
 ghost use Rattle.sieve_syntax.specs.declared.token.Token.{Token};
 
 use crate::scan::{longest_spelling, white_length};
@@ -60,11 +60,21 @@ fn line_feeds_between(text: &[u8], start: usize, end: usize) -> usize
     count_line_feeds(&text[start..end])
 }
 
+/// The line of the end of a text.
+#[tactic(auto, using(crate::proofs::Steps::line_feeds_all))]
+pub(crate) fn last_line(text: &[u8]) -> u64
+    requires { length text.now < 2 ^ 63 }
+    ensures { result ≡ line_at text.now (length text.now) }
+{
+    count_line_feeds(text) as u64 + 1
+}
+
 /// The tokens of a text, in their order. At each place the longest spelling is taken. Where neither white space nor a
 /// spelling begins, one bad token takes the rest of the text. The only refusal is want of memory.
 pub fn tokens(alloc: Global, text: &[u8]) -> Result<Vec<Token>, AllocError>
     // The tokens spell the text.
     ensures spelled { IfOk result (λ found. Spells found.items text.now) }
+    ensures inside { IfOk result (λ found. All (IsInside text.now) found.items) }
     // No other list of tokens does.
     ensures only { IfOk result (λ found. (others : List Token) → Spells others text.now → others ≡ found.items) }
 {

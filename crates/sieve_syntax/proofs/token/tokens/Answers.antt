@@ -1,8 +1,7 @@
-use Rattle.std.proofs.Common.{◌≡◌, ◌∙◌, sym, refl, Option, Some, None, length, drop, take, ◌-◌, ℕ, ◌+◌, ap, List, arith}
+use Rattle.std.proofs.Common.{◌≡◌, ◌∙◌, sym, length, drop, take, ◌-◌, ℕ, ◌+◌, ap, List, arith}
 use Rattle.std.proofs.lemmas.List.{take_rest, length-drop}
-use Rattle.sieve_syntax.specs.Token.{Spells, white_at}
-use Rattle.sieve_syntax.specs.Scan.{longest_at}
-use Rattle.sieve_syntax.proofs.Spelling.{unique}
+use Rattle.sieve_syntax.specs.Token.{Spells}
+use Rattle.sieve_syntax.proofs.Spelling.{unique, spelled_inside}
 use Rattle.sieve_syntax.proofs.Finding.{goes_on_white, goes_on_token, ends_bad, ends_here}
 use Rattle.sieve_syntax.proofs.token.tokens.Goals as goal
 
@@ -47,3 +46,9 @@ returns-clause-spelled c = spelled_end c
 
 pub returns-clause-only : goal.returns-clause-only
 returns-clause-only c = λ others h. unique c.args.text.now others _ h (spelled_end c)
+
+pub returns-in_default-longest_spelling-clause-inside : goal.returns-in_default-longest_spelling-clause-inside
+returns-in_default-longest_spelling-clause-inside c = spelled_inside c.args.text.now 0 _ (spelled_bad c)
+
+pub returns-clause-inside : goal.returns-clause-inside
+returns-clause-inside c = spelled_inside c.args.text.now 0 _ (spelled_end c)
