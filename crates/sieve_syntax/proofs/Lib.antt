@@ -1,0 +1,10 @@
+pub mod Cases
+pub mod Scanning
+pub mod Spelling
+pub mod Finding
+pub mod Reading
+pub mod Writing
+pub mod Parsing
+pub mod Running
+pub mod Meaning
+pub mod Steps

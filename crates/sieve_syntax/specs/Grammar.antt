@@ -1,0 +1,119 @@
+-- The grammar of Sieve (RFC 5228, section 8.2), as what a tree writes.
+use Rattle.std.specs.Prelude.{◌≡◌, ℕ, true, false, List, [], ◌∷◌, ◌++◌}
+use Rattle.std.proofs.Common.{zero, suc}
+use Rattle.sieve_syntax.specs.Tree.{Text, Argument, strings, number, tag, Test, test, Tests, no_tests, one_test, test_list, TestList, end_tests, more_tests, Node, node, Block, no_block, block, Nodes, end_nodes, more_nodes, nodes}
+use Rattle.sieve_syntax.specs.Word.{Word, identifier, tag_word, number_word, string_word, semicolon, open_brace, close_brace, open_parenthesis, close_parenthesis, open_bracket, close_bracket, comma}
+
+-- WHAT A TREE WRITES
+
+-- strings with a comma before each
+abbrev pub written_more : List Text → List Word
+written_more [] = []
+written_more (t ∷ ts) = comma ∷ string_word t.octets t.line ∷ written_more ts
+
+-- strings with a comma between each two
+abbrev pub written_texts : List Text → List Word
+written_texts [] = []
+written_texts (t ∷ ts) = string_word t.octets t.line ∷ written_more ts
+
+-- argument = string-list | number | tag, string-list = string | "[" string ("," string)* "]"
+abbrev pub written_argument : Argument → List Word
+written_argument (strings items true) = open_bracket ∷ written_texts items ++ close_bracket ∷ []
+written_argument (strings items false) = written_texts items
+written_argument (number value line) = number_word value line ∷ []
+written_argument (tag name line) = tag_word name line ∷ []
+
+abbrev pub written_arguments : List Argument → List Word
+written_arguments [] = []
+written_arguments (a ∷ rest) = written_argument a ++ written_arguments rest
+
+unfoldable mutual
+  -- test = identifier arguments
+  pub written_test : Test → List Word
+  written_test (test name line args ts) = identifier name line ∷ written_arguments args ++ written_tests ts
+
+  -- [ test | test-list ]
+  pub written_tests : Tests → List Word
+  written_tests no_tests = []
+  written_tests (one_test t) = written_test t
+  written_tests (test_list ts) = open_parenthesis ∷ written_test_list ts
+
+  -- the first test of a list in parentheses, and what follows it
+  pub written_test_list : TestList → List Word
+  written_test_list end_tests = close_parenthesis ∷ []
+  written_test_list (more_tests t ts) = written_test t ++ written_test_rest ts
+
+  -- the other tests of such a list, each behind a comma
+  pub written_test_rest : TestList → List Word
+  written_test_rest end_tests = close_parenthesis ∷ []
+  written_test_rest (more_tests t ts) = comma ∷ written_test t ++ written_test_rest ts
+
+unfoldable mutual
+  -- command = identifier arguments ( ";" | block )
+  pub written_node : Node → List Word
+  written_node (node name line args ts ending) = identifier name line ∷ written_arguments args ++ written_tests ts ++ written_block ending
+
+  -- block = "{" commands "}"
+  pub written_block : Block → List Word
+  written_block no_block = semicolon ∷ []
+  written_block (block ns) = open_brace ∷ written_nodes ns ++ close_brace ∷ []
+
+  -- commands = command*
+  pub written_nodes : Nodes → List Word
+  written_nodes end_nodes = []
+  written_nodes (more_nodes n ns) = written_node n ++ written_nodes ns
+
+-- WHICH TREES ARE WRITTEN
+
+-- a list in brackets has a string, and without brackets there is one
+abbrev pub IsArgument : Argument → Type 0
+IsArgument (strings [] bracketed) = ⊥
+IsArgument (strings (t ∷ []) bracketed) = Unit {0}
+IsArgument (strings (t ∷ s ∷ ss) true) = Unit {0}
+IsArgument (strings (t ∷ s ∷ ss) false) = ⊥
+IsArgument (number value line) = Unit {0}
+IsArgument (tag name line) = Unit {0}
+
+abbrev pub AreArguments : List Argument → Type 0
+AreArguments [] = Unit {0}
+AreArguments (a ∷ rest) = IsArgument a × AreArguments rest
+
+unfoldable mutual
+  -- the test's own tests may go so much deeper
+  pub NestsTest : Test → ℕ → Type 0
+  NestsTest (test name line args ts) depth = AreArguments args × NestsTests ts depth
+
+  -- tests stand only where there is depth for them, and a list has a test
+  pub NestsTests : Tests → ℕ → Type 0
+  NestsTests no_tests depth = Unit {0}
+  NestsTests (one_test t) zero = ⊥
+  NestsTests (one_test t) (suc depth) = NestsTest t depth
+  NestsTests (test_list end_tests) depth = ⊥
+  NestsTests (test_list (more_tests t ts)) zero = ⊥
+  NestsTests (test_list (more_tests t ts)) (suc depth) = NestsTest t depth × NestsTestList ts depth
+
+  pub NestsTestList : TestList → ℕ → Type 0
+  NestsTestList end_tests depth = Unit {0}
+  NestsTestList (more_tests t ts) depth = NestsTest t depth × NestsTestList ts depth
+
+unfoldable mutual
+  -- the tests go no deeper than the one number, and no more blocks than the other stand open at once
+  pub NestsNode : ℕ → Node → ℕ → Type 0
+  NestsNode depth (node name line args ts ending) room = AreArguments args × NestsTests ts depth × NestsBlock depth ending room
+
+  pub NestsBlock : ℕ → Block → ℕ → Type 0
+  NestsBlock depth no_block room = Unit {0}
+  NestsBlock depth (block ns) zero = ⊥
+  NestsBlock depth (block ns) (suc room) = NestsNodes depth ns room
+
+  pub NestsNodes : ℕ → Nodes → ℕ → Type 0
+  NestsNodes depth end_nodes room = Unit {0}
+  NestsNodes depth (more_nodes n ns) room = NestsNode depth n room × NestsNodes depth ns room
+
+-- The tree writes the words, with tests no deeper than depth and no more than room blocks open at once.
+abbrev pub Writes : ℕ → ℕ → List Node → List Word → Type 0
+Writes depth room tree words = NestsNodes depth (nodes tree) room × (words ≡ written_nodes (nodes tree))
+
+-- the words begin what a tree writes
+abbrev pub Begins : ℕ → ℕ → List Word → Type 0
+Begins depth room words = (more : List Word) × (tree : List Node) × Writes depth room tree (words ++ more)

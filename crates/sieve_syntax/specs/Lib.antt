@@ -1,0 +1,10 @@
+pub mod Octet
+pub mod Grammar
+pub mod Machine
+pub mod Parsed
+pub mod Reader
+pub mod Scan
+pub mod Syntax
+pub mod Token
+pub mod Tree
+pub mod Word

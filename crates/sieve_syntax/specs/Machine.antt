@@ -1,0 +1,120 @@
+-- A reader of words, one after another: its states, and what each word does to them.
+use Rattle.std.specs.Prelude.{ℕ, nat_lt, if◌then◌else◌, true, false, List, [], ◌∷◌, ◌++◌, length, Option, Some, None, Result, Ok, Err}
+use Rattle.sieve_syntax.specs.Tree.{Text, Argument, strings, number, tag, Test, test, Tests, no_tests, one_test, test_list, tests, Node, node, Block, no_block, block, nodes}
+use Rattle.sieve_syntax.specs.Token.{line_at}
+use Rattle.sieve_syntax.specs.Word.{Word, identifier, tag_word, number_word, string_word, semicolon, open_brace, close_brace, open_parenthesis, close_parenthesis, open_bracket, close_bracket, comma, word_of}
+use Rattle.sieve_syntax.specs.declared.token.Token.{Token}
+
+-- a command or a test whose arguments are being read
+pub record Head : Type 0 where
+  pub name : List ℕ
+  pub line : ℕ
+  pub args : List Argument
+
+-- A command or a test that waits for a test inside it: for its one test, or for the next of its list after those before.
+pub data Level : Type 0 where
+  for_one : Head → Level
+  for_list : Head → List Test → Level
+
+-- a command whose block stands open, and the commands before it
+pub record Open : Type 0 where
+  pub done : List Node
+  pub head : Head
+  pub tests : Tests
+
+-- the open blocks, innermost first, and the commands read in the innermost
+pub record Outer : Type 0 where
+  pub blocks : List Open
+  pub done : List Node
+
+pub data State : Type 0 where
+  -- between two commands
+  between : Outer → State
+  -- behind an identifier or an argument
+  in_arguments : Outer → List Level → Head → State
+  -- in a list of strings, where a string has to come
+  before_string : Outer → List Level → Head → List Text → State
+  -- in a list of strings, behind a string
+  after_string : Outer → List Level → Head → List Text → State
+  -- in a list of tests, where a test has to come
+  before_test : Outer → List Level → State
+  -- behind a list of tests
+  after_tests : Outer → List Level → Head → Tests → State
+
+abbrev pub begun : List ℕ → ℕ → Head
+begun name line = record { name = name; line = line; args = [] }
+
+abbrev pub with_argument : Head → Argument → Head
+with_argument h a = record { name = h.name; line = h.line; args = h.args ++ a ∷ [] }
+
+abbrev pub test_with : Head → Tests → Test
+test_with h ts = test h.name h.line h.args ts
+
+abbrev pub node_with : Head → Tests → Block → Node
+node_with h ts b = node h.name h.line h.args ts b
+
+abbrev pub after_node : Outer → Node → Outer
+after_node o n = record { blocks = o.blocks; done = o.done ++ n ∷ [] }
+
+abbrev pub inside : Outer → Head → Tests → Outer
+inside o h ts = record { blocks = record { done = o.done; head = h; tests = ts } ∷ o.blocks; done = [] }
+
+-- a word behind a command with all its arguments and tests
+unfoldable pub after_command : ℕ → Outer → Head → Tests → Word → Option State
+after_command room o h ts semicolon = Some (between (after_node o (node_with h ts no_block)))
+after_command room o h ts open_brace = if nat_lt (length o.blocks) room then Some (between (inside o h ts)) else None
+after_command room o h ts _ = None
+
+-- a word behind a test in a list of tests
+unfoldable pub after_listed : Outer → List Level → Head → List Test → Word → Option State
+after_listed o ls h listed comma = Some (before_test o (for_list h listed ∷ ls))
+after_listed o ls h listed close_parenthesis = Some (after_tests o ls h (test_list (tests listed)))
+after_listed o ls h listed _ = None
+
+-- a word behind a command or a test with all its arguments and tests: a test that stands alone ends with what it is in
+unfoldable pub close : ℕ → Outer → List Level → Head → Tests → Word → Option State
+close room o [] h ts w = after_command room o h ts w
+close room o (for_one g ∷ ls) h ts w = close room o ls g (one_test (test_with h ts)) w
+close room o (for_list g before ∷ ls) h ts w = after_listed o ls g (before ++ test_with h ts ∷ []) w
+
+-- the end of the innermost block
+unfoldable pub close_block : List Open → List Node → Option State
+close_block [] done = None
+close_block (b ∷ bs) done = Some (between (record { blocks = bs; done = b.done ++ node_with b.head b.tests (block (nodes done)) ∷ [] }))
+
+unfoldable pub step : ℕ → ℕ → State → Word → Option State
+step depth room (between o) (identifier name line) = Some (in_arguments o [] (begun name line))
+step depth room (between o) close_brace = close_block o.blocks o.done
+step depth room (between o) _ = None
+step depth room (in_arguments o ls h) (string_word octets line) = Some (in_arguments o ls (with_argument h (strings (record { octets = octets; line = line } ∷ []) false)))
+step depth room (in_arguments o ls h) (number_word value line) = Some (in_arguments o ls (with_argument h (number value line)))
+step depth room (in_arguments o ls h) (tag_word name line) = Some (in_arguments o ls (with_argument h (tag name line)))
+step depth room (in_arguments o ls h) open_bracket = Some (before_string o ls h [])
+step depth room (in_arguments o ls h) (identifier name line) = if nat_lt (length ls) depth then Some (in_arguments o (for_one h ∷ ls) (begun name line)) else None
+step depth room (in_arguments o ls h) open_parenthesis = if nat_lt (length ls) depth then Some (before_test o (for_list h [] ∷ ls)) else None
+step depth room (in_arguments o ls h) w = close room o ls h no_tests w
+step depth room (before_string o ls h items) (string_word octets line) = Some (after_string o ls h (items ++ record { octets = octets; line = line } ∷ []))
+step depth room (before_string o ls h items) _ = None
+step depth room (after_string o ls h items) comma = Some (before_string o ls h items)
+step depth room (after_string o ls h items) close_bracket = Some (in_arguments o ls (with_argument h (strings items true)))
+step depth room (after_string o ls h items) _ = None
+step depth room (before_test o ls) (identifier name line) = Some (in_arguments o ls (begun name line))
+step depth room (before_test o ls) _ = None
+step depth room (after_tests o ls h ts) w = close room o ls h ts w
+
+abbrev pub start : State
+start = between (record { blocks = []; done = [] })
+
+-- the commands, where all that was begun is ended
+abbrev pub whole_outer : List Open → List Node → Option (List Node)
+whole_outer [] done = Some done
+whole_outer (b ∷ bs) done = None
+
+unfoldable pub whole : State → Option (List Node)
+whole (between o) = whole_outer o.blocks o.done
+whole _ = None
+
+-- the tree, or the line of the first token that no state takes, or of the end
+unfoldable pub read : ℕ → ℕ → List ℕ → State → List Token → Result (List Node) ℕ
+read depth room text s [] = elim (whole s) [ Some tree ↦ Ok tree | None ↦ Err (line_at text (length text)) ]
+read depth room text s (token ∷ tokens) = elim (step depth room s (word_of text token)) [ Some next ↦ read depth room text next tokens | None ↦ Err token.line ]

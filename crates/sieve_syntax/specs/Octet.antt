@@ -1,0 +1,21 @@
+-- Classes of octets (RFC 5228, section 8.1).
+use Rattle.std.specs.Prelude.{ℕ, Bool, ◌==◌, ◌||◌, ◌&&◌, nat_le}
+
+abbrev pub is_between : ℕ → ℕ → ℕ → Bool
+is_between low high octet = nat_le low octet && nat_le octet high
+
+-- a digit
+abbrev pub is_digit : ℕ → Bool
+is_digit octet = is_between 48 57 octet
+
+-- a letter or `_`
+abbrev pub begins_name : ℕ → Bool
+begins_name octet = is_between 97 122 octet || (is_between 65 90 octet || (octet == 95))
+
+-- a letter, a digit or `_`
+abbrev pub is_name_octet : ℕ → Bool
+is_name_octet octet = begins_name octet || is_digit octet
+
+-- space, tab, CR or LF
+abbrev pub is_blank : ℕ → Bool
+is_blank octet = octet == 32 || (octet == 9 || (octet == 13 || (octet == 10)))

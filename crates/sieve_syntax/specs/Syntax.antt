@@ -1,0 +1,48 @@
+-- What a text means: the one tree that writes it, or the line of its first fault.
+use Rattle.std.specs.Prelude.{◌≡◌, ℕ, ◌⊎◌, List, [], ◌∷◌, ◌++◌, length, Result}
+use Rattle.sieve_syntax.specs.Grammar.{Writes, Begins}
+use Rattle.sieve_syntax.specs.Machine.{start, read}
+use Rattle.sieve_syntax.specs.Scan.{tokens_of}
+use Rattle.sieve_syntax.specs.Token.{Spells, line_at}
+use Rattle.sieve_syntax.specs.Tree.{Node}
+use Rattle.sieve_syntax.specs.Word.{words_of}
+use Rattle.sieve_syntax.specs.declared.token.Token.{Token}
+
+-- how deep tests may go, and how many blocks may stand open at once
+abbrev pub test_depth : ℕ
+test_depth = 0
+
+abbrev pub block_room : ℕ
+block_room = 0
+
+-- The line is that of the first token with which the tokens begin nothing that a tree writes.
+pub record IsFaultAt (depth room : ℕ) (text : List ℕ) (tokens : List Token) (line : ℕ) : Type 0 where
+  pub front : List Token
+  pub token : Token
+  pub rest : List Token
+  pub split : tokens ≡ front ++ token ∷ rest
+  pub begins : Begins depth room (words_of text front)
+  pub stops : Begins depth room (words_of text (front ++ token ∷ [])) → ⊥
+  pub line_is : line ≡ token.line
+
+-- The tokens begin what a tree writes, but no tree writes them alone, and the line is that of the end.
+pub record IsFaultAtEnd (depth room : ℕ) (text : List ℕ) (tokens : List Token) (line : ℕ) : Type 0 where
+  pub begins : Begins depth room (words_of text tokens)
+  pub stops : (tree : List Node) → Writes depth room tree (words_of text tokens) → ⊥
+  pub line_is : line ≡ line_at text (length text)
+
+-- the tree writes the text: it writes the tokens that spell it
+pub record WritesText (tree : List Node) (text : List ℕ) : Type 0 where
+  pub tokens : List Token
+  pub spelled : Spells tokens text
+  pub written : Writes test_depth block_room tree (words_of text tokens)
+
+-- the line of the first token, or of the end, with which the tokens begin no list that a tree writes
+pub record IsFaultLine (text : List ℕ) (line : ℕ) : Type 0 where
+  pub tokens : List Token
+  pub spelled : Spells tokens text
+  pub fault : IsFaultAt test_depth block_room text tokens line ⊎ IsFaultAtEnd test_depth block_room text tokens line
+
+-- the tree that writes a text, or the line of its fault
+unfoldable pub syntax_of : List ℕ → Result (List Node) ℕ
+syntax_of text = read test_depth block_room text start (tokens_of text)

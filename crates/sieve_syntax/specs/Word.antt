@@ -1,0 +1,35 @@
+-- What a token says to the grammar.
+use Rattle.std.specs.Prelude.{ℕ, List, Option, map}
+use Rattle.std.specs.List.{slice_range}
+use Rattle.sieve_syntax.specs.declared.token.Token.{Token}
+use Rattle.sieve_syntax.specs.declared.token.TokenKind.{TokenKind}
+use Rattle.sieve_syntax.specs.declared.token.TokenKind.TheVariants as kinds
+
+-- A token without its place. Punctuation has no line here, since no tree keeps it.
+pub data Word : Type 0 where
+  identifier : (name : List ℕ) (line : ℕ) → Word
+  tag_word : (name : List ℕ) (line : ℕ) → Word
+  number_word : (value : Option ℕ) (line : ℕ) → Word
+  string_word : (octets : List ℕ) (line : ℕ) → Word
+  semicolon : Word
+  open_brace : Word
+  close_brace : Word
+  open_parenthesis : Word
+  close_parenthesis : Word
+  open_bracket : Word
+  close_bracket : Word
+  comma : Word
+  bad : Word
+
+-- the word that octets spell
+unfoldable pub word_at : TokenKind → List ℕ → ℕ → Word
+word_at kinds.Identifier octets line = identifier octets line
+word_at kinds.Semicolon octets line = semicolon
+word_at _ octets line = bad
+
+-- the word of a token of a text
+abbrev pub word_of : List ℕ → Token → Word
+word_of text token = word_at token.kind (slice_range text token.start token.end) token.line
+
+abbrev pub words_of : List ℕ → List Token → List Word
+words_of text tokens = map (word_of text) tokens

@@ -1,0 +1,19 @@
+//! The syntax of Sieve (RFC 5228, sections 2 and 8): the tokens of a text, and the one generic tree that its tokens
+//! write.
+#![tactic(auto)]
+
+pub mod laws;
+mod parser;
+mod reader;
+mod scan;
+mod step;
+pub mod token;
+pub mod tree;
+mod word;
+
+pub use parser::{SyntaxFault, TEXT_LIMIT, parse};
+pub use token::{Token, TokenKind, tokens};
+pub use tree::{Argument, Command, Script, Test, Tests, Text};
+
+#[cfg(test)]
+mod tests;

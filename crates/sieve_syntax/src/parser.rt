@@ -1,0 +1,115 @@
+//! The parser: from the octets of a text to its tree.
+
+ghost use Rattle.std.specs.Prelude.{◌≡◌, ◌≤◌, ◌<◌, ◌↔◌, ◌^◌, ℕ, List, length, All, IfOk, IsErrOf};
+ghost use Rattle.sieve_syntax.specs.Machine;
+ghost use Rattle.sieve_syntax.specs.Machine.{read, start, whole};
+ghost use Rattle.sieve_syntax.specs.Parsed.{Ends, Goes, Parses};
+ghost use Rattle.sieve_syntax.specs.Reader.{state_value};
+ghost use Rattle.sieve_syntax.specs.Syntax.{IsFaultLine, WritesText, block_room, syntax_of, test_depth};
+ghost use Rattle.sieve_syntax.specs.Token.{IsInside, line_at};
+ghost use Rattle.sieve_syntax.specs.Tree.{Node, nodes_of};
+ghost use Rattle.sieve_syntax.specs.Word.{word_of};
+ghost use Rattle.sieve_syntax.specs.declared.parser.SyntaxFault.TheVariants.{NoMemory};
+
+use crate::reader::{Outer, State};
+use crate::step::{Stop, step};
+use crate::token::{Token, last_line, tokens};
+use crate::tree::Script;
+use crate::word::read_word;
+use std::alloc::{AllocError, Global};
+use thiserror::Error;
+
+/// The greatest length of a text, in octets.
+pub const TEXT_LIMIT: usize = 1_048_576;
+
+/// Why a text has no tree. The refusals are numbered from 1 on, in this order.
+#[derive(Clone, Copy, Debug, PartialEq, Eq, Error)]
+pub enum SyntaxFault {
+    /// 1: the text isn't a script (RFC 5228, section 8.2). The line is that of the first token, or of the end, with which
+    /// the tokens begin no script.
+    #[error("line {line}: not a script")]
+    Syntax { line: u64 },
+    /// 2: the text has more octets than [`TEXT_LIMIT`]. This comes before the other two.
+    #[error("the text is too large")]
+    TooLarge,
+    /// 3: memory ran out.
+    #[error("out of memory")]
+    NoMemory,
+}
+
+impl From<AllocError> for SyntaxFault {
+    ghost from_gives = { λ _ e. e ≡ NoMemory };
+
+    fn from(_e: AllocError) -> SyntaxFault {
+        SyntaxFault::NoMemory
+    }
+}
+
+/// The tree of a text: the one script that writes it. Nothing else is refused as `Syntax`, and `TooLarge` comes first.
+pub fn parse(alloc: Global, text: &[u8]) -> Result<Script, SyntaxFault>
+    ensures large { IsErrOf result SyntaxFault.TooLarge ↔ TEXT_LIMIT < length text.now }
+    // The tree writes the text.
+    ensures tree { IfOk result (λ script. WritesText (nodes_of script) text.now) }
+    // The line is that of the fault, and no tree writes the text.
+    ensures fault { (line : ℕ) → result ≡ Err (SyntaxFault.Syntax line) → IsFaultLine text.now line × ((tree : List Node) → WritesText tree text.now → ⊥) }
+    // The tree or the line is what `syntax_of` says.
+    ensures exact { Parses result (syntax_of text.now) }
+{
+    if text.len() > TEXT_LIMIT {
+        return Err(SyntaxFault::TooLarge);
+    }
+    let found = tokens(alloc, text)?;
+    read_tokens(alloc, text, &found)
+}
+
+/// The tree that the tokens of a text write.
+#[tactic(auto, using(crate::proofs::Running::running))]
+fn read_tokens(alloc: Global, text: &[u8], found: &[Token]) -> Result<Script, SyntaxFault>
+    requires size { length text.now ≤ TEXT_LIMIT }
+    requires inside { All (IsInside text.now) found.now }
+    ensures small { IsErrOf result SyntaxFault.TooLarge → ⊥ }
+    ensures exact { Parses result (read test_depth block_room text.now start found.now) }
+{
+    let mut state = State::Between(Outer {
+        blocks: Vec::new(alloc),
+        done: Vec::new(alloc),
+    });
+    for token in found {
+        match read_token(alloc, text, *token, state) {
+            Ok(next) => state = next,
+            Err(fault) => return Err(fault),
+        }
+    }
+    finish(text, state)
+}
+
+/// The state behind a token of the text.
+fn read_token(alloc: Global, text: &[u8], token: Token, state: State) -> Result<State, SyntaxFault>
+    requires { IsInside text.now token }
+    ensures { Goes result (Machine.step test_depth block_room (state_value state) (word_of text.now token)) token.line }
+{
+    let word = read_word(alloc, text, token)?;
+    match step(alloc, state, word) {
+        Ok(next) => Ok(next),
+        Err(Stop::Fault) => Err(SyntaxFault::Syntax { line: token.line }),
+        Err(Stop::NoMemory) => Err(SyntaxFault::NoMemory),
+    }
+}
+
+/// The script, where all that was begun is ended.
+#[tactic(auto, unfolding(crate::specs::Machine::whole))]
+fn finish(text: &[u8], state: State) -> Result<Script, SyntaxFault>
+    requires { length text.now ≤ TEXT_LIMIT }
+    ensures { Ends result (whole (state_value state)) (line_at text.now (length text.now)) }
+{
+    if let State::Between(outer) = state {
+        if outer.blocks.is_empty() {
+            return Ok(Script {
+                commands: outer.done,
+            });
+        }
+    }
+    Err(SyntaxFault::Syntax {
+        line: last_line(text),
+    })
+}

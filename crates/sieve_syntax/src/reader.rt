@@ -1,0 +1,83 @@
+//! What stands open while the tokens of a script are read, and what is read in it so far.
+
+ghost use Rattle.std.specs.Prelude.{◌≡◌};
+ghost use Rattle.sieve_syntax.specs.Machine.{node_with, test_with, begun, with_argument};
+ghost use Rattle.sieve_syntax.specs.Reader.{block_of, head_value};
+ghost use Rattle.sieve_syntax.specs.Tree.{node_of, test_of, tests_of, argument_of};
+
+use crate::tree::{Argument, Command, Test, Tests, Text};
+use std::alloc::{AllocError, Global};
+
+/// A command or a test whose arguments are being read.
+#[derive(Debug, Drop)]
+pub(crate) struct Head {
+    pub(crate) name: Vec<u8>,
+    pub(crate) line: u64,
+    pub(crate) args: Vec<Argument>,
+}
+
+/// A command or a test that waits for a test inside it.
+#[derive(Debug, Drop)]
+pub(crate) enum Level {
+    /// It waits for its one test.
+    One(Head),
+    /// It waits for the next test of its list, after those before.
+    List(Head, Vec<Test>),
+}
+
+/// A command whose block stands open, and the commands before it.
+#[derive(Debug, Drop)]
+pub(crate) struct Open {
+    pub(crate) done: Vec<Command>,
+    pub(crate) head: Head,
+    pub(crate) tests: Tests,
+}
+
+/// The open blocks, the innermost last, and the commands read in the innermost.
+#[derive(Debug, Drop)]
+pub(crate) struct Outer {
+    pub(crate) blocks: Vec<Open>,
+    pub(crate) done: Vec<Command>,
+}
+
+/// Where the next token stands. The levels are the tests that are open, the innermost last.
+#[derive(Debug, Drop)]
+pub(crate) enum State {
+    /// Between two commands.
+    Between(Outer),
+    /// Behind an identifier or an argument.
+    Arguments(Outer, Vec<Level>, Head),
+    /// In a list of strings, where a string has to come.
+    BeforeString(Outer, Vec<Level>, Head, Vec<Text>),
+    /// In a list of strings, behind a string.
+    AfterString(Outer, Vec<Level>, Head, Vec<Text>),
+    /// In a list of tests, where a test has to come.
+    BeforeTest(Outer, Vec<Level>),
+    /// Behind a list of tests.
+    AfterTests(Outer, Vec<Level>, Head, Tests),
+}
+
+/// The command with this head, these tests and this block.
+pub(crate) fn command_with(head: Head, tests: Tests, block: Option<Vec<Command>>) -> Command
+    ensures { node_of result ≡ node_with (head_value head) (tests_of tests) (block_of block) }
+{
+    Command {
+        name: head.name,
+        line: head.line,
+        args: head.args,
+        tests,
+        block,
+    }
+}
+
+/// The test with this head and these tests.
+pub(crate) fn finished_test(head: Head, tests: Tests) -> Test
+    ensures { test_of result ≡ test_with (head_value head) (tests_of tests) }
+{
+    Test {
+        name: head.name,
+        line: head.line,
+        args: head.args,
+        tests,
+    }
+}

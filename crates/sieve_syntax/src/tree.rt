@@ -1,0 +1,60 @@
+//! The generic tree of a script (RFC 5228, section 8.2). A line is one plus the number of LF before it.
+
+/// A whole script: its commands in the order of the text.
+#[derive(Debug, Drop)]
+pub struct Script {
+    pub commands: Vec<Command>,
+}
+
+/// A command, with its arguments, its tests and its block (RFC 5228, section 2.9).
+#[derive(Debug, Drop)]
+pub struct Command {
+    /// The identifier, as it is written. Case doesn't matter to Sieve.
+    pub name: Vec<u8>,
+    /// The line of the identifier.
+    pub line: u64,
+    pub args: Vec<Argument>,
+    pub tests: Tests,
+    /// The commands between `{` and `}`, or `None` where the command ends by `;`.
+    pub block: Option<Vec<Command>>,
+}
+
+/// A test, with its arguments and its own tests (RFC 5228, section 2.7).
+#[derive(Debug, Drop)]
+#[cycle(test)]
+pub struct Test {
+    /// The identifier, as it is written. Case doesn't matter to Sieve.
+    pub name: Vec<u8>,
+    /// The line of the identifier.
+    pub line: u64,
+    pub args: Vec<Argument>,
+    pub tests: Tests,
+}
+
+/// The tests that stand behind the arguments of a command or a test.
+#[derive(Debug, Drop)]
+#[cycle(test)]
+pub enum Tests {
+    None,
+    One(Box<Test>),
+    /// The tests of a list in parentheses, one or more.
+    List(Vec<Test>),
+}
+
+/// An argument (RFC 5228, section 2.6).
+#[derive(Debug, Drop)]
+pub enum Argument {
+    /// A list of one or more strings in brackets, or one string without brackets.
+    Strings { items: Vec<Text>, bracketed: bool },
+    /// A number with its unit multiplied in, or `None` where it is past `u64::MAX`, and its line.
+    Number { value: Option<u64>, line: u64 },
+    /// A tag without its colon, as it is written, and the line of the colon.
+    Tag { name: Vec<u8>, line: u64 },
+}
+
+/// A string: the octets that it stands for, and the line where it begins.
+#[derive(Debug, Drop)]
+pub struct Text {
+    pub octets: Vec<u8>,
+    pub line: u64,
+}
