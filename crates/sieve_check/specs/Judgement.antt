@@ -1,6 +1,10 @@
 -- What a script's text is: a script without a fault, or the line and kind of its first one.
-use Rattle.std.specs.Prelude.{ℕ, List, codes, Option, None, Some}
-use Rattle.sieve_check.specs.Script.{Commands, script_of, no_commands}
+use Rattle.std.specs.Prelude.{ℕ, List, codes, Option, None, Some, Result, Ok, Err}
+use Rattle.sieve_syntax.specs.Tree.{Node}
+use Rattle.sieve_syntax.specs.Syntax.{syntax_of}
+use Rattle.sieve_check.specs.Breach as breaches
+use Rattle.sieve_check.specs.Breach.{first_breach, abstract_of}
+use Rattle.sieve_check.specs.Script.{Commands, script_of}
 use Rattle.sieve_check.specs.Rule.{rule_word}
 use Rattle.sieve_check.specs.declared.rule.Rule.{Rule}
 use Rattle.sieve_check.specs.declared.judged.FaultKind.{FaultKind}
@@ -22,8 +26,18 @@ abbrev pub fault_of : Judgement → Option (ℕ × FaultKind)
 fault_of (sound _) = None
 fault_of (faulty line kind) = Some (line, kind)
 
+-- the first breach, or else the script
+abbrev pub judgement_by : Option breaches.Breach → Commands → Judgement
+judgement_by None script = sound script
+judgement_by (Some breach) script = faulty breach.line (Breach breach.rule)
+
+-- a text that no tree writes has a fault of syntax, on the line that the syntax says
+abbrev pub judgement_from : Result (List Node) ℕ → Judgement
+judgement_from (Ok tree) = judgement_by (first_breach tree) (abstract_of tree)
+judgement_from (Err line) = faulty line Syntax
+
 unfoldable pub judgement_of : List ℕ → Judgement
-judgement_of text = sound no_commands
+judgement_of text = judgement_from (syntax_of text)
 
 abbrev pub judged_as : Judged → Judgement
 judged_as (Sound checked) = sound (script_of checked)

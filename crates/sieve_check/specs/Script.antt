@@ -15,11 +15,19 @@ pub data Commands : Type 0 where
   stops : (rest : Commands) → Commands
   acts : (leaf : Leaf) (line : ℕ) (rest : Commands) → Commands
 
+-- a command in front of others
+abbrev pub command_first : Command → Commands → Commands
+command_first (Keep line) rest = acts keep_leaf line rest
+command_first (Discard line) rest = acts discard_leaf line rest
+command_first Stop rest = stops rest
+
+-- commands in front of others
+abbrev pub commands_before : List Command → Commands → Commands
+commands_before [] rest = rest
+commands_before (command ∷ commands) rest = command_first command (commands_before commands rest)
+
 abbrev pub commands_of : List Command → Commands
-commands_of [] = no_commands
-commands_of (Keep line ∷ rest) = acts keep_leaf line (commands_of rest)
-commands_of (Discard line ∷ rest) = acts discard_leaf line (commands_of rest)
-commands_of (Stop ∷ rest) = stops (commands_of rest)
+commands_of commands = commands_before commands no_commands
 
 -- the abstract script of a checked one
 abbrev pub script_of : Checked → Commands

@@ -14,7 +14,7 @@ pub enum Command {
 /// A script that breaks no rule. Only the validator makes one.
 #[derive(Debug, Drop)]
 pub struct Checked {
-    commands: Vec<Command>,
+    pub(crate) commands: Vec<Command>,
 }
 
 impl Checked {

@@ -1,7 +1,8 @@
-ghost use Rattle.std.specs.Prelude.{◌≡◌, IfOk};
+ghost use Rattle.std.specs.Prelude.{◌≡◌, ◌≤◌, length, IfOk};
 ghost use Rattle.sieve_check.specs.Judgement.{judged_as, judgement_of, fault_word};
 
-use crate::{Checked, Rule};
+use crate::{CheckFault, Checked, Rule, check};
+use sieve_syntax::{SyntaxFault, parse};
 use std::alloc::{AllocError, Global};
 
 /// What is wrong with a script's text.
@@ -34,9 +35,28 @@ pub enum Judged {
     Faulty { line: u64, kind: FaultKind },
 }
 
-/// Reads and checks a script's text.
+/// Reads and checks a script's text, which has at most 1,048,576 octets.
+#[tactic(auto, unfolding(crate::specs::Judgement::judgement_of))]
 pub fn judge(alloc: Global, text: &[u8]) -> Result<Judged, AllocError>
+    requires { length text.now ≤ 1048576 }
     ensures { IfOk result (λ judged. judged_as judged ≡ judgement_of text.now) }
 {
-    Err(AllocError)
+    let script = match parse(alloc, text) {
+        Ok(script) => script,
+        Err(SyntaxFault::Syntax { line }) => {
+            return Ok(Judged::Faulty {
+                line,
+                kind: FaultKind::Syntax,
+            });
+        }
+        Err(SyntaxFault::TooLarge | SyntaxFault::NoMemory) => return Err(AllocError),
+    };
+    match check(alloc, &script) {
+        Ok(checked) => Ok(Judged::Sound(checked)),
+        Err(CheckFault::Breach { line, rule }) => Ok(Judged::Faulty {
+            line,
+            kind: FaultKind::Breach(rule),
+        }),
+        Err(CheckFault::NoMemory) => Err(AllocError),
+    }
 }
