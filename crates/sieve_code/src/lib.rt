@@ -3,6 +3,8 @@
 
 mod devices;
 mod place;
+#[cfg(test)]
+mod tests;
 mod writers;
 
 pub use devices::{Counted, Faults, Sink, Source};
