@@ -1,0 +1,63 @@
+//! How a run of the program ends, and the status that it ends with.
+ghost use Rattle.std.specs.Prelude.{◌≡◌};
+ghost use Rattle.sievebench.specs.Status.{status};
+
+/// How a session ended.
+#[derive(Clone, Copy, Debug, PartialEq, Eq, Hash)]
+pub enum SessionEnd {
+    /// The input ended behind a whole command.
+    Done = 0,
+    /// A line was no command.
+    Syntax = 1,
+    /// The input ended inside the octets of a command.
+    Truncated = 2,
+    /// The input could not be read.
+    Read = 3,
+    /// A reply could not be written.
+    Write = 4,
+    /// There was no memory for the line buffer. Nothing was read or written.
+    NoMemory = 5,
+    /// All the reads that were allowed were made, and the end of the input had not come.
+    TurnLimit = 6,
+}
+
+/// How the test of a message, or a dump, ended.
+#[derive(Clone, Copy, Debug, PartialEq, Eq, Hash)]
+pub enum TestEnd {
+    /// No script has a fault, and no message an error.
+    Clean = 0,
+    /// A script has a fault, or a message an error.
+    Faulty = 1,
+    /// A text, a name, a message, an address or a mailbox is past its limit.
+    TooLarge = 2,
+    /// There are more scripts than a bench holds.
+    Full = 3,
+    /// The report could not be written.
+    Write = 4,
+    /// Memory ran out.
+    NoMemory = 5,
+}
+
+/// How a run ended.
+#[derive(Clone, Copy, Debug, PartialEq, Eq, Hash)]
+pub enum End {
+    Session(SessionEnd),
+    Test(TestEnd),
+}
+
+/// The status of the process: 0 done, 1 a fault in a script or an error of a message, 2 a line that
+/// is no command, an input that is cut off, or too much, 3 a fault in reading or writing or too many
+/// reads, 4 no memory.
+pub fn status_of(end: End) -> u8
+    ensures { result ≡ status end }
+{
+    match end {
+        End::Session(SessionEnd::Done) | End::Test(TestEnd::Clean) => 0,
+        End::Test(TestEnd::Faulty) => 1,
+        End::Session(SessionEnd::Syntax | SessionEnd::Truncated)
+        | End::Test(TestEnd::TooLarge | TestEnd::Full) => 2,
+        End::Session(SessionEnd::Read | SessionEnd::Write | SessionEnd::TurnLimit)
+        | End::Test(TestEnd::Write) => 3,
+        End::Session(SessionEnd::NoMemory) | End::Test(TestEnd::NoMemory) => 4,
+    }
+}
