@@ -48,21 +48,22 @@ fn session_command<'a>(alloc: Global) -> Command<'a>
     )
 }
 
-// The program, which wants a subcommand.
-fn top_command<'a>(alloc: Global) -> Command<'a>
-    ensures { app_of result ≡ top_app }
+// The program, which wants a subcommand. Its usage has this name, whatever its file is called.
+fn top_command<'a>(alloc: Global) -> Result<Command<'a>, AllocError>
+    ensures { IfOk result (λ command. app_of command ≡ top_app) }
 {
     Command::new(alloc, "sievebench")
         .about("Runs Sieve scripts against sample messages and prints what would happen")
         .subcommand_required(true)
         .arg_required_else_help(true)
+        .bin_name("sievebench")
 }
 
 // The program and its subcommands.
 fn program<'a>(alloc: Global) -> Result<Command<'a>, AllocError>
     ensures { IfOk result (λ command. app_of command ≡ the_app) }
 {
-    top_command(alloc).subcommand(session_command(alloc))
+    top_command(alloc)?.subcommand(session_command(alloc))
 }
 
 // What `clap` answers in place of matches, for the user.

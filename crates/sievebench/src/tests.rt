@@ -39,8 +39,8 @@ fn mistakes_and_calls_for_help_have_a_text(rt: HostRuntime) {
     let about = "Runs Sieve scripts against sample messages and prints what would happen";
     let session = "Reads a session from standard input and writes its replies to standard output";
     let rows: [(&[&str], bool, &str); 10] = [
-        (&["sievebench"], false, "Usage: sievebench"),
-        (&[], false, "Usage: sievebench"),
+        (&["other"], false, "Usage: sievebench <COMMAND>"),
+        (&[], false, "Usage: sievebench <COMMAND>"),
         (
             &["sievebench", "frobnicate"],
             false,

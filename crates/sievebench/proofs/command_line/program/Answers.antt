@@ -8,5 +8,5 @@ use Rattle.sievebench.proofs.command_line.program.Goals as goal
 pub returns : goal.returns
 unfolding the_app
 returns c = IfOk-weaker c.subcommand.result _ _
-    (λ r added. added.shape c.session_command.ensures.local ∙ ap₂ with_subcommand c.top_command.ensures c.session_command.ensures.shape)
+    (λ r added. added.shape c.session_command.ensures.local ∙ ap₂ with_subcommand c.in_ok-top_command.ensures c.session_command.ensures.shape)
     c.subcommand.ensures
