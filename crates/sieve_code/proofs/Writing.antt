@@ -39,6 +39,13 @@ wrote_then_front contents fault_count a b c s t first second = record {
       omega arith;
 }
 
+-- two texts were written, and then a front of a third
+pub wrote_two_then_front : {S : Type 0} (contents : S → Option (List ℕ)) (fault_count : S → ℕ) (a b c d : S) (s t u : List ℕ)
+    → Wrote contents fault_count a b s → Wrote contents fault_count b c t → WroteFront contents fault_count c d u
+    → WroteFront contents fault_count a d ((s ++ t) ++ u)
+wrote_two_then_front contents fault_count a b c d s t u first second third =
+    wrote_then_front contents fault_count a c d (s ++ t) u (wrote_both contents fault_count a b c s t first second) third
+
 -- a front of a text is a front of a longer one
 pub wrote_front_of : {S : Type 0} (contents : S → Option (List ℕ)) (fault_count : S → ℕ) (a b : S) (s t : List ℕ)
     → WroteFront contents fault_count a b s → WroteFront contents fault_count a b (s ++ t)
@@ -74,4 +81,6 @@ wrote_items_then_front contents fault_count a b c f xs i d within first second =
     wrote_front_of_items contents fault_count a c f xs (i + 1)
     (subst (WroteFront contents fault_count a c) (sym joined) (wrote_then_front contents fault_count a b c _ _ first second))
 
-pub ruleset writing = (wrote_nothing, wrote_both, wrote_then_front, wrote_front_of, wrote_front_of_items, wrote_items_then_front, on_err_from)
+pub ruleset writing = (wrote_nothing, wrote_both, wrote_then_front, wrote_two_then_front, wrote_front_of, on_err_from)
+
+pub ruleset writing_items = (wrote_nothing, wrote_both, wrote_front_of_items, wrote_items_then_front, on_err_from)

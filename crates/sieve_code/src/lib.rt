@@ -4,6 +4,8 @@
 mod devices;
 mod octets;
 mod place;
+#[cfg(test)]
+mod tests;
 mod writers;
 
 pub use devices::{Counted, Faults, Sink, Source};

@@ -115,7 +115,7 @@ fn write_spelling<W: Sink>(octet: u8, writer: &mut W) -> Result<(), WriteFault>
 }
 
 // Writes the spelling of some octets at the front, one at least, and answers how many.
-#[tactic(auto, using(crate::proofs::Writing::writing))]
+#[tactic(auto, using(crate::proofs::Writing::writing_items))]
 fn write_spelled_front<W: Sink>(bytes: &[u8], writer: &mut W) -> Result<usize, WriteFault>
     requires { 0 < length bytes.now }
     ensures some { IfOk result (λ n. 0 < n) }
@@ -177,7 +177,7 @@ fn write_piece<W: Sink>(piece: &Piece<'_>, writer: &mut W) -> Result<(), WriteFa
 }
 
 /// Writes the pieces in order.
-#[tactic(auto, using(crate::proofs::Writing::writing))]
+#[tactic(auto, using(crate::proofs::Writing::writing_items))]
 pub fn write_pieces<W: Sink>(pieces: &[Piece<'_>], writer: &mut W) -> Result<(), WriteFault>
     ensures ok { OnOk result (Wrote W.contents W.fault_count writer.old writer.new (pieces_text pieces.now)) }
     ensures err { OnErr result (WroteFront W.contents W.fault_count writer.old writer.new (pieces_text pieces.now)) }

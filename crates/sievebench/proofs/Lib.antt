@@ -1,3 +1,4 @@
+mod Named
 pub mod Count
 pub mod Lines
 pub mod Ranges

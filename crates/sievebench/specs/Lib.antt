@@ -1,4 +1,5 @@
 pub mod Command
+pub mod CommandLine
 pub mod Content
 pub mod Filled
 pub mod Input

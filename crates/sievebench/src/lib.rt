@@ -3,6 +3,7 @@
 #![tactic(auto)]
 
 mod bench;
+mod command_line;
 mod fault;
 mod input;
 mod line;
@@ -14,6 +15,7 @@ mod session_line;
 mod status;
 
 pub use bench::Bench;
+pub use command_line::{Job, UsageFault, command_of};
 pub use fault::{EditFault, ReportFault};
 pub use sieve_code::{Octets, Place};
 pub use sieve_run::{Meter, ScriptName};
