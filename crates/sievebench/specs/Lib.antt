@@ -4,6 +4,7 @@ pub mod Content
 pub mod Filled
 pub mod Input
 pub mod Line
+pub mod Payload
 pub mod Report
 pub mod ReportFault
 pub mod Reported

@@ -151,7 +151,7 @@ impl Input {
         ensures fuel { fuel self.new ≤ fuel self.old }
         ensures faults { R.fault_count reader.old ≤ R.fault_count reader.new }
         ensures filled { MatchFilled result
-            (fuel self.new < fuel self.old)
+            ((fuel self.new < fuel self.old) × (0 < length self.new.pending))
             ((self.new.pending ≡ self.old.pending) × IsAtEnd (R.remaining reader.new))
             (HasRisen (R.fault_count reader.old) (R.fault_count reader.new))
             (self.new.turns ≡ 0) }
@@ -171,5 +171,23 @@ impl Input {
             }
         }
         Filled::Failed
+    }
+
+    /// Reads more octets if all are used.
+    pub(crate) fn refresh<R: Source>(&mut self, reader: &mut R) -> Filled
+        ensures keeps { Keeps (unread self.old (R.remaining reader.old)) (unread self.new (R.remaining reader.new)) }
+        ensures fuel { fuel self.new ≤ fuel self.old }
+        ensures faults { R.fault_count reader.old ≤ R.fault_count reader.new }
+        ensures filled { MatchFilled result
+            (0 < length self.new.pending)
+            ((self.new.pending ≡ []) × IsAtEnd (R.remaining reader.new))
+            (HasRisen (R.fault_count reader.old) (R.fault_count reader.new))
+            (self.new.turns ≡ 0) }
+    {
+        if self.pending().is_empty() {
+            self.fill(reader)
+        } else {
+            Filled::More
+        }
     }
 }

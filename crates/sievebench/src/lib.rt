@@ -8,11 +8,14 @@ mod fault;
 mod input;
 mod line;
 mod message;
+mod payload;
 mod report;
 mod report_lines;
 mod script;
 mod session_line;
 mod status;
+#[cfg(test)]
+mod tests;
 
 pub use bench::Bench;
 pub use command_line::{Job, UsageFault, command_of};

@@ -1,0 +1,16 @@
+use Rattle.std.proofs.Common.{◌≡◌, ◌≤◌, ◌-◌}
+use Rattle.std.specs.Option.{option_map}
+use Rattle.sievebench.specs.Input.{unread, fuel}
+use Rattle.sievebench.specs.Payload.{Takes, octets_of}
+use Rattle.sievebench.proofs.payload.take_octets.Given as goal
+
+-- all but those that are left are taken
+abbrev pub invariant-loop-left : goal.invariant-loop-left
+invariant-loop-left g l =
+    (l.left ≤ l.count)
+    × Takes (l.count - l.left) (unread l.fn.input (g.R.Source.remaining l.fn.reader)) (unread l.input (g.R.Source.remaining l.reader)) (option_map octets_of l.kept)
+    × (fuel l.input ≤ fuel l.fn.input)
+    × (g.R.Faults.fault_count l.fn.reader ≤ g.R.Faults.fault_count l.reader)
+
+abbrev pub decreases-loop-left : goal.decreases-loop-left
+decreases-loop-left g l = l.left
