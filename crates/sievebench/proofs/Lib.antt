@@ -2,6 +2,7 @@ mod Named
 pub mod Count
 pub mod Lines
 pub mod Ranges
+pub mod Serving
 pub mod Taking
 pub mod Unread
 pub mod Words

@@ -11,3 +11,5 @@ pub mod Reported
 pub mod Session
 pub mod SessionLine
 pub mod Status
+pub mod Task
+pub mod Turn

@@ -16,9 +16,9 @@ use std::collections::BTreeMap;
 use std::marker::Model;
 
 /// The most octets of a script's text.
-const MAX_TEXT: usize = 1_048_576;
+pub(crate) const MAX_TEXT: usize = 1_048_576;
 /// The most octets of a message.
-const MAX_MESSAGE: usize = 16_777_216;
+pub(crate) const MAX_MESSAGE: usize = 16_777_216;
 /// The most octets of a script's name or a message's id.
 const MAX_NAME: usize = 1_024;
 /// The most scripts.
@@ -87,6 +87,11 @@ fn refuse_main(name: &ScriptName) -> Option<EditFault>
 }
 
 impl Bench {
+    /// The allocator of all that the bench holds.
+    pub(crate) fn allocator(&self) -> Global {
+        self.alloc
+    }
+
     /// Keeps a script's text at a name, neither of which needs to be copied.
     pub(crate) fn keep_script(&mut self, name: ScriptName, text: Octets) -> Result<(), EditFault>
         ensures ok { OnOk result (after self.old (put_script name text) ≡ Ok self.new) }

@@ -12,6 +12,7 @@ mod payload;
 mod report;
 mod report_lines;
 mod script;
+mod session;
 mod session_line;
 mod status;
 #[cfg(test)]

@@ -1,0 +1,77 @@
+-- How the commands of a session are served.
+use Rattle.std.proofs.Common.{◌≡◌, ℕ, ◌<◌, ◌≤◌, ◌⊎◌, inl, inr, List, [], ◌++◌, length, take, drop, sym, ap, ◌∙◌, refl, arith, rules, Option, None, Some, Result, Ok, Err, OnOk, OnErr, Bool, true, false, nat_lt, nat_le, ◌||◌, ◌&&◌, is_none, cond, codes, IfSome, length-take}
+use Rattle.std.proofs.lemmas.Bool.Decides.{nat_tests}
+use Rattle.std.specs.Io.KnownBytes.{Appends, IsAtEnd}
+use Rattle.sieve_code.specs.Writers.{Wrote}
+use Rattle.sievebench.specs.Content.{Content, Edit, after, Refuses, unless, is_long, text_at, message_at, with_script, with_message}
+use Rattle.sievebench.specs.Payload.{Takes, FallsShort}
+use Rattle.sievebench.specs.Session.{Request, with_octets, edits, truncated, Replies, Step, refusal_line}
+use Rattle.sievebench.specs.Task.{edit_of, limit_of}
+use Rattle.sievebench.specs.Turn.{StepFrom, EndFrom, TurnsFrom, Continues, EndsBy, reply_line}
+use Rattle.sievebench.specs.declared.fault.EditFault.{EditFault}
+use Rattle.sievebench.specs.declared.fault.EditFault.TheVariants.{TooLarge, Full, NoMemory}
+use Rattle.sievebench.specs.declared.session.Subject.{Subject}
+use Rattle.sievebench.specs.declared.session.Subject.TheVariants as subjects
+use Rattle.sievebench.specs.declared.status.SessionEnd.TheVariants as ends
+
+-- what an edit answers is what its definition allows
+pub replies_of : (outcome : Result Unit EditFault) (meaning : Result Content EditFault) (old new : Content) → OnOk outcome (meaning ≡ Ok new) → OnErr outcome (new ≡ old) → Refuses meaning outcome → Replies meaning old (reply_line outcome) new
+replies_of (Ok done) (Ok content) old new ok err refused = inl (refl, let same : content ≡ new = cc in sym same)
+replies_of (Ok done) (Err fault) old new ok err refused = absurd refused
+replies_of (Err fault) (Ok content) old new ok err refused = inr (ap refusal_line refused, err)
+replies_of (Err fault) (Err refusal) old new ok err refused = (inl (ap refusal_line refused), err)
+
+-- memory may always be refused
+pub no_memory_replies : (meaning : Result Content EditFault) (old : Content) → Replies meaning old (refusal_line NoMemory) old
+no_memory_replies (Ok content) old = inr (refl, refl)
+no_memory_replies (Err fault) old = (inr refl, refl)
+
+second_holds : (a b : Bool) → b ≡ true → (a || b) ≡ true
+second_holds true b holds = refl
+second_holds false b holds = holds
+
+-- too many octets are refused as such
+too_large : (subject : Subject) (old : Content) (octets : List ℕ) → limit_of subject < length octets → after old (edit_of subject octets) ≡ Err TooLarge
+too_large (subjects.Script name) old octets more =
+    let past : nat_lt 1048576 (length octets) ≡ true = grind (arith, nat_tests) in
+    let first : (is_long name.name || nat_lt 1048576 (length octets)) ≡ true = second_holds (is_long name.name) _ past in
+    ap (λ (b : Bool). unless (cond b (Some TooLarge) (cond (is_none (text_at old.scripts name) && nat_le 1024 (length old.scripts)) (Some Full) None)) (record old { scripts = with_script name octets old.scripts })) first
+too_large (subjects.Message id) old octets more =
+    let past : nat_lt 16777216 (length octets) ≡ true = grind (arith, nat_tests) in
+    let first : (is_long id || nat_lt 16777216 (length octets)) ≡ true = second_holds (is_long id) _ past in
+    ap (λ (b : Bool). unless (cond b (Some TooLarge) (cond (is_none (message_at old.messages id) && nat_le 65536 (length old.messages)) (Some Full) None)) (record old { messages = with_message id octets old.messages })) first
+
+-- where there are enough octets
+enough : (count : ℕ) (rest : List ℕ) (edit : List ℕ → Edit) → count ≤ length rest → with_octets count rest edit ≡ edits (edit (take count rest)) (drop count rest)
+enough count rest edit within = grind (arith, nat_tests)
+
+-- where there aren't
+short : (count : ℕ) (rest : List ℕ) (edit : List ℕ → Edit) → length rest < count → with_octets count rest edit ≡ truncated
+short count rest edit less = grind (arith, nat_tests)
+
+-- a put of octets that came
+pub put_step : (count : ℕ) (edit : List ℕ → Edit) (old new : Content) (unread left before after' : Option (List ℕ)) (kept : Option (List ℕ)) (reply : List ℕ)
+    → Takes count unread left kept → ((octets : List ℕ) → length octets ≡ count → IfSome kept (λ k. k ≡ octets) → Replies (after old (edit octets)) old reply new) → Appends before after' reply
+    → StepFrom (λ rest. with_octets count rest edit) old unread before new left after'
+put_step count edit old new None left before after' kept reply taken replies written = tt
+put_step count edit old new (Some xs) None before after' kept reply taken replies written = absurd taken
+put_step count edit old new (Some xs) (Some ys) before after' kept reply taken replies written =
+    (reply, rw (enough count xs edit taken.0) (replies (take count xs) (omega (arith, length-take count xs, taken.0)) taken.2, taken.1), written)
+
+-- octets that end too early
+pub put_end : (count : ℕ) (edit : List ℕ → Edit) (old : Content) (unread rest before after' : Option (List ℕ)) → FallsShort count unread rest → Appends before after' (codes "no truncated\n")
+    → EndFrom (λ rest. with_octets count rest edit) ends.Truncated old unread before old after'
+put_end count edit old None rest before after' less written = tt
+put_end count edit old (Some xs) rest before after' less written = (codes "no truncated\n", rw (short count xs edit less.0) (refl, refl), written, refl)
+
+-- octets that weren't kept: too many of them, or memory was refused
+pub unkept_replies : (subject : Subject) (count : ℕ) (old : Content) (octets : List ℕ) → length octets ≡ count → Replies (after old (edit_of subject octets)) old (refusal_line (cond (nat_lt (limit_of subject) count) TooLarge NoMemory)) old
+unkept_replies subject count old octets size = by_flag (nat_lt (limit_of subject) count) refl
+  where
+    by_flag : (b : Bool) → nat_lt (limit_of subject) count ≡ b → Replies (after old (edit_of subject octets)) old (refusal_line (cond b TooLarge NoMemory)) old
+    by_flag true is =
+        let more : limit_of subject < length octets = grind (arith, nat_tests) in
+        rw (too_large subject old octets more) (inl refl, refl)
+    by_flag false is = no_memory_replies (after old (edit_of subject octets)) old
+
+pub ruleset serving = (replies_of, no_memory_replies, put_step, put_end)

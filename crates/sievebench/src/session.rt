@@ -1,0 +1,198 @@
+//! A session: commands in, replies out.
+ghost use Rattle.std.specs.Prelude.{◌≡◌, ◌≤◌, ◌<◌, IfSome, OnOk, OnErr, IfOk, Ok, codes, nat_lt, if◌then◌else◌};
+ghost use Rattle.sieve_code.specs.Writers.{Wrote};
+ghost use Rattle.sievebench.specs.Content.{after, Refuses};
+ghost use Rattle.sievebench.specs.Input.{unread, fuel};
+ghost use Rattle.sievebench.specs.Session.{Request, with_octets, request_by, request_of, edits, reports, unreadable};
+ghost use Rattle.sievebench.specs.SessionLine.{command_of_line};
+ghost use Rattle.sievebench.specs.Task.{IsTask, edit_of, limit_of};
+ghost use Rattle.sievebench.specs.Turn.{TurnsFrom, Continues, EndsBy, reply_line};
+
+use crate::bench::{Bench, MAX_MESSAGE, MAX_TEXT};
+use crate::fault::{EditFault, ReportFault};
+use crate::input::Input;
+use crate::line::Line;
+use crate::payload::{Taken, take_octets};
+use crate::session_line::{Command, command_of_line};
+use crate::status::SessionEnd;
+use sieve_code::{Octets, Place, Sink, Source, WriteFault, write_out};
+use sieve_run::{Meter, ScriptName};
+use std::alloc::{AllocError, Global};
+
+/// What octets are put at: a script's name or a message's id.
+#[derive(Debug, Drop)]
+pub(crate) enum Subject {
+    Script(ScriptName),
+    Message(Octets),
+}
+
+/// What a line asks for, with copies of its words.
+#[derive(Debug, Drop)]
+pub(crate) enum Task {
+    Idle,
+    /// To put the octets that follow.
+    Put { subject: Subject, count: u64 },
+    Main { name: ScriptName },
+    Report,
+    /// Memory was refused for the words of an edit, which so many octets follow.
+    Forgotten { count: u64 },
+    Unreadable,
+}
+
+/// How a command went.
+#[derive(Debug, Drop)]
+pub(crate) enum Turn {
+    /// The next command follows.
+    Continues,
+    /// The session ends.
+    Ends(SessionEnd),
+}
+
+/// What to do for a line.
+fn task_of(alloc: Global, line: &[u8]) -> Task
+    ensures { IsTask result (command_of_line line.now) }
+{
+    match command_of_line(line) {
+        None => Task::Unreadable,
+        Some(Command::Nothing) => Task::Idle,
+        Some(Command::Report) => Task::Report,
+        Some(Command::Script { place, name, count }) => match copied_name(alloc, place, name) {
+            Ok(name) => Task::Put {
+                subject: Subject::Script(name),
+                count,
+            },
+            Err(_) => Task::Forgotten { count },
+        },
+        Some(Command::Message { id, count }) => match Octets::copied(alloc, id) {
+            Ok(id) => Task::Put {
+                subject: Subject::Message(id),
+                count,
+            },
+            Err(_) => Task::Forgotten { count },
+        },
+        Some(Command::Main { place, name }) => match copied_name(alloc, place, name) {
+            Ok(name) => Task::Main { name },
+            Err(_) => Task::Forgotten { count: 0 },
+        },
+    }
+}
+
+/// A script's name with a copy of its octets.
+fn copied_name(alloc: Global, place: Place, name: &[u8]) -> Result<ScriptName, AllocError>
+    ensures { IfOk result (λ copy. copy ≡ record { place = place; name = name.now }) }
+{
+    Ok(ScriptName {
+        place,
+        name: Octets::copied(alloc, name)?,
+    })
+}
+
+/// The reply to an edit.
+fn reply_line(outcome: Result<(), EditFault>) -> &'static [u8]
+    ensures { result.now ≡ reply_line outcome }
+{
+    match outcome {
+        Ok(()) => b"ok\n",
+        Err(EditFault::NoSuchScript) => b"no no-such-script\n",
+        Err(EditFault::NameTaken) => b"no name-taken\n",
+        Err(EditFault::NoSuchMessage) => b"no no-such-message\n",
+        Err(EditFault::Full) => b"no full\n",
+        Err(EditFault::TooLarge) => b"no too-large\n",
+        Err(EditFault::NoMemory) => b"no no-memory\n",
+    }
+}
+
+/// Writes the reply to an edit.
+fn answer<W: Sink>(outcome: Result<(), EditFault>, writer: &mut W) -> Turn
+    ensures { Continues result (Wrote W.contents W.fault_count writer.old writer.new (reply_line outcome)) }
+{
+    match write_out(reply_line(outcome), writer) {
+        Ok(()) => Turn::Continues,
+        Err(_) => Turn::Ends(SessionEnd::Write),
+    }
+}
+
+/// Writes the last reply where a line says nothing that there is.
+fn refuse_line<W: Sink>(writer: &mut W) -> Turn
+    ensures { EndsBy SessionEnd.Syntax result (Wrote W.contents W.fault_count writer.old writer.new (codes "no syntax\n")) }
+{
+    match write_out(b"no syntax\n", writer) {
+        Ok(()) => Turn::Ends(SessionEnd::Syntax),
+        Err(_) => Turn::Ends(SessionEnd::Write),
+    }
+}
+
+/// Writes the last reply where octets end too early.
+fn refuse_octets<W: Sink>(writer: &mut W) -> Turn
+    ensures { EndsBy SessionEnd.Truncated result (Wrote W.contents W.fault_count writer.old writer.new (codes "no truncated\n")) }
+{
+    match write_out(b"no truncated\n", writer) {
+        Ok(()) => Turn::Ends(SessionEnd::Truncated),
+        Err(_) => Turn::Ends(SessionEnd::Write),
+    }
+}
+
+/// The most octets that may be put there.
+fn limit_of(subject: &Subject) -> u64
+    ensures { result ≡ limit_of subject.now }
+{
+    match subject {
+        Subject::Script(_) => MAX_TEXT as u64,
+        Subject::Message(_) => MAX_MESSAGE as u64,
+    }
+}
+
+/// Puts octets at a name or an id.
+fn keep(bench: &mut Bench, subject: Subject, octets: Vec<u8>) -> Result<(), EditFault>
+    ensures ok { OnOk result (after bench.old (edit_of subject octets.items) ≡ Ok bench.new) }
+    ensures err { OnErr result (bench.new ≡ bench.old) }
+    ensures refused { Refuses (after bench.old (edit_of subject octets.items)) result }
+{
+    let octets = Octets::from_vec(octets);
+    match subject {
+        Subject::Script(name) => bench.keep_script(name, octets),
+        Subject::Message(id) => bench.keep_message(id, octets),
+    }
+}
+
+/// Why octets that weren't kept aren't put: there are too many, or memory was refused.
+fn unkept(count: u64, limit: u64) -> EditFault
+    ensures { result ≡ (if nat_lt limit count then EditFault.TooLarge else EditFault.NoMemory) }
+{
+    if count > limit {
+        EditFault::TooLarge
+    } else {
+        EditFault::NoMemory
+    }
+}
+
+/// Takes the octets of a put, puts them, and replies.
+#[tactic(auto, using(crate::proofs::Serving::serving))]
+fn serve_put<R: Source, W: Sink>(
+    bench: &mut Bench,
+    input: &mut Input,
+    reader: &mut R,
+    writer: &mut W,
+    subject: Subject,
+    count: u64,
+) -> Turn
+    ensures turn { TurnsFrom (λ rest. with_octets count rest (edit_of subject)) result
+        bench.old (unread input.old (R.remaining reader.old)) (W.contents writer.old)
+        bench.new (unread input.new (R.remaining reader.new)) (W.contents writer.new) }
+    ensures fuel { fuel input.new ≤ fuel input.old }
+{
+    let limit = limit_of(&subject);
+    match take_octets(
+        bench.allocator(),
+        input,
+        reader,
+        count as usize,
+        count <= limit,
+    ) {
+        Taken::Whole { kept: Some(octets) } => answer(keep(bench, subject, octets), writer),
+        Taken::Whole { kept: None } => answer(Err(unkept(count, limit)), writer),
+        Taken::Truncated => refuse_octets(writer),
+        Taken::Failed => Turn::Ends(SessionEnd::Read),
+        Taken::Spent => Turn::Ends(SessionEnd::TurnLimit),
+    }
+}
