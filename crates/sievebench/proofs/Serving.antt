@@ -1,11 +1,12 @@
 -- How the commands of a session are served.
 use Rattle.std.proofs.Common.{◌≡◌, ℕ, ◌<◌, ◌≤◌, ◌⊎◌, inl, inr, List, [], ◌++◌, length, take, drop, sym, ap, ◌∙◌, refl, arith, rules, Option, None, Some, Result, Ok, Err, OnOk, OnErr, Bool, true, false, nat_lt, nat_le, ◌||◌, ◌&&◌, is_none, cond, codes, IfSome, length-take}
 use Rattle.std.proofs.lemmas.Bool.Decides.{nat_tests}
-use Rattle.std.specs.Io.KnownBytes.{Appends, IsAtEnd}
+use Rattle.std.specs.Io.KnownBytes.{Appends, Keeps, IsAtEnd}
 use Rattle.sieve_code.specs.Writers.{Wrote}
 use Rattle.sievebench.specs.Content.{Content, Edit, after, Refuses, unless, is_long, text_at, message_at, with_script, with_message}
 use Rattle.sievebench.specs.Payload.{Takes, FallsShort}
-use Rattle.sievebench.specs.Session.{Request, with_octets, edits, truncated, Replies, Step, refusal_line}
+use Rattle.sievebench.specs.Session.{Request, with_octets, edits, reports, truncated, Replies, Step, refusal_line}
+use Rattle.sievebench.specs.Report.{report_text}
 use Rattle.sievebench.specs.Task.{edit_of, limit_of}
 use Rattle.sievebench.specs.Turn.{StepFrom, EndFrom, TurnsFrom, Continues, EndsBy, reply_line}
 use Rattle.sievebench.specs.declared.fault.EditFault.{EditFault}
@@ -74,4 +75,23 @@ unkept_replies subject count old octets size = by_flag (nat_lt (limit_of subject
         rw (too_large subject old octets more) (inl refl, refl)
     by_flag false is = no_memory_replies (after old (edit_of subject octets)) old
 
-pub ruleset serving = (replies_of, no_memory_replies, put_step, put_end)
+-- an edit that no octets follow
+pub edit_step : (edit : Edit) (old new : Content) (unread before after' : Option (List ℕ)) (reply : List ℕ) → Replies (after old edit) old reply new → Appends before after' reply
+    → StepFrom (λ rest. edits edit rest) old unread before new unread after'
+edit_step edit old new None before after' reply replies written = tt
+edit_step edit old new (Some xs) before after' reply replies written = (reply, (replies, refl), written)
+
+-- the same, where no octets were taken
+pub edit_step-kept : (edit : Edit) (old new : Content) (unread left before after' kept : Option (List ℕ)) (reply : List ℕ) → Takes 0 unread left kept → Replies (after old edit) old reply new → Appends before after' reply
+    → StepFrom (λ rest. edits edit rest) old unread before new left after'
+edit_step-kept edit old new None left before after' kept reply taken replies written = tt
+edit_step-kept edit old new (Some xs) None before after' kept reply taken replies written = absurd taken
+edit_step-kept edit old new (Some xs) (Some ys) before after' kept reply taken replies written = (reply, (replies, taken.1), written)
+
+-- a report, or the reply that memory was refused
+pub report_step : (old : Content) (unread before after' : Option (List ℕ)) (reply : List ℕ) → (reply ≡ report_text old) ⊎ (reply ≡ refusal_line NoMemory) → Appends before after' reply
+    → StepFrom (λ rest. reports rest) old unread before old unread after'
+report_step old None before after' reply either written = tt
+report_step old (Some xs) before after' reply either written = (reply, (either, refl, refl), written)
+
+pub ruleset serving = (replies_of, no_memory_replies, put_step, put_end, unkept_replies, edit_step, edit_step-kept, report_step)

@@ -1,7 +1,7 @@
 //! A session: commands in, replies out.
-ghost use Rattle.std.specs.Prelude.{◌≡◌, ◌≤◌, ◌<◌, IfSome, OnOk, OnErr, IfOk, Ok, codes, nat_lt, if◌then◌else◌};
+ghost use Rattle.std.specs.Prelude.{◌≡◌, ◌≤◌, ◌<◌, IfSome, ℕ, List, Option, OnOk, OnErr, IfOk, Ok, codes, nat_lt, if◌then◌else◌};
 ghost use Rattle.sieve_code.specs.Writers.{Wrote};
-ghost use Rattle.sievebench.specs.Content.{after, Refuses};
+ghost use Rattle.sievebench.specs.Content.{Content, Edit, after, set_main, Refuses};
 ghost use Rattle.sievebench.specs.Input.{unread, fuel};
 ghost use Rattle.sievebench.specs.Session.{Request, with_octets, request_by, request_of, edits, reports, unreadable};
 ghost use Rattle.sievebench.specs.SessionLine.{command_of_line};
@@ -194,5 +194,52 @@ fn serve_put<R: Source, W: Sink>(
         Taken::Truncated => refuse_octets(writer),
         Taken::Failed => Turn::Ends(SessionEnd::Read),
         Taken::Spent => Turn::Ends(SessionEnd::TurnLimit),
+    }
+}
+
+/// Passes over the octets behind a command whose words are forgotten, and replies.
+#[tactic(auto, using(crate::proofs::Serving::serving))]
+fn serve_forgotten<R: Source, W: Sink>(
+    alloc: Global,
+    input: &mut Input,
+    reader: &mut R,
+    writer: &mut W,
+    count: u64,
+) -> Turn
+    ensures put { (content : Content) (edit : List ℕ → Edit) → TurnsFrom (λ rest. with_octets count rest edit) result
+        content (unread input.old (R.remaining reader.old)) (W.contents writer.old)
+        content (unread input.new (R.remaining reader.new)) (W.contents writer.new) }
+    ensures other { count ≡ 0 → (content : Content) (edit : Edit) → TurnsFrom (λ rest. edits edit rest) result
+        content (unread input.old (R.remaining reader.old)) (W.contents writer.old)
+        content (unread input.new (R.remaining reader.new)) (W.contents writer.new) }
+    ensures fuel { fuel input.new ≤ fuel input.old }
+{
+    match take_octets(alloc, input, reader, count as usize, false) {
+        Taken::Whole { .. } => answer(Err(EditFault::NoMemory), writer),
+        Taken::Truncated => refuse_octets(writer),
+        Taken::Failed => Turn::Ends(SessionEnd::Read),
+        Taken::Spent => Turn::Ends(SessionEnd::TurnLimit),
+    }
+}
+
+/// Makes a script main, and replies.
+#[tactic(auto, using(crate::proofs::Serving::serving))]
+fn serve_main<W: Sink>(bench: &mut Bench, writer: &mut W, name: ScriptName) -> Turn
+    ensures { (unread : Option (List ℕ)) → TurnsFrom (λ rest. edits (set_main name) rest) result
+        bench.old unread (W.contents writer.old) bench.new unread (W.contents writer.new) }
+{
+    answer(bench.keep_main(name), writer)
+}
+
+/// Reports, or replies that memory was refused.
+#[tactic(auto, using(crate::proofs::Serving::serving))]
+fn serve_report<W: Sink>(bench: &mut Bench, meter: &mut Meter, writer: &mut W) -> Turn
+    ensures { (unread : Option (List ℕ)) → TurnsFrom (λ rest. reports rest) result
+        bench.old unread (W.contents writer.old) bench.new unread (W.contents writer.new) }
+{
+    match bench.report(meter, writer) {
+        Ok(()) => Turn::Continues,
+        Err(ReportFault::NoMemory) => answer(Err(EditFault::NoMemory), writer),
+        Err(ReportFault::Write) => Turn::Ends(SessionEnd::Write),
     }
 }
