@@ -2,7 +2,9 @@ mod Named
 pub mod Count
 pub mod Lines
 pub mod Ranges
+pub mod Requests
 pub mod Serving
+pub mod Sessions
 pub mod Taking
 pub mod Unread
 pub mod Words

@@ -2,10 +2,10 @@
 use Rattle.std.specs.Prelude.{◌≡◌, ℕ, List, Option, Some, None}
 use Rattle.sievebench.specs.SessionLine.{Command, nothing, script, message, main, report}
 use Rattle.sievebench.specs.Content.{Edit, put_script, put_message}
-use Rattle.sievebench.specs.declared.session.Subject.{Subject}
-use Rattle.sievebench.specs.declared.session.Subject.TheVariants as subjects
-use Rattle.sievebench.specs.declared.session.Task.{Task}
-use Rattle.sievebench.specs.declared.session.Task.TheVariants as tasks
+use Rattle.sievebench.specs.declared.server.Subject.{Subject}
+use Rattle.sievebench.specs.declared.server.Subject.TheVariants as subjects
+use Rattle.sievebench.specs.declared.server.Task.{Task}
+use Rattle.sievebench.specs.declared.server.Task.TheVariants as tasks
 
 -- a command that so many octets follow, and whose words are forgotten
 abbrev pub IsFollowedBy : ℕ → Option Command → Type 0

@@ -2,12 +2,12 @@
 use Rattle.std.specs.Prelude.{◌≡◌, ⊤, ◌⊎◌, ℕ, List, Option, None, Some, Result, Ok, Err, codes}
 use Rattle.std.specs.Io.KnownBytes.{Appends}
 use Rattle.sievebench.specs.Content.{Content}
-use Rattle.sievebench.specs.Session.{Request, Step, Ends, refusal_line}
+use Rattle.sievebench.specs.Session.{Request, Step, Steps, Ends, SessionText, refusal_line}
 use Rattle.sievebench.specs.declared.fault.EditFault.{EditFault}
 use Rattle.sievebench.specs.declared.status.SessionEnd.{SessionEnd}
 use Rattle.sievebench.specs.declared.status.SessionEnd.TheVariants as ends
-use Rattle.sievebench.specs.declared.session.Turn.{Turn}
-use Rattle.sievebench.specs.declared.session.Turn.TheVariants as turns
+use Rattle.sievebench.specs.declared.server.Turn.{Turn}
+use Rattle.sievebench.specs.declared.server.Turn.TheVariants as turns
 
 -- a command that the unread octets ask for is carried out, and its reply written
 abbrev pub StepFrom : (List ℕ → Request) → Content → Option (List ℕ) → Option (List ℕ) → Content → Option (List ℕ) → Option (List ℕ) → Type 0
@@ -35,6 +35,17 @@ abbrev pub TurnsFrom : (List ℕ → Request) → Turn → Content → Option (L
 TurnsFrom request turns.Continues old unread before new left after = StepFrom request old unread before new left after
 TurnsFrom request (turns.Ends end) old unread before new left after = MatchSessionEnd end (EndFrom request end old unread before new after) ⊥
 
+-- the commands so far are carried out, and their replies written
+abbrev pub SoFar : Content → Option (List ℕ) → Option (List ℕ) → Content → Option (List ℕ) → Option (List ℕ) → Type 0
+SoFar old None before new left after = ⊤
+SoFar old (Some stream) before new None after = ⊥
+SoFar old (Some stream) before new (Some rest) after = (replies : List ℕ) × Steps old stream replies new rest × Appends before after replies
+
+-- the whole session is carried out, and its text written
+abbrev pub SessionFrom : SessionEnd → Content → Option (List ℕ) → Option (List ℕ) → Content → Option (List ℕ) → Type 0
+SessionFrom end old None before new after = ⊤
+SessionFrom end old (Some stream) before new after = (text : List ℕ) × SessionText old stream text end new × Appends before after text
+
 -- a fact where the session goes on; it ends only where the writer failed
 abbrev pub Continues : Turn → Type 0 → Type 0
 Continues turns.Continues P = P
@@ -44,6 +55,25 @@ Continues (turns.Ends end) P = end ≡ ends.Write
 abbrev pub EndsBy : SessionEnd → Turn → Type 0 → Type 0
 EndsBy wanted turns.Continues P = ⊥
 EndsBy wanted (turns.Ends end) P = ((end ≡ wanted) × P) ⊎ (end ≡ ends.Write)
+
+-- a fact where the session goes on
+abbrev pub OnContinues : Turn → Type 0 → Type 0
+OnContinues turns.Continues P = P
+OnContinues (turns.Ends end) P = ⊤
+
+-- a fact at the ends that come with the end of the input
+abbrev pub AtLastEnd : SessionEnd → Type 0 → Type 0
+AtLastEnd ends.Done P = P
+AtLastEnd ends.Syntax P = ⊤
+AtLastEnd ends.Truncated P = P
+AtLastEnd ends.Read P = ⊤
+AtLastEnd ends.Write P = ⊤
+AtLastEnd ends.NoMemory P = ⊤
+AtLastEnd ends.TurnLimit P = ⊤
+
+abbrev pub AtLast : Turn → Type 0 → Type 0
+AtLast turns.Continues P = ⊤
+AtLast (turns.Ends end) P = AtLastEnd end P
 
 -- the reply to an edit
 abbrev pub reply_line : Result Unit EditFault → List ℕ

@@ -12,7 +12,7 @@ mod payload;
 mod report;
 mod report_lines;
 mod script;
-mod session;
+mod server;
 mod session_line;
 mod status;
 #[cfg(test)]
@@ -21,6 +21,7 @@ mod tests;
 pub use bench::Bench;
 pub use command_line::{Job, UsageFault, command_of};
 pub use fault::{EditFault, ReportFault};
-pub use sieve_code::{Octets, Place};
+pub use server::session;
+pub use sieve_code::{Counted, Faults, Octets, Place, Sink, Source};
 pub use sieve_run::{Meter, ScriptName};
 pub use status::{End, SessionEnd, TestEnd, status_of};

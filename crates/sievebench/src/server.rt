@@ -4,9 +4,11 @@ ghost use Rattle.sieve_code.specs.Writers.{Wrote};
 ghost use Rattle.sievebench.specs.Content.{Content, Edit, after, set_main, Refuses};
 ghost use Rattle.sievebench.specs.Input.{unread, fuel};
 ghost use Rattle.sievebench.specs.Session.{Request, with_octets, request_by, request_of, edits, reports, unreadable};
+ghost use Rattle.sievebench.specs.SessionLine as line;
 ghost use Rattle.sievebench.specs.SessionLine.{command_of_line};
+ghost use Rattle.std.specs.Io.KnownBytes.{IsAtEnd};
 ghost use Rattle.sievebench.specs.Task.{IsTask, edit_of, limit_of};
-ghost use Rattle.sievebench.specs.Turn.{TurnsFrom, Continues, EndsBy, reply_line};
+ghost use Rattle.sievebench.specs.Turn.{TurnsFrom, Continues, EndsBy, OnContinues, AtLast, AtLastEnd, MatchSessionEnd, SessionFrom, reply_line};
 
 use crate::bench::{Bench, MAX_MESSAGE, MAX_TEXT};
 use crate::fault::{EditFault, ReportFault};
@@ -180,6 +182,7 @@ fn serve_put<R: Source, W: Sink>(
         bench.old (unread input.old (R.remaining reader.old)) (W.contents writer.old)
         bench.new (unread input.new (R.remaining reader.new)) (W.contents writer.new) }
     ensures fuel { fuel input.new ≤ fuel input.old }
+    ensures end { AtLast result (IsAtEnd (R.remaining reader.new)) }
 {
     let limit = limit_of(&subject);
     match take_octets(
@@ -213,6 +216,7 @@ fn serve_forgotten<R: Source, W: Sink>(
         content (unread input.old (R.remaining reader.old)) (W.contents writer.old)
         content (unread input.new (R.remaining reader.new)) (W.contents writer.new) }
     ensures fuel { fuel input.new ≤ fuel input.old }
+    ensures end { AtLast result (IsAtEnd (R.remaining reader.new)) }
 {
     match take_octets(alloc, input, reader, count as usize, false) {
         Taken::Whole { .. } => answer(Err(EditFault::NoMemory), writer),
@@ -225,8 +229,9 @@ fn serve_forgotten<R: Source, W: Sink>(
 /// Makes a script main, and replies.
 #[tactic(auto, using(crate::proofs::Serving::serving))]
 fn serve_main<W: Sink>(bench: &mut Bench, writer: &mut W, name: ScriptName) -> Turn
-    ensures { (unread : Option (List ℕ)) → TurnsFrom (λ rest. edits (set_main name) rest) result
+    ensures turn { (unread : Option (List ℕ)) → TurnsFrom (λ rest. edits (set_main name) rest) result
         bench.old unread (W.contents writer.old) bench.new unread (W.contents writer.new) }
+    ensures end { AtLast result ⊥ }
 {
     answer(bench.keep_main(name), writer)
 }
@@ -234,12 +239,99 @@ fn serve_main<W: Sink>(bench: &mut Bench, writer: &mut W, name: ScriptName) -> T
 /// Reports, or replies that memory was refused.
 #[tactic(auto, using(crate::proofs::Serving::serving))]
 fn serve_report<W: Sink>(bench: &mut Bench, meter: &mut Meter, writer: &mut W) -> Turn
-    ensures { (unread : Option (List ℕ)) → TurnsFrom (λ rest. reports rest) result
+    ensures turn { (unread : Option (List ℕ)) → TurnsFrom (λ rest. reports rest) result
         bench.old unread (W.contents writer.old) bench.new unread (W.contents writer.new) }
+    ensures end { AtLast result ⊥ }
 {
     match bench.report(meter, writer) {
         Ok(()) => Turn::Continues,
         Err(ReportFault::NoMemory) => answer(Err(EditFault::NoMemory), writer),
         Err(ReportFault::Write) => Turn::Ends(SessionEnd::Write),
+    }
+}
+
+/// Does what a line asks for.
+#[tactic(auto, using(crate::proofs::Serving::serving))]
+fn perform<R: Source, W: Sink>(
+    bench: &mut Bench,
+    meter: &mut Meter,
+    input: &mut Input,
+    reader: &mut R,
+    writer: &mut W,
+    task: Task,
+) -> Turn
+    ensures turn { (command : Option line.Command) → IsTask task command → TurnsFrom (request_by command) result
+        bench.old (unread input.old (R.remaining reader.old)) (W.contents writer.old)
+        bench.new (unread input.new (R.remaining reader.new)) (W.contents writer.new) }
+    ensures fuel { fuel input.new ≤ fuel input.old }
+    ensures end { AtLast result (IsAtEnd (R.remaining reader.new)) }
+{
+    match task {
+        Task::Idle => Turn::Continues,
+        Task::Put { subject, count } => serve_put(bench, input, reader, writer, subject, count),
+        Task::Main { name } => serve_main(bench, writer, name),
+        Task::Report => serve_report(bench, meter, writer),
+        Task::Forgotten { count } => {
+            serve_forgotten(bench.allocator(), input, reader, writer, count)
+        }
+        Task::Unreadable => refuse_line(writer),
+    }
+}
+
+/// Serves the next command of the input.
+#[tactic(auto, using(crate::proofs::Serving::serving))]
+fn serve<R: Source, W: Sink>(
+    bench: &mut Bench,
+    meter: &mut Meter,
+    input: &mut Input,
+    reader: &mut R,
+    writer: &mut W,
+) -> Turn
+    ensures turn { TurnsFrom request_of result
+        bench.old (unread input.old (R.remaining reader.old)) (W.contents writer.old)
+        bench.new (unread input.new (R.remaining reader.new)) (W.contents writer.new) }
+    ensures fuel { OnContinues result (fuel input.new < fuel input.old) }
+    ensures end { AtLast result (IsAtEnd (R.remaining reader.new)) }
+{
+    match Line::next(input, reader) {
+        Line::Over => Turn::Ends(SessionEnd::Done),
+        Line::TooLong => refuse_line(writer),
+        Line::Failed => Turn::Ends(SessionEnd::Read),
+        Line::Spent => Turn::Ends(SessionEnd::TurnLimit),
+        Line::Whole { len, skip } => {
+            let (line, _) = input.pending().split_at(len);
+            let task = task_of(bench.allocator(), line);
+            input.consume(skip);
+            perform(bench, meter, input, reader, writer, task)
+        }
+    }
+}
+
+/// Serves the commands of a reader until it ends, and writes a reply to each. What a session does depends on the
+/// reader's octets alone, and not on the pieces in which they come. At most `turns` reads are made. Where the line
+/// buffer is refused, nothing is read or written.
+pub fn session<R: Source, W: Sink>(
+    bench: &mut Bench,
+    meter: &mut Meter,
+    reader: &mut R,
+    writer: &mut W,
+    turns: u64,
+) -> SessionEnd
+    // At the ends that the octets ask for, what was written is the text of a session of the reader's octets with that
+    // end, and the bench holds what its commands leave. Where memory is refused at the start, nothing has changed.
+    ensures session { MatchSessionEnd result
+        (SessionFrom result bench.old (R.remaining reader.old) (W.contents writer.old) bench.new (W.contents writer.new))
+        ((bench.new ≡ bench.old) × (reader.new ≡ reader.old) × (writer.new ≡ writer.old)) }
+    // At the end of the input none of the octets is unread.
+    ensures end { AtLastEnd result (IsAtEnd (R.remaining reader.new)) }
+{
+    let Ok(mut input) = Input::new(bench.allocator(), turns) else {
+        return SessionEnd::NoMemory;
+    };
+    loop {
+        match serve(bench, meter, &mut input, reader, writer) {
+            Turn::Continues => {}
+            Turn::Ends(end) => return end,
+        }
     }
 }
