@@ -81,6 +81,9 @@ wrote_items_then_front contents fault_count a b c f xs i d within first second =
     wrote_front_of_items contents fault_count a c f xs (i + 1)
     (subst (WroteFront contents fault_count a c) (sym joined) (wrote_then_front contents fault_count a b c _ _ first second))
 
+-- For `using(..)` on a function that writes up to three texts, one after another, and gives up at the first fault.
+-- Each text is a call of a definition that does not unfold there: one that computes to single octets hides where the texts join.
 pub ruleset writing = (wrote_nothing, wrote_both, wrote_then_front, wrote_two_then_front, wrote_front_of, on_err_from)
 
+-- For `using(..)` on a function that writes the text of each item of a slice.
 pub ruleset writing_items = (wrote_nothing, wrote_both, wrote_front_of_items, wrote_items_then_front, on_err_from)

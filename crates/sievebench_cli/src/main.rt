@@ -1,0 +1,133 @@
+//! `sievebench`: runs Sieve scripts against sample messages and prints what would happen.
+#![tactic(auto)]
+
+mod streams;
+#[cfg(test)]
+mod tests;
+
+use sieve_code::Counted;
+use sievebench::{Bench, End, Job, Meter, SessionEnd, UsageFault, command_of, session, status_of};
+use std::alloc::Global;
+use std::cell::RefCell;
+use std::io::{BufWriter, ErrorKind, Read, Write};
+use std::process::ExitCode;
+use std::rt::Env;
+use std::{env, io};
+use streams::{Replies, Requests};
+
+// How many reads a session may make.
+const SESSION_TURNS: u64 = 1_000_000_000;
+
+// How many octets of replies are held before they are written.
+const REPLY_ROOM: usize = 65_536;
+
+// The status of help that was printed, and of a mistake in the words.
+const HELP_STATUS: u8 = 0;
+
+const USAGE_STATUS: u8 = 2;
+
+fn main(rt: HostRuntime) -> ExitCode {
+    ExitCode::from(run(&rt))
+}
+
+// Does what the command line asks for, and answers the status of the process.
+fn run(rt: &(impl Env + AllocGlobal + Input + Print + Eprint)) -> u8 {
+    match asked_job(rt) {
+        Ok(Job::Session) => {
+            let end = run_session(rt);
+            if let Some(complaint) = complaint_of(end) {
+                complain(rt, complaint);
+            }
+            status_of(End::Session(end))
+        }
+        Err(fault) => answer_usage(rt, fault),
+    }
+}
+
+// What the command line asks for.
+fn asked_job(rt: &(impl Env + AllocGlobal)) -> Result<Job, UsageFault> {
+    let words = words_of(rt)?;
+    command_of(rt.alloc(), words.as_slice())
+}
+
+// The words of the command line, the program's name first. A word that is no text is a mistake.
+fn words_of(rt: &(impl Env + AllocGlobal)) -> Result<Vec<String>, UsageFault> {
+    match env::args(rt) {
+        Ok(words) => Ok(words.collect(rt.alloc())?),
+        Err(e) if e.kind() == ErrorKind::InvalidData => {
+            let text = "error: a word of the command line is not UTF-8 text\n";
+            Err(UsageFault::Usage {
+                help: false,
+                text: String::from_str(rt.alloc(), text)?,
+            })
+        }
+        Err(_) => Err(UsageFault::NoMemory),
+    }
+}
+
+// Prints help on standard output, and what is wrong with the words on standard error.
+fn answer_usage(rt: &(impl Print + Eprint), fault: UsageFault) -> u8 {
+    match fault {
+        UsageFault::Usage { help: true, text } => match rt.print(text.as_str()) {
+            Ok(()) => HELP_STATUS,
+            Err(_) => {
+                complain(rt, "cannot write");
+                status_of(End::Session(SessionEnd::Write))
+            }
+        },
+        UsageFault::Usage { help: false, text } => {
+            let _ = rt.eprint(text.as_str());
+            USAGE_STATUS
+        }
+        UsageFault::NoMemory => {
+            complain(rt, "out of memory");
+            status_of(End::Session(SessionEnd::NoMemory))
+        }
+    }
+}
+
+// Runs a session over standard input and output.
+fn run_session(rt: &(impl AllocGlobal + Input + Print)) -> SessionEnd {
+    run_over(rt.alloc(), rt.reader(), io::writer(rt))
+}
+
+// Runs a session over a reader and a writer, and writes out what is left of its replies.
+fn run_over<R: Read + Drop, W: Write + Drop>(alloc: Global, input: R, output: W) -> SessionEnd {
+    let Ok(mut bench) = Bench::new(alloc) else {
+        return SessionEnd::NoMemory;
+    };
+    let Ok(held) = BufWriter::with_capacity(alloc, REPLY_ROOM, output) else {
+        return SessionEnd::NoMemory;
+    };
+    let held = RefCell::new(held);
+    let mut reader = Counted::new(Requests::new(input, &held));
+    let mut writer = Counted::new(Replies::new(&held));
+    let mut meter = Meter::new();
+    let end = session(
+        &mut bench,
+        &mut meter,
+        &mut reader,
+        &mut writer,
+        SESSION_TURNS,
+    );
+    match writer.into_inner().flush() {
+        Ok(()) => end,
+        Err(_) => SessionEnd::Write,
+    }
+}
+
+// What standard error says of a session that did not go through.
+fn complaint_of(end: SessionEnd) -> Option<&'static str> {
+    match end {
+        SessionEnd::Read => Some("cannot read standard input"),
+        SessionEnd::Write => Some("cannot write"),
+        SessionEnd::TurnLimit => Some("too many reads"),
+        SessionEnd::NoMemory => Some("out of memory"),
+        SessionEnd::Done | SessionEnd::Syntax | SessionEnd::Truncated => None,
+    }
+}
+
+// Says on standard error what went wrong. Where that can't be written either, the status tells.
+fn complain(rt: &impl Eprint, complaint: &str) {
+    let _ = eprintln!(rt; "sievebench: {complaint}");
+}
