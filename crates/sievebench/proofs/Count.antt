@@ -1,5 +1,5 @@
 -- How large the value of a few digits is.
-use Rattle.std.proofs.Common.{◌≡◌, ℕ, ◌+◌, ◌*◌, ◌^◌, ◌<◌, ◌≤◌, arith, suc, lit< , add-one}
+use Rattle.std.proofs.Common.{◌≡◌, ℕ, ◌+◌, ◌*◌, ◌^◌, ◌<◌, ◌≤◌, arith, suc, lit<, add-one}
 use Rattle.std.proofs.Math.Nat.{pow-succ', pow-le-pow_right}
 
 -- one digit more

@@ -24,12 +24,11 @@ so_far_more old mid new (Some s) (Some t) (Some u) before after' written done st
 pub so_far_ends : (end : SessionEnd) (old mid new : Content) (stream unread before after' written : Option (List ℕ)) → SoFar old stream before mid unread after' → EndFrom request_of end mid unread after' new written → SessionFrom end old stream before new written
 so_far_ends end old mid new None unread before after' written done ended = tt
 so_far_ends end old mid new (Some s) None before after' written done ended = absurd done
-so_far_ends end old mid new (Some s) (Some t) before after' written done ended =
-    (
-      done.0 ++ ended.0,
-      record { replies = done.0; last = ended.0; rest = t; steps = rw ended.3 done.1; ends = ended.1; whole = refl },
-      Appends-trans before after' written done.0 ended.0 done.2 ended.2
-    )
+so_far_ends end old mid new (Some s) (Some t) before after' written done ended = (
+  done.0 ++ ended.0,
+  record { replies = done.0; last = ended.0; rest = t; steps = rw ended.3 done.1; ends = ended.1; whole = refl },
+  Appends-trans before after' written done.0 ended.0 done.2 ended.2,
+)
 
 -- the same, where the end may be another
 pub so_far_ends_by : (end : SessionEnd) (old mid new : Content) (stream unread before after' written : Option (List ℕ)) (Q : Type 0) → SoFar old stream before mid unread after'

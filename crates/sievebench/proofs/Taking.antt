@@ -34,11 +34,10 @@ pub takes-more : (count part : ℕ) (a rest : Option (List ℕ)) (pending : List
 takes-more count part None rest pending old new within taken grown = tt
 takes-more count part (Some xs) None pending old new within taken grown = absurd taken
 takes-more count part (Some xs) (Some ys) pending old new within taken grown =
-    let size : length pending + length ys ≡ length (drop count xs) = sym (length-append pending ys) ∙ ap length taken.1 in
-    (
+    let size : length pending + length ys ≡ length (drop count xs) = sym (length-append pending ys) ∙ ap length taken.1 in (
       omega (arith, length-drop count xs, taken.0, size),
       sym (drop-append-le part pending ys within) ∙ ap (drop part) taken.1 ∙ drop-drop part count xs,
-      kept_more count part xs pending ys old new within taken.1 taken.2 grown
+      kept_more count part xs pending ys old new within taken.1 taken.2 grown,
     )
 
 -- the input ends before all are taken

@@ -53,7 +53,7 @@ fn read_behind<R: Source>(buffer: &mut [u8], from: usize, reader: &mut R) -> io:
     ensures front { take from buffer.new ≡ take from buffer.old }
     ensures read { MatchResult result
         (λ count. (from + count ≤ length buffer.new) × Consumes (R.remaining reader.old) (R.remaining reader.new) (take count (drop from buffer.new))
-            × (count ≡ 0 → IsAtEnd (R.remaining reader.new)))
+        × (count ≡ 0 → IsAtEnd (R.remaining reader.new)))
         (λ _. Keeps (R.remaining reader.old) (R.remaining reader.new)) }
     ensures faults { R.fault_count reader.old ≤ R.fault_count reader.new }
     ensures failed { OnErr result (HasRisen (R.fault_count reader.old) (R.fault_count reader.new)) }
@@ -74,7 +74,7 @@ fn refill<R: Source>(
     ensures front { take (end - start) buffer.new ≡ slice_range buffer.old start end }
     ensures read { MatchResult result
         (λ count. (end - start + count ≤ length buffer.new) × Consumes (R.remaining reader.old) (R.remaining reader.new) (take count (drop (end - start) buffer.new))
-            × (count ≡ 0 → IsAtEnd (R.remaining reader.new)))
+        × (count ≡ 0 → IsAtEnd (R.remaining reader.new)))
         (λ _. Keeps (R.remaining reader.old) (R.remaining reader.new)) }
     ensures faults { R.fault_count reader.old ≤ R.fault_count reader.new }
     ensures failed { OnErr result (HasRisen (R.fault_count reader.old) (R.fault_count reader.new)) }

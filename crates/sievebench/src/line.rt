@@ -97,8 +97,7 @@ impl Line {
         ensures no { result ≡ false → length pending.now ≤ 16385 }
         ensures some { IsTrue result → 0 < length pending.now }
     {
-        pending.len() > MAX_LINE + 1
-            || pending.len() == MAX_LINE + 1 && pending[MAX_LINE] != b'\r'
+        pending.len() > MAX_LINE + 1 || pending.len() == MAX_LINE + 1 && pending[MAX_LINE] != b'\r'
     }
 
     /// The next line of the input.

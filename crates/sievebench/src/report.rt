@@ -7,8 +7,8 @@ ghost use Rattle.sievebench.specs.Reported.{reported_of};
 
 use crate::message::Message;
 use crate::report_lines::{
-    write_action, write_envelope, write_error, write_implicit, write_main, write_message, write_read,
-    write_script, write_total,
+    write_action, write_envelope, write_error, write_implicit, write_main, write_message,
+    write_read, write_script, write_total,
 };
 use crate::script::Scripts;
 use indexmap::IndexMap;
@@ -38,7 +38,14 @@ pub(crate) fn run_all<'a>(
 {
     let mut reported = Vec::new(alloc);
     for (id, message) in messages {
-        let outcome = run(alloc, scripts, main, envelope, message.bytes.as_slice(), meter)?;
+        let outcome = run(
+            alloc,
+            scripts,
+            main,
+            envelope,
+            message.bytes.as_slice(),
+            meter,
+        )?;
         reported.push(Reported { id, outcome })?;
     }
     Ok(reported)

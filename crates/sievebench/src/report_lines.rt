@@ -19,7 +19,10 @@ fn place_word(place: Place) -> &'static [u8]
 
 /// Writes the line of the main script.
 #[tactic(auto, unfolding(crate::specs::Report::main_line))]
-pub(crate) fn write_main<W: Sink>(main: Option<&ScriptName>, writer: &mut W) -> Result<(), WriteFault>
+pub(crate) fn write_main<W: Sink>(
+    main: Option<&ScriptName>,
+    writer: &mut W,
+) -> Result<(), WriteFault>
     ensures ok { OnOk result (Wrote W.contents W.fault_count writer.old writer.new (main_line (option_copied main.entry))) }
     ensures err { OnErr result (WroteFront W.contents W.fault_count writer.old writer.new (main_line (option_copied main.entry))) }
 {

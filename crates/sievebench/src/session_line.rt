@@ -19,9 +19,15 @@ pub(crate) enum Command<'a> {
         count: u64,
     },
     /// To put a message, which is the next `count` octets.
-    Message { id: &'a [u8], count: u64 },
+    Message {
+        id: &'a [u8],
+        count: u64,
+    },
     /// To make a script main.
-    Main { place: Place, name: &'a [u8] },
+    Main {
+        place: Place,
+        name: &'a [u8],
+    },
     /// To report.
     Report,
 }
