@@ -1,44 +1,87 @@
--- The steps of the loop that finds the tokens: what it found so far goes on as the tokens of the rest.
-use Rattle.std.proofs.Common.{◌≡◌, ℕ, ◌+◌, ◌<◌, ◌≤◌, ◌++◌, List, [], ◌∷◌, length, take, drop, Some, None, sym, ap, ◌∙◌, subst, arith, append_assoc, append-nil}
-use Rattle.sieve_syntax.specs.Token.{line_feeds, white_at, SpellsFrom, Spells}
+-- The next token of a text, and what is found up to it.
+use Rattle.std.proofs.Common.{◌≡◌, ℕ, ◌+◌, ◌-◌, ◌<◌, ◌≤◌, ◌++◌, List, [], ◌∷◌, length, drop, Option, Some, None, refl, sym, ap, ◌∙◌, subst, arith, append_assoc, append-nil}
+use Rattle.std.proofs.lemmas.List.{length-drop, drop_all, take_rest}
+use Rattle.std.proofs.Common.{take}
+use Rattle.sieve_syntax.specs.Cursor.{IsCursor, GoesTo, IsNext}
 use Rattle.sieve_syntax.specs.Scan.{longest_at, token_at}
+use Rattle.sieve_syntax.specs.Token.{SpellsFrom, Spells, IsInside}
+use Rattle.sieve_syntax.specs.White.{white_at}
+use Rattle.sieve_syntax.specs.declared.cursor.Cursor.{Cursor}
 use Rattle.sieve_syntax.specs.declared.token.Token.{Token}
 use Rattle.sieve_syntax.specs.declared.token.TokenKind.{TokenKind}
 use Rattle.sieve_syntax.specs.declared.token.TokenKind.TheVariants.{Bad}
-use Rattle.sieve_syntax.proofs.Spelling.{step_white, step_token, step_bad, step_end}
+use Rattle.sieve_syntax.proofs.Longest.{IsFound, longest_at-found, white_at_bounds, found_bounds}
+use Rattle.sieve_syntax.proofs.Spelling.{step_white, step_token, step_bad, step_end, unique_from}
+
+pub rest_length : (text : List ℕ) (place : ℕ) → length (take (length text - place) (drop place text)) ≡ length text - place
+rest_length text place = ap length (take_rest text place) ∙ length-drop place text
+
+-- white space at the place goes to the place behind it
+pub goes_white : (text : List ℕ) (from place n : ℕ) (rest : List ℕ) → rest ≡ drop place text → white_at rest ≡ Some n → GoesTo text from place → GoesTo text from (place + n)
+goes_white text from place n rest e w so = record { goes = λ more h. so.goes more (step_white text place n more (ap white_at (sym e) ∙ w) h) }
+
+pub goes_nowhere : (text : List ℕ) (place : ℕ) → GoesTo text place place
+goes_nowhere text place = record { goes = λ more h. h }
+
+pub end_next : (text : List ℕ) (from place : ℕ) → GoesTo text from place → place ≡ length text → SpellsFrom text from []
+end_next text from place so e = so.goes [] (step_end text place e)
+
+-- a spelling is the next token
+pub good_next : (text : List ℕ) (from : ℕ) (start behind : Cursor) (token : Token) (kind : TokenKind) (n : ℕ) (rest : List ℕ) → rest ≡ drop start.place text → longest_at rest ≡ Some (kind, n)
+    → IsCursor text start → IsCursor text behind → from ≤ start.place → GoesTo text from start.place → token ≡ token_at text start.place kind (start.place + n) → behind.place ≡ start.place + n
+    → IsNext text from token behind
+unfolding token_at
+good_next text from start behind token kind n rest e l is_start is_behind low so made place =
+    let found = ap longest_at (sym e) ∙ l in
+    let f : IsFound (drop start.place text) (kind, n) = longest_at-found (drop start.place text) (kind, n) found in
+    let some = f.some in
+    let within = is_start.within in
+    let inside = is_behind.within in
+    let start_is : token.start ≡ start.place = ap (λ t. t.start) made in
+    let end_is : token.end ≡ start.place + n = ap (λ t. t.end) made in
+    record {
+      is = is_behind;
+      inside = record { some = omega arith; inside = omega arith };
+      place = omega arith;
+      forward = omega arith;
+      goes = λ more h. so.goes (token ∷ more)
+          (subst (λ t. SpellsFrom text start.place (t ∷ more)) (sym made)
+          (step_token text start.place (kind, n) more within found (subst (λ p. SpellsFrom text p more) place h)));
+    }
+
+-- the rest of the text is the next token, where nothing begins
+pub bad_next : (text : List ℕ) (from : ℕ) (start behind : Cursor) (token : Token) (rest : List ℕ) → rest ≡ drop start.place text → longest_at rest ≡ None → white_at (drop start.place text) ≡ None
+    → start.place < length text → IsCursor text behind → from ≤ start.place → GoesTo text from start.place → token ≡ token_at text start.place Bad (start.place + (length text - start.place)) → behind.place ≡ start.place + (length text - start.place)
+    → IsNext text from token behind
+unfolding token_at
+bad_next text from start behind token rest e l w less is_behind low so made place =
+    let all : start.place + (length text - start.place) ≡ length text = omega arith in
+    let start_is : token.start ≡ start.place = ap (λ t. t.start) made in
+    let end_is : token.end ≡ start.place + (length text - start.place) = ap (λ t. t.end) made in
+    let whole : token ≡ token_at text start.place Bad (length text) = made ∙ ap (token_at text start.place Bad) all in
+    record {
+      is = is_behind;
+      inside = record { some = omega arith; inside = omega arith };
+      place = omega arith;
+      forward = omega arith;
+      goes = λ more h.
+          let none : more ≡ [] = unique_from text behind.place more [] h (step_end text behind.place (omega arith)) in
+          so.goes (token ∷ more)
+          (subst (λ t. SpellsFrom text start.place (t ∷ more)) (sym whole)
+          (subst (λ ts. SpellsFrom text start.place (token_at text start.place Bad (length text) ∷ ts)) (sym none)
+          (step_bad text start.place less w (ap longest_at (sym e) ∙ l))));
+    }
+
+-- WHAT IS FOUND SO FAR
 
 -- whatever tokens spell the rest, with those found so far they spell the text
 abbrev pub GoesOn : List ℕ → List Token → ℕ → Type 0
 GoesOn text found place = (more : List Token) → SpellsFrom text place more → SpellsFrom text 0 (found ++ more)
 
-pub goes_on_white : (text : List ℕ) (found : List Token) (place n : ℕ) (rest : List ℕ) → rest ≡ drop place text → white_at rest ≡ Some n → GoesOn text found place → GoesOn text found (place + n)
-goes_on_white text found place n rest e w so more h = so more (step_white text place n more (ap white_at (sym e) ∙ w) h)
+pub goes_on : (text : List ℕ) (found after : List Token) (place : ℕ) (token : Token) (behind : Cursor) → after ≡ found ++ token ∷ [] → IsNext text place token behind → GoesOn text found place → GoesOn text after behind.place
+goes_on text found after place token behind is next so more h =
+    subst (SpellsFrom text 0) (sym (ap (λ x. x ++ more) is ∙ append_assoc found (token ∷ []) more))
+    (so (token ∷ more) (next.goes more h))
 
-pub goes_on_token : (text : List ℕ) (found after : List Token) (place n line : ℕ) (kind : TokenKind) (rest : List ℕ) → rest ≡ drop place text → longest_at rest ≡ Some (kind, n) → place < length text
-    → line ≡ line_feeds (take place text)
-    → after ≡ found ++ record { kind = kind; start = place; end = place + n; line = line + 1 } ∷ []
-    → GoesOn text found place → GoesOn text after (place + n)
-unfolding token_at
-goes_on_token text found after place n line kind rest e l h lines is so more k =
-    let t : Token = record { kind = kind; start = place; end = place + n; line = line + 1 } in
-    let u : Token = token_at text place kind (place + n) in
-    let same : t ≡ u = ap (λ x. record { kind = kind; start = place; end = place + n; line = x + 1 }) lines in
-    let joined : after ++ more ≡ found ++ u ∷ more =
-    ap (λ x. x ++ more) is ∙ append_assoc found (t ∷ []) more ∙ ap (λ x. found ++ x ∷ more) same in
-    subst (SpellsFrom text 0) (sym joined)
-    (so (u ∷ more) (step_token text place (kind, n) more (omega arith) (ap longest_at (sym e) ∙ l) k))
-
-pub ends_bad : (text : List ℕ) (found after : List Token) (place line : ℕ) (rest : List ℕ) → rest ≡ drop place text → white_at rest ≡ None → longest_at rest ≡ None → place < length text
-    → line ≡ line_feeds (take place text)
-    → after ≡ found ++ record { kind = Bad; start = place; end = length text; line = line + 1 } ∷ []
-    → GoesOn text found place → Spells after text
-unfolding token_at
-ends_bad text found after place line rest e w l h lines is so =
-    let same : ◌≡◌ {A = Token} (record { kind = Bad; start = place; end = length text; line = line + 1 }) (token_at text place Bad (length text)) =
-    ap (λ x. record { kind = Bad; start = place; end = length text; line = x + 1 }) lines in
-    let joined : after ≡ found ++ token_at text place Bad (length text) ∷ [] = is ∙ ap (λ x. found ++ x ∷ []) same in
-    subst (SpellsFrom text 0) (sym joined) (so _ (step_bad text place h (ap white_at (sym e) ∙ w) (ap longest_at (sym e) ∙ l)))
-
-pub ends_here : (text : List ℕ) (found : List Token) (place : ℕ) → place ≤ length text → length text ≤ place → GoesOn text found place → Spells found text
-ends_here text found place h k so =
-    subst (SpellsFrom text 0) (append-nil found) (so [] (step_end text place (omega arith)))
+pub ends_here : (text : List ℕ) (found : List Token) (place : ℕ) → SpellsFrom text place [] → GoesOn text found place → Spells found text
+ends_here text found place h so = subst (SpellsFrom text 0) (append-nil found) (so [] h)

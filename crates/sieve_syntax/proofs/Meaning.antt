@@ -67,7 +67,3 @@ parses_fault (Err (Syntax at)) text h line e =
     let same : at ≡ line = cc in
     let fault : IsFaultLine text line = subst (IsFaultLine text) same (err_faults text at h) in
     (fault, λ tree. fault_alone text line tree fault)
-
-pub parses_found : (r : Result scripts.Script SyntaxFault) (text : List ℕ) (found : List Token) → Spells found text → Parses r (read test_depth block_room text start found) → Parses r (syntax_of text)
-unfolding syntax_of
-parses_found r text found spelled h = subst (λ ts. Parses r (read test_depth block_room text start ts)) (unique text found (tokens_of text) spelled (tokens_of_spell text)) h

@@ -1,47 +1,61 @@
--- The machine over the tokens of a text, by their places in the list.
-use Rattle.std.proofs.Common.{◌≡◌, ℕ, ◌+◌, ◌<◌, ◌≤◌, List, length, drop, get_or, Some, None, Result, Ok, Err, sym, ap, ◌∙◌}
-use Rattle.std.proofs.lemmas.List.{drop_more, drop_all}
+-- The machine over the tokens of a text, one after another.
+use Rattle.std.proofs.Common.{◌≡◌, ℕ, List, [], ◌∷◌, length, Option, Some, None, Result, Ok, Err, refl, sym, ap, ◌∙◌, subst}
+use Rattle.sieve_syntax.specs.Cursor.{IsNext}
+use Rattle.sieve_syntax.specs.Machine.{State, step, start, whole, read}
+use Rattle.sieve_syntax.specs.Parsed.{Ends, Goes, Parses}
+use Rattle.sieve_syntax.specs.Scan.{tokens_of, tokens_from}
+use Rattle.sieve_syntax.specs.Syntax.{test_depth, block_room, syntax_of}
+use Rattle.sieve_syntax.specs.Token.{line_at, SpellsFrom}
 use Rattle.sieve_syntax.specs.Tree.{Node}
-use Rattle.sieve_syntax.specs.Token.{line_at}
 use Rattle.sieve_syntax.specs.Word.{word_of}
-use Rattle.sieve_syntax.specs.Machine.{State, step, whole, read}
-use Rattle.sieve_syntax.specs.Syntax.{test_depth, block_room}
-use Rattle.sieve_syntax.specs.Parsed.{Goes, Parses}
+use Rattle.sieve_syntax.specs.declared.cursor.Cursor.{Cursor}
 use Rattle.sieve_syntax.specs.declared.parser.SyntaxFault.{SyntaxFault}
 use Rattle.sieve_syntax.specs.declared.parser.SyntaxFault.TheVariants.{Syntax, TooLarge, NoMemory}
 use Rattle.sieve_syntax.specs.declared.token.Token.{Token}
+use Rattle.sieve_syntax.specs.declared.tree.Script as scripts
+use Rattle.sieve_syntax.proofs.Spelling.{tokens_of_spell, some_tokens, unique}
 
-pub read_goes : (text : List ℕ) (found : List Token) (i : ℕ) (d : Token) (s next : State) → i < length found → step test_depth block_room s (word_of text (get_or found i d)) ≡ Some next →
-    read test_depth block_room text s (drop i found) ≡ read test_depth block_room text next (drop (i + 1) found)
+-- whatever tokens spell the rest of the text, from this state they give what the text means
+abbrev pub Means : List ℕ → State → ℕ → Type 0
+Means text s place = (more : List Token) → SpellsFrom text place more → read test_depth block_room text s more ≡ syntax_of text
+
+pub start_means : (text : List ℕ) → Means text start 0
+unfolding syntax_of
+start_means text more h = ap (read test_depth block_room text start) (unique text more (tokens_of text) h (tokens_of_spell text))
+
+read-next : (text : List ℕ) (s next : State) (token : Token) (more : List Token) → step test_depth block_room s (word_of text token) ≡ Some next → read test_depth block_room text s (token ∷ more) ≡ read test_depth block_room text next more
 unfolding read
-read_goes text found i d s next less e =
-    ap (read test_depth block_room text s) (drop_more found i d less)
-    ∙ ap (λ o. elim o as (λ z. Result (List Node) ℕ) [ Some n ↦ read test_depth block_room text n (drop (i + 1) found) | None ↦ Err (get_or found i d).line ]) e
+read-next text s next token more e = ap (λ o. elim o as (λ z. Result (List Node) ℕ) [ Some n ↦ read test_depth block_room text n more | None ↦ Err token.line ]) e
 
-pub read_stops : (text : List ℕ) (found : List Token) (i : ℕ) (d : Token) (s : State) → i < length found → step test_depth block_room s (word_of text (get_or found i d)) ≡ None →
-    read test_depth block_room text s (drop i found) ≡ Err (get_or found i d).line
+read-stop : (text : List ℕ) (s : State) (token : Token) (more : List Token) → step test_depth block_room s (word_of text token) ≡ None → read test_depth block_room text s (token ∷ more) ≡ Err token.line
 unfolding read
-read_stops text found i d s less e =
-    ap (read test_depth block_room text s) (drop_more found i d less)
-    ∙ ap (λ o. elim o as (λ z. Result (List Node) ℕ) [ Some n ↦ read test_depth block_room text n (drop (i + 1) found) | None ↦ Err (get_or found i d).line ]) e
+read-stop text s token more e = ap (λ o. elim o as (λ z. Result (List Node) ℕ) [ Some n ↦ read test_depth block_room text n more | None ↦ Err token.line ]) e
 
-pub read_whole : (text : List ℕ) (found : List Token) (i : ℕ) (s : State) (tree : List Node) → length found ≤ i → whole s ≡ Some tree → read test_depth block_room text s (drop i found) ≡ Ok tree
+read-end : (text : List ℕ) (s : State) (o : Option (List Node)) → whole s ≡ o → read test_depth block_room text s [] ≡ elim o as (λ z. Result (List Node) ℕ) [ Some tree ↦ Ok tree | None ↦ Err (line_at text (length text)) ]
 unfolding read
-read_whole text found i s tree past e =
-    ap (read test_depth block_room text s) (drop_all i found past)
-    ∙ ap (λ o. elim o as (λ z. Result (List Node) ℕ) [ Some t ↦ Ok t | None ↦ Err (line_at text (length text)) ]) e
+read-end text s o e = ap (λ x. elim x as (λ z. Result (List Node) ℕ) [ Some tree ↦ Ok tree | None ↦ Err (line_at text (length text)) ]) e
 
-pub read_part : (text : List ℕ) (found : List Token) (i : ℕ) (s : State) → length found ≤ i → whole s ≡ None → read test_depth block_room text s (drop i found) ≡ Err (line_at text (length text))
-unfolding read
-read_part text found i s past e =
-    ap (read test_depth block_room text s) (drop_all i found past)
-    ∙ ap (λ o. elim o as (λ z. Result (List Node) ℕ) [ Some t ↦ Ok t | None ↦ Err (line_at text (length text)) ]) e
+-- a token that is taken goes on
+pub next_means : (text : List ℕ) (s next : State) (place : ℕ) (token : Token) (behind : Cursor) → IsNext text place token behind → step test_depth block_room s (word_of text token) ≡ Some next → Means text s place → Means text next behind.place
+next_means text s next place token behind is e so more h = sym (read-next text s next token more e) ∙ so (token ∷ more) (is.goes more h)
 
--- a fault at a token is what the tokens from it on give
-pub stops_parses : (text : List ℕ) (found : List Token) (i : ℕ) (d : Token) (s : State) (fault : SyntaxFault) → i < length found → Goes (Err fault) (step test_depth block_room s (word_of text (get_or found i d))) (get_or found i d).line →
-    Parses (Err fault) (read test_depth block_room text s (drop i found))
-stops_parses text found i d s (Syntax line) less h = read_stops text found i d s less h.0 ∙ ap (λ n. Err n) (sym h.1)
-stops_parses text found i d s TooLarge less h = absurd h
-stops_parses text found i d s NoMemory less h = tt
+-- a token that isn't taken is the fault
+pub stop_means : (text : List ℕ) (s : State) (place : ℕ) (token : Token) (behind : Cursor) (fault : SyntaxFault) → IsNext text place token behind → Goes (Err fault) (step test_depth block_room s (word_of text token)) token.line → Means text s place → Parses (Err fault) (syntax_of text)
+stop_means text s place token behind (Syntax line) is h so =
+    let more = some_tokens text behind.place is.is.within in
+    sym (so (token ∷ more.0) (is.goes more.0 more.1)) ∙ read-stop text s token more.0 h.0 ∙ ap (λ n. Err n) (sym h.1)
+stop_means text s place token behind TooLarge is h so = absurd h
+stop_means text s place token behind NoMemory is h so = tt
 
-pub ruleset running = (read_whole, read_part)
+-- the end
+pub end_means : (text : List ℕ) (s : State) (place : ℕ) (r : Result scripts.Script SyntaxFault) → SpellsFrom text place [] → Means text s place → Ends r (whole s) (line_at text (length text)) → Parses r (syntax_of text)
+end_means text s place (Ok script) h so e = sym (so [] h) ∙ read-end text s _ e
+end_means text s place (Err (Syntax line)) h so e = sym (so [] h) ∙ read-end text s None e.0 ∙ ap (λ n. Err n) (sym e.1)
+end_means text s place (Err TooLarge) h so e = absurd e
+end_means text s place (Err NoMemory) h so e = absurd e
+
+pub never_large : (r : Result scripts.Script SyntaxFault) (tree : Option (List Node)) (line : ℕ) → Ends r tree line → r ≡ Err TooLarge → ⊥
+never_large (Ok script) tree line h e = cc
+never_large (Err (Syntax at)) tree line h e = cc
+never_large (Err TooLarge) tree line h e = h
+never_large (Err NoMemory) tree line h e = h

@@ -1,14 +1,13 @@
--- What `longest_at` and `white_at` find in a text, against the spellings.
-use Rattle.std.proofs.Common.{◌≡◌, ℕ, zero, suc, ◌<◌, ◌≤◌, ◌==◌, true, if◌then◌else◌, List, [], ◌∷◌, length, take, Some, None, refl, sym, ap, subst, arith}
+-- What `longest_at` finds in a text, kind by kind, against the spellings.
+use Rattle.std.proofs.Common.{◌≡◌, ℕ, zero, suc, ◌+◌, ◌-◌, ◌<◌, ◌≤◌, ◌==◌, ◌&&◌, Bool, true, false, cond, if◌then◌else◌, List, [], ◌∷◌, length, take, drop, Option, Some, None, refl, sym, ap, ◌∙◌, subst, arith, rules}
 use Rattle.std.specs.List.{list_all}
-use Rattle.sieve_syntax.specs.Octet.{begins_name, is_name_octet, is_blank}
-use Rattle.sieve_syntax.specs.Token.{is_identifier, is_one, spells, line_length, white_at}
-use Rattle.sieve_syntax.specs.Scan.{name_length, longest_at}
-use Rattle.sieve_syntax.specs.declared.token.TokenKind.{TokenKind}
-use Rattle.sieve_syntax.specs.declared.token.TokenKind.TheVariants.{Identifier, Semicolon}
-use Rattle.std.proofs.lemmas.Bool.Decides.{nat_tests}
-use Rattle.std.proofs.lemmas.Bool.{eqb-true}
-use Rattle.sieve_syntax.proofs.Cases.{by_cases, and_left, and_right, both_true}
+use Rattle.std.specs.Option.{option_map}
+use Rattle.sieve_syntax.specs.Octet.{begins_name, is_name_octet, is_digit, is_unit}
+use Rattle.sieve_syntax.specs.Spelling.{is_none, is_identifier, ends_number, ends_quoted, ends_protected}
+use Rattle.sieve_syntax.specs.Scan.{name_length, number_length, quoted_length, protected_length}
+use Rattle.sieve_syntax.proofs.Cases.{by_cases, by_option, and_left, and_right, both_true}
+
+-- NAMES
 
 pub name_bound : (cs : List ℕ) → name_length cs ≤ length cs
 unfolding name_length
@@ -33,104 +32,132 @@ name_length-most (c ∷ cs) (suc m) h all =
     by_cases (is_name_octet c) (λ b. suc m ≤ (if b then suc (name_length cs) else 0)) (λ e. omega arith)
     (λ e. absurd (let t = and_left (is_name_octet c) _ all in cc))
 
-pub line_bound : (cs : List ℕ) → line_length cs ≤ length cs
-unfolding line_length
-line_bound [] = omega arith
-line_bound (c ∷ cs) =
-    let more : line_length cs ≤ length cs = line_bound cs in
-    by_cases (c == 10) (λ b. (if b then 1 else suc (line_length cs)) ≤ suc (length cs)) (λ e. omega arith) (λ e. omega arith)
+-- NUMBERS
 
--- a piece of white space is not empty, and lies in the text
-pub white_at-bounds : (rest : List ℕ) (n : ℕ) → white_at rest ≡ Some n → (0 < n) × (n ≤ length rest)
-unfolding white_at
-white_at-bounds [] n = λ e. cc
-white_at-bounds (c ∷ cs) n =
-    let line = line_bound cs in
-    by_cases (is_blank c) (λ b. (if b then Some 1 else (if c == 35 then Some (suc (line_length cs)) else None)) ≡ Some n → (0 < n) × (n ≤ suc (length cs)))
-    (λ q e. let f : 1 ≡ n = cc in (omega arith, omega arith))
-    (λ q. by_cases (c == 35) (λ b. (if b then Some (suc (line_length cs)) else None) ≡ Some n → (0 < n) × (n ≤ suc (length cs)))
-    (λ r e. let f : suc (line_length cs) ≡ n = cc in (omega arith, omega arith))
-    (λ r e. cc))
+pub number_bound : (cs : List ℕ) → number_length cs ≤ length cs
+unfolding number_length
+number_bound [] = omega arith
+number_bound (c ∷ cs) =
+    let more : number_length cs ≤ length cs = number_bound cs in
+    by_cases (is_digit c) (λ b. (if b then suc (number_length cs) else (if is_unit c then 1 else 0)) ≤ suc (length cs)) (λ e. omega arith)
+    (λ e. by_cases (is_unit c) (λ b. (if b then 1 else 0) ≤ suc (length cs)) (λ f. omega arith) (λ f. omega arith))
 
--- where white space begins, no spelling does
-pub white_at-alone : (rest : List ℕ) (n : ℕ) → white_at rest ≡ Some n → longest_at rest ≡ None
-unfolding white_at longest_at
-white_at-alone [] n e = refl
-white_at-alone (c ∷ cs) n e = grind (arith, nat_tests)
+pub number_length-ends : (cs : List ℕ) → ends_number (take (number_length cs) cs) ≡ true
+unfolding number_length ends_number
+number_length-ends [] = refl
+number_length-ends (c ∷ cs) =
+    by_cases (is_digit c) (λ b. is_digit c ≡ b → ends_number (take (if b then suc (number_length cs) else (if is_unit c then 1 else 0)) (c ∷ cs)) ≡ true)
+    (λ e f. ap (λ b. if b then ends_number (take (number_length cs) cs) else (is_unit c && is_none (take (number_length cs) cs))) f ∙ number_length-ends cs)
+    (λ e f. by_cases (is_unit c) (λ b. is_unit c ≡ b → ends_number (take (if b then 1 else 0) (c ∷ cs)) ≡ true)
+    (λ g h. ap (λ b. if b then true else (is_unit c && true)) f ∙ both_true (is_unit c) true h refl)
+    (λ g h. refl) refl) refl
 
--- what is found is a spelling that lies in the text
-pub record IsFound (rest : List ℕ) (found : TokenKind × ℕ) : Type 0 where
-  pub some : 0 < found.1
-  pub inside : found.1 ≤ length rest
-  pub spelled : spells found.0 (take found.1 rest) ≡ true
+pub none_taken : (m : ℕ) (cs : List ℕ) → m ≤ length cs → is_none (take m cs) ≡ true → m ≡ 0
+none_taken zero cs h e = refl
+none_taken (suc m) [] h e = absurd (omega arith)
+none_taken (suc m) (c ∷ cs) h e = cc
 
-pub longest_at-found : (rest : List ℕ) (found : TokenKind × ℕ) → longest_at rest ≡ Some found → IsFound rest found
-unfolding longest_at spells is_identifier is_one
-longest_at-found [] found = λ e. cc
-longest_at-found (c ∷ cs) found =
-    by_cases (begins_name c) (λ b. (if b then Some (Identifier, suc (name_length cs)) else (if c == 59 then Some (Semicolon, 1) else None)) ≡ Some found → IsFound (c ∷ cs) found)
-    (λ q e. let f : (Identifier, suc (name_length cs)) ≡ found = cc in
-    subst (IsFound (c ∷ cs)) f record {
-      some = omega arith;
-      inside = omega (arith, name_bound cs);
-      spelled = both_true (begins_name c) _ q (name_length-all cs);
-    })
-    (λ q. by_cases (c == 59) (λ b. (if b then Some (Semicolon, 1) else None) ≡ Some found → IsFound (c ∷ cs) found)
-    (λ r e. let k : TokenKind = Semicolon in let f : (k, 1) ≡ found = cc in
-    subst (IsFound (c ∷ cs)) f record { some = omega arith; inside = omega arith; spelled = r })
-    (λ r e. cc))
+pub number_length-most : (cs : List ℕ) (m : ℕ) → m ≤ length cs → ends_number (take m cs) ≡ true → m ≤ number_length cs
+unfolding number_length ends_number
+number_length-most [] m h = λ ends. omega arith
+number_length-most (c ∷ cs) zero h = λ ends. omega arith
+number_length-most (c ∷ cs) (suc m) h =
+    by_cases (is_digit c) (λ b. (if b then ends_number (take m cs) else (is_unit c && is_none (take m cs))) ≡ true → suc m ≤ (if b then suc (number_length cs) else (if is_unit c then 1 else 0)))
+    (λ e ends. omega (arith, number_length-most cs m (omega arith) ends))
+    (λ e ends.
+    let none : m ≡ 0 = none_taken m cs (omega arith) (and_right (is_unit c) _ ends) in
+    by_cases (is_unit c) (λ b. (b && is_none (take m cs)) ≡ true → suc m ≤ (if b then 1 else 0)) (λ f g. omega arith) (λ f g. cc) ends)
 
--- no spelling is longer than what is found, and none of that length is of another kind
-pub record IsAtMost (rest : List ℕ) (kind : TokenKind) (m : ℕ) : Type 0 where
-  pub found : TokenKind × ℕ
-  pub is : longest_at rest ≡ Some found
-  pub most : m ≤ found.1
-  pub only : m ≡ found.1 → kind ≡ found.0
+-- QUOTED STRINGS
 
-identifier-most : (c : ℕ) (cs : List ℕ) (m : ℕ) → m ≤ length cs → begins_name c ≡ true → list_all is_name_octet (take m cs) ≡ true → IsAtMost (c ∷ cs) Identifier (suc m)
-unfolding longest_at
-identifier-most c cs m h q all =
-    let more : m ≤ name_length cs = name_length-most cs m h all in
-    record {
-      found = (Identifier, suc (name_length cs));
-      is = ap (λ b. if b then Some (Identifier, suc (name_length cs)) else (if c == 59 then Some (Semicolon, 1) else None)) q;
-      most = omega arith;
-      only = λ e. refl;
-    }
+-- so many octets lie in the text and end a quoted string
+pub record IsEnd (ends : List ℕ → Bool) (cs : List ℕ) (n : ℕ) : Type 0 where
+  pub some : 0 < n
+  pub inside : n ≤ length cs
+  pub ends_it : ends (take n cs) ≡ true
 
-semicolon-most : (cs : List ℕ) → IsAtMost (59 ∷ cs) Semicolon 1
-unfolding longest_at
-semicolon-most cs = record { found = (Semicolon, 1); is = refl; most = omega arith; only = λ e. refl }
+pub one_more : (o : Option ℕ) (n : ℕ) → option_map suc o ≡ Some n → (m : ℕ) × (o ≡ Some m) × (n ≡ suc m)
+one_more (Some m) n e = (m, refl, cc)
+one_more None n e = cc
 
-is_one-empty : (octet : ℕ) (word : List ℕ) → is_one octet word ≡ true → word ≡ octet ∷ []
-unfolding is_one
-is_one-empty octet [] e = cc
-is_one-empty octet (c ∷ []) e = ap (λ x. x ∷ []) (eqb-true c octet e)
-is_one-empty octet (c ∷ d ∷ ds) e = cc
+ends_backslash : (c : ℕ) (word : List ℕ) → (c == 92) ≡ true → ends_quoted (c ∷ word) ≡ ends_protected word
+unfolding ends_quoted
+ends_backslash c word e = ap (λ b. if b then ends_protected word else (if c == 34 then is_none word else ends_quoted word)) e
 
--- the first octet of a front of a text, and how many octets follow it there
-take-cons : (rest : List ℕ) (m c : ℕ) (word : List ℕ) → take m rest ≡ c ∷ word → (cs : List ℕ) × (n : ℕ) × (rest ≡ c ∷ cs) × (m ≡ suc n) × (take n cs ≡ word)
-take-cons [] zero c word e = cc
-take-cons [] (suc n) c word e = cc
-take-cons (d ∷ ds) zero c word e = cc
-take-cons (d ∷ ds) (suc n) c word e = (ds, n, cc, refl, cc)
+ends_mark : (c : ℕ) (word : List ℕ) → (c == 92) ≡ false → (c == 34) ≡ true → ends_quoted (c ∷ word) ≡ is_none word
+unfolding ends_quoted
+ends_mark c word e f =
+    ap (λ b. if b then ends_protected word else (if c == 34 then is_none word else ends_quoted word)) e
+    ∙ ap (λ b. if b then is_none word else ends_quoted word) f
 
-take-one : (rest : List ℕ) (m c : ℕ) → m ≤ length rest → take m rest ≡ c ∷ [] → (cs : List ℕ) × (rest ≡ c ∷ cs) × (m ≡ 1)
-take-one [] zero c h e = cc
-take-one [] (suc n) c h e = cc
-take-one (d ∷ ds) zero c h e = cc
-take-one (d ∷ ds) (suc zero) c h e = (ds, cc, refl)
-take-one (d ∷ []) (suc (suc n)) c h e = absurd (omega arith)
-take-one (d ∷ f ∷ ds) (suc (suc n)) c h e = cc
+ends_plain : (c : ℕ) (word : List ℕ) → (c == 92) ≡ false → (c == 34) ≡ false → ends_quoted (c ∷ word) ≡ ends_quoted word
+unfolding ends_quoted
+ends_plain c word e f =
+    ap (λ b. if b then ends_protected word else (if c == 34 then is_none word else ends_quoted word)) e
+    ∙ ap (λ b. if b then is_none word else ends_quoted word) f
 
-pub longest_at-most : (rest : List ℕ) (kind : TokenKind) (m : ℕ) → m ≤ length rest → spells kind (take m rest) ≡ true → IsAtMost rest kind m
-unfolding spells is_identifier
-longest_at-most [] Identifier zero h e = cc
-longest_at-most [] Identifier (suc m) h e = cc
-longest_at-most (c ∷ cs) Identifier zero h e = cc
-longest_at-most (c ∷ cs) Identifier (suc m) h e = identifier-most c cs m (omega arith) (and_left (begins_name c) _ e) (and_right (begins_name c) _ e)
-longest_at-most rest Semicolon m h e =
-    let w = is_one-empty 59 _ e in
-    let t = take-one rest m 59 h w in
-    subst (λ r. IsAtMost r Semicolon m) (sym t.1) (subst (IsAtMost (59 ∷ t.0) Semicolon) (sym t.2) (semicolon-most t.0))
-longest_at-most rest _ m h e = cc
+mutual
+  unfolding quoted_length ends_quoted
+
+  pub quoted_found : (cs : List ℕ) (n : ℕ) → quoted_length cs ≡ Some n → IsEnd ends_quoted cs n
+  quoted_found [] n = λ e. cc
+  quoted_found (c ∷ cs) n =
+      by_cases (c == 92) (λ b. (if b then option_map suc (protected_length cs) else (if c == 34 then Some 1 else option_map suc (quoted_length cs))) ≡ Some n → IsEnd ends_quoted (c ∷ cs) n)
+      (λ q e.
+      let m = one_more (protected_length cs) n e in
+      let below = protected_found cs m.0 m.1 in
+      let inside = below.inside in
+      subst (IsEnd ends_quoted (c ∷ cs)) (sym m.2) record {
+        some = omega arith;
+        inside = omega arith;
+        ends_it = ends_backslash c (take m.0 cs) q ∙ below.ends_it;
+      })
+      (λ q. by_cases (c == 34) (λ b. (if b then Some 1 else option_map suc (quoted_length cs)) ≡ Some n → IsEnd ends_quoted (c ∷ cs) n)
+      (λ r e.
+      let same : 1 ≡ n = cc in
+      subst (IsEnd ends_quoted (c ∷ cs)) same record {
+        some = omega arith;
+        inside = omega arith;
+        ends_it = ends_mark c [] q r;
+      })
+      (λ r e.
+      let m = one_more (quoted_length cs) n e in
+      let below = quoted_found cs m.0 m.1 in
+      let inside = below.inside in
+      subst (IsEnd ends_quoted (c ∷ cs)) (sym m.2) record {
+        some = omega arith;
+        inside = omega arith;
+        ends_it = ends_plain c (take m.0 cs) q r ∙ below.ends_it;
+      }))
+
+  protected_found : (cs : List ℕ) (n : ℕ) → protected_length cs ≡ Some n → IsEnd ends_protected cs n
+  protected_found [] n = λ e. cc
+  protected_found (c ∷ cs) n = λ e.
+      let m = one_more (quoted_length cs) n e in
+      let below = quoted_found cs m.0 m.1 in
+      let inside = below.inside in
+      subst (IsEnd ends_protected (c ∷ cs)) (sym m.2) record {
+        some = omega arith;
+        inside = omega arith;
+        ends_it = below.ends_it;
+      }
+
+mutual
+  unfolding quoted_length ends_quoted
+
+  pub quoted_only : (cs : List ℕ) (m : ℕ) → m ≤ length cs → ends_quoted (take m cs) ≡ true → quoted_length cs ≡ Some m
+  quoted_only [] zero h = λ e. cc
+  quoted_only [] (suc m) h = λ e. cc
+  quoted_only (c ∷ cs) zero h = λ e. cc
+  quoted_only (c ∷ cs) (suc m) h =
+      by_cases (c == 92) (λ b. (if b then ends_protected (take m cs) else (if c == 34 then is_none (take m cs) else ends_quoted (take m cs))) ≡ true → (if b then option_map suc (protected_length cs) else (if c == 34 then Some 1 else option_map suc (quoted_length cs))) ≡ Some (suc m))
+      (λ q e. ap (option_map suc) (protected_only cs m (omega arith) e))
+      (λ q. by_cases (c == 34) (λ b. (if b then is_none (take m cs) else ends_quoted (take m cs)) ≡ true → (if b then Some 1 else option_map suc (quoted_length cs)) ≡ Some (suc m))
+      (λ r e. ap (λ k. Some (suc k)) (sym (none_taken m cs (omega arith) e)))
+      (λ r e. ap (option_map suc) (quoted_only cs m (omega arith) e)))
+
+  protected_only : (cs : List ℕ) (m : ℕ) → m ≤ length cs → ends_protected (take m cs) ≡ true → protected_length cs ≡ Some m
+  protected_only [] zero h = λ e. cc
+  protected_only [] (suc m) h = λ e. cc
+  protected_only (c ∷ cs) zero h = λ e. cc
+  protected_only (c ∷ cs) (suc m) h = λ e. ap (option_map suc) (quoted_only cs m (omega arith) e)

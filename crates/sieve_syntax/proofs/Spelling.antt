@@ -3,13 +3,15 @@ use Rattle.std.proofs.Common.{◌≡◌, ℕ, zero, suc, ◌+◌, ◌-◌, ◌<�
 use Rattle.std.specs.List.{slice_range, All}
 use Rattle.std.proofs.lemmas.Bool.{ltb-true, ltb-false}
 use Rattle.std.proofs.lemmas.List.{length-drop, drop_all}
-use Rattle.sieve_syntax.specs.Token.{line_at, spells, white_at, White, nothing, white, IsLongest, IsBad, IsInside, SpellsFrom, Spells}
+use Rattle.sieve_syntax.specs.Spelling.{spells}
+use Rattle.sieve_syntax.specs.White.{white_at}
+use Rattle.sieve_syntax.specs.Token.{line_at, White, nothing, white, IsLongest, IsBad, IsInside, SpellsFrom, Spells}
 use Rattle.sieve_syntax.specs.Scan.{longest_at, token_at, tokens_from, tokens_of}
 use Rattle.sieve_syntax.specs.declared.token.Token.{Token}
 use Rattle.sieve_syntax.specs.declared.token.TokenKind.{TokenKind}
 use Rattle.sieve_syntax.specs.declared.token.TokenKind.TheVariants.{Bad}
 use Rattle.sieve_syntax.proofs.Cases.{by_cases, by_option}
-use Rattle.sieve_syntax.proofs.Scanning.{white_at-bounds, white_at-alone, IsFound, longest_at-found, IsAtMost, longest_at-most}
+use Rattle.sieve_syntax.proofs.Longest.{white_at_bounds, white_at_alone, IsFound, longest_at-found, IsAtMost, longest_at-most}
 
 -- ONE STEP
 
@@ -81,7 +83,7 @@ tokens_from-spell (suc fuel) text place h enough =
       ]
     ]))
     (λ n e.
-    let b = white_at-bounds (drop place text) n e in
+    let b = white_at_bounds (drop place text) n e in
     step_white text place n _ e (tokens_from-spell fuel text (place + n) (omega (arith, b.0, b.1)) (omega (arith, b.0, b.1))))
     (λ blank. by_option (longest_at (drop place text))
     (λ l. SpellsFrom text place (elim l [
@@ -141,7 +143,7 @@ longest-there text token h =
     record {
       found = found_is (longest_at rest) token.kind most.found.0 m most.found.1 most.is (most.only same) same;
       starts = omega arith;
-      bare = by_option (white_at rest) (λ w. w ≡ None) (λ n e. absurd (let alone = white_at-alone rest n e in let i = most.is in cc)) (λ e. refl);
+      bare = by_option (white_at rest) (λ w. w ≡ None) (λ n e. absurd (let alone = white_at_alone rest n e in let i = most.is in cc)) (λ e. refl);
     }
 
 -- no white space begins where a token stands, and the token lies in the text
@@ -171,7 +173,7 @@ not-both text t u e h bad =
 same_token : (t u : Token) → t.kind ≡ u.kind → t.start ≡ u.start → t.end ≡ u.end → t.line ≡ u.line → t ≡ u
 same_token t u k s e l = λ i. record { kind = k i; start = s i; end = e i; line = l i }
 
-unique_from : (text : List ℕ) (place : ℕ) (ts us : List Token) → SpellsFrom text place ts → SpellsFrom text place us → ts ≡ us
+pub unique_from : (text : List ℕ) (place : ℕ) (ts us : List Token) → SpellsFrom text place ts → SpellsFrom text place us → ts ≡ us
 unique_from text place [] [] h k = refl
 unique_from text place [] (u ∷ us) h k =
     let there = bare-here text u _ _ k.2 in
@@ -229,3 +231,7 @@ spelled_inside text place (t ∷ ts) h = all_inside text t ts (token_inside text
     later : (IsLongest text t × SpellsFrom text t.end ts) ⊎ (IsBad text t × (ts ≡ [])) → (SpellsFrom text t.end ts → All (IsInside text) ts) → All (IsInside text) ts
     later (inl a) below = below a.1
     later (inr a) below = none_inside text ts a.1
+
+-- from each place on there are tokens
+pub some_tokens : (text : List ℕ) (place : ℕ) → place ≤ length text → (tokens : List Token) × SpellsFrom text place tokens
+some_tokens text place h = (tokens_from (length text) text place, tokens_from-spell (length text) text place h (omega arith))

@@ -1,10 +1,15 @@
-pub mod Octet
+pub mod Cursor
 pub mod Grammar
+pub mod Line
 pub mod Machine
+pub mod Octet
 pub mod Parsed
 pub mod Reader
 pub mod Scan
+pub mod Spelling
 pub mod Syntax
 pub mod Token
 pub mod Tree
+pub mod Value
+pub mod White
 pub mod Word

@@ -16,6 +16,14 @@ begins_name octet = is_between 97 122 octet || (is_between 65 90 octet || (octet
 abbrev pub is_name_octet : ℕ → Bool
 is_name_octet octet = begins_name octet || is_digit octet
 
+-- the unit of a number: `K`, `M` or `G` in either case
+abbrev pub is_unit : ℕ → Bool
+is_unit octet = octet == 75 || (octet == 107 || (octet == 77 || (octet == 109 || (octet == 71 || (octet == 103)))))
+
+-- space or tab
+abbrev pub is_space : ℕ → Bool
+is_space octet = octet == 32 || (octet == 9)
+
 -- space, tab, CR or LF
 abbrev pub is_blank : ℕ → Bool
 is_blank octet = octet == 32 || (octet == 9 || (octet == 13 || (octet == 10)))

@@ -1,24 +1,88 @@
 -- The one list of tokens of a text, as a function.
-use Rattle.std.specs.Prelude.{ℕ, ◌+◌, ◌==◌, nat_lt, if◌then◌else◌, List, [], ◌∷◌, length, drop, Option, Some, None}
+use Rattle.std.specs.Prelude.{ℕ, ◌+◌, ◌==◌, Bool, true, false, nat_lt, if◌then◌else◌, List, [], ◌∷◌, length, drop, Option, Some, None, option_map}
 use Rattle.std.proofs.Common.{zero, suc}
-use Rattle.sieve_syntax.specs.Octet.{begins_name, is_name_octet}
-use Rattle.sieve_syntax.specs.Token.{line_at, white_at}
+use Rattle.sieve_syntax.specs.Line.{lines_of, is_dot_line}
+use Rattle.sieve_syntax.specs.Octet.{begins_name, is_name_octet, is_digit, is_unit}
+use Rattle.sieve_syntax.specs.Spelling.{is_opening}
+use Rattle.sieve_syntax.specs.Token.{line_at}
+use Rattle.sieve_syntax.specs.White.{white_at}
 use Rattle.sieve_syntax.specs.declared.token.Token.{Token}
 use Rattle.sieve_syntax.specs.declared.token.TokenKind.{TokenKind}
-use Rattle.sieve_syntax.specs.declared.token.TokenKind.TheVariants.{Identifier, Semicolon, Bad}
+use Rattle.sieve_syntax.specs.declared.token.TokenKind.TheVariants.{Identifier, Tag, Number, Quoted, MultiLine, Semicolon, OpenBrace, CloseBrace, OpenParenthesis, CloseParenthesis, OpenBracket, CloseBracket, Comma, Bad}
 
 -- how many octets of a name begin a text
 unfoldable pub name_length : List ℕ → ℕ
 name_length [] = 0
 name_length (c ∷ cs) = if is_name_octet c then suc (name_length cs) else 0
 
+-- how many octets of a number begin a text, behind its first digit
+unfoldable pub number_length : List ℕ → ℕ
+number_length [] = 0
+number_length (c ∷ cs) = if is_digit c then suc (number_length cs) else (if is_unit c then 1 else 0)
+
+unfoldable mutual
+  -- how many octets a quoted string has, behind its first quotation mark
+  pub quoted_length : List ℕ → Option ℕ
+  quoted_length [] = None
+  quoted_length (c ∷ cs) = if c == 92 then option_map suc (protected_length cs) else (if c == 34 then Some 1 else option_map suc (quoted_length cs))
+
+  pub protected_length : List ℕ → Option ℕ
+  protected_length [] = None
+  protected_length (c ∷ cs) = option_map suc (quoted_length cs)
+
+-- a length with so many octets in front
+abbrev pub shifted : ℕ → Option ℕ → Option ℕ
+shifted i None = None
+shifted i (Some n) = Some (i + n)
+
+-- how many octets lines have up to the end of the first that is a dot alone
+unfoldable pub dot_length : List (List ℕ) → Option ℕ
+dot_length [] = None
+dot_length (line ∷ lines) = if is_dot_line line then Some (length line) else option_map (λ n. length line + n) (dot_length lines)
+
+-- how many octets of a multi-line string begin lines
+unfoldable pub multi_line_length : List (List ℕ) → Option ℕ
+multi_line_length [] = None
+multi_line_length (line ∷ lines) = if is_opening line then option_map (λ n. length line + n) (dot_length lines) else None
+
+-- an identifier or a multi-line string
+unfoldable pub name_at : List ℕ → Option (TokenKind × ℕ)
+name_at [] = None
+name_at (c ∷ cs) = elim (multi_line_length (lines_of (c ∷ cs))) [ Some n ↦ Some (MultiLine, n) | None ↦ Some (Identifier, suc (name_length cs)) ]
+
+-- a tag, behind its colon
+unfoldable pub tag_at : List ℕ → Option (TokenKind × ℕ)
+tag_at [] = None
+tag_at (c ∷ cs) = if begins_name c then Some (Tag, suc (suc (name_length cs))) else None
+
+abbrev pub quoted : ℕ → TokenKind × ℕ
+quoted n = (Quoted, suc n)
+
+abbrev pub one : TokenKind → Option (TokenKind × ℕ)
+one kind = Some (kind, 1)
+
+-- punctuation
+unfoldable pub mark_at : ℕ → Option (TokenKind × ℕ)
+mark_at c =
+    if c == 59 then one Semicolon
+    else (if c == 44 then one Comma
+    else (if c == 123 then one OpenBrace
+    else (if c == 125 then one CloseBrace
+    else (if c == 40 then one OpenParenthesis
+    else (if c == 41 then one CloseParenthesis
+    else (if c == 91 then one OpenBracket
+    else (if c == 93 then one CloseBracket
+    else None)))))))
+
 -- the longest spelling that begins a text, and its length
 unfoldable pub longest_at : List ℕ → Option (TokenKind × ℕ)
 longest_at [] = None
 longest_at (c ∷ cs) =
-    if begins_name c then Some (Identifier, suc (name_length cs))
-    else (if c == 59 then Some (Semicolon, 1)
-    else None)
+    if begins_name c then name_at (c ∷ cs)
+    else (if is_digit c then Some (Number, suc (number_length cs))
+    else (if c == 58 then tag_at cs
+    else (if c == 34 then option_map quoted (quoted_length cs)
+    else mark_at c)))
 
 unfoldable pub token_at : List ℕ → ℕ → TokenKind → ℕ → Token
 token_at text place kind end = record { kind = kind; start = place; end = end; line = line_at text place }

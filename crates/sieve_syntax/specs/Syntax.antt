@@ -10,10 +10,10 @@ use Rattle.sieve_syntax.specs.declared.token.Token.{Token}
 
 -- how deep tests may go, and how many blocks may stand open at once
 abbrev pub test_depth : ℕ
-test_depth = 0
+test_depth = 32
 
 abbrev pub block_room : ℕ
-block_room = 0
+block_room = 32
 
 -- The line is that of the first token with which the tokens begin nothing that a tree writes.
 pub record IsFaultAt (depth room : ℕ) (text : List ℕ) (tokens : List Token) (line : ℕ) : Type 0 where

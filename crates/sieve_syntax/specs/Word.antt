@@ -1,6 +1,7 @@
 -- What a token says to the grammar.
-use Rattle.std.specs.Prelude.{ℕ, List, Option, map}
+use Rattle.std.specs.Prelude.{ℕ, List, Option, map, drop}
 use Rattle.std.specs.List.{slice_range}
+use Rattle.sieve_syntax.specs.Value.{number_of, quoted_octets, multi_line_octets}
 use Rattle.sieve_syntax.specs.declared.token.Token.{Token}
 use Rattle.sieve_syntax.specs.declared.token.TokenKind.{TokenKind}
 use Rattle.sieve_syntax.specs.declared.token.TokenKind.TheVariants as kinds
@@ -24,8 +25,19 @@ pub data Word : Type 0 where
 -- the word that octets spell
 unfoldable pub word_at : TokenKind → List ℕ → ℕ → Word
 word_at kinds.Identifier octets line = identifier octets line
+word_at kinds.Tag octets line = tag_word (drop 1 octets) line
+word_at kinds.Number octets line = number_word (number_of octets) line
+word_at kinds.Quoted octets line = string_word (quoted_octets octets) line
+word_at kinds.MultiLine octets line = string_word (multi_line_octets octets) line
 word_at kinds.Semicolon octets line = semicolon
-word_at _ octets line = bad
+word_at kinds.OpenBrace octets line = open_brace
+word_at kinds.CloseBrace octets line = close_brace
+word_at kinds.OpenParenthesis octets line = open_parenthesis
+word_at kinds.CloseParenthesis octets line = close_parenthesis
+word_at kinds.OpenBracket octets line = open_bracket
+word_at kinds.CloseBracket octets line = close_bracket
+word_at kinds.Comma octets line = comma
+word_at kinds.Bad octets line = bad
 
 -- the word of a token of a text
 abbrev pub word_of : List ℕ → Token → Word

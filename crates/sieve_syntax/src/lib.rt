@@ -2,13 +2,18 @@
 //! write.
 #![tactic(auto)]
 
+mod cursor;
 pub mod laws;
+mod line;
+mod octet;
 mod parser;
 mod reader;
 mod scan;
 mod step;
 pub mod token;
 pub mod tree;
+mod value;
+mod white;
 mod word;
 
 pub use parser::{SyntaxFault, TEXT_LIMIT, parse};

@@ -2,7 +2,7 @@
 
 ghost use Rattle.std.specs.Prelude.{◌≡◌, ◌≤◌, ◌<◌, ◌↔◌, ◌^◌, ℕ, List, length, All, IfOk, IsErrOf};
 ghost use Rattle.sieve_syntax.specs.Machine;
-ghost use Rattle.sieve_syntax.specs.Machine.{read, start, whole};
+ghost use Rattle.sieve_syntax.specs.Machine.{whole};
 ghost use Rattle.sieve_syntax.specs.Parsed.{Ends, Goes, Parses};
 ghost use Rattle.sieve_syntax.specs.Reader.{state_value};
 ghost use Rattle.sieve_syntax.specs.Syntax.{IsFaultLine, WritesText, block_room, syntax_of, test_depth};
@@ -11,9 +11,10 @@ ghost use Rattle.sieve_syntax.specs.Tree.{Node, nodes_of};
 ghost use Rattle.sieve_syntax.specs.Word.{word_of};
 ghost use Rattle.sieve_syntax.specs.declared.parser.SyntaxFault.TheVariants.{NoMemory};
 
+use crate::cursor::{Cursor, next_token};
 use crate::reader::{Outer, State};
 use crate::step::{Stop, step};
-use crate::token::{Token, last_line, tokens};
+use crate::token::{Token, last_line};
 use crate::tree::Script;
 use crate::word::read_word;
 use std::alloc::{AllocError, Global};
@@ -58,27 +59,29 @@ pub fn parse(alloc: Global, text: &[u8]) -> Result<Script, SyntaxFault>
     if text.len() > TEXT_LIMIT {
         return Err(SyntaxFault::TooLarge);
     }
-    let found = tokens(alloc, text)?;
-    read_tokens(alloc, text, &found)
+    read_script(alloc, text)
 }
 
-/// The tree that the tokens of a text write.
-#[tactic(auto, using(crate::proofs::Running::running))]
-fn read_tokens(alloc: Global, text: &[u8], found: &[Token]) -> Result<Script, SyntaxFault>
-    requires size { length text.now ≤ TEXT_LIMIT }
-    requires inside { All (IsInside text.now) found.now }
+/// The tree of a text, which is read token by token.
+fn read_script(alloc: Global, text: &[u8]) -> Result<Script, SyntaxFault>
+    requires { length text.now ≤ TEXT_LIMIT }
     ensures small { IsErrOf result SyntaxFault.TooLarge → ⊥ }
-    ensures exact { Parses result (read test_depth block_room text.now start found.now) }
+    ensures exact { Parses result (syntax_of text.now) }
 {
     let mut state = State::Between(Outer {
         blocks: Vec::new(alloc),
         done: Vec::new(alloc),
     });
-    for token in found {
-        match read_token(alloc, text, *token, state) {
+    let mut cursor = Cursor {
+        place: 0,
+        line_feeds: 0,
+    };
+    while let Some((token, behind)) = next_token(text, cursor) {
+        match read_token(alloc, text, token, state) {
             Ok(next) => state = next,
             Err(fault) => return Err(fault),
         }
+        cursor = behind;
     }
     finish(text, state)
 }

@@ -1,50 +1,18 @@
-//! What begins a text: white space, or the longest spelling of a token (RFC 5228, section 8.1).
+//! The longest spelling of a token that begins a text (RFC 5228, section 8.1).
 
-ghost use Rattle.std.specs.Prelude.{◌≡◌, ◌<◌, ◌≤◌, IfSome, length};
-ghost use Rattle.sieve_syntax.specs.Octet.{is_blank, is_digit, begins_name, is_name_octet};
-ghost use Rattle.sieve_syntax.specs.Scan.{longest_at, name_length};
-ghost use Rattle.sieve_syntax.specs.Token.{line_length, white_at};
+ghost use Rattle.std.specs.Prelude.{◌≡◌, ◌<◌, ◌≤◌, drop, length, IfSome};
+ghost use Rattle.sieve_syntax.specs.Line.{lines_of};
+ghost use Rattle.sieve_syntax.specs.Scan.{dot_length, longest_at, mark_at, multi_line_length, name_at, name_length, number_length, quoted_length, shifted, tag_at};
 
+use crate::line::{is_dot_line, is_opening, line_length};
+use crate::octet::{begins_name, is_digit, is_name_octet, is_unit};
 use crate::token::TokenKind;
-
-/// Whether the octet is a space, a tab, a CR or an LF.
-fn is_blank(octet: u8) -> bool
-    ensures { result ≡ is_blank octet }
-{
-    matches!(octet, b' ' | b'\t' | b'\r' | b'\n')
-}
-
-/// Whether the octet is a letter or `_`.
-fn begins_name(octet: u8) -> bool
-    ensures { result ≡ begins_name octet }
-{
-    octet.is_ascii_alphabetic() || octet == b'_'
-}
-
-/// Whether the octet is a letter, a digit or `_`.
-fn is_name_octet(octet: u8) -> bool
-    ensures { result ≡ is_name_octet octet }
-{
-    begins_name(octet) || octet.is_ascii_digit()
-}
-
-/// How many octets the first line has, its LF among them.
-#[tactic(auto, using(crate::proofs::Steps::line_steps))]
-fn line_length(rest: &[u8]) -> usize
-    ensures { result ≡ line_length rest.now }
-{
-    for (i, octet) in rest.iter().enumerate() {
-        if *octet == b'\n' {
-            return i + 1;
-        }
-    }
-    rest.len()
-}
 
 /// How many octets of a name begin the text.
 #[tactic(auto, using(crate::proofs::Steps::name_steps))]
 fn name_length(rest: &[u8]) -> usize
-    ensures { result ≡ name_length rest.now }
+    ensures value { result ≡ name_length rest.now }
+    ensures inside { result ≤ length rest.now }
 {
     for (i, octet) in rest.iter().enumerate() {
         if !is_name_octet(*octet) {
@@ -54,41 +22,136 @@ fn name_length(rest: &[u8]) -> usize
     rest.len()
 }
 
-/// How many octets the piece of white space has that begins the text: one blank, or a hash comment with its line end.
-#[tactic(auto, using(crate::proofs::Scanning::line_bound), unfolding(crate::specs::Token::white_at))]
-pub(crate) fn white_length(rest: &[u8]) -> Option<usize>
-    ensures value { result ≡ white_at rest.now }
-    ensures bounds { IfSome result (λ n. (0 < n) × (n ≤ length rest.now)) }
+/// How many octets of a number begin the text, behind its first digit.
+#[tactic(auto, using(crate::proofs::Steps::number_steps))]
+fn number_length(rest: &[u8]) -> usize
+    ensures value { result ≡ number_length rest.now }
+    ensures inside { result ≤ length rest.now }
 {
-    match rest {
-        [] => None,
-        [first, tail @ ..] => {
-            if is_blank(*first) {
-                Some(1)
-            } else if *first == b'#' {
-                Some(line_length(tail) + 1)
-            } else {
-                None
-            }
+    for (i, octet) in rest.iter().enumerate() {
+        if !is_digit(*octet) {
+            return if is_unit(*octet) { i + 1 } else { i };
         }
+    }
+    rest.len()
+}
+
+/// How many octets a quoted string has, behind its first quotation mark.
+#[tactic(auto, using(crate::proofs::Steps::string_steps))]
+fn quoted_length(rest: &[u8]) -> Option<usize>
+    ensures value { result ≡ quoted_length rest.now }
+    ensures inside { IfSome result (λ n. n ≤ length rest.now) }
+{
+    let mut protected = false;
+    for (i, octet) in rest.iter().enumerate() {
+        if protected {
+            protected = false;
+        } else if *octet == b'\\' {
+            protected = true;
+        } else if *octet == b'"' {
+            return Some(i + 1);
+        }
+    }
+    None
+}
+
+/// How many octets there are up to the end of the first line from this place on that is a dot alone.
+#[tactic(auto, using(crate::proofs::Steps::dot_steps))]
+fn dot_end(rest: &[u8], start: usize) -> Option<usize>
+    requires { start ≤ length rest.now }
+    ensures { result ≡ shifted start (dot_length (lines_of (drop start rest.now))) }
+{
+    let mut place = start;
+    while place < rest.len() {
+        let end = place + line_length(&rest[place..]);
+        if is_dot_line(&rest[place..end]) {
+            return Some(end);
+        }
+        place = end;
+    }
+    None
+}
+
+/// How many octets the multi-line string has that begins the text.
+#[tactic(auto, using(crate::proofs::Steps::multi_line_steps))]
+fn multi_line_length(rest: &[u8]) -> Option<usize>
+    ensures { result ≡ multi_line_length (lines_of rest.now) }
+{
+    let first = line_length(rest);
+    if is_opening(&rest[..first]) {
+        dot_end(rest, first)
+    } else {
+        None
     }
 }
 
+/// A multi-line string or an identifier, in a text that begins with a letter or `_`.
+#[tactic(auto, unfolding(crate::specs::Scan::name_at))]
+fn name_or_text(rest: &[u8]) -> Option<(TokenKind, usize)>
+    ensures { result ≡ name_at rest.now }
+{
+    match rest {
+        [] => None,
+        [_, tail @ ..] => match multi_line_length(rest) {
+            Some(length) => Some((TokenKind::MultiLine, length)),
+            None => Some((TokenKind::Identifier, name_length(tail) + 1)),
+        },
+    }
+}
+
+/// A tag, behind its colon.
+#[tactic(auto, unfolding(crate::specs::Scan::tag_at))]
+fn tag(rest: &[u8]) -> Option<(TokenKind, usize)>
+    ensures { result ≡ tag_at rest.now }
+{
+    match rest {
+        [first, tail @ ..] if begins_name(*first) => {
+            Some((TokenKind::Tag, name_length(tail) + 2))
+        }
+        _ => None,
+    }
+}
+
+/// Punctuation.
+#[tactic(auto, unfolding(crate::specs::Scan::mark_at))]
+fn mark(octet: u8) -> Option<(TokenKind, usize)>
+    ensures { result ≡ mark_at octet }
+{
+    let kind = match octet {
+        b';' => TokenKind::Semicolon,
+        b',' => TokenKind::Comma,
+        b'{' => TokenKind::OpenBrace,
+        b'}' => TokenKind::CloseBrace,
+        b'(' => TokenKind::OpenParenthesis,
+        b')' => TokenKind::CloseParenthesis,
+        b'[' => TokenKind::OpenBracket,
+        b']' => TokenKind::CloseBracket,
+        _ => return None,
+    };
+    Some((kind, 1))
+}
+
 /// The kind and the length of the longest spelling that begins the text.
-#[tactic(auto, using(crate::proofs::Scanning::name_bound), unfolding(crate::specs::Scan::longest_at))]
+#[tactic(auto, unfolding(crate::specs::Scan::longest_at))]
 pub(crate) fn longest_spelling(rest: &[u8]) -> Option<(TokenKind, usize)>
-    ensures value { result ≡ longest_at rest.now }
-    ensures bounds { IfSome result (λ found. (0 < found.1) × (found.1 ≤ length rest.now)) }
+    ensures { result ≡ longest_at rest.now }
 {
     match rest {
         [] => None,
         [first, tail @ ..] => {
             if begins_name(*first) {
-                Some((TokenKind::Identifier, name_length(tail) + 1))
-            } else if *first == b';' {
-                Some((TokenKind::Semicolon, 1))
+                name_or_text(rest)
+            } else if is_digit(*first) {
+                Some((TokenKind::Number, number_length(tail) + 1))
+            } else if *first == b':' {
+                tag(tail)
+            } else if *first == b'"' {
+                match quoted_length(tail) {
+                    Some(length) => Some((TokenKind::Quoted, length + 1)),
+                    None => None,
+                }
             } else {
-                None
+                mark(*first)
             }
         }
     }

@@ -14,9 +14,9 @@ use crate::word::Word;
 use std::alloc::{AllocError, AllocFailed, Global};
 
 /// How deep tests may go: a test directly in a command has depth 1.
-pub(crate) const TEST_DEPTH: usize = 0;
+pub(crate) const TEST_DEPTH: usize = 32;
 /// How many blocks may stand open at once.
-pub(crate) const BLOCK_ROOM: usize = 0;
+pub(crate) const BLOCK_ROOM: usize = 32;
 
 /// Why a token wasn't taken.
 #[derive(Clone, Copy, Debug, PartialEq, Eq)]

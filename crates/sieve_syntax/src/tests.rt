@@ -160,7 +160,7 @@ fn commands_and_faults(rt: HostRuntime) -> Result<(), Fail> {
         ("_a9 ;# done", "_a9@1;"),
         ("# first\r\nkeep\n;\n", "keep@2;"),
         ("keep;\ndiscard\n", "fault 3"),
-        ("keep keep;", "fault 1"),
+        ("keep keep;", "keep@1 keep@1;"),
         ("keep", "fault 1"),
         (";", "fault 1"),
         ("keep;\n9", "fault 2"),

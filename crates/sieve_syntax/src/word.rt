@@ -1,10 +1,12 @@
 //! Tokens as the grammar sees them, with what the tree keeps of them.
 
-ghost use Rattle.std.specs.Prelude.{◌≡◌, ◌≤◌, length, IfOk};
+ghost use Rattle.std.specs.Prelude.{◌≡◌, IfOk};
 ghost use Rattle.sieve_syntax.specs.Reader.{word_value};
+ghost use Rattle.sieve_syntax.specs.Token.{IsInside};
 ghost use Rattle.sieve_syntax.specs.Word.{word_of};
 
 use crate::token::{Token, TokenKind};
+use crate::value::{multi_line_octets, number_of, quoted_octets};
 use std::alloc::{AllocError, Global};
 
 /// A token without its place.
@@ -28,8 +30,7 @@ pub(crate) enum Word {
 /// The word of a token of a text. The only refusal is want of memory.
 #[tactic(auto, unfolding(crate::specs::Word::word_at))]
 pub(crate) fn read_word(alloc: Global, text: &[u8], token: Token) -> Result<Word, AllocError>
-    requires order { token.start ≤ token.end }
-    requires inside { token.end ≤ length text.now }
+    requires { IsInside text.now token }
     ensures { IfOk result (λ word. word_value word ≡ word_of text.now token) }
 {
     let octets = &text[token.start..token.end];
@@ -39,7 +40,30 @@ pub(crate) fn read_word(alloc: Global, text: &[u8], token: Token) -> Result<Word
             name: octets.to_vec(alloc)?,
             line,
         }),
+        TokenKind::Tag => Ok(Word::Tag {
+            name: octets[1..].to_vec(alloc)?,
+            line,
+        }),
+        TokenKind::Number => Ok(Word::Number {
+            value: number_of(octets),
+            line,
+        }),
+        TokenKind::Quoted => Ok(Word::String {
+            octets: quoted_octets(alloc, octets)?,
+            line,
+        }),
+        TokenKind::MultiLine => Ok(Word::String {
+            octets: multi_line_octets(alloc, octets)?,
+            line,
+        }),
         TokenKind::Semicolon => Ok(Word::Semicolon),
-        _ => Ok(Word::Bad),
+        TokenKind::OpenBrace => Ok(Word::OpenBrace),
+        TokenKind::CloseBrace => Ok(Word::CloseBrace),
+        TokenKind::OpenParenthesis => Ok(Word::OpenParenthesis),
+        TokenKind::CloseParenthesis => Ok(Word::CloseParenthesis),
+        TokenKind::OpenBracket => Ok(Word::OpenBracket),
+        TokenKind::CloseBracket => Ok(Word::CloseBracket),
+        TokenKind::Comma => Ok(Word::Comma),
+        TokenKind::Bad => Ok(Word::Bad),
     }
 }

@@ -1,0 +1,30 @@
+use Rattle.std.proofs.Common.{sym, subst, ap, ◌∙◌, arith, refl, []}
+use Rattle.sieve_syntax.specs.Machine.{between, whole}
+use Rattle.sieve_syntax.specs.Reader.{opens_value, state_value}
+use Rattle.sieve_syntax.specs.Token.{line_at}
+use Rattle.sieve_syntax.specs.Tree.{node_of}
+use Rattle.std.proofs.Common.{map, length}
+use Rattle.sieve_syntax.proofs.Running.{Means, start_means, next_means, stop_means, end_means}
+use Rattle.sieve_syntax.proofs.parser.read_script.Goals as goal
+
+pub loop-token-init : goal.loop-token-init
+loop-token-init c = record {
+  is = record { within = omega arith; lines = refl };
+  means =
+      subst (λ blocks. Means c.args.text.now (between (record { blocks = opens_value blocks; done = map node_of c.new-2.result.items })) 0) (sym c.new.ensures.items)
+      (subst (λ done. Means c.args.text.now (between (record { blocks = opens_value []; done = map node_of done })) 0) (sym c.new-2.ensures.items)
+      (start_means c.args.text.now));
+}
+
+pub returns-in-Err-clause-exact : goal.returns-in-Err-clause-exact
+returns-in-Err-clause-exact c =
+    stop_means c.args.text.now (state_value c.loop-token.state) c.loop-token.cursor.place c.in-Some.token c.in-Some.behind c.in-Err.fault c.in-Some.ensures c.in-Err.ensures c.loop-token.invariant.means
+
+pub loop-token-preserved : goal.loop-token-preserved
+loop-token-preserved c = record {
+  is = c.in-Some.ensures.is;
+  means = next_means c.args.text.now (state_value c.loop-token.state) (state_value c.in-Ok.next) c.loop-token.cursor.place c.in-Some.token c.in-Some.behind c.in-Some.ensures c.in-Ok.ensures c.loop-token.invariant.means;
+}
+
+pub returns-clause-exact : goal.returns-clause-exact
+returns-clause-exact c = end_means c.args.text.now (state_value c.loop-token.state) c.loop-token.cursor.place c.finish.result c.in_default.ensures c.loop-token.invariant.means c.finish.ensures

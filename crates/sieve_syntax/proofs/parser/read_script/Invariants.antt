@@ -1,0 +1,14 @@
+use Rattle.std.proofs.Common.{◌-◌, length}
+use Rattle.sieve_syntax.specs.Cursor.{IsCursor}
+use Rattle.sieve_syntax.specs.Reader.{state_value}
+use Rattle.sieve_syntax.proofs.Running.{Means}
+use Rattle.sieve_syntax.proofs.parser.read_script.Given as goal
+
+abbrev pub invariant-loop-token : goal.invariant-loop-token
+invariant-loop-token l = record {
+  is : IsCursor l.text l.cursor;
+  means : Means l.text (state_value l.state) l.cursor.place;
+}
+
+abbrev pub decreases-loop-token : goal.decreases-loop-token
+decreases-loop-token l = length l.initial.text - l.cursor.place

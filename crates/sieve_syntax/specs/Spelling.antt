@@ -1,0 +1,96 @@
+-- How tokens are spelled (RFC 5228, sections 2.2 to 2.4 and 8.1): whether a list of octets spells a token of a kind.
+use Rattle.std.specs.Prelude.{ℕ, Bool, true, false, ◌==◌, ◌||◌, ◌&&◌, if◌then◌else◌, List, [], ◌∷◌}
+use Rattle.std.specs.List.{list_all}
+use Rattle.sieve_syntax.specs.Line.{lines_of, is_line_end, is_dot_line}
+use Rattle.sieve_syntax.specs.Octet.{begins_name, is_name_octet, is_digit, is_unit, is_space}
+use Rattle.sieve_syntax.specs.declared.token.TokenKind.{TokenKind}
+use Rattle.sieve_syntax.specs.declared.token.TokenKind.TheVariants.{Identifier, Tag, Number, Quoted, MultiLine, Semicolon, OpenBrace, CloseBrace, OpenParenthesis, CloseParenthesis, OpenBracket, CloseBracket, Comma, Bad}
+
+abbrev pub is_none : {A : Type 0} → List A → Bool
+is_none [] = true
+is_none (x ∷ xs) = false
+
+-- identifier: a letter or `_`, then letters, digits and `_`
+unfoldable pub is_identifier : List ℕ → Bool
+is_identifier [] = false
+is_identifier (c ∷ cs) = begins_name c && list_all is_name_octet cs
+
+-- tag: a colon and an identifier
+unfoldable pub is_tag : List ℕ → Bool
+is_tag [] = false
+is_tag (c ∷ cs) = c == 58 && is_identifier cs
+
+-- digits, and then a unit or nothing
+unfoldable pub ends_number : List ℕ → Bool
+ends_number [] = true
+ends_number (c ∷ cs) = if is_digit c then ends_number cs else (is_unit c && is_none cs)
+
+-- number: a digit, digits, and then a unit or nothing
+unfoldable pub is_number : List ℕ → Bool
+is_number [] = false
+is_number (c ∷ cs) = is_digit c && ends_number cs
+
+unfoldable mutual
+  -- the rest of a quoted string: up to a quotation mark that no backslash protects
+  pub ends_quoted : List ℕ → Bool
+  ends_quoted [] = false
+  ends_quoted (c ∷ cs) = if c == 92 then ends_protected cs else (if c == 34 then is_none cs else ends_quoted cs)
+
+  -- behind a backslash
+  pub ends_protected : List ℕ → Bool
+  ends_protected [] = false
+  ends_protected (c ∷ cs) = ends_quoted cs
+
+-- quoted string
+unfoldable pub is_quoted : List ℕ → Bool
+is_quoted [] = false
+is_quoted (c ∷ cs) = c == 34 && ends_quoted cs
+
+-- spaces and tabs, and then a line end or a hash comment
+unfoldable pub ends_opening : List ℕ → Bool
+ends_opening [] = false
+ends_opening (c ∷ cs) = if is_space c then ends_opening cs else ((c == 35) || is_line_end (c ∷ cs))
+
+-- `text` in any case
+abbrev pub is_text : ℕ → ℕ → ℕ → ℕ → Bool
+is_text t e x u = (t == 116 || (t == 84)) && ((e == 101 || (e == 69)) && ((x == 120 || (x == 88)) && (u == 116 || (u == 84))))
+
+-- the first line of a multi-line string: `text:`, and the rest of the line
+unfoldable pub is_opening : List ℕ → Bool
+is_opening (t ∷ e ∷ x ∷ u ∷ c ∷ cs) = is_text t e x u && ((c == 58) && ends_opening cs)
+is_opening _ = false
+
+-- lines up to the first that is a dot alone
+unfoldable pub end_at_dot : List (List ℕ) → Bool
+end_at_dot [] = false
+end_at_dot (line ∷ lines) = if is_dot_line line then is_none lines else end_at_dot lines
+
+unfoldable pub are_multi_line : List (List ℕ) → Bool
+are_multi_line [] = false
+are_multi_line (line ∷ lines) = is_opening line && end_at_dot lines
+
+-- multi-line string
+unfoldable pub is_multi_line : List ℕ → Bool
+is_multi_line word = are_multi_line (lines_of word)
+
+-- one octet alone
+unfoldable pub is_one : ℕ → List ℕ → Bool
+is_one octet [] = false
+is_one octet (c ∷ []) = c == octet
+is_one octet (c ∷ d ∷ ds) = false
+
+unfoldable pub spells : TokenKind → List ℕ → Bool
+spells Identifier word = is_identifier word
+spells Tag word = is_tag word
+spells Number word = is_number word
+spells Quoted word = is_quoted word
+spells MultiLine word = is_multi_line word
+spells Semicolon word = is_one 59 word
+spells OpenBrace word = is_one 123 word
+spells CloseBrace word = is_one 125 word
+spells OpenParenthesis word = is_one 40 word
+spells CloseParenthesis word = is_one 41 word
+spells OpenBracket word = is_one 91 word
+spells CloseBracket word = is_one 93 word
+spells Comma word = is_one 44 word
+spells Bad word = false

@@ -1,0 +1,144 @@
+//! What numbers and strings stand for (RFC 5228, section 2.4).
+
+ghost use Rattle.std.specs.Prelude.{◌≡◌, ◌+◌, ◌-◌, ◌*◌, ◌^◌, ◌<◌, ◌++◌, false, IfOk, IsTrue, OnOk, SomeIff};
+ghost use Rattle.sieve_syntax.specs.Octet.{is_digit};
+ghost use Rattle.sieve_syntax.specs.Value.{is_protector, kept_octet, line_end, multi_line_octets, number_of, quoted_octets, unit_of, unprotected, with_cr, without_dot};
+
+use crate::line::{is_dot_line, line_length};
+use crate::octet::is_digit;
+use std::alloc::{AllocError, Global};
+
+/// What a unit stands for.
+fn unit_of(octet: u8) -> u64
+    ensures { result ≡ unit_of octet }
+{
+    match octet {
+        b'K' | b'k' => 1 << 10,
+        b'M' | b'm' => 1 << 20,
+        _ => 1 << 30,
+    }
+}
+
+/// The number with one more digit, or `None` past 64 bits.
+fn add_digit(number: u64, digit: u8) -> Option<u64>
+    requires { IsTrue (is_digit digit) }
+    ensures { SomeIff result (10 * number + (digit - 48) < 2 ^ 64) (10 * number + (digit - 48)) }
+{
+    number.checked_mul(10)?.checked_add(u64::from(digit - b'0'))
+}
+
+/// The number with its unit, or `None` past 64 bits.
+fn with_unit(number: u64, unit: u8) -> Option<u64>
+    ensures { SomeIff result (number * unit_of unit < 2 ^ 64) (number * unit_of unit) }
+{
+    number.checked_mul(unit_of(unit))
+}
+
+/// The value of a number, or `None` past 64 bits.
+#[tactic(auto, using(crate::proofs::Values::number_steps))]
+pub(crate) fn number_of(word: &[u8]) -> Option<u64>
+    ensures { result ≡ number_of word.now }
+{
+    let mut number = 0;
+    for octet in word {
+        if !is_digit(*octet) {
+            return with_unit(number, *octet);
+        }
+        match add_digit(number, *octet) {
+            Some(next) => number = next,
+            None => return None,
+        }
+    }
+    Some(number)
+}
+
+/// Adds an octet, and a CR before an LF that lacks one.
+fn push_octet(out: &mut Vec<u8>, octet: u8, after_cr: bool) -> Result<(), AllocError>
+    ensures { OnOk result (out.new.items ≡ out.old.items ++ line_end after_cr octet) }
+{
+    if octet == b'\n' && !after_cr {
+        out.push(b'\r')?;
+    }
+    out.push(octet)?;
+    Ok(())
+}
+
+/// Adds the octets, and a CR before each LF that lacks one.
+fn push_with_cr(out: &mut Vec<u8>, octets: &[u8]) -> Result<(), AllocError>
+    ensures { OnOk result (out.new.items ≡ out.old.items ++ with_cr false octets.now) }
+{
+    let mut after_cr = false;
+    for octet in octets {
+        push_octet(out, *octet, after_cr)?;
+        after_cr = *octet == b'\r';
+    }
+    Ok(())
+}
+
+/// Adds an octet, but for a backslash that protects the next one; whether it is one. A protected octet is always added.
+fn push_kept(kept: &mut Vec<u8>, octet: u8, protected: bool) -> Result<bool, AllocError>
+    ensures kept { OnOk result (kept.new.items ≡ kept.old.items ++ kept_octet protected octet) }
+    ensures protects { IfOk result (λ protects. protects ≡ is_protector protected octet) }
+{
+    if octet == b'\\' && !protected {
+        return Ok(true);
+    }
+    kept.push(octet)?;
+    Ok(false)
+}
+
+/// The octets without the backslashes that protect one of them.
+fn unprotected(alloc: Global, octets: &[u8]) -> Result<Vec<u8>, AllocError>
+    ensures { IfOk result (λ kept. kept.items ≡ unprotected octets.now) }
+{
+    let mut kept = Vec::new(alloc);
+    let mut protected = false;
+    for octet in octets {
+        protected = push_kept(&mut kept, *octet, protected)?;
+    }
+    Ok(kept)
+}
+
+/// What a quoted string stands for: each LF that lacks a CR gets one, and then a backslash and an octet give that octet.
+#[tactic(auto, unfolding(crate::specs::Value::quoted_octets), using(crate::proofs::Values::no_octets))]
+pub(crate) fn quoted_octets(alloc: Global, word: &[u8]) -> Result<Vec<u8>, AllocError>
+    ensures { IfOk result (λ octets. octets.items ≡ quoted_octets word.now) }
+{
+    if word.len() < 2 {
+        return Ok(Vec::new(alloc));
+    }
+    let mut octets = Vec::new(alloc);
+    push_with_cr(&mut octets, &word[1..word.len() - 1])?;
+    unprotected(alloc, &octets)
+}
+
+/// The line without the first of two dots that begin it.
+#[tactic(auto, unfolding(crate::specs::Value::without_dot))]
+fn without_dot(line: &[u8]) -> &[u8]
+    ensures { result.now ≡ without_dot line.now }
+{
+    match line {
+        [first, second, ..] if *first == b'.' && *second == b'.' => &line[1..],
+        _ => line,
+    }
+}
+
+/// What a multi-line string stands for: its lines between the first and the last, without the first of two dots that
+/// begin a line, and with CR and LF at the end of each.
+#[tactic(auto, using(crate::proofs::Values::line_steps))]
+pub(crate) fn multi_line_octets(alloc: Global, word: &[u8]) -> Result<Vec<u8>, AllocError>
+    ensures { IfOk result (λ octets. octets.items ≡ multi_line_octets word.now) }
+{
+    let mut octets = Vec::new(alloc);
+    let mut place = line_length(word);
+    while place < word.len() {
+        let end = place + line_length(&word[place..]);
+        let line = &word[place..end];
+        if is_dot_line(line) {
+            return Ok(octets);
+        }
+        push_with_cr(&mut octets, without_dot(line))?;
+        place = end;
+    }
+    Ok(octets)
+}
