@@ -1,9 +1,16 @@
 -- Where a key stands in a value.
-use Rattle.std.proofs.Common.{◌≡◌, ◌↔◌, ℕ, ◌+◌, ◌-◌, ◌<◌, ◌≤◌, IsTrue, true, false, ◌==◌, List, length, slice_index, slice_range, take, drop, Option, None, Some, is_some, refl, sym, ap, ◌∙◌, ⊎_elim, arith}
+use Rattle.std.proofs.Common.{◌≡◌, ◌↔◌, ℕ, ◌+◌, ◌-◌, ◌<◌, ◌≤◌, IsTrue, true, false, ◌==◌, List, length, slice_index, slice_range, drop, Option, None, Some, is_some, refl, sym, ap, ◌∙◌, ⊎_elim, arith}
 use Rattle.std.proofs.lemmas.Bool.{false≢true, eq-eqb, cases_lt}
 use Rattle.std.proofs.lemmas.List.{length-drop, length-take, get_or-take, get_or-drop, take_rest}
 use Rattle.memchr.specs.Find.{FindsNeedle, Nowhere, OccursAt}
 use Rattle.match_text.specs.Comparator.{IsPart, Same, octet}
+
+-- equal lists are the same octet for octet
+pub Same-octet : (a b : List ℕ) → a ≡ b → Same octet a b
+Same-octet a b equal = record {
+  equal_lengths = ap length equal;
+  equal_octets = λ i below. ap (λ (xs : List ℕ). slice_index xs i) equal;
+}
 
 -- the length of a slice, and its octet at i
 pub length-slice : (xs : List ℕ) (i j : ℕ) → i ≤ j → j ≤ length xs → length (slice_range xs i j) ≡ j - i

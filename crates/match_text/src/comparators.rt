@@ -59,8 +59,12 @@ pub struct Octet;
 impl Comparator for Octet {
     ghost folded = { octet };
 
-    fn fold(b: u8) -> u8 {
-        b
+    fn fold(octet: u8) -> u8 {
+        octet
+    }
+
+    fn is(value: &[u8], key: &[u8]) -> bool {
+        value == key
     }
 
     fn contains(value: &[u8], key: &[u8]) -> bool {
