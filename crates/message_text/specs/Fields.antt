@@ -1,0 +1,78 @@
+-- The header fields of a message (RFC 5322, sections 2.1 and 2.2), by whole lines and groups of lines.
+use Rattle.std.specs.Prelude.{◌≡◌, ℕ, Bool, true, false, not, ◌&&◌, ◌==◌, nat_le, cond, List, [], ◌∷◌, ◌++◌, Option, Some, map, filter}
+use Rattle.std.specs.List.{after_first, before_first, concat, list_all, list_any, slice_get, take_while}
+use Rattle.std.specs.Str.Lines.{lines}
+use Rattle.message_text.specs.Blanks.{is_blank, trim, trim_end}
+
+-- a field: its name, and its value on one line
+pub record Field : Type 0 where
+  pub name : List ℕ
+  pub value : List ℕ
+
+-- a line that begins with neither space nor tab, and all lines directly after it that do
+pub record Group : Type 0 where
+  pub first : List ℕ
+  pub continuations : List (List ℕ)
+
+abbrev pub is_empty : {X : Type 0} → List X → Bool
+is_empty [] = true
+is_empty (x ∷ xs) = false
+
+-- the line begins with space or tab, so that it continues the line before
+abbrev pub is_continuation : List ℕ → Bool
+is_continuation [] = false
+is_continuation (b ∷ bs) = is_blank b
+
+-- A line is a piece of the text up to a line feed, without it and the carriage return directly before it. The header
+-- section is the lines before the first empty one.
+abbrev pub header_lines : List ℕ → List (List ℕ)
+header_lines message = take_while (λ line. not (is_empty line)) (lines message)
+
+-- the groups of lines; continuations with nothing before them are in none
+abbrev pub groups_of : List (List ℕ) → List Group
+groups_of [] = []
+groups_of (line ∷ more) =
+    cond (is_continuation line) (groups_of more)
+    (record { first = line; continuations = take_while is_continuation more } ∷ groups_of more)
+
+abbrev pub is_colon : ℕ → Bool
+is_colon b = b == 58
+
+-- the octets that a name is made of: printable, and no space; a colon ends it
+abbrev pub is_name_octet : ℕ → Bool
+is_name_octet b = nat_le 33 b && nat_le b 126
+
+abbrev pub is_name : List ℕ → Bool
+is_name text = not (is_empty text) && list_all is_name_octet text
+
+-- what stands before the first colon, without spaces and tabs at its end
+abbrev pub name_of : Group → List ℕ
+name_of group = trim_end (before_first is_colon group.first)
+
+-- what follows the first colon, and the other lines as they are, without outer spaces and tabs
+abbrev pub value_of : Group → List ℕ
+value_of group = trim (after_first is_colon group.first ++ concat group.continuations)
+
+abbrev pub is_field : Group → Bool
+is_field group = list_any is_colon group.first && is_name (name_of group)
+
+-- the groups of a message that are fields
+unfoldable pub field_groups : List ℕ → List Group
+field_groups message = filter is_field (groups_of (header_lines message))
+
+-- the fields of a message, in order
+unfoldable pub fields_of : List ℕ → List Field
+fields_of message = map (λ group. record { name = name_of group; value = value_of group }) (field_groups message)
+
+-- the names of the fields, in order
+abbrev pub names_of : List ℕ → List (List ℕ)
+names_of message = map (λ field. field.name) (fields_of message)
+
+-- the values of the fields, in order
+abbrev pub values_of : List ℕ → List (List ℕ)
+values_of message = map (λ field. field.value) (fields_of message)
+
+-- field i stands on one line
+abbrev pub IsUnfolded : List ℕ → ℕ → Type 0
+IsUnfolded message i =
+    slice_get (map (λ group. is_empty group.continuations) (field_groups message)) i ≡ Some true

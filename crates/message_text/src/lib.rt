@@ -1,0 +1,5 @@
+//! Messages and their header fields (RFC 5322).
+#![tactic(auto)]
+
+mod blanks;
+mod lines;
