@@ -1,2 +1,4 @@
 pub mod Rows
 pub mod LineLemmas
+pub mod HeadLemmas
+pub mod GroupLemmas

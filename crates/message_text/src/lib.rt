@@ -2,4 +2,5 @@
 #![tactic(auto)]
 
 mod blanks;
+mod fields;
 mod lines;
