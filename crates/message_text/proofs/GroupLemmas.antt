@@ -1,13 +1,14 @@
 -- Groups of lines, one line at a time.
-use Rattle.std.proofs.Common.{◌≡◌, ℕ, ◌+◌, ◌-◌, ◌<◌, ◌≤◌, Bool, true, false, cond, List, [], ◌∷◌, ◌++◌, length, take, drop, filter, slice_range, refl, sym, ap, ◌∙◌, arith}
-use Rattle.std.specs.List.{after_first, take_while}
+use Rattle.std.proofs.Common.{◌≡◌, ℕ, ◌+◌, ◌-◌, ◌<◌, ◌≤◌, Bool, true, false, cond, List, [], ◌∷◌, ◌++◌, length, take, drop, filter, map, slice_range, refl, sym, ap, ◌∙◌, arith}
+use Rattle.std.specs.List.{All, after_first, take_while}
 use Rattle.std.specs.Str.Lines.{lines}
 use Rattle.std.proofs.lemmas.Bool.{cond_both, cond-true, cond-false, lt-ltb, le-ltb}
-use Rattle.std.proofs.lemmas.List.{drop-drop, drop-take, length-drop, length-take-le, take-take}
+use Rattle.std.proofs.lemmas.List.{append-nil, drop-drop, drop-take, length-drop, length-take-le, take-take}
 use Rattle.std.proofs.lemmas.List.Sums.{take_while-cons}
 use Rattle.message_text.specs.Fields.{Group, field_groups, groups_of, header_lines, is_colon, is_continuation, is_field, is_filled, name_in}
 use Rattle.message_text.specs.Heads.{IsHead}
-use Rattle.message_text.specs.Spans.{IsSpan, field_here}
+use Rattle.message_text.specs.Spans.{AreSpans, IsSpan, field_here, group_at}
+use Rattle.message_text.specs.declared.fields.FieldSpan.{FieldSpan}
 
 -- a line that isn't empty is of the header section where it stands first
 filled_first : (line : List ℕ) (text : List (List ℕ)) → is_filled line ≡ true → take_while is_filled (line ∷ text) ≡ line ∷ take_while is_filled text
@@ -73,3 +74,20 @@ span_at octets start end next name_len colon ordered within next_within head =
           ∙ drop-take (colon + 1) (end - (start + colon + 1)) rest
           ∙ ap (take (end - (start + colon + 1))) (drop-drop (colon + 1) start octets ∙ ap (λ n. drop n octets) (omega arith));
     }
+
+pub slice-filled : (octets : List ℕ) (start end : ℕ) → start < end → end ≤ length octets → is_filled (slice_range octets start end) ≡ true
+slice-filled octets start end some within =
+    let rest = drop start octets in
+    let len : length (slice_range octets start end) ≡ end - start = length-take-le (end - start) rest (omega (arith, length-drop start octets)) in
+    lt-ltb 0 (length (slice_range octets start end)) (omega arith)
+
+pub slice-empty : (octets : List ℕ) (start : ℕ) → is_filled (slice_range octets start start) ≡ false
+slice-empty octets start =
+    let none : start - start ≡ 0 = omega arith in
+    ap (λ n. is_filled (take n (drop start octets))) none
+
+-- the spans of a message are those found before the lines that hold no field
+pub are_spans : (octets : List ℕ) (spans : List FieldSpan) (start : ℕ) → map (group_at octets) spans ++ field_groups (drop start octets) ≡ field_groups octets → field_groups (drop start octets) ≡ [] → All (IsSpan octets) spans → AreSpans octets spans
+are_spans octets spans start found none each =
+    let so_far = map (group_at octets) spans in
+    record { groups = sym found ∙ ap (λ (rest : List Group). so_far ++ rest) none ∙ append-nil so_far; each = each }
