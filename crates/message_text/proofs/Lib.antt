@@ -2,3 +2,5 @@ pub mod Rows
 pub mod LineLemmas
 pub mod HeadLemmas
 pub mod GroupLemmas
+pub mod TrimLemmas
+pub mod ContinuationLemmas

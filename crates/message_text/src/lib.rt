@@ -4,3 +4,4 @@
 mod blanks;
 mod fields;
 mod lines;
+mod values;
