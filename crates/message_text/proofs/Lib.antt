@@ -4,3 +4,4 @@ pub mod HeadLemmas
 pub mod GroupLemmas
 pub mod TrimLemmas
 pub mod ContinuationLemmas
+pub mod FieldLemmas

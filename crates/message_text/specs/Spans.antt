@@ -32,3 +32,8 @@ pub record IsSpan (octets : List ℕ) (span : FieldSpan) : Type 0 where
 pub record AreSpans (octets : List ℕ) (spans : List FieldSpan) : Type 0 where
   pub groups : field_groups octets ≡ map (group_at octets) spans
   pub each : All (IsSpan octets) spans
+
+-- what a message holds: no more octets than it may have, and its fields
+pub record IsMessage (octets : List ℕ) (spans : List FieldSpan) : Type 0 where
+  pub limit : length octets ≤ 16777216
+  pub fields : AreSpans octets spans

@@ -1,8 +1,8 @@
 //! Where the header fields of a message stand.
-ghost use Rattle.std.specs.Prelude.{◌≡◌, ◌++◌, IfNone, IfOk, IfSome, OnOk, false, map, option_to_list, slice_range, drop};
+ghost use Rattle.std.specs.Prelude.{◌≡◌, ◌<◌, ◌++◌, IfNone, IfOk, IfSome, OnOk, Some, false, length, map, option_to_list, slice_get, slice_range, drop};
 ghost use Rattle.std.specs.List.{All};
 ghost use Rattle.std.specs.Str.Lines.{lines};
-ghost use Rattle.message_text.specs.Fields.{begins_field, is_colon, is_continuation, is_name, is_name_octet, name_in};
+ghost use Rattle.message_text.specs.Fields.{begins_field, field_groups, fields_of, is_continuation, is_name, is_name_octet};
 ghost use Rattle.message_text.specs.Heads.{IsHead};
 ghost use Rattle.message_text.specs.Positions.{IsLineAt};
 ghost use Rattle.message_text.specs.Spans.{AreSpans, IsSpan, field_here, group_at};
@@ -130,4 +130,14 @@ pub(crate) fn spans_of(alloc: Global, octets: &[u8]) -> Result<Vec<FieldSpan>, A
         start = line.next;
     }
     Ok(spans)
+}
+
+/// The place of field `i`.
+pub(crate) fn span_in(octets: &[u8], spans: &[FieldSpan], i: usize) -> FieldSpan
+    requires all { AreSpans octets.now spans.now }
+    requires within { i < length (fields_of octets.now) }
+    ensures span { IsSpan octets.now result }
+    ensures group { slice_get (field_groups octets.now) i ≡ Some (group_at octets.now result) }
+{
+    spans[i]
 }
