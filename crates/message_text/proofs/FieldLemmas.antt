@@ -1,9 +1,9 @@
 -- The fields of a message one by one.
-use Rattle.std.proofs.Common.{◌≡◌, ℕ, ◌==◌, true, List, [], Option, Some, Result, Ok, Err, IfOk, length, map, slice_get, slice_index_or, sym, ap, ◌∙◌, arith}
+use Rattle.std.proofs.Common.{◌≡◌, ℕ, ◌==◌, List, [], Some, Result, Ok, Err, IfOk, length, slice_get, sym, ap, ◌∙◌}
 use Rattle.std.specs.Option.{option_map}
 use Rattle.std.proofs.lemmas.Bool.{eqb-true}
 use Rattle.std.proofs.lemmas.List.{length-map, nil_from_length}
-use Rattle.std.proofs.lemmas.Option.{slice_get-map, slice_get_read}
+use Rattle.std.proofs.lemmas.Option.{slice_get-map}
 use Rattle.message_text.specs.Fields.{Field, Group, IsUnfolded, field_groups, field_of, fields_of, name_in, names_of, values_of}
 use Rattle.message_text.specs.Spans.{AreSpans, group_at}
 use Rattle.message_text.specs.declared.fields.FieldSpan.{FieldSpan}

@@ -1,11 +1,11 @@
 -- Groups of lines, one line at a time.
-use Rattle.std.proofs.Common.{◌≡◌, ℕ, ◌+◌, ◌-◌, ◌<◌, ◌≤◌, Bool, true, false, cond, List, [], ◌∷◌, ◌++◌, length, take, drop, filter, map, slice_range, refl, sym, ap, ◌∙◌, arith}
-use Rattle.std.specs.List.{All, after_first, take_while}
+use Rattle.std.proofs.Common.{◌≡◌, ℕ, ◌+◌, ◌-◌, ◌<◌, ◌≤◌, true, false, cond, List, [], ◌∷◌, ◌++◌, length, take, drop, filter, map, slice_range, refl, sym, ap, ◌∙◌, arith}
+use Rattle.std.specs.List.{All, take_while}
 use Rattle.std.specs.Str.Lines.{lines}
-use Rattle.std.proofs.lemmas.Bool.{cond_both, cond-true, cond-false, lt-ltb, le-ltb}
+use Rattle.std.proofs.lemmas.Bool.{cond-true, cond-false, lt-ltb}
 use Rattle.std.proofs.lemmas.List.{append-nil, drop-drop, drop-take, length-drop, length-take-le, take-take}
 use Rattle.std.proofs.lemmas.List.Sums.{take_while-cons}
-use Rattle.message_text.specs.Fields.{Group, field_groups, groups_of, header_lines, is_colon, is_continuation, is_field, is_filled, name_in}
+use Rattle.message_text.specs.Fields.{Group, field_groups, groups_of, is_continuation, is_field, is_filled}
 use Rattle.message_text.specs.Heads.{IsHead}
 use Rattle.message_text.specs.Spans.{AreSpans, IsSpan, field_here, group_at}
 use Rattle.message_text.specs.declared.fields.FieldSpan.{FieldSpan}
@@ -33,7 +33,7 @@ one_group line more =
     let group : Group = record { first = line; continuations = take_while is_continuation more } in
     ap (λ (rest : List (List ℕ)). filter is_field (cond (is_continuation line) (groups_of kept) (record { first = line; continuations = rest } ∷ groups_of kept))) (continuations_kept more)
     ∙ elim (is_continuation line) as (λ continues. filter is_field (cond continues (groups_of kept) (group ∷ groups_of kept)) ≡ cond continues [] (filter is_field (group ∷ [])) ++ others) [
-      true ↦ refl
+      | true ↦ refl
       | false ↦ elim (is_field group) as (λ is. cond is (group ∷ others) others ≡ cond is (group ∷ []) [] ++ others) [ true ↦ refl | false ↦ refl ]
     ]
 

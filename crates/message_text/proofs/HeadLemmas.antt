@@ -1,10 +1,10 @@
 -- The name and the colon of a field's first line.
-use Rattle.std.proofs.Common.{◌≡◌, ℕ, ◌-◌, ◌<◌, ◌≤◌, true, false, ◌&&◌, ◌==◌, List, length, take, slice_index, sym, ap, subst, ◌∙◌, arith}
-use Rattle.std.specs.List.{All, before_first, list_any, position_or_len, suffix_len}
+use Rattle.std.proofs.Common.{◌≡◌, ℕ, ◌-◌, true, false, List, length, take, sym, ap, subst, ◌∙◌, arith}
+use Rattle.std.specs.List.{All, list_any, position_or_len, suffix_len}
 use Rattle.std.proofs.lemmas.Bool.{and_left, and_right, and_from, false_from_ne_true}
 use Rattle.std.proofs.lemmas.List.{get_or_default, length-take-le, take-take}
 use Rattle.std.proofs.lemmas.List.Folds.{list_any_at, list_any_none}
-use Rattle.std.proofs.lemmas.List.Sums.{position_or_len_is, suffix_len-le-length}
+use Rattle.std.proofs.lemmas.List.Sums.{position_or_len_is}
 use Rattle.memchr.specs.Find.{NoneBefore, Nowhere, Passes, is_byte}
 use Rattle.message_text.specs.Blanks.{is_blank, trim_end}
 use Rattle.message_text.specs.Fields.{begins_field, is_colon, is_name, name_in}
@@ -17,7 +17,7 @@ pub no_colon : (line : List ℕ) → Nowhere (Colon line) 0 (length line) → be
 no_colon line nowhere =
     let Plain : ℕ → Type 0 = λ b. is_colon b ≡ true in
     let each : All (λ b. is_colon b ≡ false) line =
-        λ k d below. false_from_ne_true _ (λ is. nowhere k (omega arith) below (subst Plain (get_or_default line k d 0 below) is)) in
+    λ k d below. false_from_ne_true _ (λ is. nowhere k (omega arith) below (subst Plain (get_or_default line k d 0 below) is)) in
     and_left (list_any is_colon line) (is_name (name_in line)) (list_any_none is_colon line each)
 
 -- the first colon

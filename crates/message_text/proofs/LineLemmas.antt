@@ -1,9 +1,9 @@
 -- The first line of a text.
-use Rattle.std.proofs.Common.{◌≡◌, ℕ, ◌+◌, ◌-◌, ◌<◌, ◌≤◌, Bool, true, false, ◌==◌, cond, List, [], ◌∷◌, ◌++◌, length, take, drop, slice_index, slice_range, get_or, refl, sym, ap, subst, ◌∙◌, arith}
+use Rattle.std.proofs.Common.{◌≡◌, ℕ, ◌+◌, ◌-◌, ◌<◌, ◌≤◌, Bool, true, false, ◌==◌, List, [], ◌∷◌, ◌++◌, length, take, drop, slice_index, slice_range, get_or, refl, sym, ap, subst, ◌∙◌, arith}
 use Rattle.std.specs.List.{All, slice_split, onto_first}
 use Rattle.std.specs.Str.Lines.{lines, lines_of_parts, strip_carriage_return}
 use Rattle.std.proofs.lemmas.Bool.{cond_both, ne_eqb, cond-false, eqb-true, false_from_ne_true}
-use Rattle.std.proofs.lemmas.List.{drop_more, get_or-take, get_or-drop, length-take-le, length-take, length-drop, take-append-drop, take_at, take-take, take_all, take_rest, drop-drop, drop_all, get_or_default}
+use Rattle.std.proofs.lemmas.List.{drop_more, get_or-take, length-take-le, length-take, length-drop, take-append-drop, take-take, take_all, take_rest, drop-drop, drop_all, get_or_default}
 use Rattle.std.proofs.lemmas.List.Splits.{slice_split_at, slice_split_none}
 use Rattle.memchr.specs.Find.{Nowhere, Passes, is_byte}
 use Rattle.message_text.specs.Positions.{IsLineAt}
@@ -59,7 +59,7 @@ line_to_end text start some nowhere =
     let is : rest ≡ drop start text = take_rest text start in
     let len : length rest ≡ length text - start = ap length is ∙ length-drop start text in
     let plain : All (λ b. (b == 10) ≡ false) rest =
-        subst (All (λ b. (b == 10) ≡ false)) (take_all (length rest) rest (omega arith)) (plain_before rest (length rest) (omega arith) nowhere) in
+    subst (All (λ b. (b == 10) ≡ false)) (take_all (length rest) rest (omega arith)) (plain_before rest (length rest) (omega arith) nowhere) in
     record {
       ordered = omega arith;
       forward = some;
@@ -80,18 +80,18 @@ line_to_feed text start len line within nowhere short feed is_line =
     let Fed : List ℕ → Type 0 = λ hay. Passes (is_byte 10) hay len in
     let at_feed : get_or rest len 0 ≡ 10 = eqb-true (get_or rest len 0) 10 (subst Fed is feed) in
     let cut : rest ≡ piece ++ 10 ∷ drop (len + 1) rest =
-        sym (take-append-drop len rest) ∙ ap (λ (end : List ℕ). piece ++ end) (drop_more rest len 0 room)
-        ∙ ap (λ b. piece ++ b ∷ drop (len + 1) rest) at_feed in
+    sym (take-append-drop len rest) ∙ ap (λ (end : List ℕ). piece ++ end) (drop_more rest len 0 room)
+    ∙ ap (λ b. piece ++ b ∷ drop (len + 1) rest) at_feed in
     let same_piece : slice_range text start (start + len) ≡ piece = ap (λ n. take n rest) (omega arith) in
     let stripped : line ≡ strip_carriage_return piece = is_line ∙ ap strip_carriage_return same_piece in
     let fits : length line ≤ len =
-        omega (arith, ap length stripped, line_le_piece piece, length-take-le len rest (omega arith)) in
+    omega (arith, ap length stripped, line_le_piece piece, length-take-le len rest (omega arith)) in
     let front : slice_range text start (start + length line) ≡ line =
-        ap (λ n. take n rest) (let e : start + length line - start ≡ length line = omega arith in e)
-        ∙ sym (take-take (length line) len rest fits)
-        ∙ sym (subst (λ (l : List ℕ). l ≡ take (length l) piece) (sym stripped) (front_of_piece piece)) in
+    ap (λ n. take n rest) (let e : start + length line - start ≡ length line = omega arith in e)
+    ∙ sym (take-take (length line) len rest fits)
+    ∙ sym (subst (λ (l : List ℕ). l ≡ take (length l) piece) (sym stripped) (front_of_piece piece)) in
     let tail : drop (len + 1) rest ≡ drop (start + len + 1) text =
-        drop-drop (len + 1) start text ∙ ap (λ n. drop n text) (omega arith) in
+    drop-drop (len + 1) start text ∙ ap (λ n. drop n text) (omega arith) in
     record {
       ordered = omega arith;
       forward = omega arith;

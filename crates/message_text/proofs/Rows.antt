@@ -27,7 +27,7 @@ unfolding fields_of field_groups field
 unended = refl
 
 -- a carriage return alone is an octet like any other
-lone_return : fields_of (codes "A: b" ++ (13 ∷ 13 ∷ 10 ∷ codes " " ++ (13 ∷ 10 ∷ [])) ) ≡ field (codes "A") (codes "b" ++ (13 ∷ [])) ∷ []
+lone_return : fields_of (codes "A: b" ++ (13 ∷ 13 ∷ 10 ∷ codes " " ++ (13 ∷ 10 ∷ []))) ≡ field (codes "A") (codes "b" ++ (13 ∷ [])) ∷ []
 unfolding fields_of field_groups field
 lone_return = refl
 

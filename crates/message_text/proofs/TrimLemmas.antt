@@ -1,8 +1,8 @@
 -- Texts whose outer spaces and tabs are dropped.
 use Rattle.std.proofs.Common.{◌≡◌, ℕ, ◌+◌, ◌-◌, ◌<◌, ◌≤◌, Bool, true, false, cond, List, [], ◌∷◌, ◌++◌, length, take, drop, refl, sym, ap, ◌∙◌, arith}
 use Rattle.std.specs.List.{prefix_len, suffix_len}
-use Rattle.std.proofs.lemmas.Bool.{cond_both, cond-true, cond-false}
-use Rattle.std.proofs.lemmas.List.{append-nil, append_assoc, length-drop, length-take-le}
+use Rattle.std.proofs.lemmas.Bool.{cond-true}
+use Rattle.std.proofs.lemmas.List.{append-nil, length-drop, length-take-le}
 use Rattle.message_text.specs.Blanks.{is_blank, trim_end, trim_start}
 
 drop_by : (b : Bool) (n x : ℕ) (xs : List ℕ) → drop (cond b (1 + n) 0) (x ∷ xs) ≡ cond b (drop n xs) (x ∷ xs)
@@ -17,10 +17,10 @@ pub trim_start-append : (a b : List ℕ) → trim_start (trim_start a ++ b) ≡ 
 trim_start-append [] b = refl
 trim_start-append (x ∷ a) b =
     let go : (blank : Bool) → is_blank x ≡ blank → trim_start (cond blank (trim_start a) (x ∷ a) ++ b) ≡ trim_start (x ∷ (a ++ b)) =
-        elim [
-          true ↦ λ is. trim_start-append a b ∙ sym (trim_start-cons x (a ++ b) ∙ cond-true (is_blank x) (trim_start (a ++ b)) (x ∷ (a ++ b)) is)
-          | false ↦ λ is. refl
-        ] in
+    elim [
+      | true ↦ λ is. trim_start-append a b ∙ sym (trim_start-cons x (a ++ b) ∙ cond-true (is_blank x) (trim_start (a ++ b)) (x ∷ (a ++ b)) is)
+      | false ↦ λ is. refl
+    ] in
     ap (λ (front : List ℕ). trim_start (front ++ b)) (trim_start-cons x a) ∙ go (is_blank x) refl
 
 pub trim_start-trim_start : (a : List ℕ) → trim_start (trim_start a) ≡ trim_start a
@@ -31,10 +31,10 @@ trim_start-onto : (x : ℕ) (a b : List ℕ) → trim_start (x ∷ a) ≡ x ∷ 
 trim_start-onto x a b trimmed =
     let shorter : length (trim_start a) ≤ length a = omega (arith, length-drop (prefix_len is_blank a) a) in
     let go : (blank : Bool) → cond blank (trim_start a) (x ∷ a) ≡ x ∷ a → cond blank (trim_start (a ++ b)) (x ∷ (a ++ b)) ≡ x ∷ (a ++ b) =
-        elim [
-          true ↦ λ same. absurd (omega (arith, ap length same, shorter))
-          | false ↦ λ _. refl
-        ] in
+    elim [
+      | true ↦ λ same. absurd (omega (arith, ap length same, shorter))
+      | false ↦ λ _. refl
+    ] in
     trim_start-cons x (a ++ b) ∙ go (is_blank x) (sym (trim_start-cons x a) ∙ trimmed)
 
 pub trim_start-keeps : (a b : List ℕ) → 0 < length a → trim_start a ≡ a → trim_start (a ++ b) ≡ a ++ b

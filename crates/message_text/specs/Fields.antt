@@ -1,5 +1,5 @@
 -- The header fields of a message (RFC 5322, sections 2.1 and 2.2), by whole lines and groups of lines.
-use Rattle.std.specs.Prelude.{◌≡◌, ℕ, Bool, true, false, ◌&&◌, ◌==◌, nat_le, nat_lt, length, cond, List, [], ◌∷◌, ◌++◌, Option, Some, map, filter}
+use Rattle.std.specs.Prelude.{◌≡◌, ℕ, Bool, true, false, ◌&&◌, ◌==◌, nat_le, nat_lt, length, cond, List, [], ◌∷◌, ◌++◌, Some, map, filter}
 use Rattle.std.specs.List.{after_first, before_first, concat, list_all, list_any, slice_get, take_while}
 use Rattle.std.specs.Str.Lines.{lines}
 use Rattle.message_text.specs.Blanks.{is_blank, trim, trim_end}

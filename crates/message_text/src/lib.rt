@@ -10,3 +10,6 @@ mod messages;
 mod values;
 
 pub use crate::messages::{MAX_SIZE, Message, MessageFault};
+
+#[cfg(test)]
+mod tests;

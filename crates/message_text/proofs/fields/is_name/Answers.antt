@@ -10,6 +10,6 @@ pub returns-then-not-is_empty : goal.returns-then-not-is_empty
 returns-then-not-is_empty c =
     let text = c.args.text.now in
     let each : c.all.result ≡ list_all is_name_octet text =
-        all_from_yields_List is_name_octet _ _ c.all.result c.all.ensures.ran (YieldsList-from_slice text cc) (λ x b q k. search (rules, tests)) in
+    all_from_yields_List is_name_octet _ _ c.all.result c.all.ensures.ran (YieldsList-from_slice text cc) (λ x b q k. search (rules, tests)) in
     let some : 0 < length text = grind (arith, eqb-false) in
     each ∙ sym (ap (λ b. b && list_all is_name_octet text) (lt-ltb 0 (length text) some))

@@ -1,5 +1,4 @@
 use Rattle.std.proofs.Common.{arith}
-use Rattle.std.proofs.lemmas.Grind.{common_steps}
 use Rattle.std.proofs.lemmas.Option.{slice_get-get_or}
 use Rattle.message_text.proofs.FieldLemmas.{span_group, spans_len}
 use Rattle.message_text.proofs.fields.span_in.Goals as goal

@@ -1,4 +1,4 @@
-use Rattle.std.proofs.Common.{◌≡◌, ◌++◌, ◌<◌, List, [], slice_range, drop, map, sym, ap, ◌∙◌, append_assoc, arith}
+use Rattle.std.proofs.Common.{◌≡◌, ◌++◌, List, [], slice_range, drop, map, sym, ap, ◌∙◌, append_assoc, arith}
 use Rattle.std.specs.Str.Lines.{lines}
 use Rattle.std.proofs.lemmas.List.{drop_all}
 use Rattle.message_text.specs.Fields.{Group, field_groups, is_filled}
@@ -19,8 +19,8 @@ loop-start-preserved c =
     let others = field_groups (drop next octets) in
     let filled = slice-filled octets start end (omega arith) c.line_at-line.ensures.end_within in (
       ap (λ (found : List Group). found ++ others) c.in_ok-push_span.ensures.groups ∙ append_assoc so_far here others
-      ∙ ap (λ (rest : List Group). so_far ++ rest) (sym (field_groups-first (drop start octets) (drop next octets) line c.line_at-line.ensures.first filled))
-      ∙ c.loop-start.invariant.0,
+          ∙ ap (λ (rest : List Group). so_far ++ rest) (sym (field_groups-first (drop start octets) (drop next octets) line c.line_at-line.ensures.first filled))
+          ∙ c.loop-start.invariant.0,
       c.in_ok-push_span.ensures.each c.loop-start.invariant.1,
     )
 
@@ -29,10 +29,10 @@ returns c =
     let octets = c.args.octets.now in
     let start = c.loop-start.start in
     let none : field_groups (drop start octets) ≡ [] =
-        elim c.loop-start-test.branch [
-          else-loop-start-test w ↦ ap field_groups (drop_all start octets (omega arith)) ∙ field_groups-nil
-          | then-loop-start-test+then-line-start w ↦
-              field_groups-end (drop start octets) (slice_range octets start w.line_at-line.result.end) _ w.line_at-line.ensures.first
-              (ap (λ end. is_filled (slice_range octets start end)) w.if-line-start.true ∙ slice-empty octets start)
-        ] in
+    elim c.loop-start-test.branch [
+      | else-loop-start-test w ↦ ap field_groups (drop_all start octets (omega arith)) ∙ field_groups-nil
+      | then-loop-start-test+then-line-start w ↦
+          field_groups-end (drop start octets) (slice_range octets start w.line_at-line.result.end) _ w.line_at-line.ensures.first
+          (ap (λ end. is_filled (slice_range octets start end)) w.if-line-start.true ∙ slice-empty octets start)
+    ] in
     are_spans octets c.loop-start.spans.items start c.loop-start.invariant.0 none c.loop-start.invariant.1

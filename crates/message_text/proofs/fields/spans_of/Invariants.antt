@@ -1,4 +1,4 @@
-use Rattle.std.proofs.Common.{◌≡◌, ◌++◌, ◌-◌, ◌≤◌, length, drop, map}
+use Rattle.std.proofs.Common.{◌≡◌, ◌++◌, ◌-◌, length, drop, map}
 use Rattle.std.specs.List.{All}
 use Rattle.message_text.specs.Fields.{field_groups}
 use Rattle.message_text.specs.Spans.{IsSpan, group_at}

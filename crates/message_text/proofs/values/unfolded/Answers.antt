@@ -28,7 +28,7 @@ loop-line-preserved c =
       c.in-Some.ensures.line.next_within,
       ap trim_start is ∙ trim_start-trim_start (value ++ line) ∙ sym is,
       ap (λ (front : List ℕ). trim_start (front ++ more)) is ∙ trim_start-append (value ++ line) more
-      ∙ ap trim_start (append_assoc value line more)
-      ∙ ap (λ (rest : List ℕ). trim_start (value ++ rest)) (sym (concat-continuation _ after line c.in-Some.ensures.line.first c.in-Some.ensures.continues))
-      ∙ c.loop-line.invariant.2,
+          ∙ ap trim_start (append_assoc value line more)
+          ∙ ap (λ (rest : List ℕ). trim_start (value ++ rest)) (sym (concat-continuation _ after line c.in-Some.ensures.line.first c.in-Some.ensures.continues))
+          ∙ c.loop-line.invariant.2,
     )

@@ -1,4 +1,4 @@
-use Rattle.std.proofs.Common.{◌≡◌, ℕ, List, Some, slice_get, subst, sym, ap, ◌∙◌}
+use Rattle.std.proofs.Common.{ℕ, List, slice_get, subst, sym, ap, ◌∙◌}
 use Rattle.std.specs.Cow.{cow_slice_items}
 use Rattle.message_text.specs.Fields.{IsUnfolded, values_of}
 use Rattle.message_text.proofs.FieldLemmas.{one_line, some_octets, value_is}
