@@ -54,6 +54,7 @@ pub trait Comparator {
 }
 
 /// The comparator `i;octet`: each octet is equal to itself alone.
+#[derive(Clone, Copy, Debug)]
 pub struct Octet;
 
 impl Comparator for Octet {
@@ -75,6 +76,7 @@ impl Comparator for Octet {
 }
 
 /// The comparator `i;ascii-casemap`: A to Z are equal to a to z.
+#[derive(Clone, Copy, Debug)]
 pub struct AsciiCasemap;
 
 impl Comparator for AsciiCasemap {

@@ -4,6 +4,10 @@ use Rattle.std.specs.List.{after_first, before_first, concat, list_all, list_any
 use Rattle.std.specs.Str.Lines.{lines}
 use Rattle.message_text.specs.Blanks.{is_blank, trim, trim_end}
 
+-- the greatest number of octets of a message
+abbrev pub size_limit : ℕ
+size_limit = 16777216
+
 -- a field: its name, and its value on one line
 pub record Field : Type 0 where
   pub name : List ℕ

@@ -2,7 +2,7 @@
 use Rattle.std.specs.Prelude.{◌≡◌, ℕ, ◌≤◌, cond, filter, List, [], ◌∷◌, length, drop, map, slice_range}
 use Rattle.std.specs.List.{All, after_first, take_while}
 use Rattle.std.specs.Str.Lines.{lines}
-use Rattle.message_text.specs.Fields.{Group, field_groups, is_colon, is_continuation, is_field, name_in}
+use Rattle.message_text.specs.Fields.{Group, field_groups, is_colon, is_continuation, is_field, name_in, size_limit}
 use Rattle.message_text.specs.declared.fields.FieldSpan.{FieldSpan}
 
 -- the lines of the field
@@ -35,5 +35,5 @@ pub record AreSpans (octets : List ℕ) (spans : List FieldSpan) : Type 0 where
 
 -- what a message holds: no more octets than it may have, and its fields
 pub record IsMessage (octets : List ℕ) (spans : List FieldSpan) : Type 0 where
-  pub limit : length octets ≤ 16777216
+  pub limit : length octets ≤ size_limit
   pub fields : AreSpans octets spans

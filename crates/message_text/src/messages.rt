@@ -1,7 +1,7 @@
 //! A message and its header fields.
 ghost use Rattle.std.specs.Prelude.{◌≡◌, ◌<◌, ◌≤◌, ◌↔◌, IfErr, IfOk, IsErrAnd, IsOkAnd, Some, length, slice_get};
 ghost use Rattle.std.specs.Cow.{IsBorrowedSlice, cow_slice_items};
-ghost use Rattle.message_text.specs.Fields.{IsUnfolded, fields_of, names_of, values_of};
+ghost use Rattle.message_text.specs.Fields.{IsUnfolded, fields_of, names_of, size_limit, values_of};
 
 use crate::fields::{FieldSpan, span_in, spans_of};
 use crate::values::value_at;
@@ -54,7 +54,7 @@ impl Message {
     pub fn new(alloc: Global, bytes: Vec<u8>) -> Result<Message, (MessageFault, Vec<u8>)>
         ensures ok { IfOk result (λ message. message ≡ bytes.items) }
         ensures too_large { IsErrAnd result (λ refused. refused.0 ≡ MessageFault.TooLarge)
-            ↔ (MAX_SIZE < length bytes.items) }
+            ↔ (size_limit < length bytes.items) }
         ensures given_back { IfErr result (λ refused. refused.1.items ≡ bytes.items) }
     {
         if bytes.len() > MAX_SIZE {
@@ -72,7 +72,7 @@ impl Message {
     /// The number of octets.
     pub fn size(&self) -> usize
         ensures size { result ≡ length self.now }
-        ensures limit { result ≤ MAX_SIZE }
+        ensures limit { result ≤ size_limit }
     {
         self.octets.len()
     }

@@ -1,10 +1,11 @@
-use Rattle.std.proofs.Common.{ℕ, List, ◌++◌, slice_range, drop, sym, ap, ◌∙◌, append_assoc}
+use Rattle.std.proofs.Common.{◌≡◌, ℕ, List, ◌++◌, slice_range, drop, take, length, sym, ap, ◌∙◌, append_assoc}
 use Rattle.std.specs.List.{concat, take_while}
 use Rattle.std.specs.Str.Lines.{lines}
-use Rattle.message_text.specs.Blanks.{trim_start}
+use Rattle.std.proofs.lemmas.List.{append-nil}
+use Rattle.message_text.specs.Blanks.{trim_end, trim_start}
 use Rattle.message_text.specs.Fields.{is_continuation}
 use Rattle.message_text.proofs.ContinuationLemmas.{concat-continuation}
-use Rattle.message_text.proofs.TrimLemmas.{trim_start-append, trim_start-trim_start}
+use Rattle.message_text.proofs.TrimLemmas.{take-trim_end, trim_start-append, trim_start-trim_start}
 use Rattle.message_text.proofs.values.unfolded.Goals as goal
 
 pub loop-line-init : goal.loop-line-init
@@ -32,3 +33,15 @@ loop-line-preserved c =
           ∙ ap (λ (rest : List ℕ). trim_start (value ++ rest)) (sym (concat-continuation _ after line c.in-Some.ensures.line.first c.in-Some.ensures.continues))
           ∙ c.loop-line.invariant.2,
     )
+
+pub returns : goal.returns
+returns c =
+    let octets = c.args.octets.now in
+    let value = c.loop-line.value.items in
+    let all = c.args.first.now ++ concat (take_while is_continuation (lines (drop c.args.next octets))) in
+    let front : value ≡ trim_start all =
+        sym c.loop-line.invariant.1 ∙ ap trim_start (sym (append-nil value))
+        ∙ ap (λ (rest : List (List ℕ)). trim_start (value ++ concat rest)) (sym c.in_default.ensures.none)
+        ∙ c.loop-line.invariant.2 in
+    let trimmed = c.trim_end-len.ensures ∙ ap trim_end c.deref.ensures.value in
+    c.truncate.ensures.items ∙ ap (λ (text : List ℕ). take (length text) value) trimmed ∙ take-trim_end value ∙ ap trim_end front
