@@ -8,8 +8,8 @@ use memchr::{memchr2, memmem};
 
 /// Which octets are equal.
 ///
-/// Two octets are equal where [`fold`](Comparator::fold) takes them to the same octet. Folding an octet twice is folding
-/// it once, which is a law of the trait.
+/// Two octets are equal where [`fold`](Comparator::fold) takes them to the same octet. A comparator needs no more than its
+/// fold; it may bring a faster way to compare or to search.
 pub trait Comparator {
     /// The fold, as contracts see it.
     ghost folded: { ℕ → ℕ };
@@ -35,7 +35,7 @@ pub trait Comparator {
 
     /// Whether some slice of `value` is the same as `key`.
     ///
-    /// As written here it tries each place in turn. A comparator that knows a faster search brings its own.
+    /// As written here it tries each place in turn.
     fn contains(value: &[u8], key: &[u8]) -> bool
         ensures { IsTrue result ↔ IsPart folded value.now key.now }
     {
@@ -50,6 +50,7 @@ pub trait Comparator {
         false
     }
 
+    /// The law of folding: an octet that is folded stays as it is.
     ghost settles: { (b : ℕ) → folded (folded b) ≡ folded b };
 }
 

@@ -27,8 +27,9 @@ is_continuation (b ∷ bs) = is_blank b
 abbrev pub is_filled : List ℕ → Bool
 is_filled line = nat_lt 0 (length line)
 
--- A line is a piece of the text up to a line feed, without it and the carriage return directly before it. The header
--- section is the lines before the first empty one.
+-- A line is a piece of the message up to a line feed, without it and the carriage return directly before it; so is what
+-- follows the last line feed, where a carriage return at its end is an octet like any other. The header section is the
+-- lines before the first empty one.
 abbrev pub header_lines : List ℕ → List (List ℕ)
 header_lines message = take_while is_filled (lines message)
 

@@ -2,7 +2,7 @@
 use Rattle.std.specs.Prelude.{◌≡◌, ℕ, ◌<◌, ◌≤◌, List, ◌∷◌, length, drop, slice_range}
 use Rattle.std.specs.Str.Lines.{lines}
 
--- From `start` on the first line ends before `end`, and the next one begins at `next`.
+-- the first line from `start` on is the octets up to `end`, and the next line begins at `next`
 pub record IsLineAt (text : List ℕ) (start end next : ℕ) : Type 0 where
   pub ordered : start ≤ end
   pub forward : start < next

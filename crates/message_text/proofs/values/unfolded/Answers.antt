@@ -40,8 +40,8 @@ returns c =
     let value = c.loop-line.value.items in
     let all = c.args.first.now ++ concat (take_while is_continuation (lines (drop c.args.next octets))) in
     let front : value ≡ trim_start all =
-        sym c.loop-line.invariant.1 ∙ ap trim_start (sym (append-nil value))
-        ∙ ap (λ (rest : List (List ℕ)). trim_start (value ++ concat rest)) (sym c.in_default.ensures.none)
-        ∙ c.loop-line.invariant.2 in
+    sym c.loop-line.invariant.1 ∙ ap trim_start (sym (append-nil value))
+    ∙ ap (λ (rest : List (List ℕ)). trim_start (value ++ concat rest)) (sym c.in_default.ensures.none)
+    ∙ c.loop-line.invariant.2 in
     let trimmed = c.trim_end-len.ensures ∙ ap trim_end c.deref.ensures.value in
     c.truncate.ensures.items ∙ ap (λ (text : List ℕ). take (length text) value) trimmed ∙ take-trim_end value ∙ ap trim_end front
