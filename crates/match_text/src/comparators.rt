@@ -8,8 +8,8 @@ use memchr::{memchr2, memmem};
 
 /// Which octets are equal.
 ///
-/// Two octets are equal where [`fold`](Comparator::fold) takes them to the same octet. A comparator needs no more than its
-/// fold; it may bring a faster way to compare or to search.
+/// Two octets are equal where [`fold`](Comparator::fold) takes them to the same octet. A comparator
+/// needs no more than its fold; it may bring a faster way to compare or to search.
 pub trait Comparator {
     /// The fold, as contracts see it.
     ghost folded: { ℕ → ℕ };
@@ -111,7 +111,7 @@ impl Comparator for AsciiCasemap {
     ghost settles = { λ b. Prim.search rules };
 }
 
-// The first place of `value` whose octet is equal to `b` under `i;ascii-casemap`: no more than two octets are.
+// The first place of `value` whose octet is equal to `b` under `i;ascii-casemap`: at most two are.
 fn find_letter(value: &[u8], b: u8) -> Option<usize>
     ensures { IsFirstByte (λ x. ascii_casemap x == ascii_casemap b) value.now result }
 {
@@ -134,7 +134,8 @@ pub fn is<C: Comparator>(value: &[u8], key: &[u8]) -> bool
     C::is(value, key)
 }
 
-/// Whether some slice of `value` is `key` under the comparator: the match type `:contains`. It takes no memory.
+/// Whether some slice of `value` is `key` under the comparator: the match type `:contains`. It takes
+/// no memory.
 pub fn contains<C: Comparator>(value: &[u8], key: &[u8]) -> bool
     ensures { IsTrue result ↔ IsPart C.folded value.now key.now }
 {

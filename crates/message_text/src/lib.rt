@@ -1,6 +1,7 @@
 //! Messages and their header fields (RFC 5322).
 //!
-//! Every octet string up to [`MAX_SIZE`] is a [`Message`]. It keeps its octets once, with the places of its fields.
+//! Every octet string up to [`MAX_SIZE`] is a [`Message`]. It keeps its octets once, with the places
+//! of its fields.
 #![tactic(auto)]
 
 mod blanks;

@@ -26,10 +26,11 @@ pub enum MessageFault {
 
 /// A message: any octets up to [`MAX_SIZE`] of them.
 ///
-/// Its header fields (RFC 5322, section 2.2) stand in the lines before the first empty one. A line ends by a line feed, and
-/// a carriage return directly before that belongs to the line end. A line that begins with space or tab continues the one
-/// before. A field's name is one or more octets of 33 to 126, up to the first colon of its first line, with spaces and tabs
-/// before the colon dropped. Other lines are skipped, with those that continue them.
+/// Its header fields (RFC 5322, section 2.2) stand in the lines before the first empty one. A line
+/// ends by a line feed, and a carriage return directly before that belongs to the line end. A line
+/// that begins with space or tab continues the one before. A field's name is one or more octets of
+/// 33 to 126, up to the first colon of its first line, with spaces and tabs before the colon dropped.
+/// Other lines are skipped, with those that continue them.
 #[derive(Debug, Drop)]
 pub struct Message {
     octets: Vec<u8>,
@@ -94,12 +95,14 @@ impl Message {
         &octets[span.start..span.name_end]
     }
 
-    /// The value of field `i`: what follows the colon, the lines joined as they are, without outer spaces and tabs.
+    /// The value of field `i`: what follows the colon, the lines joined as they are, without outer
+    /// spaces and tabs.
     ///
     /// It is borrowed from the message, and no memory is taken, where the field stands on one line.
     pub fn value(&self, alloc: Global, i: usize) -> Result<CowSlice<'_, u8>, AllocError>
         requires { i < length (fields_of self.now) }
-        ensures octets { IfOk result (λ value. slice_get (values_of self.now) i ≡ Some (cow_slice_items value)) }
+        ensures octets { IfOk result (λ value. slice_get (values_of self.now) i
+            ≡ Some (cow_slice_items value)) }
         ensures unfolded { IsUnfolded self.now i → IsOkAnd result IsBorrowedSlice }
     {
         let octets = self.octets.as_slice();

@@ -19,7 +19,8 @@ pub(crate) fn continuation_at(octets: &[u8], start: usize) -> Option<Line>
     requires { start ≤ length octets.now }
     ensures none { IfNone result (take_while is_continuation (lines (drop start octets.now)) ≡ []) }
     ensures line { IfSome result (λ line. IsLineAt octets.now start line.end line.next) }
-    ensures continues { IfSome result (λ line. is_continuation (slice_range octets.now start line.end) ≡ true) }
+    ensures continues { IfSome result (λ line.
+        is_continuation (slice_range octets.now start line.end) ≡ true) }
 {
     if start == octets.len() || !is_blank(octets[start]) {
         return None;
@@ -34,8 +35,10 @@ pub(crate) fn value_at(
     span: FieldSpan,
 ) -> Result<CowSlice<'_, u8>, AllocError>
     requires { IsSpan octets.now span }
-    ensures octets { IfOk result (λ value. cow_slice_items value ≡ (field_of (group_at octets.now span)).value) }
-    ensures unfolded { (group_at octets.now span).continuations ≡ [] → IsOkAnd result IsBorrowedSlice }
+    ensures octets { IfOk result (λ value. cow_slice_items value
+        ≡ (field_of (group_at octets.now span)).value) }
+    ensures unfolded { (group_at octets.now span).continuations ≡ []
+        → IsOkAnd result IsBorrowedSlice }
 {
     let first = &octets[span.value_start..span.end];
     if continuation_at(octets, span.next).is_none() {
@@ -45,7 +48,8 @@ pub(crate) fn value_at(
     Ok(CowSlice::Owned(value))
 }
 
-/// A value that begins with `first` and goes on in the lines from `next` on, without outer spaces and tabs.
+/// A value that begins with `first` and goes on in the lines from `next` on, without outer spaces
+/// and tabs.
 pub(crate) fn unfolded(
     alloc: Global,
     octets: &[u8],
