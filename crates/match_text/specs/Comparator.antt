@@ -1,0 +1,24 @@
+-- What it means that two octet strings are equal under a comparator, and that one contains the other (RFC 4790, RFC 5228
+-- section 2.7). A comparator is known by its fold: two octets are equal under it where their folds are equal.
+use Rattle.std.specs.Prelude.{◌≡◌, ℕ, ◌-◌, ◌<◌, ◌≤◌, ◌&&◌, nat_le, if◌then◌else◌, List, length, slice_index, slice_range}
+
+-- i;octet: each octet is equal to itself alone (RFC 4790, section 9.3.1)
+abbrev pub octet : ℕ → ℕ
+octet b = b
+
+-- i;ascii-casemap: the lower-case letters, 97 to 122, are changed to upper case, 65 to 90 (RFC 4790, section 9.2.1)
+abbrev pub ascii_casemap : ℕ → ℕ
+ascii_casemap b = if nat_le 97 b && nat_le b 122 then b - 32 else b
+
+-- equal lengths, and equal octets after folding
+pub record Same (fold : ℕ → ℕ) (a b : List ℕ) : Type 0 where
+  pub equal_lengths : length a ≡ length b
+  pub equal_octets : (i : ℕ) → i < length a → fold (slice_index a i) ≡ fold (slice_index b i)
+
+-- some slice of the value is the same as the key
+pub record IsPart (fold : ℕ → ℕ) (value key : List ℕ) : Type 0 where
+  pub start : ℕ
+  pub end : ℕ
+  pub ordered : start ≤ end
+  pub within : end ≤ length value
+  pub same : Same fold (slice_range value start end) key

@@ -1,0 +1,143 @@
+//! Comparators, and what they say of two texts.
+ghost use Rattle.std.specs.Prelude.{◌≡◌, ◌==◌, ◌↔◌, ℕ, IsTrue};
+ghost use Rattle.std.proofs.Common.{rules};
+ghost use Rattle.memchr.specs.Find.{IsFirstByte};
+ghost use Rattle.match_text.specs.Comparator.{IsPart, Same, ascii_casemap, octet};
+
+use memchr::{memchr2, memmem};
+
+/// Which octets are equal.
+///
+/// Two octets are equal where [`fold`](Comparator::fold) takes them to the same octet. A comparator
+/// needs no more than its fold; it may bring a faster way to compare or to search.
+pub trait Comparator {
+    /// The fold, as contracts see it.
+    ghost folded: { ℕ → ℕ };
+
+    /// The octet that stands for all octets equal to `b`.
+    fn fold(b: u8) -> u8
+        ensures { result ≡ folded b };
+
+    /// Whether the texts have equal lengths and equal octets.
+    fn is(value: &[u8], key: &[u8]) -> bool
+        ensures { IsTrue result ↔ Same folded value.now key.now }
+    {
+        if value.len() != key.len() {
+            return false;
+        }
+        for (a, b) in value.iter().zip(key) {
+            if Self::fold(*a) != Self::fold(*b) {
+                return false;
+            }
+        }
+        true
+    }
+
+    /// Whether some slice of `value` is the same as `key`.
+    ///
+    /// As written here it tries each place in turn.
+    fn contains(value: &[u8], key: &[u8]) -> bool
+        ensures { IsTrue result ↔ IsPart folded value.now key.now }
+    {
+        if value.len() < key.len() {
+            return false;
+        }
+        for start in 0..value.len() - key.len() + 1 {
+            if Self::is(&value[start..start + key.len()], key) {
+                return true;
+            }
+        }
+        false
+    }
+
+    /// The law of folding: an octet that is folded stays as it is.
+    ghost settles: { (b : ℕ) → folded (folded b) ≡ folded b };
+}
+
+/// The comparator `i;octet`: each octet is equal to itself alone.
+#[derive(Clone, Copy, Debug)]
+pub struct Octet;
+
+impl Comparator for Octet {
+    ghost folded = { octet };
+
+    fn fold(octet: u8) -> u8 {
+        octet
+    }
+
+    fn is(value: &[u8], key: &[u8]) -> bool {
+        value == key
+    }
+
+    fn contains(value: &[u8], key: &[u8]) -> bool {
+        memmem::find(value, key).is_some()
+    }
+
+    ghost settles = { λ b. Prim.search rules };
+}
+
+/// The comparator `i;ascii-casemap`: A to Z are equal to a to z.
+#[derive(Clone, Copy, Debug)]
+pub struct AsciiCasemap;
+
+impl Comparator for AsciiCasemap {
+    ghost folded = { ascii_casemap };
+
+    fn fold(b: u8) -> u8 {
+        match b {
+            b'a'..=b'z' => b - (b'a' - b'A'),
+            _ => b,
+        }
+    }
+
+    fn contains(value: &[u8], key: &[u8]) -> bool {
+        if key.is_empty() {
+            return true;
+        }
+        let mut from = 0;
+        while let Some(ahead) = find_letter(&value[from..], key[0]) {
+            let start = from + ahead;
+            if value.len() - start < key.len() {
+                return false;
+            }
+            if Self::is(&value[start..start + key.len()], key) {
+                return true;
+            }
+            from = start + 1;
+        }
+        false
+    }
+
+    ghost settles = { λ b. Prim.search rules };
+}
+
+// The first place of `value` whose octet is equal to `b` under `i;ascii-casemap`: at most two are.
+fn find_letter(value: &[u8], b: u8) -> Option<usize>
+    ensures { IsFirstByte (λ x. ascii_casemap x == ascii_casemap b) value.now result }
+{
+    memchr2(b.to_ascii_uppercase(), b.to_ascii_lowercase(), value)
+}
+
+/// The name of a comparator, where it is known only when the program runs.
+#[derive(Clone, Copy, Debug, PartialEq, Eq)]
+pub enum Collation {
+    /// `i;octet`, which is [`Octet`].
+    Octet,
+    /// `i;ascii-casemap`, which is [`AsciiCasemap`].
+    Casemap,
+}
+
+/// Whether `value` is `key` under the comparator: the match type `:is`. It takes no memory.
+pub fn is<C: Comparator>(value: &[u8], key: &[u8]) -> bool
+    ensures { IsTrue result ↔ Same C.folded value.now key.now }
+{
+    C::is(value, key)
+}
+
+/// Whether some slice of `value` is `key` under the comparator: the match type `:contains`. It takes
+/// no memory.
+pub fn contains<C: Comparator>(value: &[u8], key: &[u8]) -> bool
+    ensures { IsTrue result ↔ IsPart C.folded value.now key.now }
+{
+    C::contains(value, key)
+}

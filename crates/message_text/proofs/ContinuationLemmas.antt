@@ -1,0 +1,57 @@
+-- What a text's first octet says of its first line.
+use Rattle.std.proofs.Common.{◌≡◌, ℕ, suc, ◌+◌, ◌-◌, ◌<◌, Bool, true, false, ◌==◌, List, [], ◌∷◌, ◌++◌, length, take, drop, slice_index, get_or, refl, sym, ap, ◌∙◌, arith}
+use Rattle.std.specs.List.{concat, onto_first, slice_split, take_while}
+use Rattle.std.specs.Str.Lines.{lines, lines_of_parts, strip_carriage_return}
+use Rattle.std.proofs.lemmas.Bool.{cond_both, cond-false, cond-true, eqb-true, ne_eqb}
+use Rattle.std.proofs.lemmas.List.{drop_more}
+use Rattle.std.proofs.lemmas.List.Sums.{take_while-cons}
+use Rattle.message_text.specs.Blanks.{is_blank}
+use Rattle.message_text.specs.Fields.{is_continuation}
+
+-- the first line begins with space or tab
+abbrev pub continues : List (List ℕ) → Bool
+continues [] = false
+continues (line ∷ more) = is_continuation line
+
+-- a line feed ends an empty line
+continues-empty : (parts : List (List ℕ)) → continues (lines_of_parts ([] ∷ parts)) ≡ false
+continues-empty [] = refl
+continues-empty (part ∷ parts) = refl
+
+-- a part loses no space or tab at its front
+continues-strip : (b : ℕ) (part : List ℕ) → is_continuation (strip_carriage_return (b ∷ part)) ≡ is_blank b
+continues-strip b [] =
+    cond_both (b == 13) [] (b ∷ []) (λ line. is_continuation line ≡ is_blank b)
+    (λ is. sym (ap is_blank (eqb-true b 13 is))) (λ _. refl)
+continues-strip b (c ∷ part) =
+    cond_both (slice_index (b ∷ c ∷ part) (length (b ∷ c ∷ part) - 1) == 13) (take (length (b ∷ c ∷ part) - 1) (b ∷ c ∷ part)) (b ∷ c ∷ part)
+    (λ line. is_continuation line ≡ is_blank b)
+    (λ _. ap (λ n. is_continuation (take n (b ∷ c ∷ part))) (let e : length (b ∷ c ∷ part) - 1 ≡ suc (length part) = omega arith in e))
+    (λ _. refl)
+
+continues-onto : (b : ℕ) (parts : List (List ℕ)) → continues (lines_of_parts (onto_first b parts)) ≡ is_blank b
+continues-onto b [] = refl
+continues-onto b (part ∷ []) =
+    ap continues (cond-false (length (b ∷ part) == 0) [] ((b ∷ part) ∷ []) (ne_eqb (length (b ∷ part)) 0 (omega arith)))
+continues-onto b (part ∷ next ∷ parts) = continues-strip b part
+
+pub continues-lines : (b : ℕ) (text : List ℕ) → continues (lines (b ∷ text)) ≡ is_blank b
+continues-lines b text =
+    let parts = slice_split (λ x. x == 10) text in
+    cond_both (b == 10) ([] ∷ parts) (onto_first b parts) (λ cut. continues (lines_of_parts cut) ≡ is_blank b)
+    (λ is. continues-empty parts ∙ sym (ap is_blank (eqb-true b 10 is)))
+    (λ _. continues-onto b parts)
+
+pub continues-drop : (octets : List ℕ) (start : ℕ) → start < length octets → continues (lines (drop start octets)) ≡ is_blank (slice_index octets start)
+continues-drop octets start below =
+    ap (λ (rest : List ℕ). continues (lines rest)) (drop_more octets start 0 below) ∙ continues-lines (get_or octets start 0) (drop (start + 1) octets)
+
+pub take_while-none : (text : List (List ℕ)) → continues text ≡ false → take_while is_continuation text ≡ []
+take_while-none [] none = refl
+take_while-none (line ∷ more) none =
+    take_while-cons is_continuation line more ∙ cond-false (is_continuation line) (line ∷ take_while is_continuation more) [] none
+
+pub concat-continuation : (text more : List (List ℕ)) (line : List ℕ) → text ≡ line ∷ more → is_continuation line ≡ true → concat (take_while is_continuation text) ≡ line ++ concat (take_while is_continuation more)
+concat-continuation text more line is continued =
+    ap (λ (all : List (List ℕ)). concat (take_while is_continuation all)) is
+    ∙ ap concat (take_while-cons is_continuation line more ∙ cond-true (is_continuation line) (line ∷ take_while is_continuation more) [] continued)

@@ -1,0 +1,7 @@
+pub mod Rows
+pub mod LineLemmas
+pub mod HeadLemmas
+pub mod GroupLemmas
+pub mod TrimLemmas
+pub mod ContinuationLemmas
+pub mod FieldLemmas

@@ -1,0 +1,19 @@
+-- Spaces and tabs round a text.
+use Rattle.std.specs.Prelude.{ℕ, ◌-◌, Bool, ◌||◌, ◌==◌, List, length, take, drop}
+use Rattle.std.specs.List.{prefix_len, suffix_len}
+
+-- space or tab
+abbrev pub is_blank : ℕ → Bool
+is_blank b = b == 32 || b == 9
+
+-- the text without the spaces and tabs at its front
+abbrev pub trim_start : List ℕ → List ℕ
+trim_start xs = drop (prefix_len is_blank xs) xs
+
+-- the text without the spaces and tabs at its end
+abbrev pub trim_end : List ℕ → List ℕ
+trim_end xs = take (length xs - suffix_len is_blank xs) xs
+
+-- the text without outer spaces and tabs
+abbrev pub trim : List ℕ → List ℕ
+trim xs = trim_end (trim_start xs)

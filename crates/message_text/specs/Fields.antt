@@ -1,0 +1,92 @@
+-- The header fields of a message (RFC 5322, sections 2.1 and 2.2), by whole lines and groups of lines.
+use Rattle.std.specs.Prelude.{◌≡◌, ℕ, Bool, true, false, ◌&&◌, ◌==◌, nat_le, nat_lt, length, cond, List, [], ◌∷◌, ◌++◌, Some, map, filter}
+use Rattle.std.specs.List.{after_first, before_first, concat, list_all, list_any, slice_get, take_while}
+use Rattle.std.specs.Str.Lines.{lines}
+use Rattle.message_text.specs.Blanks.{is_blank, trim, trim_end}
+
+-- the greatest number of octets of a message
+abbrev pub size_limit : ℕ
+size_limit = 16777216
+
+-- a field: its name, and its value on one line
+pub record Field : Type 0 where
+  pub name : List ℕ
+  pub value : List ℕ
+
+-- a line that begins with neither space nor tab, and all lines directly after it that do
+pub record Group : Type 0 where
+  pub first : List ℕ
+  pub continuations : List (List ℕ)
+
+-- the line begins with space or tab, so that it continues the line before
+abbrev pub is_continuation : List ℕ → Bool
+is_continuation [] = false
+is_continuation (b ∷ bs) = is_blank b
+
+-- the line has octets
+abbrev pub is_filled : List ℕ → Bool
+is_filled line = nat_lt 0 (length line)
+
+-- A line is a piece of the message up to a line feed, without it and the carriage return directly before it; so is what
+-- follows the last line feed, where a carriage return at its end is an octet like any other. The header section is the
+-- lines before the first empty one.
+abbrev pub header_lines : List ℕ → List (List ℕ)
+header_lines message = take_while is_filled (lines message)
+
+-- the groups of lines; continuations with nothing before them are in none
+abbrev pub groups_of : List (List ℕ) → List Group
+groups_of [] = []
+groups_of (line ∷ more) =
+    cond (is_continuation line) (groups_of more)
+    (record { first = line; continuations = take_while is_continuation more } ∷ groups_of more)
+
+abbrev pub is_colon : ℕ → Bool
+is_colon b = b == 58
+
+-- the octets that a name is made of: printable, and no space; a colon ends it
+abbrev pub is_name_octet : ℕ → Bool
+is_name_octet b = nat_le 33 b && nat_le b 126
+
+-- one or more such octets
+abbrev pub is_name : List ℕ → Bool
+is_name text = nat_lt 0 (length text) && list_all is_name_octet text
+
+-- what stands before the first colon of a line, without spaces and tabs at its end
+abbrev pub name_in : List ℕ → List ℕ
+name_in line = trim_end (before_first is_colon line)
+
+-- the line has a colon, and a name before the first one
+abbrev pub begins_field : List ℕ → Bool
+begins_field line = list_any is_colon line && is_name (name_in line)
+
+abbrev pub is_field : Group → Bool
+is_field group = begins_field group.first
+
+-- The field of such a group. Its value is what follows the first colon, and the other lines as they are, without outer
+-- spaces and tabs.
+abbrev pub field_of : Group → Field
+field_of group = record {
+  name = name_in group.first;
+  value = trim (after_first is_colon group.first ++ concat group.continuations);
+}
+
+-- the groups of a message that are fields
+unfoldable pub field_groups : List ℕ → List Group
+field_groups message = filter is_field (groups_of (header_lines message))
+
+-- the fields of a message, in order
+unfoldable pub fields_of : List ℕ → List Field
+fields_of message = map field_of (field_groups message)
+
+-- the names of the fields, in order
+abbrev pub names_of : List ℕ → List (List ℕ)
+names_of message = map (λ field. field.name) (fields_of message)
+
+-- the values of the fields, in order
+abbrev pub values_of : List ℕ → List (List ℕ)
+values_of message = map (λ field. field.value) (fields_of message)
+
+-- field i stands on one line
+abbrev pub IsUnfolded : List ℕ → ℕ → Type 0
+IsUnfolded message i =
+    slice_get (map (λ group. length group.continuations == 0) (field_groups message)) i ≡ Some true

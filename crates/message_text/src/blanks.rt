@@ -1,0 +1,39 @@
+//! Spaces and tabs round a text.
+ghost use Rattle.std.specs.Prelude.{◌≡◌};
+ghost use Rattle.message_text.specs.Blanks.{is_blank, trim, trim_end, trim_start};
+
+/// Whether the octet is a space or a tab.
+pub(crate) fn is_blank(octet: u8) -> bool
+    ensures { result ≡ is_blank octet }
+{
+    octet == b' ' || octet == b'\t'
+}
+
+/// The text without the spaces and tabs at its front.
+pub(crate) fn trim_start(text: &[u8]) -> &[u8]
+    ensures { result.now ≡ trim_start text.now }
+{
+    let mut start = 0;
+    while start < text.len() && is_blank(text[start]) {
+        start += 1;
+    }
+    &text[start..]
+}
+
+/// The text without the spaces and tabs at its end.
+pub(crate) fn trim_end(text: &[u8]) -> &[u8]
+    ensures { result.now ≡ trim_end text.now }
+{
+    let mut end = text.len();
+    while end > 0 && is_blank(text[end - 1]) {
+        end -= 1;
+    }
+    &text[..end]
+}
+
+/// The text without outer spaces and tabs.
+pub(crate) fn trim(text: &[u8]) -> &[u8]
+    ensures { result.now ≡ trim text.now }
+{
+    trim_end(trim_start(text))
+}

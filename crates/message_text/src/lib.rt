@@ -1,0 +1,16 @@
+//! Messages and their header fields (RFC 5322).
+//!
+//! Every octet string up to [`MAX_SIZE`] is a [`Message`]. It keeps its octets once, with the places
+//! of its fields.
+#![tactic(auto)]
+
+mod blanks;
+mod fields;
+mod lines;
+mod messages;
+mod values;
+
+pub use crate::messages::{MAX_SIZE, Message, MessageFault};
+
+#[cfg(test)]
+mod tests;

@@ -1,0 +1,43 @@
+//! Where the lines of a text end.
+ghost use Rattle.std.specs.Prelude.{◌≡◌, ◌<◌, length};
+ghost use Rattle.std.specs.Str.Lines.{strip_carriage_return};
+ghost use Rattle.message_text.specs.Positions.{IsLineAt};
+
+use memchr::memchr;
+
+/// The places of a line in a text.
+#[derive(Clone, Copy, Debug)]
+pub(crate) struct Line {
+    /// Where its octets end: before its line feed and a carriage return directly before that.
+    pub(crate) end: usize,
+    /// Where the next line begins.
+    pub(crate) next: usize,
+}
+
+/// The line that begins at `start`.
+pub(crate) fn line_at(text: &[u8], start: usize) -> Line
+    requires { start < length text.now }
+    ensures { IsLineAt text.now start result.end result.next }
+{
+    let Some(len) = memchr(b'\n', &text[start..]) else {
+        return Line {
+            end: text.len(),
+            next: text.len(),
+        };
+    };
+    let feed = start + len;
+    Line {
+        end: start + without_return(&text[start..feed]).len(),
+        next: feed + 1,
+    }
+}
+
+// The piece before a line feed, without the one carriage return directly before that.
+fn without_return(piece: &[u8]) -> &[u8]
+    ensures { result.now ≡ strip_carriage_return piece.now }
+{
+    match piece {
+        [line @ .., b'\r'] => line,
+        _ => piece,
+    }
+}
