@@ -3,6 +3,7 @@ pub mod Finding
 pub mod Lines
 pub mod Longest
 pub mod Meaning
+pub mod Opening
 pub mod Parsing
 pub mod Reading
 pub mod Running
