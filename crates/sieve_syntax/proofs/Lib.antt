@@ -6,6 +6,7 @@ pub mod Meaning
 pub mod Opening
 pub mod Parsing
 pub mod Reading
+mod Rows
 pub mod Running
 pub mod Scanning
 pub mod Spelling

@@ -1,5 +1,5 @@
 -- The first line of a multi-line string, from the front of a text.
-use Rattle.std.proofs.Common.{◌≡◌, ℕ, zero, suc, ◌+◌, ◌<◌, ◌≤◌, ◌==◌, ◌||◌, ◌&&◌, Bool, true, false, if◌then◌else◌, List, [], ◌∷◌, length, take, drop, Option, Some, None, refl, sym, ap, ◌∙◌, subst, arith}
+use Rattle.std.proofs.Common.{◌≡◌, ℕ, zero, suc, ◌+◌, ◌<◌, ◌==◌, ◌||◌, ◌&&◌, Bool, true, false, if◌then◌else◌, List, [], ◌∷◌, length, take, drop, Option, Some, None, refl, sym, ap, ◌∙◌, subst, arith}
 use Rattle.std.specs.Option.{option_map}
 use Rattle.std.proofs.lemmas.Bool.{eqb-true}
 use Rattle.std.proofs.lemmas.Bool.Decides.{nat_tests}
@@ -9,7 +9,7 @@ use Rattle.sieve_syntax.specs.Octet.{is_space}
 use Rattle.sieve_syntax.specs.Scan.{shifted, dot_length, opening_stop, opening_end, opening_length, multi_line_length}
 use Rattle.sieve_syntax.specs.Spelling.{is_text, ends_opening, is_opening}
 use Rattle.sieve_syntax.specs.White.{begins_with}
-use Rattle.sieve_syntax.proofs.Cases.{by_cases, by_option, and_left, and_right, both_true}
+use Rattle.sieve_syntax.proofs.Cases.{by_cases, and_left, and_right}
 use Rattle.sieve_syntax.proofs.Lines.{line_bound, line_some, lines_some, lines_none}
 
 -- the length where the test holds

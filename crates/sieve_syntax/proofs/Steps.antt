@@ -1,12 +1,12 @@
 -- The recursions over a text, one octet on.
-use Rattle.std.proofs.Common.{◌≡◌, ℕ, suc, ◌+◌, ◌-◌, ◌<◌, ◌≤◌, ◌==◌, ◌||◌, ◌&&◌, Bool, true, false, if◌then◌else◌, List, [], ◌∷◌, length, take, drop, get_or, Option, Some, None, refl, sym, ap, ◌∙◌, arith}
+use Rattle.std.proofs.Common.{◌≡◌, ℕ, suc, ◌+◌, ◌-◌, ◌<◌, ◌≤◌, ◌==◌, ◌&&◌, Bool, true, false, if◌then◌else◌, List, ◌∷◌, length, take, drop, get_or, Option, Some, None, refl, sym, ap, ◌∙◌, arith}
 use Rattle.std.specs.Option.{option_map}
 use Rattle.std.proofs.lemmas.List.{take_all, take_rest, at_drop_more, at_drop_all, take-take, drop-take, drop_more, drop_all, drop-drop, length-drop, length-take-le}
 use Rattle.std.proofs.lemmas.List.Sums.{sum_by-take-drop}
 use Rattle.std.proofs.Math.Numerals.{add-one}
-use Rattle.sieve_syntax.specs.Line.{line_length, lines_of, is_line_end, is_dot_line}
+use Rattle.sieve_syntax.specs.Line.{line_length, lines_of, is_dot_line}
 use Rattle.sieve_syntax.specs.Octet.{is_name_octet, is_digit, is_unit, is_space}
-use Rattle.sieve_syntax.specs.Scan.{shifted, opening_stop, opening_end, dot_length, multi_line_length, name_length, number_length, quoted_length, protected_length}
+use Rattle.sieve_syntax.specs.Scan.{shifted, opening_stop, opening_end, dot_length, name_length, number_length, quoted_length, protected_length}
 use Rattle.sieve_syntax.specs.Token.{line_feeds}
 use Rattle.sieve_syntax.specs.White.{begins_with, comment_length}
 use Rattle.sieve_syntax.proofs.Cases.{by_cases}

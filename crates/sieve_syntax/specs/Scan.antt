@@ -1,5 +1,5 @@
 -- The one list of tokens of a text, as a function.
-use Rattle.std.specs.Prelude.{ℕ, ◌+◌, ◌==◌, ◌&&◌, Bool, true, false, nat_lt, if◌then◌else◌, List, [], ◌∷◌, length, drop, Option, Some, None, option_map}
+use Rattle.std.specs.Prelude.{ℕ, ◌+◌, ◌==◌, ◌&&◌, nat_lt, if◌then◌else◌, List, [], ◌∷◌, length, drop, Option, Some, None, option_map}
 use Rattle.std.proofs.Common.{zero, suc}
 use Rattle.sieve_syntax.specs.Line.{line_length, lines_of, is_dot_line}
 use Rattle.sieve_syntax.specs.Octet.{begins_name, is_name_octet, is_digit, is_unit, is_space}
