@@ -1,6 +1,6 @@
 //! The parser: from the octets of a text to its tree.
 
-ghost use Rattle.std.specs.Prelude.{◌≡◌, ◌≤◌, ◌<◌, ◌↔◌, ◌^◌, ℕ, List, length, All, IfOk, IsErrOf};
+ghost use Rattle.std.specs.Prelude.{◌≡◌, ◌≤◌, ◌<◌, ◌↔◌, ℕ, List, length, IfOk, IsErrOf};
 ghost use Rattle.sieve_syntax.specs.Machine;
 ghost use Rattle.sieve_syntax.specs.Machine.{whole};
 ghost use Rattle.sieve_syntax.specs.Parsed.{Ends, Goes, Parses};
@@ -46,9 +46,14 @@ impl From<AllocError> for SyntaxFault {
     }
 }
 
-/// The tree of a text: the one script that writes it. Nothing else is refused as `Syntax`, and `TooLarge` comes first.
+/// The tree of a text: the one script that writes it (RFC 5228, section 8.2). At most 32 blocks stand open at once, and
+/// tests go 32 deep: one directly in a command has depth 1.
+///
+/// `TooLarge` is the answer exactly where the text has more than [`TEXT_LIMIT`] octets. Else `Syntax` is the answer only
+/// where no script writes the text. `NoMemory` is the answer where memory runs out. The time that it takes grows with the
+/// length of the text, and the memory with the tree.
 pub fn parse(alloc: Global, text: &[u8]) -> Result<Script, SyntaxFault>
-    ensures large { IsErrOf result SyntaxFault.TooLarge ↔ TEXT_LIMIT < length text.now }
+    ensures large { IsErrOf result SyntaxFault.TooLarge ↔ 1048576 < length text.now }
     // The tree writes the text.
     ensures tree { IfOk result (λ script. WritesText (nodes_of script) text.now) }
     // The line is that of the fault, and no tree writes the text.

@@ -1,12 +1,11 @@
 //! What stands open while the tokens of a script are read, and what is read in it so far.
 
 ghost use Rattle.std.specs.Prelude.{◌≡◌};
-ghost use Rattle.sieve_syntax.specs.Machine.{node_with, test_with, begun, with_argument};
+ghost use Rattle.sieve_syntax.specs.Machine.{node_with, test_with};
 ghost use Rattle.sieve_syntax.specs.Reader.{block_of, head_value};
-ghost use Rattle.sieve_syntax.specs.Tree.{node_of, test_of, tests_of, argument_of};
+ghost use Rattle.sieve_syntax.specs.Tree.{node_of, test_of, tests_of};
 
 use crate::tree::{Argument, Command, Test, Tests, Text};
-use std::alloc::{AllocError, Global};
 
 /// A command or a test whose arguments are being read.
 #[derive(Debug, Drop)]

@@ -9,7 +9,7 @@ ghost use Rattle.sieve_syntax.specs.Tree.{argument_of, test_of, tests_of, text_o
 ghost use Rattle.sieve_syntax.specs.declared.step.Stop.TheVariants.{NoMemory};
 
 use crate::reader::{Head, Level, Open, Outer, State, command_with, finished_test};
-use crate::tree::{Argument, Command, Test, Tests, Text};
+use crate::tree::{Argument, Test, Tests, Text};
 use crate::word::Word;
 use std::alloc::{AllocError, AllocFailed, Global};
 

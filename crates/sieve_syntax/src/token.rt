@@ -1,6 +1,6 @@
 //! The tokens of a text (RFC 5228, section 2).
 
-ghost use Rattle.std.specs.Prelude.{◌≡◌, ◌+◌, ◌≤◌, ◌<◌, ◌^◌, List, length, take, All, IfOk};
+ghost use Rattle.std.specs.Prelude.{◌≡◌, ◌+◌, ◌<◌, ◌^◌, List, length, All, IfOk};
 ghost use Rattle.sieve_syntax.specs.Token.{IsInside, Spells, line_at, line_feeds};
 ghost use Rattle.sieve_syntax.specs.declared.token.Token.{Token};
 
