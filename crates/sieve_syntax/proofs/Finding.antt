@@ -1,27 +1,19 @@
 -- The next token of a text, and what is found up to it.
-use Rattle.std.proofs.Common.{◌≡◌, ℕ, ◌+◌, ◌-◌, ◌<◌, ◌≤◌, ◌++◌, List, [], ◌∷◌, length, drop, Option, Some, None, refl, sym, ap, ◌∙◌, subst, arith, append_assoc, append-nil}
-use Rattle.std.proofs.lemmas.List.{length-drop, drop_all, take_rest}
-use Rattle.std.proofs.Common.{take}
+use Rattle.std.proofs.Common.{◌≡◌, ℕ, ◌+◌, ◌-◌, ◌<◌, ◌≤◌, ◌++◌, List, [], ◌∷◌, length, drop, Some, None, sym, ap, ◌∙◌, subst, arith, append-nil}
 use Rattle.sieve_syntax.specs.Cursor.{IsCursor, GoesTo, IsNext}
 use Rattle.sieve_syntax.specs.Scan.{longest_at, token_at}
-use Rattle.sieve_syntax.specs.Token.{SpellsFrom, Spells, IsInside}
+use Rattle.sieve_syntax.specs.Token.{SpellsFrom, Spells}
 use Rattle.sieve_syntax.specs.White.{white_at}
 use Rattle.sieve_syntax.specs.declared.cursor.Cursor.{Cursor}
 use Rattle.sieve_syntax.specs.declared.token.Token.{Token}
 use Rattle.sieve_syntax.specs.declared.token.TokenKind.{TokenKind}
 use Rattle.sieve_syntax.specs.declared.token.TokenKind.TheVariants.{Bad}
-use Rattle.sieve_syntax.proofs.Longest.{IsFound, longest_at-found, white_at_bounds, found_bounds}
+use Rattle.sieve_syntax.proofs.Longest.{IsFound, longest_at-found}
 use Rattle.sieve_syntax.proofs.Spelling.{step_white, step_token, step_bad, step_end, unique_from}
-
-pub rest_length : (text : List ℕ) (place : ℕ) → length (take (length text - place) (drop place text)) ≡ length text - place
-rest_length text place = ap length (take_rest text place) ∙ length-drop place text
 
 -- white space at the place goes to the place behind it
 pub goes_white : (text : List ℕ) (from place n : ℕ) (rest : List ℕ) → rest ≡ drop place text → white_at rest ≡ Some n → GoesTo text from place → GoesTo text from (place + n)
 goes_white text from place n rest e w so = record { goes = λ more h. so.goes more (step_white text place n more (ap white_at (sym e) ∙ w) h) }
-
-pub goes_nowhere : (text : List ℕ) (place : ℕ) → GoesTo text place place
-goes_nowhere text place = record { goes = λ more h. h }
 
 pub end_next : (text : List ℕ) (from place : ℕ) → GoesTo text from place → place ≡ length text → SpellsFrom text from []
 end_next text from place so e = so.goes [] (step_end text place e)
@@ -77,11 +69,6 @@ bad_next text from start behind token rest e l w less is_behind low so made plac
 -- whatever tokens spell the rest, with those found so far they spell the text
 abbrev pub GoesOn : List ℕ → List Token → ℕ → Type 0
 GoesOn text found place = (more : List Token) → SpellsFrom text place more → SpellsFrom text 0 (found ++ more)
-
-pub goes_on : (text : List ℕ) (found after : List Token) (place : ℕ) (token : Token) (behind : Cursor) → after ≡ found ++ token ∷ [] → IsNext text place token behind → GoesOn text found place → GoesOn text after behind.place
-goes_on text found after place token behind is next so more h =
-    subst (SpellsFrom text 0) (sym (ap (λ x. x ++ more) is ∙ append_assoc found (token ∷ []) more))
-    (so (token ∷ more) (next.goes more h))
 
 pub ends_here : (text : List ℕ) (found : List Token) (place : ℕ) → SpellsFrom text place [] → GoesOn text found place → Spells found text
 ends_here text found place h so = subst (SpellsFrom text 0) (append-nil found) (so [] h)

@@ -3,8 +3,10 @@ pub mod Finding
 pub mod Lines
 pub mod Longest
 pub mod Meaning
+pub mod Opening
 pub mod Parsing
 pub mod Reading
+mod Rows
 pub mod Running
 pub mod Scanning
 pub mod Spelling

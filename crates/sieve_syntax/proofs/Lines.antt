@@ -1,5 +1,5 @@
 -- Lines, and the multi-line strings that they make.
-use Rattle.std.proofs.Common.{◌≡◌, ℕ, zero, suc, ◌+◌, ◌-◌, ◌<◌, ◌≤◌, ◌==◌, ◌||◌, ◌&&◌, ◌⊎◌, inl, inr, Bool, true, false, if◌then◌else◌, List, [], ◌∷◌, ◌++◌, length, take, drop, Option, Some, None, refl, sym, ap, ◌∙◌, subst, arith}
+use Rattle.std.proofs.Common.{◌≡◌, ℕ, zero, suc, ◌+◌, ◌-◌, ◌<◌, ◌≤◌, ◌==◌, ◌||◌, ◌&&◌, inl, inr, Bool, true, false, if◌then◌else◌, List, [], ◌∷◌, ◌++◌, length, take, drop, Option, Some, None, refl, sym, ap, ◌∙◌, subst, arith}
 use Rattle.std.specs.List.{list_any}
 use Rattle.std.specs.Option.{option_map}
 use Rattle.std.proofs.lemmas.Bool.{eqb-true, cases_lt}
@@ -7,8 +7,8 @@ use Rattle.std.proofs.lemmas.List.{length-take-le, length-drop, take-take, drop-
 use Rattle.sieve_syntax.specs.Line.{line_length, on_first, lines_of, is_line_end, is_dot_line}
 use Rattle.sieve_syntax.specs.Octet.{begins_name}
 use Rattle.sieve_syntax.specs.Spelling.{is_none, is_text, is_opening, end_at_dot, are_multi_line, is_multi_line}
-use Rattle.sieve_syntax.specs.Scan.{dot_length, multi_line_length, name_length}
-use Rattle.sieve_syntax.proofs.Cases.{by_cases, by_option, and_left, and_right}
+use Rattle.sieve_syntax.specs.Scan.{dot_length, multi_line_length}
+use Rattle.sieve_syntax.proofs.Cases.{by_cases, and_left, and_right}
 use Rattle.sieve_syntax.proofs.Scanning.{IsEnd}
 
 -- THE FIRST LINE

@@ -1,14 +1,14 @@
 -- What begins a text, against the spellings and the white space.
-use Rattle.std.proofs.Common.{◌≡◌, ℕ, zero, suc, ◌+◌, ◌-◌, ◌<◌, ◌≤◌, ◌==◌, ◌||◌, ◌&&◌, Bool, true, false, if◌then◌else◌, List, [], ◌∷◌, length, take, drop, Option, Some, None, refl, sym, ap, ◌∙◌, subst, arith}
+use Rattle.std.proofs.Common.{◌≡◌, ℕ, zero, suc, ◌<◌, ◌≤◌, ◌==◌, ◌||◌, ◌&&◌, true, false, if◌then◌else◌, List, [], ◌∷◌, length, take, Option, Some, None, refl, sym, ap, ◌∙◌, subst, arith}
 use Rattle.std.specs.List.{list_all}
 use Rattle.std.specs.Option.{option_map}
-use Rattle.std.proofs.lemmas.Bool.{eqb-true, eq-eqb}
+use Rattle.std.proofs.lemmas.Bool.{eqb-true}
 use Rattle.std.proofs.lemmas.Bool.Decides.{nat_tests}
 use Rattle.sieve_syntax.specs.Line.{line_length, lines_of}
 use Rattle.sieve_syntax.specs.Octet.{begins_name, is_name_octet, is_blank, is_digit}
 use Rattle.sieve_syntax.specs.Scan.{name_length, number_length, quoted_length, multi_line_length, name_at, tag_at, quoted, mark_at, longest_at}
 use Rattle.sieve_syntax.specs.Spelling.{is_identifier, is_tag, is_number, ends_number, is_quoted, ends_quoted, is_multi_line, is_one, spells}
-use Rattle.sieve_syntax.specs.White.{begins_with, comment_length, bracket_comment, white_at}
+use Rattle.sieve_syntax.specs.White.{comment_length, bracket_comment, white_at}
 use Rattle.sieve_syntax.specs.declared.token.TokenKind.{TokenKind}
 use Rattle.sieve_syntax.specs.declared.token.TokenKind.TheVariants.{Identifier, Tag, Number, Quoted, MultiLine, Semicolon, OpenBrace, CloseBrace, OpenParenthesis, CloseParenthesis, OpenBracket, CloseBracket, Comma, Bad}
 use Rattle.sieve_syntax.proofs.Cases.{by_cases, by_option, and_left, and_right, both_true}

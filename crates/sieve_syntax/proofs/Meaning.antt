@@ -6,11 +6,9 @@ use Rattle.sieve_syntax.specs.Parsed.{Parses}
 use Rattle.sieve_syntax.specs.declared.tree.Script as scripts
 use Rattle.sieve_syntax.specs.declared.parser.SyntaxFault.{SyntaxFault}
 use Rattle.sieve_syntax.specs.declared.parser.SyntaxFault.TheVariants.{Syntax, TooLarge, NoMemory}
-use Rattle.sieve_syntax.specs.Token.{Spells}
 use Rattle.sieve_syntax.specs.Scan.{tokens_of}
 use Rattle.sieve_syntax.specs.Machine.{start, read}
 use Rattle.sieve_syntax.specs.Syntax.{test_depth, block_room, IsFaultAt, IsFaultAtEnd, WritesText, IsFaultLine, syntax_of}
-use Rattle.sieve_syntax.specs.declared.token.Token.{Token}
 use Rattle.sieve_syntax.proofs.Spelling.{tokens_of_spell, unique}
 use Rattle.sieve_syntax.proofs.Parsing.{IsRead, read_is, read_ok, read_stops, read_stops_at_end}
 

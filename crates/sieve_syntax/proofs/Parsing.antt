@@ -133,15 +133,6 @@ module _ (depth room : ℕ) where
       by_option (run depth room start ws) (λ o. (s : State) × (o ≡ Some s)) (λ s e. (s, refl))
       (λ e. absurd (let p = run-none ws h.0 start e in let q = writes_runs h.1 (ws ++ h.0) h.2 in cc))
 
-  -- one tree at most writes the words
-  pub one_written : (a b : List Node) (ws : List Word) → Writes depth room a ws → Writes depth room b ws → a ≡ b
-  one_written a b ws h k =
-      let p = writes_runs a ws h in
-      let q = writes_runs b ws k in
-      let same : ended a ≡ ended b = cc in
-      let outer : ◌≡◌ {A = Outer} (record { blocks = []; done = a }) (record { blocks = []; done = b }) = cc in
-      ap (λ o. o.done) outer
-
   -- THE MACHINE AND THE TOKENS OF A TEXT
 
   module _ (text : List ℕ) where

@@ -1,9 +1,9 @@
 -- The machine over the tokens of a text, one after another.
-use Rattle.std.proofs.Common.{◌≡◌, ℕ, List, [], ◌∷◌, length, Option, Some, None, Result, Ok, Err, refl, sym, ap, ◌∙◌, subst}
+use Rattle.std.proofs.Common.{◌≡◌, ℕ, List, [], ◌∷◌, length, Option, Some, None, Result, Ok, Err, sym, ap, ◌∙◌}
 use Rattle.sieve_syntax.specs.Cursor.{IsNext}
 use Rattle.sieve_syntax.specs.Machine.{State, step, start, whole, read}
 use Rattle.sieve_syntax.specs.Parsed.{Ends, Goes, Parses}
-use Rattle.sieve_syntax.specs.Scan.{tokens_of, tokens_from}
+use Rattle.sieve_syntax.specs.Scan.{tokens_of}
 use Rattle.sieve_syntax.specs.Syntax.{test_depth, block_room, syntax_of}
 use Rattle.sieve_syntax.specs.Token.{line_at, SpellsFrom}
 use Rattle.sieve_syntax.specs.Tree.{Node}
@@ -53,9 +53,3 @@ end_means text s place (Ok script) h so e = sym (so [] h) ∙ read-end text s _ 
 end_means text s place (Err (Syntax line)) h so e = sym (so [] h) ∙ read-end text s None e.0 ∙ ap (λ n. Err n) (sym e.1)
 end_means text s place (Err TooLarge) h so e = absurd e
 end_means text s place (Err NoMemory) h so e = absurd e
-
-pub never_large : (r : Result scripts.Script SyntaxFault) (tree : Option (List Node)) (line : ℕ) → Ends r tree line → r ≡ Err TooLarge → ⊥
-never_large (Ok script) tree line h e = cc
-never_large (Err (Syntax at)) tree line h e = cc
-never_large (Err TooLarge) tree line h e = h
-never_large (Err NoMemory) tree line h e = h

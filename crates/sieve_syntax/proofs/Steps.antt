@@ -1,13 +1,12 @@
 -- The recursions over a text, one octet on.
-use Rattle.std.proofs.Common.{◌≡◌, ℕ, suc, ◌+◌, ◌-◌, ◌<◌, ◌≤◌, ◌==◌, ◌||◌, ◌&&◌, Bool, true, false, if◌then◌else◌, List, [], ◌∷◌, length, take, drop, get_or, Option, Some, None, refl, sym, ap, ◌∙◌, arith}
+use Rattle.std.proofs.Common.{◌≡◌, ℕ, suc, ◌+◌, ◌-◌, ◌<◌, ◌≤◌, ◌==◌, ◌&&◌, Bool, true, false, if◌then◌else◌, List, ◌∷◌, length, take, drop, get_or, Option, Some, None, refl, sym, ap, ◌∙◌, arith}
 use Rattle.std.specs.Option.{option_map}
 use Rattle.std.proofs.lemmas.List.{take_all, take_rest, at_drop_more, at_drop_all, take-take, drop-take, drop_more, drop_all, drop-drop, length-drop, length-take-le}
 use Rattle.std.proofs.lemmas.List.Sums.{sum_by-take-drop}
 use Rattle.std.proofs.Math.Numerals.{add-one}
-use Rattle.sieve_syntax.specs.Line.{line_length, lines_of, is_line_end, is_dot_line}
+use Rattle.sieve_syntax.specs.Line.{line_length, lines_of, is_dot_line}
 use Rattle.sieve_syntax.specs.Octet.{is_name_octet, is_digit, is_unit, is_space}
-use Rattle.sieve_syntax.specs.Scan.{shifted, dot_length, multi_line_length, name_length, number_length, quoted_length, protected_length}
-use Rattle.sieve_syntax.specs.Spelling.{ends_opening, is_opening}
+use Rattle.sieve_syntax.specs.Scan.{shifted, opening_stop, opening_end, dot_length, name_length, number_length, quoted_length, protected_length}
 use Rattle.sieve_syntax.specs.Token.{line_feeds}
 use Rattle.sieve_syntax.specs.White.{begins_with, comment_length}
 use Rattle.sieve_syntax.proofs.Cases.{by_cases}
@@ -50,15 +49,18 @@ pub number_length-end : (xs : List ℕ) (i : ℕ) → length xs ≤ i → number
 unfolding number_length
 number_length-end xs i h = at_drop_all number_length xs i h
 
-pub opening-more : (xs : List ℕ) (i : ℕ) → i < length xs → ends_opening (drop i xs) ≡ (if is_space (get_or xs i 0) then ends_opening (drop (i + 1) xs) else ((get_or xs i 0 == 35) || is_line_end (drop i xs)))
-unfolding ends_opening
+pub opening-more : (xs : List ℕ) (i : ℕ) → i < length xs → shifted i (opening_end (drop i xs)) ≡ (if is_space (get_or xs i 0) then shifted (i + 1) (opening_end (drop (i + 1) xs)) else shifted i (opening_stop (drop i xs)))
+unfolding opening_end
 opening-more xs i h =
-    at_drop_more ends_opening xs i 0 h
-    ∙ ap (λ rest. if is_space (get_or xs i 0) then ends_opening (drop (i + 1) xs) else ((get_or xs i 0 == 35) || is_line_end rest)) (sym (drop_more xs i 0 h))
+    ap (shifted i) (at_drop_more opening_end xs i 0 h)
+    ∙ by_cases (is_space (get_or xs i 0))
+    (λ b. shifted i (if b then option_map suc (opening_end (drop (i + 1) xs)) else opening_stop (get_or xs i 0 ∷ drop (i + 1) xs)) ≡ (if b then shifted (i + 1) (opening_end (drop (i + 1) xs)) else shifted i (opening_stop (drop i xs))))
+    (λ e. shifted_suc i (opening_end (drop (i + 1) xs)))
+    (λ e. ap (λ rest. shifted i (opening_stop rest)) (sym (drop_more xs i 0 h)))
 
-pub opening-end : (xs : List ℕ) (i : ℕ) → length xs ≤ i → ends_opening (drop i xs) ≡ false
-unfolding ends_opening
-opening-end xs i h = at_drop_all ends_opening xs i h
+pub opening-none : (xs : List ℕ) (i : ℕ) → length xs ≤ i → shifted i (opening_end (drop i xs)) ≡ None
+unfolding opening_end
+opening-none xs i h = ap (shifted i) (at_drop_all opening_end xs i h)
 
 pub comment-more : (xs : List ℕ) (i : ℕ) → i < length xs → shifted i (comment_length (drop i xs)) ≡ (if (get_or xs i 0 == 42) && begins_with 47 (drop (i + 1) xs) then Some (i + 2) else shifted (i + 1) (comment_length (drop (i + 1) xs)))
 unfolding comment_length
@@ -120,27 +122,10 @@ pub dot-end : (xs : List ℕ) (i : ℕ) → length xs ≤ i → shifted i (dot_l
 unfolding dot_length
 dot-end xs i h = ap (λ l. shifted i (dot_length (lines_of l))) (drop_all i xs h) ∙ ap (λ ls. shifted i (dot_length ls)) lines_none
 
-pub multi_line-is : (xs : List ℕ) → multi_line_length (lines_of xs) ≡ (if is_opening (take (line_length xs) xs) then shifted (line_length xs) (dot_length (lines_of (drop (line_length xs) xs))) else None)
-unfolding multi_line_length is_opening line_length
-multi_line-is [] = ap multi_line_length lines_none
-multi_line-is (c ∷ cs) =
-    let xs : List ℕ = c ∷ cs in
-    let k = line_length xs in
-    let line = take k xs in
-    let len : length line ≡ k = length-take-le k xs (line_bound xs) in
-    ap multi_line_length (lines_some xs (omega arith))
-    ∙ ap (λ o. if is_opening line then o else None) (plain (length line) (dot_length (lines_of (drop k xs))) ∙ ap (λ n. shifted n (dot_length (lines_of (drop k xs)))) len)
-  where
-    plain : (n : ℕ) (o : Option ℕ) → option_map (λ m. n + m) o ≡ shifted n o
-    plain n None = refl
-    plain n (Some m) = refl
-
 pub quoted_bound : (cs : List ℕ) (n : ℕ) → quoted_length cs ≡ Some n → n ≤ length cs
 quoted_bound cs n e = (quoted_found cs n e).inside
 
 pub ruleset dot_steps = (dot-more, dot-end, take_rest)
-
-pub ruleset multi_line_steps = (multi_line-is, take_rest)
 
 pub ruleset line_steps = (line_length-more, line_length-end)
 
@@ -150,7 +135,7 @@ pub ruleset name_steps = (name_length-more, name_length-end, name_bound)
 
 pub ruleset number_steps = (number_length-more, number_length-end, number_bound)
 
-pub ruleset opening_steps = (opening-more, opening-end, take_rest)
+pub ruleset opening_steps = (opening-more, opening-none, shifted_zero, take_rest)
 
 pub ruleset comment_steps = (comment-more, comment-end, shifted_zero, take_rest)
 

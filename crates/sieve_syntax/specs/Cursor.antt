@@ -1,5 +1,5 @@
 -- Places in a text.
-use Rattle.std.specs.Prelude.{◌≡◌, ℕ, ◌<◌, ◌≤◌, List, [], ◌∷◌, length, take}
+use Rattle.std.specs.Prelude.{◌≡◌, ℕ, ◌<◌, ◌≤◌, List, ◌∷◌, length, take}
 use Rattle.sieve_syntax.specs.Token.{line_feeds, IsInside, SpellsFrom}
 use Rattle.sieve_syntax.specs.declared.cursor.Cursor.{Cursor}
 use Rattle.sieve_syntax.specs.declared.token.Token.{Token}

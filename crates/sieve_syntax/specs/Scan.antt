@@ -1,11 +1,11 @@
 -- The one list of tokens of a text, as a function.
-use Rattle.std.specs.Prelude.{ℕ, ◌+◌, ◌==◌, Bool, true, false, nat_lt, if◌then◌else◌, List, [], ◌∷◌, length, drop, Option, Some, None, option_map}
+use Rattle.std.specs.Prelude.{ℕ, ◌+◌, ◌==◌, ◌&&◌, nat_lt, if◌then◌else◌, List, [], ◌∷◌, length, drop, Option, Some, None, option_map}
 use Rattle.std.proofs.Common.{zero, suc}
-use Rattle.sieve_syntax.specs.Line.{lines_of, is_dot_line}
-use Rattle.sieve_syntax.specs.Octet.{begins_name, is_name_octet, is_digit, is_unit}
-use Rattle.sieve_syntax.specs.Spelling.{is_opening}
+use Rattle.sieve_syntax.specs.Line.{line_length, lines_of, is_dot_line}
+use Rattle.sieve_syntax.specs.Octet.{begins_name, is_name_octet, is_digit, is_unit, is_space}
+use Rattle.sieve_syntax.specs.Spelling.{is_opening, is_text}
 use Rattle.sieve_syntax.specs.Token.{line_at}
-use Rattle.sieve_syntax.specs.White.{white_at}
+use Rattle.sieve_syntax.specs.White.{begins_with, white_at}
 use Rattle.sieve_syntax.specs.declared.token.Token.{Token}
 use Rattle.sieve_syntax.specs.declared.token.TokenKind.{TokenKind}
 use Rattle.sieve_syntax.specs.declared.token.TokenKind.TheVariants.{Identifier, Tag, Number, Quoted, MultiLine, Semicolon, OpenBrace, CloseBrace, OpenParenthesis, CloseParenthesis, OpenBracket, CloseBracket, Comma, Bad}
@@ -39,6 +39,25 @@ shifted i (Some n) = Some (i + n)
 unfoldable pub dot_length : List (List ℕ) → Option ℕ
 dot_length [] = None
 dot_length (line ∷ lines) = if is_dot_line line then Some (length line) else option_map (λ n. length line + n) (dot_length lines)
+
+-- how many octets end the first line of a multi-line string: a line end, or a hash comment with its line
+unfoldable pub opening_stop : List ℕ → Option ℕ
+opening_stop [] = None
+opening_stop (c ∷ cs) =
+    if c == 10 then Some 1
+    else (if (c == 13) && begins_with 10 cs then Some 2
+    else (if c == 35 then Some (line_length (c ∷ cs))
+    else None))
+
+-- and the blanks in front of them
+unfoldable pub opening_end : List ℕ → Option ℕ
+opening_end [] = None
+opening_end (c ∷ cs) = if is_space c then option_map suc (opening_end cs) else opening_stop (c ∷ cs)
+
+-- how many octets the first line of a multi-line string has that begins a text
+unfoldable pub opening_length : List ℕ → Option ℕ
+opening_length (t ∷ e ∷ x ∷ u ∷ c ∷ cs) = if is_text t e x u && (c == 58) then option_map (λ n. 5 + n) (opening_end cs) else None
+opening_length _ = None
 
 -- how many octets of a multi-line string begin lines
 unfoldable pub multi_line_length : List (List ℕ) → Option ℕ

@@ -1,5 +1,5 @@
 -- White space (RFC 5228, sections 2.1 and 2.3).
-use Rattle.std.specs.Prelude.{ℕ, Bool, true, false, ◌==◌, ◌&&◌, if◌then◌else◌, List, [], ◌∷◌, Option, Some, None, option_map}
+use Rattle.std.specs.Prelude.{ℕ, Bool, false, ◌==◌, ◌&&◌, if◌then◌else◌, List, [], ◌∷◌, Option, Some, None, option_map}
 use Rattle.std.proofs.Common.{suc}
 use Rattle.sieve_syntax.specs.Line.{line_length}
 use Rattle.sieve_syntax.specs.Octet.{is_blank}

@@ -5,6 +5,7 @@
 mod cursor;
 pub mod laws;
 mod line;
+mod multi_line;
 mod octet;
 mod parser;
 mod reader;

@@ -48,7 +48,7 @@ impl From<AllocError> for SyntaxFault {
 
 /// The tree of a text: the one script that writes it. Nothing else is refused as `Syntax`, and `TooLarge` comes first.
 pub fn parse(alloc: Global, text: &[u8]) -> Result<Script, SyntaxFault>
-    ensures large { IsErrOf result SyntaxFault.TooLarge ↔ TEXT_LIMIT < length text.now }
+    ensures large { IsErrOf result SyntaxFault.TooLarge ↔ 1048576 < length text.now }
     // The tree writes the text.
     ensures tree { IfOk result (λ script. WritesText (nodes_of script) text.now) }
     // The line is that of the fault, and no tree writes the text.

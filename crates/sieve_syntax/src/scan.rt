@@ -1,10 +1,9 @@
 //! The longest spelling of a token that begins a text (RFC 5228, section 8.1).
 
-ghost use Rattle.std.specs.Prelude.{◌≡◌, ◌<◌, ◌≤◌, drop, length, IfSome};
-ghost use Rattle.sieve_syntax.specs.Line.{lines_of};
-ghost use Rattle.sieve_syntax.specs.Scan.{dot_length, longest_at, mark_at, multi_line_length, name_at, name_length, number_length, quoted_length, shifted, tag_at};
+ghost use Rattle.std.specs.Prelude.{◌≡◌, ◌≤◌, length, IfSome};
+ghost use Rattle.sieve_syntax.specs.Scan.{longest_at, mark_at, name_at, name_length, number_length, quoted_length, tag_at};
 
-use crate::line::{is_dot_line, is_opening, line_length};
+use crate::multi_line::multi_line_length;
 use crate::octet::{begins_name, is_digit, is_name_octet, is_unit};
 use crate::token::TokenKind;
 
@@ -53,36 +52,6 @@ fn quoted_length(rest: &[u8]) -> Option<usize>
         }
     }
     None
-}
-
-/// How many octets there are up to the end of the first line from this place on that is a dot alone.
-#[tactic(auto, using(crate::proofs::Steps::dot_steps))]
-fn dot_end(rest: &[u8], start: usize) -> Option<usize>
-    requires { start ≤ length rest.now }
-    ensures { result ≡ shifted start (dot_length (lines_of (drop start rest.now))) }
-{
-    let mut place = start;
-    while place < rest.len() {
-        let end = place + line_length(&rest[place..]);
-        if is_dot_line(&rest[place..end]) {
-            return Some(end);
-        }
-        place = end;
-    }
-    None
-}
-
-/// How many octets the multi-line string has that begins the text.
-#[tactic(auto, using(crate::proofs::Steps::multi_line_steps))]
-fn multi_line_length(rest: &[u8]) -> Option<usize>
-    ensures { result ≡ multi_line_length (lines_of rest.now) }
-{
-    let first = line_length(rest);
-    if is_opening(&rest[..first]) {
-        dot_end(rest, first)
-    } else {
-        None
-    }
 }
 
 /// A multi-line string or an identifier, in a text that begins with a letter or `_`.

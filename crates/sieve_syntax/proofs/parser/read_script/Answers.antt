@@ -1,9 +1,8 @@
-use Rattle.std.proofs.Common.{sym, subst, ap, ◌∙◌, arith, refl, []}
-use Rattle.sieve_syntax.specs.Machine.{between, whole}
+use Rattle.std.proofs.Common.{sym, subst, arith, refl, []}
+use Rattle.sieve_syntax.specs.Machine.{between}
 use Rattle.sieve_syntax.specs.Reader.{opens_value, state_value}
-use Rattle.sieve_syntax.specs.Token.{line_at}
 use Rattle.sieve_syntax.specs.Tree.{node_of}
-use Rattle.std.proofs.Common.{map, length}
+use Rattle.std.proofs.Common.{map}
 use Rattle.sieve_syntax.proofs.Running.{Means, start_means, next_means, stop_means, end_means}
 use Rattle.sieve_syntax.proofs.parser.read_script.Goals as goal
 

@@ -1,6 +1,6 @@
 use Rattle.sieve_syntax.specs.Token.{Spells}
 use Rattle.sieve_syntax.proofs.Spelling.{unique, spelled_inside}
-use Rattle.sieve_syntax.proofs.Finding.{ends_here, goes_on}
+use Rattle.sieve_syntax.proofs.Finding.{ends_here}
 use Rattle.sieve_syntax.proofs.token.tokens.Goals as goal
 
 spelled : (c : goal.In_default) → Spells c.loop-token.found.items c.args.text.now

@@ -1,4 +1,4 @@
-use Rattle.std.proofs.Common.{◌++◌, false, sym, ap, ◌∙◌, arith, length, drop, take, ◌-◌, ◌≡◌, ◌≤◌, ◌+◌}
+use Rattle.std.proofs.Common.{◌++◌, false, sym, ap, ◌∙◌, arith, length}
 use Rattle.std.proofs.lemmas.List.{take_rest, length-drop}
 use Rattle.sieve_syntax.specs.Value.{multi_line_octets, with_cr}
 use Rattle.sieve_syntax.proofs.Values.{joins_stop, joins_on, joins_end}

@@ -1,7 +1,7 @@
 use Rattle.std.proofs.Common.{◌≡◌, ◌-◌, ◌≤◌, length, drop}
 use Rattle.sieve_syntax.specs.Line.{lines_of}
 use Rattle.sieve_syntax.specs.Scan.{dot_length, shifted}
-use Rattle.sieve_syntax.proofs.scan.dot_end.Given as goal
+use Rattle.sieve_syntax.proofs.multi_line.dot_end.Given as goal
 
 abbrev pub invariant-loop-place : goal.invariant-loop-place
 invariant-loop-place l = record {
