@@ -11,4 +11,3 @@ kind_as Stop = spec.stop_kind
 
 abbrev pub breach_as : Breach → spec.Breach
 breach_as breach = record { line = breach.line; rule = breach.rule }
-

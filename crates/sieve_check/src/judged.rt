@@ -49,7 +49,8 @@ pub fn judge(alloc: Global, text: &[u8]) -> Result<Judged, AllocError>
                 kind: FaultKind::Syntax,
             });
         }
-        Err(SyntaxFault::TooLarge | SyntaxFault::NoMemory) => return Err(AllocError),
+        Err(SyntaxFault::TooLarge) => unreachable!(),
+        Err(SyntaxFault::NoMemory) => return Err(AllocError),
     };
     match check(alloc, &script) {
         Ok(checked) => Ok(Judged::Sound(checked)),

@@ -6,8 +6,10 @@ pub mod judged;
 pub mod rule;
 mod validator;
 
-
 pub use checked::{Checked, Command};
 pub use judged::{FaultKind, Judged, judge};
 pub use rule::Rule;
 pub use validator::{CheckFault, check};
+
+#[cfg(test)]
+mod tests;

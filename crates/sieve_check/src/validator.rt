@@ -6,7 +6,6 @@ ghost use Rattle.sieve_syntax.specs.Tree.{argument_of, node_of, nodes_of};
 ghost use Rattle.sieve_check.specs.Breach.{to_lower, is_named, kind_of, is_tag, is_positional, has_more, name_of, line_of, args_of, node_breaches, node_then, breaches_of, abstract_of};
 ghost use Rattle.sieve_check.specs.CheckFault.{IsFirst};
 ghost use Rattle.sieve_check.specs.Script.{Commands, command_first, commands_of, script_of};
-
 ghost use Rattle.sieve_check.specs.Kind.{kind_as, breach_as};
 
 use crate::checked::{Checked, Command};

@@ -55,10 +55,11 @@ fn failed_at_main(
     kind: ErrorKind,
 ) -> Result<Outcome, AllocError>
     ensures { IfOk result (λ outcome. outcome ≡ record {
-        actions = [];
-        implicit = true;
-        error = Some (record { script = main.now; line = 0; kind = kind });
-        reads = (main.now, is_present) ∷ [] }) }
+      actions = [];
+      implicit = true;
+      error = Some (record { script = main.now; line = 0; kind = kind });
+      reads = (main.now, is_present) ∷ [];
+    }) }
 {
     let script = main.copy(alloc)?;
     let reads = first_read(alloc, main, is_present)?;

@@ -17,3 +17,6 @@ pub use meter::Meter;
 pub use name::ScriptName;
 pub use outcome::{Action, ErrorKind, Outcome, RunError};
 pub use sieve_code::{Octets, Place};
+
+#[cfg(test)]
+mod tests;

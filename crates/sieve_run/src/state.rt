@@ -40,9 +40,7 @@ fn is_discard(action: &Action) -> bool
 fn has_store_into(actions: &[Action], mailbox: &[u8]) -> bool
     ensures { result ≡ list_any (is_store_into mailbox.now) actions.now }
 {
-    actions
-        .iter()
-        .any(|action| is_store_into(mailbox, action))
+    actions.iter().any(|action| is_store_into(mailbox, action))
 }
 
 fn has_discard(actions: &[Action]) -> bool
@@ -52,11 +50,7 @@ fn has_discard(actions: &[Action]) -> bool
 }
 
 /// Adds a store into the mailbox, unless there is one.
-fn add_store(
-    alloc: Global,
-    actions: &mut Vec<Action>,
-    mailbox: &[u8],
-) -> Result<(), AllocError>
+fn add_store(alloc: Global, actions: &mut Vec<Action>, mailbox: &[u8]) -> Result<(), AllocError>
     ensures { OnOk result (actions.new.items ≡ with_action (is_store_into mailbox.now) (Store mailbox.now) actions.old.items) }
 {
     if !has_store_into(actions, mailbox) {
@@ -83,8 +77,9 @@ impl State {
     /// Stores into the mailbox, which takes the place of the implicit keep.
     pub(crate) fn store(&mut self, alloc: Global, mailbox: &[u8]) -> Result<(), AllocError>
         ensures { OnOk result (state_of self.new ≡ record (state_of self.old) {
-            actions = with_action (is_store_into mailbox.now) (Store mailbox.now) (state_of self.old).actions;
-            cancelled = true }) }
+          actions = with_action (is_store_into mailbox.now) (Store mailbox.now) (state_of self.old).actions;
+          cancelled = true;
+        }) }
     {
         add_store(alloc, &mut self.actions, mailbox)?;
         self.cancelled = true;
@@ -94,8 +89,9 @@ impl State {
     /// Discards, which takes the place of the implicit keep.
     pub(crate) fn discard(&mut self) -> Result<(), AllocError>
         ensures { OnOk result (state_of self.new ≡ record (state_of self.old) {
-            actions = with_action is_discard Discard (state_of self.old).actions;
-            cancelled = true }) }
+          actions = with_action is_discard Discard (state_of self.old).actions;
+          cancelled = true;
+        }) }
     {
         add_discard(&mut self.actions)?;
         self.cancelled = true;

@@ -8,6 +8,10 @@ use Rattle.sieve_syntax.specs.Tree.{Node}
 use Rattle.sieve_syntax.specs.Word.{words_of}
 use Rattle.sieve_syntax.specs.declared.token.Token.{Token}
 
+-- the most octets of a text
+abbrev pub text_limit : ℕ
+text_limit = 1048576
+
 -- how deep tests may go, and how many blocks may stand open at once
 abbrev pub test_depth : ℕ
 test_depth = 32

@@ -5,7 +5,7 @@ ghost use Rattle.sieve_syntax.specs.Machine;
 ghost use Rattle.sieve_syntax.specs.Machine.{whole};
 ghost use Rattle.sieve_syntax.specs.Parsed.{Ends, Goes, Parses};
 ghost use Rattle.sieve_syntax.specs.Reader.{state_value};
-ghost use Rattle.sieve_syntax.specs.Syntax.{IsFaultLine, WritesText, block_room, syntax_of, test_depth};
+ghost use Rattle.sieve_syntax.specs.Syntax.{IsFaultLine, WritesText, block_room, syntax_of, test_depth, text_limit};
 ghost use Rattle.sieve_syntax.specs.Token.{IsInside, line_at};
 ghost use Rattle.sieve_syntax.specs.Tree.{Node, nodes_of};
 ghost use Rattle.sieve_syntax.specs.Word.{word_of};
@@ -53,7 +53,7 @@ impl From<AllocError> for SyntaxFault {
 /// where no script writes the text. `NoMemory` is the answer where memory runs out. The time that it takes grows with the
 /// length of the text, and the memory with the tree.
 pub fn parse(alloc: Global, text: &[u8]) -> Result<Script, SyntaxFault>
-    ensures large { IsErrOf result SyntaxFault.TooLarge ↔ 1048576 < length text.now }
+    ensures large { IsErrOf result SyntaxFault.TooLarge ↔ text_limit < length text.now }
     // The tree writes the text.
     ensures tree { IfOk result (λ script. WritesText (nodes_of script) text.now) }
     // The line is that of the fault, and no tree writes the text.

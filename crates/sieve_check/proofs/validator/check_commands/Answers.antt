@@ -25,10 +25,9 @@ loop-command-preserved c =
     let i = c.loop-command.command-index in
     let cut = cut_at cs i c.command-item.result c.loop-command-test.true c.command-item.is in
     let pushed : c.push.new.self.items ≡ c.loop-command.checked.items ++ c.in-Ok.command ∷ [] = search rules in
-    let rest = abstract_of (map node_of (drop (i + 1) cs)) in
-    (
+    let rest = abstract_of (map node_of (drop (i + 1) cs)) in (
       sym (ap breaches_of cut ∙ ap (λ (b : List Breach). b ++ breaches_of (map node_of (drop (i + 1) cs))) c.in-Ok.ensures.0) ∙ c.loop-command.invariant.0,
       ap (λ (l : List Command). commands_before l rest) pushed ∙ commands_before-last c.loop-command.checked.items c.in-Ok.command rest
-      ∙ ap (commands_before c.loop-command.checked.items) (c.in-Ok.ensures.1 rest)
-      ∙ ap (λ (ns : List Node). commands_before c.loop-command.checked.items (abstract_of ns)) (sym cut) ∙ c.loop-command.invariant.1
+          ∙ ap (commands_before c.loop-command.checked.items) (c.in-Ok.ensures.1 rest)
+          ∙ ap (λ (ns : List Node). commands_before c.loop-command.checked.items (abstract_of ns)) (sym cut) ∙ c.loop-command.invariant.1,
     )
