@@ -1,5 +1,5 @@
 -- The breaches of one command.
-use Rattle.std.proofs.Common.{◌≡◌, ℕ, Bool, true, false, ◌||◌, List, [], ◌∷◌, ◌++◌, Option, Some, None, refl, ap, ◌∙◌, sym, slice_get}
+use Rattle.std.proofs.Common.{◌≡◌, ℕ, Bool, true, false, ◌||◌, List, [], ◌∷◌, ◌++◌, Option, Some, None, refl, ap, ◌∙◌, slice_get}
 use Rattle.std.specs.List.{list_any, flat_map}
 use Rattle.sieve_syntax.specs.Tree.{Node, node, Block, no_block, block, Tests, no_tests, one_test, test_list, Argument, strings, number, tag}
 use Rattle.sieve_check.specs.Script.{Commands, commands_before, command_first}

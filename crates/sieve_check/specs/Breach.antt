@@ -1,5 +1,5 @@
 -- The breaches of the validator's rules in a script, in the order of the text and then of the rules.
-use Rattle.std.specs.Prelude.{ℕ, Bool, true, false, ◌||◌, List, [], ◌∷◌, ◌++◌, map, Option, Some, None, is_some, slice_get, if◌then◌else◌, codes, nat_eq, nat_le, nat_lt, ◌&&◌, ◌+◌}
+use Rattle.std.specs.Prelude.{ℕ, Bool, true, false, ◌||◌, List, [], ◌∷◌, ◌++◌, map, Option, Some, None, slice_get, if◌then◌else◌, codes, nat_eq, nat_le, ◌&&◌, ◌+◌}
 use Rattle.std.specs.List.{flat_map, list_any}
 use lib.Pointwise.{pointwise}
 use Rattle.sieve_syntax.specs.Tree.{Node, node, Nodes, end_nodes, more_nodes, Block, no_block, block, Test, test, Tests, no_tests, one_test, test_list, TestList, end_tests, more_tests, Argument, strings, number, tag}

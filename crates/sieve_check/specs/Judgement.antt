@@ -6,7 +6,6 @@ use Rattle.sieve_check.specs.Breach as breaches
 use Rattle.sieve_check.specs.Breach.{first_breach, abstract_of}
 use Rattle.sieve_check.specs.Script.{Commands, script_of}
 use Rattle.sieve_check.specs.Rule.{rule_word}
-use Rattle.sieve_check.specs.declared.rule.Rule.{Rule}
 use Rattle.sieve_check.specs.declared.judged.FaultKind.{FaultKind}
 use Rattle.sieve_check.specs.declared.judged.FaultKind.TheVariants.{Syntax, Breach}
 use Rattle.sieve_check.specs.declared.judged.Judged.{Judged}

@@ -1,5 +1,5 @@
 -- What a library has at a name, by the text there.
-use Rattle.std.specs.Prelude.{ℕ, ◌<◌, List, length, Option, None, Some, if◌then◌else◌, nat_lt}
+use Rattle.std.specs.Prelude.{ℕ, List, length, Option, None, Some, if◌then◌else◌, nat_lt}
 use Rattle.sieve_check.specs.Script.{Commands, script_of}
 use Rattle.sieve_check.specs.Judgement.{Judgement, judgement_of, sound, faulty}
 use Rattle.sieve_run.specs.declared.library.Found.{Found}

@@ -1,5 +1,5 @@
 -- What running a script does (RFC 5228, sections 2.10 and 4).
-use Rattle.std.specs.Prelude.{ℕ, ◌≡◌, List, [], ◌∷◌, ◌++◌, Bool, true, false, not, Option, None, Some, if◌then◌else◌, nat_eq}
+use Rattle.std.specs.Prelude.{ℕ, List, [], ◌∷◌, ◌++◌, Bool, true, false, not, Option, None, Some, if◌then◌else◌, nat_eq}
 use Rattle.std.specs.List.{list_any}
 use lib.Pointwise.{pointwise}
 use Rattle.sieve_check.specs.Script.{Commands, no_commands, stops, acts, Leaf, keep_leaf, discard_leaf}

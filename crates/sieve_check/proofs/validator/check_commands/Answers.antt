@@ -2,7 +2,7 @@ use Rattle.std.proofs.Common.{◌≡◌, ◌<◌, ◌+◌, ℕ, List, [], ◌∷
 use Rattle.std.proofs.lemmas.List.{drop_more}
 use Rattle.sieve_syntax.specs.Tree.{Node, node_of}
 use Rattle.sieve_syntax.specs.declared.tree.Command as tree
-use Rattle.sieve_check.specs.Breach.{Breach, breaches_of, node_breaches, abstract_of}
+use Rattle.sieve_check.specs.Breach.{Breach, breaches_of, abstract_of}
 use Rattle.sieve_check.specs.Script.{commands_before}
 use Rattle.sieve_check.specs.declared.checked.Command.{Command}
 use Rattle.sieve_check.proofs.Nodes.{first-append, commands_before-last}

@@ -1,6 +1,6 @@
-use Rattle.std.proofs.Common.{◌≡◌, drop, map, ℕ}
+use Rattle.std.proofs.Common.{◌≡◌, drop, map}
 use Rattle.sieve_syntax.specs.Tree.{node_of}
-use Rattle.sieve_check.specs.Script.{Commands, commands_of, commands_before}
+use Rattle.sieve_check.specs.Script.{commands_before}
 use Rattle.sieve_check.specs.Breach.{breaches_of, abstract_of}
 use Rattle.sieve_check.proofs.validator.check_commands.Given as goal
 
