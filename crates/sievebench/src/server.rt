@@ -2,7 +2,7 @@
 ghost use Rattle.std.specs.Prelude.{◌≡◌, ◌≤◌, ◌<◌, IfSome, ℕ, List, Option, OnOk, OnErr, IfOk, Ok, codes, nat_lt, if◌then◌else◌};
 ghost use Rattle.sieve_code.specs.Writers.{Wrote};
 ghost use Rattle.sievebench.specs.Content.{Content, Edit, after, set_main, Refuses};
-ghost use Rattle.sievebench.specs.Input.{unread, fuel};
+ghost use Rattle.sievebench.specs.Input.{unread, fuel, Knows};
 ghost use Rattle.sievebench.specs.Session.{Request, with_octets, request_by, request_of, edits, reports, unreadable};
 ghost use Rattle.sievebench.specs.SessionLine as line;
 ghost use Rattle.sievebench.specs.SessionLine.{command_of_line};
@@ -178,6 +178,8 @@ fn serve_put<R: Source, W: Sink>(
     subject: Subject,
     count: u64,
 ) -> Turn
+    requires known { Knows input.old (R.remaining reader.old) }
+    ensures known { Knows input.new (R.remaining reader.new) }
     ensures turn { TurnsFrom (λ rest. with_octets count rest (edit_of subject)) result
         bench.old (unread input.old (R.remaining reader.old)) (W.contents writer.old)
         bench.new (unread input.new (R.remaining reader.new)) (W.contents writer.new) }
@@ -209,6 +211,8 @@ fn serve_forgotten<R: Source, W: Sink>(
     writer: &mut W,
     count: u64,
 ) -> Turn
+    requires known { Knows input.old (R.remaining reader.old) }
+    ensures known { Knows input.new (R.remaining reader.new) }
     ensures put { (content : Content) (edit : List ℕ → Edit) → TurnsFrom (λ rest. with_octets count rest edit) result
         content (unread input.old (R.remaining reader.old)) (W.contents writer.old)
         content (unread input.new (R.remaining reader.new)) (W.contents writer.new) }
@@ -260,6 +264,8 @@ fn perform<R: Source, W: Sink>(
     writer: &mut W,
     task: Task,
 ) -> Turn
+    requires known { Knows input.old (R.remaining reader.old) }
+    ensures known { Knows input.new (R.remaining reader.new) }
     ensures turn { (command : Option line.Command) → IsTask task command → TurnsFrom (request_by command) result
         bench.old (unread input.old (R.remaining reader.old)) (W.contents writer.old)
         bench.new (unread input.new (R.remaining reader.new)) (W.contents writer.new) }
@@ -287,6 +293,8 @@ fn serve<R: Source, W: Sink>(
     reader: &mut R,
     writer: &mut W,
 ) -> Turn
+    requires known { Knows input.old (R.remaining reader.old) }
+    ensures known { Knows input.new (R.remaining reader.new) }
     ensures turn { TurnsFrom request_of result
         bench.old (unread input.old (R.remaining reader.old)) (W.contents writer.old)
         bench.new (unread input.new (R.remaining reader.new)) (W.contents writer.new) }
