@@ -17,6 +17,7 @@ mod session_line;
 #[cfg(test)]
 mod session_tests;
 mod status;
+mod word;
 #[cfg(test)]
 mod tests;
 
