@@ -1,5 +1,5 @@
 -- A session: the replies to a stream of octets, and what the bench holds in the end.
-use Rattle.std.specs.Prelude.{◌≡◌, ⊤, ℕ, Bool, true, false, IsTrue, ◌⊎◌, List, [], ◌∷◌, ◌++◌, length, take, drop, Option, None, Some, Result, Ok, Err, nat_lt, if◌then◌else◌, codes}
+use Rattle.std.specs.Prelude.{◌≡◌, ⊤, ℕ, Bool, true, false, ◌⊎◌, List, [], ◌∷◌, ◌++◌, length, take, drop, Option, None, Some, Result, Ok, Err, nat_lt, if◌then◌else◌, codes}
 use Rattle.std.specs.Io.KnownBytes.{Appends}
 use Rattle.sievebench.specs.Content.{Content, Edit, put_script, put_message, set_main, rename_script, remove_script, remove_message, clear_main, set_envelope, set_mailbox, after}
 use Rattle.sievebench.specs.Report.{report_text}
@@ -64,12 +64,12 @@ takes_memory (remove_script name) = true
 takes_memory (remove_message id) = false
 takes_memory clear_main = false
 takes_memory (set_envelope from to) = true
-takes_memory (set_mailbox mailbox) = true
+takes_memory (set_mailbox box) = true
 
 -- the reply to an edit, and the content after it; where memory is refused nothing changes
 abbrev pub Replies : Bool → Result Content EditFault → Content → List ℕ → Content → Type 0
-Replies takes (Ok content) old reply new = ((reply ≡ codes "ok\n") × (new ≡ content)) ⊎ (IsTrue takes × (reply ≡ refusal_line NoMemory) × (new ≡ old))
-Replies takes (Err fault) old reply new = ((reply ≡ refusal_line fault) ⊎ (IsTrue takes × (reply ≡ refusal_line NoMemory))) × (new ≡ old)
+Replies takes (Ok content) old reply new = ((reply ≡ codes "ok\n") × (new ≡ content)) ⊎ ((takes ≡ true) × (reply ≡ refusal_line NoMemory) × (new ≡ old))
+Replies takes (Err fault) old reply new = ((reply ≡ refusal_line fault) ⊎ ((takes ≡ true) × (reply ≡ refusal_line NoMemory))) × (new ≡ old)
 
 -- One command: its reply, the content after it, and what is left of the stream.
 abbrev pub Step : Content → Request → List ℕ → Content → List ℕ → Type 0

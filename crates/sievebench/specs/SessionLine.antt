@@ -1,5 +1,5 @@
 -- The lines of a session: where they end, and what they say.
-use Rattle.std.specs.Prelude.{ℕ, ◌+◌, ◌-◌, ◌*◌, Bool, true, false, ◌&&◌, ◌||◌, ◌==◌, not, nat_lt, nat_le, if◌then◌else◌, List, [], ◌∷◌, length, filter, Option, None, Some, codes, nat_eq, is_none}
+use Rattle.std.specs.Prelude.{ℕ, suc, ◌+◌, ◌-◌, ◌*◌, Bool, true, false, ◌&&◌, ◌||◌, ◌==◌, not, nat_lt, nat_le, if◌then◌else◌, List, [], ◌∷◌, length, filter, Option, None, Some, codes, nat_eq, is_none}
 use Rattle.std.specs.List.{list_all, list_any}
 use Rattle.std.specs.Option.{option_map, option_and_then}
 use lib.Pointwise.{pointwise}
@@ -59,6 +59,11 @@ grow_first b (piece ∷ pieces) = (b ∷ piece) ∷ pieces
 abbrev pub pieces_from : Spot → List ℕ → List (List ℕ)
 pieces_from spot [] = [] ∷ []
 pieces_from spot (b ∷ bs) = if is_gap spot b then [] ∷ pieces_from outside bs else grow_first b (pieces_from (spot_behind spot b) bs)
+
+-- how many octets stand before the first such space
+abbrev pub piece_length : Spot → List ℕ → ℕ
+piece_length spot [] = 0
+piece_length spot (b ∷ bs) = if is_gap spot b then 0 else suc (piece_length (spot_behind spot b) bs)
 
 abbrev pub is_word : List ℕ → Bool
 is_word [] = false
@@ -151,62 +156,80 @@ last_count [] = None
 last_count (count ∷ []) = count_of count
 last_count (count ∷ more ∷ rest) = None
 
--- the script of a place and a name
-abbrev pub named : {A : Type 0} → (Place → List ℕ → A) → List ℕ → List ℕ → Option A
-named command place name = option_and_then (λ p. option_map (λ n. command p n) (word_value name)) (place_of place)
+-- a place and a name
+abbrev pub named : List ℕ → List ℕ → Option (Place × List ℕ)
+named place name = option_and_then (λ p. option_map (λ n. (p, n)) (word_value name)) (place_of place)
+
+-- a place and a name that are the last words
+abbrev pub last_name : List (List ℕ) → Option (Place × List ℕ)
+last_name [] = None
+last_name (place ∷ []) = None
+last_name (place ∷ name ∷ []) = named place name
+last_name (place ∷ name ∷ more ∷ rest) = None
+
+-- what the last word stands for
+abbrev pub last_value : List (List ℕ) → Option (List ℕ)
+last_value [] = None
+last_value (word ∷ []) = word_value word
+last_value (word ∷ more ∷ rest) = None
 
 abbrev pub script_command : List (List ℕ) → Option Command
 script_command [] = None
 script_command (place ∷ []) = None
-script_command (place ∷ name ∷ words) = option_and_then (λ command. option_map command (last_count words)) (named (λ p v n. script p v n) place name)
+script_command (place ∷ name ∷ words) = option_and_then (λ n. option_map (λ count. script n.0 n.1 count) (last_count words)) (named place name)
 
 abbrev pub message_command : List (List ℕ) → Option Command
 message_command [] = None
-message_command (id ∷ words) = option_and_then (λ i. option_map (λ n. message i n) (last_count words)) (word_value id)
-
--- a command of a place and a name alone
-abbrev pub named_command : (Place → List ℕ → Command) → List (List ℕ) → Option Command
-named_command command [] = None
-named_command command (place ∷ []) = None
-named_command command (place ∷ name ∷ []) = named command place name
-named_command command (place ∷ name ∷ more ∷ rest) = None
-
--- a command of one word alone
-abbrev pub one_word_command : (List ℕ → Command) → List (List ℕ) → Option Command
-one_word_command command [] = None
-one_word_command command (word ∷ []) = option_map (λ w. command w) (word_value word)
-one_word_command command (word ∷ more ∷ rest) = None
+message_command (id ∷ words) = option_and_then (λ i. option_map (λ count. message i count) (last_count words)) (word_value id)
 
 abbrev pub rename_command : List (List ℕ) → Option Command
 rename_command [] = None
 rename_command (place ∷ []) = None
-rename_command (place ∷ name ∷ words) = option_and_then (λ command. named_command command words) (named (λ p v q w. rename p v q w) place name)
+rename_command (place ∷ name ∷ words) = option_and_then (λ from. option_map (λ to. rename from.0 from.1 to.0 to.1) (last_name words)) (named place name)
 
 abbrev pub envelope_command : List (List ℕ) → Option Command
 envelope_command [] = None
-envelope_command (from ∷ words) = option_and_then (λ f. one_word_command (λ t. envelope f t) words) (word_value from)
+envelope_command (from ∷ words) = option_and_then (λ f. option_map (λ t. envelope f t) (last_value words)) (word_value from)
 
--- a command without further words
-abbrev pub lone_command : Command → List (List ℕ) → Option Command
-lone_command command [] = Some command
-lone_command command (more ∷ rest) = None
+-- a command of a place and a name
+abbrev pub name_command : List ℕ → List (List ℕ) → Option Command
+name_command word words =
+    if is_text (codes "main") word then option_map (λ n. main n.0 n.1) (last_name words)
+    else if is_text (codes "drop-script") word then option_map (λ n. drop_script n.0 n.1) (last_name words)
+    else None
 
--- the command of some words
-abbrev pub command_by : List (List ℕ) → Option Command
-command_by [] = Some nothing
-command_by (word ∷ words) =
+-- a command of one word, or one of those
+abbrev pub value_command : List ℕ → List (List ℕ) → Option Command
+value_command word words =
+    if is_text (codes "drop-message") word then option_map (λ id. drop_message id) (last_value words)
+    else if is_text (codes "mailbox") word then option_map (λ box. mailbox box) (last_value words)
+    else name_command word words
+
+abbrev pub alone : Command → List (List ℕ) → Option Command
+alone command [] = Some command
+alone command (more ∷ rest) = None
+
+-- a command of no words, or one of those
+abbrev pub lone_command : List ℕ → List (List ℕ) → Option Command
+lone_command word words =
+    if is_text (codes "no-main") word then alone no_main words
+    else if is_text (codes "report") word then alone report words
+    else value_command word words
+
+-- the command of a first word, and the words behind it
+abbrev pub command_by : List ℕ → List (List ℕ) → Option Command
+command_by word words =
     if is_text (codes "script") word then script_command words
     else if is_text (codes "message") word then message_command words
-    else if is_text (codes "main") word then named_command main words
-    else if is_text (codes "no-main") word then lone_command no_main words
     else if is_text (codes "rename") word then rename_command words
-    else if is_text (codes "drop-script") word then named_command drop_script words
-    else if is_text (codes "drop-message") word then one_word_command drop_message words
     else if is_text (codes "envelope") word then envelope_command words
-    else if is_text (codes "mailbox") word then one_word_command mailbox words
-    else if is_text (codes "report") word then lone_command report words
-    else None
+    else lone_command word words
+
+-- the command of some words
+abbrev pub command_of_words : List (List ℕ) → Option Command
+command_of_words [] = Some nothing
+command_of_words (word ∷ words) = command_by word words
 
 -- what a line asks for, if it is one of the lines that there are
 unfoldable pub command_of_line : List ℕ → Option Command
-command_of_line line = if list_all is_plain line then command_by (words_of line) else None
+command_of_line line = if list_all is_plain line then command_of_words (words_of line) else None

@@ -1,13 +1,15 @@
-ghost use Rattle.std.specs.Prelude.{◌≡◌, ◌≤◌, IfOk, OnOk, OnErr, IfErr, Ok, length};
+ghost use Rattle.std.specs.Prelude.{◌≡◌, ◌≤◌, IfOk, OnOk, OnErr, IfErr, Ok, length, remove, is_some, IfSome};
+ghost use Rattle.sievebench.specs.Task.{Drops};
 ghost use Rattle.sieve_code.specs.Writers.{Wrote, WroteFront};
 ghost use Rattle.sievebench.specs.Report.{report_text};
 ghost use Rattle.sievebench.specs.ReportFault.{MatchReportFault};
-ghost use Rattle.sievebench.specs.Content.{Refuses, Answers, is_long, new_content, after, put_script, put_message, set_main, rename_script, remove_script, remove_message, clear_main, set_envelope, set_mailbox, script_refusal, message_refusal, main_refusal, rename_refusal, remove_script_refusal, remove_message_refusal, envelope_refusal, mailbox_refusal};
+ghost use Rattle.sievebench.specs.Content.{without_message, message_at, Refuses, Answers, is_long, new_content, after, put_script, put_message, set_main, rename_script, remove_script, remove_message, clear_main, set_envelope, set_mailbox, script_refusal, message_refusal, main_refusal, rename_refusal, remove_script_refusal, remove_message_refusal, envelope_refusal, mailbox_refusal};
 
 use crate::fault::{EditFault, ReportFault};
 use crate::message::Message;
 use crate::report::{run_all, write_report};
 use crate::script::Scripts;
+use crate::word::Word;
 use indexmap::IndexMap;
 use sieve_code::{Octets, Sink};
 use sieve_run::{Envelope, Meter, ScriptName};
@@ -160,6 +162,21 @@ fn refuse_mailbox(mailbox: &[u8]) -> Option<EditFault>
     }
 }
 
+/// Where among the messages the one of a word's id is. Takes no memory, since the word isn't copied.
+fn position_of(messages: &IndexMap<Octets, Message>, id: &Word<'_>) -> Option<usize>
+    ensures found { IfSome result (λ index. remove messages.now.entries index ≡ without_message id.now messages.now.entries) }
+    ensures is { is_some result ≡ is_some (message_at messages.now.entries id.now) }
+{
+    let mut index = 0;
+    for (other, _) in messages {
+        if id.is(other.as_slice()) {
+            return Some(index);
+        }
+        index += 1;
+    }
+    None
+}
+
 impl Bench {
     /// The allocator of all that the bench holds.
     pub(crate) fn allocator(&self) -> Global {
@@ -307,6 +324,22 @@ impl Bench {
         }
         self.messages.shift_remove(id);
         Ok(())
+    }
+
+    /// Removes the message of a word of a session, for which no memory is taken either. All ids are looked at.
+    pub(crate) fn drop_message(&mut self, id: &Word<'_>) -> Result<(), EditFault>
+        ensures { Drops id.now result self.old self.new }
+    {
+        if id.len() > MAX_NAME {
+            return Err(EditFault::TooLarge);
+        }
+        match position_of(&self.messages, id) {
+            Some(index) => {
+                self.messages.shift_remove_index(index);
+                Ok(())
+            }
+            None => Err(EditFault::NoSuchMessage),
+        }
     }
 
     /// Leaves no script main. Takes no memory.

@@ -17,9 +17,9 @@ mod session_line;
 #[cfg(test)]
 mod session_tests;
 mod status;
-mod word;
 #[cfg(test)]
 mod tests;
+mod word;
 
 pub use bench::Bench;
 pub use command_line::{Job, UsageFault, command_of};

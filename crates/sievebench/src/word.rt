@@ -151,6 +151,19 @@ fn copied_quoted(alloc: Global, word: &[u8]) -> Result<Vec<u8>, AllocError>
     }
 }
 
+/// How many octets a quoted word stands for, behind its first quote.
+fn quoted_len(word: &[u8]) -> usize
+    ensures { IfSome (quoted_octets word.now) (λ octets. length octets ≡ result) }
+{
+    let mut rest = word;
+    let mut count = 0;
+    while let Next::Octet { rest: left, .. } = next_octet(rest) {
+        count += 1;
+        rest = left;
+    }
+    count
+}
+
 /// Whether a quoted word, behind its first quote, stands for these octets.
 fn is_quoted_as(word: &[u8], octets: &[u8]) -> bool
     ensures { IsTrue result ↔ (quoted_octets word.now ≡ Some octets.now) }
@@ -204,7 +217,11 @@ impl<'a> Word<'a> {
             [b'"', rest @ ..] => is_quoted(rest),
             bare => are_bare(bare),
         };
-        if is_word { Some(Word { written }) } else { None }
+        if is_word {
+            Some(Word { written })
+        } else {
+            None
+        }
     }
 
     /// A copy of the octets that it stands for.
@@ -215,6 +232,17 @@ impl<'a> Word<'a> {
         match self.written {
             [b'"', rest @ ..] => Ok(Octets::from_vec(copied_quoted(alloc, rest)?)),
             bare => Octets::copied(alloc, bare),
+        }
+    }
+
+    /// How many octets it stands for. Takes no memory.
+    #[tactic(auto, unfolding(crate::specs::SessionLine::word_value))]
+    pub(crate) fn len(&self) -> usize
+        ensures { result ≡ length self.now }
+    {
+        match self.written {
+            [b'"', rest @ ..] => quoted_len(rest),
+            bare => bare.len(),
         }
     }
 
