@@ -4,6 +4,8 @@
 
 mod bench;
 mod command_line;
+#[cfg(test)]
+mod edit_tests;
 mod fault;
 mod input;
 mod line;

@@ -15,7 +15,8 @@ loop-other-preserved c =
     let other : pointwise nat_eq c.args.id.now c.in-Some.other.now ≡ false = search rules in
     let cut : c.loop-other.other-iterator ≡ (c.in-Some.other.now, c.in-Some.field-0-1.now) ∷ c.next.new.self = search rules in
     let found : lookup (pointwise nat_eq c.args.id.now) c.loop-other.other-iterator ≡ lookup (pointwise nat_eq c.args.id.now) c.next.new.self = rw cut (rw other refl) in
-    let size : length c.loop-other.other-iterator ≡ suc (length c.next.new.self) = rw cut refl in
-    (c.loop-other.invariant.0 ∙ found,
-    removed_later (pointwise nat_eq c.args.id.now) c.args.messages.now.entries c.in-Some.other.now c.in-Some.field-0-1.now c.next.new.self c.loop-other.index other (λ n here. c.loop-other.invariant.1 n (rw cut here)),
-    omega (arith, size, c.loop-other.invariant.2))
+    let size : length c.loop-other.other-iterator ≡ suc (length c.next.new.self) = rw cut refl in (
+      c.loop-other.invariant.0 ∙ found,
+      removed_later (pointwise nat_eq c.args.id.now) c.args.messages.now.entries c.in-Some.other.now c.in-Some.field-0-1.now c.next.new.self c.loop-other.index other (λ n here. c.loop-other.invariant.1 n (rw cut here)),
+      omega (arith, size, c.loop-other.invariant.2),
+    )
