@@ -1,6 +1,7 @@
 mod Named
 pub mod Count
 pub mod Lines
+pub mod Messages
 pub mod Ranges
 pub mod Requests
 pub mod Serving

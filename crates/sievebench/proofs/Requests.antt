@@ -3,12 +3,14 @@ use Rattle.std.proofs.Common.{◌≡◌, ℕ, ◌<◌, ◌≤◌, ◌⊎◌, inl
 use Rattle.std.proofs.lemmas.Bool.Decides.{nat_tests}
 use Rattle.std.proofs.KnownBytes.{Appends-nil}
 use Rattle.std.specs.Io.KnownBytes.{Appends, Keeps, prepend_known}
-use Rattle.sievebench.specs.Content.{Content, Edit, put_script, put_message, set_main}
+use Rattle.sievebench.specs.Content.{Content, Edit, put_script, put_message, set_main, rename_script, remove_script, set_envelope, set_mailbox}
 use Rattle.sievebench.specs.Line.{IsLine, IsWithin}
-use Rattle.sievebench.specs.Session.{Request, request_of, request_at, request_by, with_octets, edits, over, unreadable}
+use Rattle.sievebench.specs.Session.{Request, takes_memory, request_of, request_at, request_by, with_octets, edits, over, unreadable}
 use Rattle.sievebench.specs.SessionLine as line
 use Rattle.sievebench.specs.SessionLine.{first_line, command_of_line}
-use Rattle.sievebench.specs.Task.{IsFollowedBy}
+use Rattle.sievebench.specs.Task.{IsFollowedBy, command_of, edit_by}
+use Rattle.sievebench.specs.declared.server.Change.{Change}
+use Rattle.sievebench.specs.declared.server.Change.TheVariants as changes
 use Rattle.sievebench.specs.Turn.{StepFrom, EndFrom, TurnsFrom, EndsBy, MatchSessionEnd}
 use Rattle.sievebench.specs.declared.line.Line.TheVariants.{Over, Whole, TooLong}
 use Rattle.sievebench.specs.declared.server.Turn.{Turn}
@@ -18,15 +20,31 @@ use Rattle.sievebench.specs.declared.status.SessionEnd.TheVariants as ends
 
 -- what a command asks for whose words are forgotten
 pub forgotten : (command : Option line.Command) (count : ℕ) (turn : Turn) (content : Content) (unread before left after' : Option (List ℕ)) → IsFollowedBy count command
-    → ((edit : List ℕ → Edit) → TurnsFrom (λ rest. with_octets count rest edit) turn content unread before content left after')
-    → (count ≡ 0 → (edit : Edit) → TurnsFrom (λ rest. edits edit rest) turn content unread before content left after')
+    → ((edit : List ℕ → Edit) → ((octets : List ℕ) → takes_memory (edit octets) ≡ true) → TurnsFrom (λ rest. with_octets count rest edit) turn content unread before content left after')
+    → (count ≡ 0 → (edit : Edit) → takes_memory edit ≡ true → TurnsFrom (λ rest. edits edit rest) turn content unread before content left after')
     → TurnsFrom (request_by command) turn content unread before content left after'
 forgotten None count turn content unread before left after' is put other = absurd is
 forgotten (Some line.nothing) count turn content unread before left after' is put other = absurd is
-forgotten (Some (line.script place name n)) count turn content unread before left after' is put other = rw is (put (put_script (record { place = place; name = name })))
-forgotten (Some (line.message id n)) count turn content unread before left after' is put other = rw is (put (put_message id))
-forgotten (Some (line.main place name)) count turn content unread before left after' is put other = other is (set_main (record { place = place; name = name }))
+forgotten (Some (line.script place name n)) count turn content unread before left after' is put other = rw is (put (put_script (record { place = place; name = name })) (λ octets. refl))
+forgotten (Some (line.message id n)) count turn content unread before left after' is put other = rw is (put (put_message id) (λ octets. refl))
+forgotten (Some (line.main place name)) count turn content unread before left after' is put other = other is (set_main (record { place = place; name = name })) refl
+forgotten (Some line.no_main) count turn content unread before left after' is put other = absurd is
+forgotten (Some (line.rename place name new_place new_name)) count turn content unread before left after' is put other = other is (rename_script (record { place = place; name = name }) (record { place = new_place; name = new_name })) refl
+forgotten (Some (line.drop_script place name)) count turn content unread before left after' is put other = other is (remove_script (record { place = place; name = name })) refl
+forgotten (Some (line.drop_message id)) count turn content unread before left after' is put other = absurd is
+forgotten (Some (line.envelope from to)) count turn content unread before left after' is put other = other is (set_envelope from to) refl
+forgotten (Some (line.mailbox box)) count turn content unread before left after' is put other = other is (set_mailbox box) refl
 forgotten (Some line.report) count turn content unread before left after' is put other = absurd is
+
+-- a turn of an edit that no octets follow
+pub change_turn : (change : Change) (turn : Turn) (old new : Content) (unread before left after' : Option (List ℕ)) → TurnsFrom (λ rest. edits (edit_by change) rest) turn old unread before new left after'
+    → TurnsFrom (request_by (Some (command_of change))) turn old unread before new left after'
+change_turn (changes.Main name) turn old new unread before left after' turned = turned
+change_turn changes.NoMain turn old new unread before left after' turned = turned
+change_turn (changes.Rename from to) turn old new unread before left after' turned = turned
+change_turn (changes.DropScript name) turn old new unread before left after' turned = turned
+change_turn (changes.Envelope from to) turn old new unread before left after' turned = turned
+change_turn (changes.Mailbox box) turn old new unread before left after' turned = turned
 
 -- a line within the limit
 whole_request : (stream front rest : List ℕ) → 0 < length stream → first_line stream ≡ (front, rest) → length front ≤ 16384 → request_of stream ≡ request_by (command_of_line front) rest

@@ -5,10 +5,10 @@ use Rattle.std.specs.Io.KnownBytes.{Appends, Keeps, IsAtEnd}
 use Rattle.sieve_code.specs.Writers.{Wrote}
 use Rattle.sievebench.specs.Content.{Content, Edit, after, Refuses, unless, is_long, text_at, message_at, with_script, with_message}
 use Rattle.sievebench.specs.Payload.{Takes, FallsShort}
-use Rattle.sievebench.specs.Session.{Request, with_octets, edits, reports, truncated, Replies, Step, refusal_line}
+use Rattle.sievebench.specs.Session.{Request, takes_memory, with_octets, edits, reports, truncated, Replies, Step, refusal_line}
 use Rattle.sievebench.specs.Report.{report_text}
 use Rattle.sievebench.specs.Task.{edit_of, limit_of}
-use Rattle.sievebench.specs.Turn.{StepFrom, EndFrom, TurnsFrom, Continues, EndsBy, reply_line}
+use Rattle.sievebench.specs.Turn.{RefusesIf, StepFrom, EndFrom, TurnsFrom, Continues, EndsBy, reply_line}
 use Rattle.sievebench.specs.declared.fault.EditFault.{EditFault}
 use Rattle.sievebench.specs.declared.fault.EditFault.TheVariants.{TooLarge, Full, NoMemory}
 use Rattle.sievebench.specs.declared.server.Subject.{Subject}
@@ -16,16 +16,31 @@ use Rattle.sievebench.specs.declared.server.Subject.TheVariants as subjects
 use Rattle.sievebench.specs.declared.status.SessionEnd.TheVariants as ends
 
 -- what an edit answers is what its definition allows
-pub replies_of : (outcome : Result Unit EditFault) (meaning : Result Content EditFault) (old new : Content) → OnOk outcome (meaning ≡ Ok new) → OnErr outcome (new ≡ old) → Refuses meaning outcome → Replies meaning old (reply_line outcome) new
-replies_of (Ok done) (Ok content) old new ok err refused = inl (refl, let same : content ≡ new = cc in sym same)
-replies_of (Ok done) (Err fault) old new ok err refused = absurd refused
-replies_of (Err fault) (Ok content) old new ok err refused = inr (ap refusal_line refused, err)
-replies_of (Err fault) (Err refusal) old new ok err refused = (inl (ap refusal_line refused), err)
+pub replies_of : (takes : Bool) (outcome : Result Unit EditFault) (meaning : Result Content EditFault) (old new : Content) → OnOk outcome (meaning ≡ Ok new) → OnErr outcome (new ≡ old) → RefusesIf takes meaning outcome → Replies takes meaning old (reply_line outcome) new
+replies_of true (Ok done) (Ok content) old new ok err refused = inl (refl, let same : content ≡ new = cc in sym same)
+replies_of true (Ok done) (Err fault) old new ok err refused = absurd refused
+replies_of true (Err fault) (Ok content) old new ok err refused = inr (refl, ap refusal_line refused, err)
+replies_of true (Err fault) (Err refusal) old new ok err refused = (inl (ap refusal_line refused), err)
+replies_of false (Ok done) (Ok content) old new ok err refused = inl (refl, let same : content ≡ new = cc in sym same)
+replies_of false (Ok done) (Err fault) old new ok err refused = absurd refused
+replies_of false (Err fault) (Ok content) old new ok err refused = absurd refused
+replies_of false (Err fault) (Err refusal) old new ok err refused = (inl (ap refusal_line refused), err)
+
+-- the same, where memory may be refused
+pub replies_with_memory : (takes : Bool) (outcome : Result Unit EditFault) (meaning : Result Content EditFault) (old new : Content) → takes ≡ true → OnOk outcome (meaning ≡ Ok new) → OnErr outcome (new ≡ old) → Refuses meaning outcome → Replies takes meaning old (reply_line outcome) new
+replies_with_memory true outcome meaning old new is ok err refused = replies_of true outcome meaning old new ok err refused
+replies_with_memory false outcome meaning old new is ok err refused = absurd (search rules)
 
 -- memory may always be refused
-pub no_memory_replies : (meaning : Result Content EditFault) (old : Content) → Replies meaning old (refusal_line NoMemory) old
-no_memory_replies (Ok content) old = inr (refl, refl)
-no_memory_replies (Err fault) old = (inr refl, refl)
+pub no_memory_replies : (takes : Bool) (meaning : Result Content EditFault) (old : Content) → takes ≡ true → Replies takes meaning old (refusal_line NoMemory) old
+no_memory_replies true (Ok content) old is = inr (refl, refl, refl)
+no_memory_replies true (Err fault) old is = (inr (refl, refl), refl)
+no_memory_replies false meaning old is = absurd (search rules)
+
+-- a put takes memory
+pub put_takes : (subject : Subject) (octets : List ℕ) → takes_memory (edit_of subject octets) ≡ true
+put_takes (subjects.Script name) octets = refl
+put_takes (subjects.Message id) octets = refl
 
 second_holds : (a b : Bool) → b ≡ true → (a || b) ≡ true
 second_holds true b holds = refl
@@ -52,7 +67,7 @@ short count rest edit less = grind (arith, nat_tests)
 
 -- a put of octets that came
 pub put_step : (count : ℕ) (edit : List ℕ → Edit) (old new : Content) (unread left before after' : Option (List ℕ)) (kept : Option (List ℕ)) (reply : List ℕ)
-    → Takes count unread left kept → ((octets : List ℕ) → length octets ≡ count → IfSome kept (λ k. k ≡ octets) → Replies (after old (edit octets)) old reply new) → Appends before after' reply
+    → Takes count unread left kept → ((octets : List ℕ) → length octets ≡ count → IfSome kept (λ k. k ≡ octets) → Replies (takes_memory (edit octets)) (after old (edit octets)) old reply new) → Appends before after' reply
     → StepFrom (λ rest. with_octets count rest edit) old unread before new left after'
 put_step count edit old new None left before after' kept reply taken replies written = tt
 put_step count edit old new (Some xs) None before after' kept reply taken replies written = absurd taken
@@ -66,23 +81,23 @@ put_end count edit old None rest before after' less written = tt
 put_end count edit old (Some xs) rest before after' less written = (codes "no truncated\n", rw (short count xs edit less.0) (refl, refl), written, refl)
 
 -- octets that weren't kept: too many of them, or memory was refused
-pub unkept_replies : (subject : Subject) (count : ℕ) (old : Content) (octets : List ℕ) → length octets ≡ count → Replies (after old (edit_of subject octets)) old (refusal_line (cond (nat_lt (limit_of subject) count) TooLarge NoMemory)) old
+pub unkept_replies : (subject : Subject) (count : ℕ) (old : Content) (octets : List ℕ) → length octets ≡ count → Replies (takes_memory (edit_of subject octets)) (after old (edit_of subject octets)) old (refusal_line (cond (nat_lt (limit_of subject) count) TooLarge NoMemory)) old
 unkept_replies subject count old octets size = by_flag (nat_lt (limit_of subject) count) refl
   where
-    by_flag : (b : Bool) → nat_lt (limit_of subject) count ≡ b → Replies (after old (edit_of subject octets)) old (refusal_line (cond b TooLarge NoMemory)) old
+    by_flag : (b : Bool) → nat_lt (limit_of subject) count ≡ b → Replies (takes_memory (edit_of subject octets)) (after old (edit_of subject octets)) old (refusal_line (cond b TooLarge NoMemory)) old
     by_flag true is =
         let more : limit_of subject < length octets = grind (arith, nat_tests) in
         rw (too_large subject old octets more) (inl refl, refl)
-    by_flag false is = no_memory_replies (after old (edit_of subject octets)) old
+    by_flag false is = no_memory_replies (takes_memory (edit_of subject octets)) (after old (edit_of subject octets)) old (put_takes subject octets)
 
 -- an edit that no octets follow
-pub edit_step : (edit : Edit) (old new : Content) (unread before after' : Option (List ℕ)) (reply : List ℕ) → Replies (after old edit) old reply new → Appends before after' reply
+pub edit_step : (edit : Edit) (old new : Content) (unread before after' : Option (List ℕ)) (reply : List ℕ) → Replies (takes_memory edit) (after old edit) old reply new → Appends before after' reply
     → StepFrom (λ rest. edits edit rest) old unread before new unread after'
 edit_step edit old new None before after' reply replies written = tt
 edit_step edit old new (Some xs) before after' reply replies written = (reply, (replies, refl), written)
 
 -- the same, where no octets were taken
-pub edit_step-kept : (edit : Edit) (old new : Content) (unread left before after' kept : Option (List ℕ)) (reply : List ℕ) → Takes 0 unread left kept → Replies (after old edit) old reply new → Appends before after' reply
+pub edit_step-kept : (edit : Edit) (old new : Content) (unread left before after' kept : Option (List ℕ)) (reply : List ℕ) → Takes 0 unread left kept → Replies (takes_memory edit) (after old edit) old reply new → Appends before after' reply
     → StepFrom (λ rest. edits edit rest) old unread before new left after'
 edit_step-kept edit old new None left before after' kept reply taken replies written = tt
 edit_step-kept edit old new (Some xs) None before after' kept reply taken replies written = absurd taken
@@ -94,4 +109,4 @@ pub report_step : (old : Content) (unread before after' : Option (List ℕ)) (re
 report_step old None before after' reply either written = tt
 report_step old (Some xs) before after' reply either written = (reply, (either, refl, refl), written)
 
-pub ruleset serving = (replies_of, no_memory_replies, put_step, put_end, unkept_replies, edit_step, edit_step-kept, report_step)
+pub ruleset serving = (replies_of, replies_with_memory, no_memory_replies, put_takes, put_step, put_end, unkept_replies, edit_step, edit_step-kept, report_step)

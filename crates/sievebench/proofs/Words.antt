@@ -1,8 +1,8 @@
 -- How a line falls into words.
-use Rattle.std.proofs.Common.{◌≡◌, ◌≢◌, ℕ, ◌+◌, ◌<◌, ◌≤◌, List, [], ◌∷◌, ◌++◌, length, get_or, take, drop, sym, ap, ◌∙◌, refl, arith, take-append-drop, filter, length-take, length-drop, add-zero, get_or-take, suc}
+use Rattle.std.proofs.Common.{◌≡◌, ◌≢◌, ℕ, ◌+◌, ◌<◌, ◌≤◌, List, [], ◌∷◌, ◌++◌, length, get_or, take, drop, sym, ap, ◌∙◌, refl, arith, take-append-drop, filter, length-take, length-drop, add-zero, get_or-take, suc, rules, Bool, true, false, cond}
 use Rattle.std.proofs.lemmas.Bool.Decides.{nat_tests}
 use Rattle.std.proofs.lemmas.List.{drop_more, get_or-drop}
-use Rattle.sievebench.specs.SessionLine.{pieces_of, words_of, grow_first, is_word}
+use Rattle.sievebench.specs.SessionLine.{pieces_from, piece_length, words_of, grow_first, is_word, is_gap, spot_behind, Spot, outside, inside, escaped}
 
 -- a space in front changes no word
 pub words_of-space : (bs : List ℕ) → words_of (32 ∷ bs) ≡ words_of bs
@@ -14,31 +14,62 @@ pub words_of-drop : (line : List ℕ) (i : ℕ) → i < length line → get_or l
 words_of-drop line i within is =
     sym (ap words_of (drop_more line i 0 within) ∙ ap (λ b. words_of (b ∷ drop (i + 1) line)) is ∙ words_of-space (drop (i + 1) line))
 
--- octets without a space stand in front of the first piece
-pieces_of-front : (word rest : List ℕ) (pieces : List (List ℕ)) → ((k : ℕ) → k < length word → get_or word k 0 ≢ 32) → pieces_of rest ≡ [] ∷ pieces → pieces_of (word ++ rest) ≡ word ∷ pieces
-pieces_of-front [] rest pieces none first = first
-pieces_of-front (b ∷ bs) rest pieces none first =
-    let here : b ≢ 32 = none 0 (omega arith) in
-    let later = pieces_of-front bs rest pieces (λ k within. none (suc k) (omega arith)) first in
-    grind (arith, nat_tests, later)
+-- the pieces behind the first: those of what is behind a space
+abbrev behind_space : List ℕ → List (List ℕ)
+behind_space [] = []
+behind_space (b ∷ bs) = pieces_from outside bs
 
--- a word, and what is behind it: nothing, or a space
-words_of-front : (word rest : List ℕ) → 0 < length word → ((k : ℕ) → k < length word → get_or word k 0 ≢ 32) → (0 < length rest → get_or rest 0 0 ≡ 32) → words_of (word ++ rest) ≡ word ∷ words_of rest
+-- a piece lies in the line
+pub piece_length-within : (spot : Spot) (line : List ℕ) → piece_length spot line ≤ length line
+piece_length-within spot [] = omega arith
+piece_length-within spot (b ∷ bs) = by_gap (is_gap spot b) refl (piece_length-within (spot_behind spot b) bs)
+  where
+    by_gap : (gap : Bool) → is_gap spot b ≡ gap → piece_length (spot_behind spot b) bs ≤ length bs → piece_length spot (b ∷ bs) ≤ length (b ∷ bs)
+    by_gap true is later = rw is (omega arith)
+    by_gap false is later = rw is (omega (arith, later))
+
+-- the first piece, and those behind it
+pieces_from-first : (spot : Spot) (line : List ℕ) → pieces_from spot line ≡ take (piece_length spot line) line ∷ behind_space (drop (piece_length spot line) line)
+pieces_from-first spot [] = refl
+pieces_from-first spot (b ∷ bs) = by_gap (is_gap spot b) refl (pieces_from-first (spot_behind spot b) bs)
+  where
+    by_gap : (gap : Bool) → is_gap spot b ≡ gap → pieces_from (spot_behind spot b) bs ≡ take (piece_length (spot_behind spot b) bs) bs ∷ behind_space (drop (piece_length (spot_behind spot b) bs) bs) → pieces_from spot (b ∷ bs) ≡ take (piece_length spot (b ∷ bs)) (b ∷ bs) ∷ behind_space (drop (piece_length spot (b ∷ bs)) (b ∷ bs))
+    by_gap true is later = rw is refl
+    by_gap false is later = rw is (ap (grow_first b) later)
+
+-- what is behind a piece begins with a space, which changes no word
+behind_piece : (spot : Spot) (line : List ℕ) → filter is_word (behind_space (drop (piece_length spot line) line)) ≡ words_of (drop (piece_length spot line) line)
 unfolding words_of
-words_of-front [] rest some none behind = absurd (omega arith)
-words_of-front (b ∷ bs) [] some none behind = ap (filter is_word) (pieces_of-front (b ∷ bs) [] [] none refl)
-words_of-front (b ∷ bs) (c ∷ cs) some none behind =
-    let space : c ≡ 32 = behind (omega arith) in
-    let first : pieces_of (32 ∷ cs) ≡ [] ∷ pieces_of cs = refl in
-    rw space (ap (filter is_word) (pieces_of-front (b ∷ bs) (32 ∷ cs) (pieces_of cs) none first))
+behind_piece spot [] = refl
+behind_piece spot (b ∷ bs) = by_gap (is_gap spot b) refl (behind_piece (spot_behind spot b) bs)
+  where
+    at_gap : (spot : Spot) → is_gap spot b ≡ true → filter is_word (pieces_from outside bs) ≡ filter is_word (pieces_from outside (b ∷ bs))
+    at_gap outside is = rw is refl
+    at_gap inside is = absurd (search rules)
+    at_gap escaped is = absurd (search rules)
 
--- the octets before the first space of a line are its first word
-pub words_of-word_at : (line : List ℕ) (i : ℕ) → 0 < i → i ≤ length line → ((k : ℕ) → k < i → get_or line k 0 ≢ 32) → (i < length line → get_or line i 0 ≡ 32) → words_of line ≡ take i line ∷ words_of (drop i line)
-words_of-word_at line i some within none behind =
-    ap words_of (sym (take-append-drop i line))
-    ∙ words_of-front (take i line) (drop i line) (simp length-take (omega arith))
-    (λ k below. let under : k < i = omega (arith, length-take i line) in rw get_or-take (none k under))
-    (λ more. rw (get_or-drop i line 0 0) (rw add-zero (behind (omega (arith, length-drop i line)))))
+    by_gap : (gap : Bool) → is_gap spot b ≡ gap → filter is_word (behind_space (drop (piece_length (spot_behind spot b) bs) bs)) ≡ filter is_word (pieces_from outside (drop (piece_length (spot_behind spot b) bs) bs))
+        → filter is_word (behind_space (drop (piece_length spot (b ∷ bs)) (b ∷ bs))) ≡ filter is_word (pieces_from outside (drop (piece_length spot (b ∷ bs)) (b ∷ bs)))
+    by_gap true is later = rw is (at_gap spot is)
+    by_gap false is later = rw is later
+
+-- a piece of some octets is a word
+kept : (word : List ℕ) (pieces : List (List ℕ)) → 0 < length word → filter is_word (word ∷ pieces) ≡ word ∷ filter is_word pieces
+kept [] pieces some = absurd (omega arith)
+kept (b ∷ bs) pieces some = refl
+
+-- the octets before the first such space of a line are its first word
+pub words_of-word : (line : List ℕ) (n : ℕ) → n ≡ piece_length outside line → 0 < n → words_of line ≡ take n line ∷ words_of (drop n line)
+unfolding words_of
+words_of-word line n is some =
+    let within : n ≤ length line = rw is (piece_length-within outside line) in
+    let first : pieces_from outside line ≡ take n line ∷ behind_space (drop n line) = rw is (pieces_from-first outside line) in
+    ap (filter is_word) first ∙ (kept (take n line) (behind_space (drop n line)) (omega (arith, within, length-take n line)) ∙ ap (λ words. take n line ∷ words) (rw is (behind_piece outside line)))
+
+-- a line that begins with no space begins with a word
+pub piece_length-some : (line : List ℕ) → 0 < length line → get_or line 0 0 ≢ 32 → 0 < piece_length outside line
+piece_length-some [] some none = absurd (omega arith)
+piece_length-some (b ∷ bs) some none = grind (arith, nat_tests)
 
 -- nothing has no words
 pub words_of-none : (line : List ℕ) → length line ≡ 0 → words_of line ≡ []

@@ -1,6 +1,6 @@
 -- What a bench holds, and what an edit makes of it.
-use Rattle.std.specs.Prelude.{◌≡◌, ⊤, ℕ, Bool, List, [], length, Option, None, Some, Result, Ok, Err, if◌then◌else◌, ◌||◌, ◌&&◌, is_none, nat_lt, nat_le, nat_eq, codes}
-use Rattle.std.specs.Map.{lookup}
+use Rattle.std.specs.Prelude.{◌≡◌, ⊤, ℕ, Bool, List, [], length, Option, None, Some, Result, Ok, Err, if◌then◌else◌, ◌||◌, ◌&&◌, is_none, is_some, nat_lt, nat_le, nat_eq, codes}
+use Rattle.std.specs.Map.{lookup, remove_entry}
 use Rattle.std.specs.BTreeMap as tree
 use Rattle.indexmap.specs.IndexMap as ordered
 use lib.Pointwise.{pointwise}
@@ -8,7 +8,7 @@ use Rattle.sieve_run.specs.declared.name.ScriptName.{ScriptName}
 use Rattle.sieve_run.specs.declared.envelope.Envelope.{Envelope}
 use Rattle.sieve_run.specs.Name.{name_cmp}
 use Rattle.sievebench.specs.declared.fault.EditFault.{EditFault}
-use Rattle.sievebench.specs.declared.fault.EditFault.TheVariants.{TooLarge, Full, NoMemory}
+use Rattle.sievebench.specs.declared.fault.EditFault.TheVariants.{TooLarge, NoSuchScript, NameTaken, NoSuchMessage, Full, NoMemory}
 
 -- the main script's name, the envelope, the scripts in printing order with their texts, and the messages in order
 -- with their octets
@@ -26,6 +26,12 @@ pub data Edit : Type 0 where
   put_script : (name : ScriptName) (text : List ℕ) → Edit
   put_message : (id bytes : List ℕ) → Edit
   set_main : (name : ScriptName) → Edit
+  rename_script : (from to : ScriptName) → Edit
+  remove_script : (name : ScriptName) → Edit
+  remove_message : (id : List ℕ) → Edit
+  clear_main : Edit
+  set_envelope : (from to : List ℕ) → Edit
+  set_mailbox : (mailbox : List ℕ) → Edit
 
 -- the text of the script of that name
 abbrev pub text_at : List (ScriptName × List ℕ) → ScriptName → Option (List ℕ)
@@ -42,6 +48,19 @@ with_script name text scripts = tree.insert_entry name_cmp scripts name text
 -- the messages with these octets at the id: in the place of the one there, or last
 abbrev pub with_message : List ℕ → List ℕ → List (List ℕ × List ℕ) → List (List ℕ × List ℕ)
 with_message id bytes messages = ordered.insert_entry (pointwise nat_eq) messages id bytes
+
+-- the scripts without the one at the name
+abbrev pub without_script : ScriptName → List (ScriptName × List ℕ) → List (ScriptName × List ℕ)
+without_script name scripts = remove_entry (tree.is_at (name_cmp name)) scripts
+
+-- the messages without the one at the id; the others stay in their order
+abbrev pub without_message : List ℕ → List (List ℕ × List ℕ) → List (List ℕ × List ℕ)
+without_message id messages = remove_entry (pointwise nat_eq id) messages
+
+-- the scripts with the text at one name put at another
+abbrev pub with_renamed : ScriptName → Option (List ℕ) → ScriptName → List (ScriptName × List ℕ) → List (ScriptName × List ℕ)
+with_renamed from None to scripts = scripts
+with_renamed from (Some text) to scripts = without_script from (with_script to text scripts)
 
 -- names and ids have at most 1,024 octets
 abbrev pub is_long : List ℕ → Bool
@@ -64,6 +83,34 @@ message_refusal messages id bytes =
 abbrev pub main_refusal : ScriptName → Option EditFault
 main_refusal name = if is_long name.name then Some TooLarge else None
 
+-- the name to rename must be there, and the new one must not; they may not be the same
+abbrev pub rename_refusal : List (ScriptName × List ℕ) → ScriptName → ScriptName → Option EditFault
+rename_refusal scripts from to =
+    if is_long from.name || is_long to.name then Some TooLarge
+    else if is_none (text_at scripts from) then Some NoSuchScript
+    else if is_some (text_at scripts to) then Some NameTaken
+    else None
+
+abbrev pub remove_script_refusal : List (ScriptName × List ℕ) → ScriptName → Option EditFault
+remove_script_refusal scripts name =
+    if is_long name.name then Some TooLarge
+    else if is_none (text_at scripts name) then Some NoSuchScript
+    else None
+
+abbrev pub remove_message_refusal : List (List ℕ × List ℕ) → List ℕ → Option EditFault
+remove_message_refusal messages id =
+    if is_long id then Some TooLarge
+    else if is_none (message_at messages id) then Some NoSuchMessage
+    else None
+
+-- an address of the envelope has at most 1,024 octets
+abbrev pub envelope_refusal : List ℕ → List ℕ → Option EditFault
+envelope_refusal from to = if nat_lt 1024 (length from) || nat_lt 1024 (length to) then Some TooLarge else None
+
+-- a mailbox's name has at most 255 octets
+abbrev pub mailbox_refusal : List ℕ → Option EditFault
+mailbox_refusal mailbox = if nat_lt 255 (length mailbox) then Some TooLarge else None
+
 -- the first refusal, or else the content
 abbrev pub unless : Option EditFault → Content → Result Content EditFault
 unless None content = Ok content
@@ -74,6 +121,19 @@ abbrev pub after : Content → Edit → Result Content EditFault
 after content (put_script name text) = unless (script_refusal content.scripts name text) (record content { scripts = with_script name text content.scripts })
 after content (put_message id bytes) = unless (message_refusal content.messages id bytes) (record content { messages = with_message id bytes content.messages })
 after content (set_main name) = unless (main_refusal name) (record content { main = Some name })
+after content (rename_script from to) = unless (rename_refusal content.scripts from to) (record content { scripts = with_renamed from (text_at content.scripts from) to content.scripts })
+after content (remove_script name) = unless (remove_script_refusal content.scripts name) (record content { scripts = without_script name content.scripts })
+after content (remove_message id) = unless (remove_message_refusal content.messages id) (record content { messages = without_message id content.messages })
+after content clear_main = Ok (record content { main = None })
+after content (set_envelope from to) = unless (envelope_refusal from to) (record content { envelope = record content.envelope { from = from; to = to } })
+after content (set_mailbox mailbox) = unless (mailbox_refusal mailbox) (record content { envelope = record content.envelope { mailbox = mailbox } })
+
+-- an edit that takes no memory answers as it must
+abbrev pub Answers : Result Content EditFault → Result Unit EditFault → Type 0
+Answers (Ok content) (Ok done) = ⊤
+Answers (Ok content) (Err fault) = ⊥
+Answers (Err refusal) (Ok done) = ⊥
+Answers (Err refusal) (Err fault) = fault ≡ refusal
 
 -- an edit answers a refusal exactly where it has one, and else may only be refused for memory
 abbrev pub Refuses : Result Content EditFault → Result Unit EditFault → Type 0

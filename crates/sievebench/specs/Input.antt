@@ -1,11 +1,12 @@
 -- What a session has read and not yet used.
-use Rattle.std.specs.Prelude.{ℕ, ◌+◌, ◌*◌, ◌-◌, List, length, take, drop, Option, slice_range}
-use Rattle.std.specs.Io.KnownBytes.{prepend_known}
+use Rattle.std.specs.Prelude.{ℕ, Bool, IsTrue, ◌+◌, ◌*◌, ◌-◌, List, length, take, drop, Option, slice_range}
+use Rattle.std.specs.Io.KnownBytes.{prepend_known, IsAtEnd}
 
--- the octets that are read and not used, and how many reads may still be made
+-- the octets that are read and not used, how many reads may still be made, and whether a read has come to the end
 pub record Input : Type 0 where
   pub pending : List ℕ
   pub turns : ℕ
+  pub ended : Bool
 
 -- how many octets the buffer holds
 abbrev pub capacity : ℕ
@@ -14,6 +15,10 @@ capacity = 65536
 -- the octets that are not used, read or not, where the device tells what it has left
 abbrev pub unread : Input → Option (List ℕ) → Option (List ℕ)
 unread input remaining = prepend_known input.pending remaining
+
+-- where a read has come to the end, the device has nothing left
+abbrev pub Knows : Input → Option (List ℕ) → Type 0
+Knows input remaining = IsTrue input.ended → IsAtEnd remaining
 
 -- It falls with each octet that is used, and with each read.
 abbrev pub fuel : Input → ℕ

@@ -13,3 +13,4 @@ pub mod SessionLine
 pub mod Status
 pub mod Task
 pub mod Turn
+pub mod Word

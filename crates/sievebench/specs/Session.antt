@@ -1,9 +1,9 @@
 -- A session: the replies to a stream of octets, and what the bench holds in the end.
-use Rattle.std.specs.Prelude.{◌≡◌, ⊤, ℕ, ◌⊎◌, List, [], ◌∷◌, ◌++◌, length, take, drop, Option, None, Some, Result, Ok, Err, nat_lt, if◌then◌else◌, codes}
+use Rattle.std.specs.Prelude.{◌≡◌, ⊤, ℕ, Bool, true, false, ◌⊎◌, List, [], ◌∷◌, ◌++◌, length, take, drop, Option, None, Some, Result, Ok, Err, nat_lt, if◌then◌else◌, codes}
 use Rattle.std.specs.Io.KnownBytes.{Appends}
-use Rattle.sievebench.specs.Content.{Content, Edit, put_script, put_message, set_main, after}
+use Rattle.sievebench.specs.Content.{Content, Edit, put_script, put_message, set_main, rename_script, remove_script, remove_message, clear_main, set_envelope, set_mailbox, after}
 use Rattle.sievebench.specs.Report.{report_text}
-use Rattle.sievebench.specs.SessionLine.{Command, nothing, script, message, main, report, first_line, command_of_line}
+use Rattle.sievebench.specs.SessionLine.{Command, nothing, script, message, main, no_main, rename, drop_script, drop_message, envelope, mailbox, report, first_line, command_of_line}
 use Rattle.sievebench.specs.declared.fault.EditFault.{EditFault}
 use Rattle.sievebench.specs.declared.fault.EditFault.TheVariants.{NoSuchScript, NameTaken, NoSuchMessage, Full, TooLarge, NoMemory}
 use Rattle.sievebench.specs.declared.status.SessionEnd.{SessionEnd}
@@ -29,6 +29,12 @@ request_by (Some nothing) rest = idle rest
 request_by (Some (script place name count)) rest = with_octets count rest (put_script (record { place = place; name = name }))
 request_by (Some (message id count)) rest = with_octets count rest (put_message id)
 request_by (Some (main place name)) rest = edits (set_main (record { place = place; name = name })) rest
+request_by (Some no_main) rest = edits clear_main rest
+request_by (Some (rename place name new_place new_name)) rest = edits (rename_script (record { place = place; name = name }) (record { place = new_place; name = new_name })) rest
+request_by (Some (drop_script place name)) rest = edits (remove_script (record { place = place; name = name })) rest
+request_by (Some (drop_message id)) rest = edits (remove_message id) rest
+request_by (Some (envelope from to)) rest = edits (set_envelope from to) rest
+request_by (Some (mailbox box)) rest = edits (set_mailbox box) rest
 request_by (Some report) rest = reports rest
 
 -- a line has at most 16,384 octets
@@ -48,10 +54,22 @@ refusal_line Full = codes "no full\n"
 refusal_line TooLarge = codes "no too-large\n"
 refusal_line NoMemory = codes "no no-memory\n"
 
--- the reply to an edit, and the content after it; memory may always be refused, which changes nothing
-abbrev pub Replies : Result Content EditFault → Content → List ℕ → Content → Type 0
-Replies (Ok content) old reply new = ((reply ≡ codes "ok\n") × (new ≡ content)) ⊎ ((reply ≡ refusal_line NoMemory) × (new ≡ old))
-Replies (Err fault) old reply new = ((reply ≡ refusal_line fault) ⊎ (reply ≡ refusal_line NoMemory)) × (new ≡ old)
+-- whether memory may be refused to an edit of a session; two take none
+abbrev pub takes_memory : Edit → Bool
+takes_memory (put_script name text) = true
+takes_memory (put_message id bytes) = true
+takes_memory (set_main name) = true
+takes_memory (rename_script from to) = true
+takes_memory (remove_script name) = true
+takes_memory (remove_message id) = false
+takes_memory clear_main = false
+takes_memory (set_envelope from to) = true
+takes_memory (set_mailbox box) = true
+
+-- the reply to an edit, and the content after it; where memory is refused nothing changes
+abbrev pub Replies : Bool → Result Content EditFault → Content → List ℕ → Content → Type 0
+Replies takes (Ok content) old reply new = ((reply ≡ codes "ok\n") × (new ≡ content)) ⊎ ((takes ≡ true) × (reply ≡ refusal_line NoMemory) × (new ≡ old))
+Replies takes (Err fault) old reply new = ((reply ≡ refusal_line fault) ⊎ ((takes ≡ true) × (reply ≡ refusal_line NoMemory))) × (new ≡ old)
 
 -- One command: its reply, the content after it, and what is left of the stream.
 abbrev pub Step : Content → Request → List ℕ → Content → List ℕ → Type 0
@@ -59,7 +77,7 @@ Step old over reply new left = ⊥
 Step old unreadable reply new left = ⊥
 Step old truncated reply new left = ⊥
 Step old (idle rest) reply new left = (reply ≡ []) × (new ≡ old) × (left ≡ rest)
-Step old (edits edit rest) reply new left = Replies (after old edit) old reply new × (left ≡ rest)
+Step old (edits edit rest) reply new left = Replies (takes_memory edit) (after old edit) old reply new × (left ≡ rest)
 Step old (reports rest) reply new left = ((reply ≡ report_text old) ⊎ (reply ≡ refusal_line NoMemory)) × (new ≡ old) × (left ≡ rest)
 
 -- some commands in turn: their replies, the content after them, and what is left of the stream

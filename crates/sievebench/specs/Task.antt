@@ -1,9 +1,12 @@
 -- What the program's tasks stand for.
-use Rattle.std.specs.Prelude.{◌≡◌, ℕ, List, Option, Some, None}
-use Rattle.sievebench.specs.SessionLine.{Command, nothing, script, message, main, report}
-use Rattle.sievebench.specs.Content.{Edit, put_script, put_message}
+use Rattle.std.specs.Prelude.{◌≡◌, ℕ, List, Option, Some, None, Result, Ok, Err, OnOk, OnErr}
+use Rattle.sievebench.specs.SessionLine.{Command, nothing, script, message, main, no_main, rename, drop_script, drop_message, envelope, mailbox, report}
+use Rattle.sievebench.specs.Content.{Content, Edit, put_script, put_message, set_main, rename_script, remove_script, remove_message, clear_main, set_envelope, set_mailbox, after, Answers}
 use Rattle.sievebench.specs.declared.server.Subject.{Subject}
 use Rattle.sievebench.specs.declared.server.Subject.TheVariants as subjects
+use Rattle.sievebench.specs.declared.server.Change.{Change}
+use Rattle.sievebench.specs.declared.server.Change.TheVariants as changes
+use Rattle.sievebench.specs.declared.fault.EditFault.{EditFault}
 use Rattle.sievebench.specs.declared.server.Task.{Task}
 use Rattle.sievebench.specs.declared.server.Task.TheVariants as tasks
 
@@ -14,17 +17,56 @@ IsFollowedBy count (Some nothing) = ⊥
 IsFollowedBy count (Some (script place name n)) = n ≡ count
 IsFollowedBy count (Some (message id n)) = n ≡ count
 IsFollowedBy count (Some (main place name)) = count ≡ 0
+IsFollowedBy count (Some no_main) = ⊥
+IsFollowedBy count (Some (rename place name new_place new_name)) = count ≡ 0
+IsFollowedBy count (Some (drop_script place name)) = count ≡ 0
+IsFollowedBy count (Some (drop_message id)) = ⊥
+IsFollowedBy count (Some (envelope from to)) = count ≡ 0
+IsFollowedBy count (Some (mailbox box)) = count ≡ 0
 IsFollowedBy count (Some report) = ⊥
+
+-- the command that asks for an edit
+abbrev pub command_of : Change → Command
+command_of (changes.Main name) = main name.place name.name
+command_of changes.NoMain = no_main
+command_of (changes.Rename from to) = rename from.place from.name to.place to.name
+command_of (changes.DropScript name) = drop_script name.place name.name
+command_of (changes.Envelope from to) = envelope from to
+command_of (changes.Mailbox box) = mailbox box
+
+-- the edit that is asked for
+abbrev pub edit_by : Change → Edit
+edit_by (changes.Main name) = set_main name
+edit_by changes.NoMain = clear_main
+edit_by (changes.Rename from to) = rename_script from to
+edit_by (changes.DropScript name) = remove_script name
+edit_by (changes.Envelope from to) = set_envelope from to
+edit_by (changes.Mailbox box) = set_mailbox box
 
 -- the task is to do what a line asks for
 abbrev pub IsTask : Task → Option Command → Type 0
 IsTask tasks.Idle command = command ≡ Some nothing
 IsTask (tasks.Put (subjects.Script name) count) command = command ≡ Some (script name.place name.name count)
 IsTask (tasks.Put (subjects.Message id) count) command = command ≡ Some (message id count)
-IsTask (tasks.Main name) command = command ≡ Some (main name.place name.name)
+IsTask (tasks.Change change) command = command ≡ Some (command_of change)
+IsTask (tasks.Dropped outcome) command = ⊥
 IsTask tasks.Report command = command ≡ Some report
 IsTask (tasks.Forgotten count) command = IsFollowedBy count command
 IsTask tasks.Unreadable command = command ≡ None
+
+-- a message is removed, or it is said why not
+abbrev pub Drops : List ℕ → Result Unit EditFault → Content → Content → Type 0
+Drops id outcome old new = OnOk outcome (after old (remove_message id) ≡ Ok new) × OnErr outcome (new ≡ old) × Answers (after old (remove_message id)) outcome
+
+-- the task is to do what a line asks for, or that is done already
+abbrev pub Tasks : Task → Option Command → Content → Content → Type 0
+Tasks (tasks.Dropped outcome) command old new = (id : List ℕ) × (command ≡ Some (drop_message id)) × Drops id outcome old new
+Tasks tasks.Idle command old new = IsTask tasks.Idle command × (new ≡ old)
+Tasks (tasks.Put subject count) command old new = IsTask (tasks.Put subject count) command × (new ≡ old)
+Tasks (tasks.Change change) command old new = IsTask (tasks.Change change) command × (new ≡ old)
+Tasks tasks.Report command old new = IsTask tasks.Report command × (new ≡ old)
+Tasks (tasks.Forgotten count) command old new = IsTask (tasks.Forgotten count) command × (new ≡ old)
+Tasks tasks.Unreadable command old new = IsTask tasks.Unreadable command × (new ≡ old)
 
 -- the edit that puts octets there
 abbrev pub edit_of : Subject → List ℕ → Edit

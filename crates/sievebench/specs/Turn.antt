@@ -1,7 +1,7 @@
 -- How one command of a session goes, where what is left of the input and what is written may not be known.
-use Rattle.std.specs.Prelude.{◌≡◌, ⊤, ◌⊎◌, ℕ, List, Option, None, Some, Result, Ok, Err, codes}
+use Rattle.std.specs.Prelude.{◌≡◌, ⊤, Bool, true, false, ◌⊎◌, ℕ, List, Option, None, Some, Result, Ok, Err, codes}
 use Rattle.std.specs.Io.KnownBytes.{Appends}
-use Rattle.sievebench.specs.Content.{Content}
+use Rattle.sievebench.specs.Content.{Content, Refuses, Answers}
 use Rattle.sievebench.specs.Session.{Request, Step, Steps, Ends, SessionText, refusal_line}
 use Rattle.sievebench.specs.declared.fault.EditFault.{EditFault}
 use Rattle.sievebench.specs.declared.status.SessionEnd.{SessionEnd}
@@ -79,3 +79,8 @@ AtLast (turns.Ends end) P = AtLastEnd end P
 abbrev pub reply_line : Result Unit EditFault → List ℕ
 reply_line (Ok done) = codes "ok\n"
 reply_line (Err fault) = refusal_line fault
+
+-- what an edit may answer, where memory may be refused to it or may not
+abbrev pub RefusesIf : Bool → Result Content EditFault → Result Unit EditFault → Type 0
+RefusesIf true meaning outcome = Refuses meaning outcome
+RefusesIf false meaning outcome = Answers meaning outcome

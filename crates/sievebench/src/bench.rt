@@ -1,13 +1,15 @@
-ghost use Rattle.std.specs.Prelude.{◌≡◌, ◌≤◌, IfOk, OnOk, OnErr, IfErr, Ok, length};
+ghost use Rattle.std.specs.Prelude.{◌≡◌, ◌≤◌, IfOk, OnOk, OnErr, IfErr, Ok, length, remove, is_some, IfSome};
+ghost use Rattle.sievebench.specs.Task.{Drops};
 ghost use Rattle.sieve_code.specs.Writers.{Wrote, WroteFront};
 ghost use Rattle.sievebench.specs.Report.{report_text};
 ghost use Rattle.sievebench.specs.ReportFault.{MatchReportFault};
-ghost use Rattle.sievebench.specs.Content.{Refuses, new_content, after, put_script, put_message, set_main, script_refusal, message_refusal, main_refusal};
+ghost use Rattle.sievebench.specs.Content.{without_message, message_at, Refuses, Answers, is_long, new_content, after, put_script, put_message, set_main, rename_script, remove_script, remove_message, clear_main, set_envelope, set_mailbox, script_refusal, message_refusal, main_refusal, rename_refusal, remove_script_refusal, remove_message_refusal, envelope_refusal, mailbox_refusal};
 
 use crate::fault::{EditFault, ReportFault};
 use crate::message::Message;
 use crate::report::{run_all, write_report};
 use crate::script::Scripts;
+use crate::word::Word;
 use indexmap::IndexMap;
 use sieve_code::{Octets, Sink};
 use sieve_run::{Envelope, Meter, ScriptName};
@@ -21,6 +23,10 @@ pub(crate) const MAX_TEXT: usize = 1_048_576;
 pub(crate) const MAX_MESSAGE: usize = 16_777_216;
 /// The most octets of a script's name or a message's id.
 const MAX_NAME: usize = 1_024;
+/// The most octets of an address of the envelope.
+const MAX_ADDRESS: usize = 1_024;
+/// The most octets of the mailbox's name.
+const MAX_MAILBOX: usize = 255;
 /// The most scripts.
 const MAX_SCRIPTS: usize = 1_024;
 /// The most messages.
@@ -45,14 +51,21 @@ impl Model for Bench {
     ghost view = { λ b. record { main = b.main; envelope = b.envelope; scripts = b.scripts; messages = b.messages.entries } };
 }
 
+/// Whether a name or an id is past its limit.
+fn is_long(name: &Octets) -> bool
+    ensures { result ≡ is_long name.now }
+{
+    name.as_slice().len() > MAX_NAME
+}
+
 /// Why a script isn't put, apart from memory.
 fn refuse_script(scripts: &Scripts, name: &ScriptName, text: &[u8]) -> Option<EditFault>
     ensures { result ≡ script_refusal scripts.now name.now text.now }
 {
-    if name.name.as_slice().len() > MAX_NAME || text.len() > MAX_TEXT {
+    if is_long(&name.name) || text.len() > MAX_TEXT {
         return Some(EditFault::TooLarge);
     }
-    if !scripts.by_name.contains_key(name) && scripts.by_name.len() >= MAX_SCRIPTS {
+    if !scripts.contains(name) && scripts.by_name.len() >= MAX_SCRIPTS {
         return Some(EditFault::Full);
     }
     None
@@ -66,7 +79,7 @@ fn refuse_message(
 ) -> Option<EditFault>
     ensures { result ≡ message_refusal messages.now.entries id.now bytes.now }
 {
-    if id.as_slice().len() > MAX_NAME || bytes.len() > MAX_MESSAGE {
+    if is_long(id) || bytes.len() > MAX_MESSAGE {
         return Some(EditFault::TooLarge);
     }
     if !messages.contains_key(id) && messages.len() >= MAX_MESSAGES {
@@ -79,11 +92,89 @@ fn refuse_message(
 fn refuse_main(name: &ScriptName) -> Option<EditFault>
     ensures { result ≡ main_refusal name.now }
 {
-    if name.name.as_slice().len() > MAX_NAME {
+    if is_long(&name.name) {
         Some(EditFault::TooLarge)
     } else {
         None
     }
+}
+
+/// Why a script isn't renamed, apart from memory.
+fn refuse_rename(scripts: &Scripts, from: &ScriptName, to: &ScriptName) -> Option<EditFault>
+    ensures { result ≡ rename_refusal scripts.now from.now to.now }
+{
+    if is_long(&from.name) || is_long(&to.name) {
+        Some(EditFault::TooLarge)
+    } else if !scripts.contains(from) {
+        Some(EditFault::NoSuchScript)
+    } else if scripts.contains(to) {
+        Some(EditFault::NameTaken)
+    } else {
+        None
+    }
+}
+
+/// Why a script isn't removed.
+fn refuse_remove_script(scripts: &Scripts, name: &ScriptName) -> Option<EditFault>
+    ensures { result ≡ remove_script_refusal scripts.now name.now }
+{
+    if is_long(&name.name) {
+        Some(EditFault::TooLarge)
+    } else if !scripts.contains(name) {
+        Some(EditFault::NoSuchScript)
+    } else {
+        None
+    }
+}
+
+/// Why a message isn't removed.
+fn refuse_remove_message(messages: &IndexMap<Octets, Message>, id: &Octets) -> Option<EditFault>
+    ensures { result ≡ remove_message_refusal messages.now.entries id.now }
+{
+    if is_long(id) {
+        Some(EditFault::TooLarge)
+    } else if !messages.contains_key(id) {
+        Some(EditFault::NoSuchMessage)
+    } else {
+        None
+    }
+}
+
+/// Why an envelope isn't taken, apart from memory.
+fn refuse_envelope(from: &[u8], to: &[u8]) -> Option<EditFault>
+    ensures { result ≡ envelope_refusal from.now to.now }
+{
+    if from.len() > MAX_ADDRESS || to.len() > MAX_ADDRESS {
+        Some(EditFault::TooLarge)
+    } else {
+        None
+    }
+}
+
+/// Why a mailbox isn't taken, apart from memory.
+fn refuse_mailbox(mailbox: &[u8]) -> Option<EditFault>
+    ensures { result ≡ mailbox_refusal mailbox.now }
+{
+    if mailbox.len() > MAX_MAILBOX {
+        Some(EditFault::TooLarge)
+    } else {
+        None
+    }
+}
+
+/// Where among the messages the one of a word's id is. Takes no memory, since the word isn't copied.
+fn position_of(messages: &IndexMap<Octets, Message>, id: &Word<'_>) -> Option<usize>
+    ensures found { IfSome result (λ index. remove messages.now.entries index ≡ without_message id.now messages.now.entries) }
+    ensures is { is_some result ≡ is_some (message_at messages.now.entries id.now) }
+{
+    let mut index = 0;
+    for (other, _) in messages {
+        if id.is(other.as_slice()) {
+            return Some(index);
+        }
+        index += 1;
+    }
+    None
 }
 
 impl Bench {
@@ -194,6 +285,100 @@ impl Bench {
         let name = name.copy(self.alloc).map_err(|_| EditFault::NoMemory)?;
         self.keep_main(name)
     }
+
+    /// Renames a script to a name that no script has. The main script's name stays as it is.
+    pub fn rename_script(&mut self, from: &ScriptName, to: &ScriptName) -> Result<(), EditFault>
+        ensures ok { OnOk result (after self.old (rename_script from.now to.now) ≡ Ok self.new) }
+        ensures err { OnErr result (self.new ≡ self.old) }
+        ensures refused { Refuses (after self.old (rename_script from.now to.now)) result }
+    {
+        if let Some(fault) = refuse_rename(&self.scripts, from, to) {
+            return Err(fault);
+        }
+        self.scripts
+            .rename(self.alloc, from, to)
+            .map_err(|_| EditFault::NoMemory)
+    }
+
+    /// Removes a script. Takes no memory.
+    pub fn remove_script(&mut self, name: &ScriptName) -> Result<(), EditFault>
+        ensures ok { OnOk result (after self.old (remove_script name.now) ≡ Ok self.new) }
+        ensures err { OnErr result (self.new ≡ self.old) }
+        ensures refused { Answers (after self.old (remove_script name.now)) result }
+    {
+        if let Some(fault) = refuse_remove_script(&self.scripts, name) {
+            return Err(fault);
+        }
+        self.scripts.remove(name);
+        Ok(())
+    }
+
+    /// Removes a message. The others stay in their order. Takes no memory.
+    pub fn remove_message(&mut self, id: &Octets) -> Result<(), EditFault>
+        ensures ok { OnOk result (after self.old (remove_message id.now) ≡ Ok self.new) }
+        ensures err { OnErr result (self.new ≡ self.old) }
+        ensures refused { Answers (after self.old (remove_message id.now)) result }
+    {
+        if let Some(fault) = refuse_remove_message(&self.messages, id) {
+            return Err(fault);
+        }
+        self.messages.shift_remove(id);
+        Ok(())
+    }
+
+    /// Removes the message of a word of a session, for which no memory is taken either. All ids are looked at.
+    pub(crate) fn drop_message(&mut self, id: &Word<'_>) -> Result<(), EditFault>
+        ensures { Drops id.now result self.old self.new }
+    {
+        if id.len() > MAX_NAME {
+            return Err(EditFault::TooLarge);
+        }
+        match position_of(&self.messages, id) {
+            Some(index) => {
+                self.messages.shift_remove_index(index);
+                Ok(())
+            }
+            None => Err(EditFault::NoSuchMessage),
+        }
+    }
+
+    /// Leaves no script main. Takes no memory.
+    pub fn clear_main(&mut self)
+        ensures { after self.old clear_main ≡ Ok self.new }
+    {
+        self.main = None;
+    }
+
+    /// Sets the addresses of the sender and of the recipient.
+    pub fn set_envelope(&mut self, from: &[u8], to: &[u8]) -> Result<(), EditFault>
+        ensures ok { OnOk result (after self.old (set_envelope from.now to.now) ≡ Ok self.new) }
+        ensures err { OnErr result (self.new ≡ self.old) }
+        ensures refused { Refuses (after self.old (set_envelope from.now to.now)) result }
+    {
+        if let Some(fault) = refuse_envelope(from, to) {
+            return Err(fault);
+        }
+        let from = Octets::copied(self.alloc, from).map_err(|_| EditFault::NoMemory)?;
+        let to = Octets::copied(self.alloc, to).map_err(|_| EditFault::NoMemory)?;
+        self.envelope.from = from;
+        self.envelope.to = to;
+        Ok(())
+    }
+
+    /// Sets the mailbox that mail is kept in.
+    pub fn set_mailbox(&mut self, mailbox: &[u8]) -> Result<(), EditFault>
+        ensures ok { OnOk result (after self.old (set_mailbox mailbox.now) ≡ Ok self.new) }
+        ensures err { OnErr result (self.new ≡ self.old) }
+        ensures refused { Refuses (after self.old (set_mailbox mailbox.now)) result }
+    {
+        if let Some(fault) = refuse_mailbox(mailbox) {
+            return Err(fault);
+        }
+        let mailbox = Octets::copied(self.alloc, mailbox).map_err(|_| EditFault::NoMemory)?;
+        self.envelope.mailbox = mailbox;
+        Ok(())
+    }
+
     /// Runs the main script on each message, and writes the report. A report that memory is refused for writes
     /// nothing; one whose writer fails has written a front of the report. The scripts, the messages and the settings
     /// stay as they are.

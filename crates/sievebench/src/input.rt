@@ -1,5 +1,5 @@
 //! Reads a session's octets in large pieces, and hands them out as lines and counted octets.
-ghost use Rattle.std.specs.Prelude.{◌≡◌, ◌<◌, ◌≤◌, ◌+◌, ℕ, [], List, length, take, drop, ◌-◌, slice_range, IfOk, OnErr, MatchResult};
+ghost use Rattle.std.specs.Prelude.{◌≡◌, false, ◌<◌, ◌≤◌, ◌+◌, ℕ, [], List, length, take, drop, ◌-◌, slice_range, IfOk, OnErr, MatchResult};
 ghost use Rattle.std.specs.Io.KnownBytes.{Keeps, Consumes, IsAtEnd};
 ghost use Rattle.sieve_code.specs.Devices.{HasRisen};
 
@@ -14,22 +14,24 @@ const CAPACITY: usize = 65_536;
 /// How many times in a row a read is tried: once, and 1,000 times again after an interruption.
 const MAX_TRIES: u32 = 1_001;
 
-/// The octets that a session has read and not yet used, and how many reads it may still make.
+/// The octets that a session has read and not yet used, how many reads it may still make, and whether one has come
+/// to the end of the input: no read is made after that.
 #[derive(Debug, Drop)]
 pub(crate) struct Input {
     buffer: Vec<u8>,
     start: usize,
     end: usize,
     turns: u64,
+    ended: bool,
 }
 
 impl Model for Input {
-    ghost use Rattle.std.specs.Prelude.{◌≡◌, ◌≤◌, slice_range, vec_len};
+    ghost use Rattle.std.specs.Prelude.{◌≡◌, false, ◌≤◌, slice_range, vec_len};
     ghost use Rattle.sievebench.specs.Input as spec;
 
     ghost Value = { spec.Input };
 
-    ghost view = { λ a. record { pending = slice_range a.buffer.items a.start a.end; turns = a.turns } };
+    ghost view = { λ a. record { pending = slice_range a.buffer.items a.start a.end; turns = a.turns; ended = a.ended } };
 
     ghost invariant = { λ a. (a.start ≤ a.end) × (a.end ≤ vec_len a.buffer) × (vec_len a.buffer ≡ spec.capacity) };
 }
@@ -86,18 +88,19 @@ fn refill<R: Source>(
 }
 
 impl Input {
-    ghost use Rattle.sievebench.specs.Input.{capacity, unread, fuel};
+    ghost use Rattle.sievebench.specs.Input.{capacity, unread, fuel, Knows};
     ghost use Rattle.sievebench.specs.Filled.{MatchFilled};
 
     /// Nothing is read yet, and so many reads may be made.
     pub(crate) fn new(alloc: Global, turns: u64) -> Result<Input, AllocError>
-        ensures { IfOk result (λ input. input ≡ record { pending = []; turns = turns }) }
+        ensures { IfOk result (λ input. input ≡ record { pending = []; turns = turns; ended = false }) }
     {
         Ok(Input {
             buffer: vec![in alloc; 0; CAPACITY]?,
             start: 0,
             end: 0,
             turns,
+            ended: false,
         })
     }
 
@@ -113,6 +116,7 @@ impl Input {
         requires { count ≤ length self.old.pending }
         ensures pending { self.new.pending ≡ drop count self.old.pending }
         ensures turns { self.new.turns ≡ self.old.turns }
+        ensures ended { self.new.ended ≡ self.old.ended }
     {
         self.start += count;
     }
@@ -123,6 +127,7 @@ impl Input {
         requires turn { 0 < self.old.turns }
         ensures keeps { Keeps (unread self.old (R.remaining reader.old)) (unread self.new (R.remaining reader.new)) }
         ensures turns { self.new.turns + 1 ≡ self.old.turns }
+        ensures ended { self.new.ended ≡ self.old.ended }
         ensures within { length self.new.pending ≤ capacity }
         ensures read { MatchResult result
             (λ count. (length self.new.pending ≡ length self.old.pending + count) × (count ≡ 0 → (self.new.pending ≡ self.old.pending) × IsAtEnd (R.remaining reader.new)))
@@ -144,9 +149,12 @@ impl Input {
     }
 
     /// Reads more octets behind those that are not used, of which there must be room for one more. A read that was
-    /// interrupted is tried again, at most 1,000 times in a row, and each try counts as a read.
+    /// interrupted is tried again, at most 1,000 times in a row, and each try counts as a read. None is
+    /// made where one has come to the end.
     pub(crate) fn fill<R: Source>(&mut self, reader: &mut R) -> Filled
-        requires { length self.old.pending < capacity }
+        requires room { length self.old.pending < capacity }
+        requires known { Knows self.old (R.remaining reader.old) }
+        ensures known { Knows self.new (R.remaining reader.new) }
         ensures keeps { Keeps (unread self.old (R.remaining reader.old)) (unread self.new (R.remaining reader.new)) }
         ensures fuel { fuel self.new ≤ fuel self.old }
         ensures faults { R.fault_count reader.old ≤ R.fault_count reader.new }
@@ -156,12 +164,18 @@ impl Input {
             (HasRisen (R.fault_count reader.old) (R.fault_count reader.new))
             (self.new.turns ≡ 0) }
     {
+        if self.ended {
+            return Filled::Ended;
+        }
         for _retry in 0..MAX_TRIES {
             if self.turns == 0 {
                 return Filled::Spent;
             }
             match self.read_once(reader) {
-                Ok(0) => return Filled::Ended,
+                Ok(0) => {
+                    self.ended = true;
+                    return Filled::Ended;
+                }
                 Ok(_) => return Filled::More,
                 Err(e) => {
                     if e.kind() != ErrorKind::Interrupted {
@@ -175,6 +189,8 @@ impl Input {
 
     /// Reads more octets if all are used.
     pub(crate) fn refresh<R: Source>(&mut self, reader: &mut R) -> Filled
+        requires known { Knows self.old (R.remaining reader.old) }
+        ensures known { Knows self.new (R.remaining reader.new) }
         ensures keeps { Keeps (unread self.old (R.remaining reader.old)) (unread self.new (R.remaining reader.new)) }
         ensures fuel { fuel self.new ≤ fuel self.old }
         ensures faults { R.fault_count reader.old ≤ R.fault_count reader.new }

@@ -4,6 +4,8 @@
 
 mod bench;
 mod command_line;
+#[cfg(test)]
+mod edit_tests;
 mod fault;
 mod input;
 mod line;
@@ -19,6 +21,7 @@ mod session_tests;
 mod status;
 #[cfg(test)]
 mod tests;
+mod word;
 
 pub use bench::Bench;
 pub use command_line::{Job, UsageFault, command_of};

@@ -3,7 +3,7 @@ ghost use Rattle.std.specs.Prelude.{◌≡◌, ◌<◌, ◌≤◌, ◌+◌, ℕ,
 ghost use Rattle.std.specs.Io.KnownBytes.{Keeps, IsAtEnd};
 ghost use Rattle.sieve_code.specs.Devices.{HasRisen};
 ghost use Rattle.sievebench.specs.SessionLine.{cut_line, without_cr};
-ghost use Rattle.sievebench.specs.Input.{unread, fuel};
+ghost use Rattle.sievebench.specs.Input.{unread, fuel, Knows};
 
 use crate::input::{Filled, Input};
 use sieve_code::Source;
@@ -102,6 +102,8 @@ impl Line {
 
     /// The next line of the input.
     pub(crate) fn next<R: Source>(input: &mut Input, reader: &mut R) -> Line
+        requires known { Knows input.old (R.remaining reader.old) }
+        ensures known { Knows input.new (R.remaining reader.new) }
         ensures keeps { Keeps (unread input.old (R.remaining reader.old)) (unread input.new (R.remaining reader.new)) }
         ensures fuel { fuel input.new ≤ fuel input.old }
         ensures line { IfSome (R.remaining reader.new) (IsLine result input.new.pending) }

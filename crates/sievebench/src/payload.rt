@@ -2,7 +2,7 @@
 ghost use Rattle.std.specs.Prelude.{◌≡◌, ◌≤◌, ◌++◌, [], IfSome};
 ghost use Rattle.std.specs.Option.{option_map};
 ghost use Rattle.sieve_code.specs.Devices.{HasRisen};
-ghost use Rattle.sievebench.specs.Input.{unread, fuel};
+ghost use Rattle.sievebench.specs.Input.{unread, fuel, Knows};
 ghost use Rattle.sievebench.specs.Payload.{MatchTaken, Grows, Takes, FallsShort, octets_of};
 
 use crate::input::{Filled, Input};
@@ -53,6 +53,8 @@ pub(crate) fn take_octets<R: Source>(
     count: usize,
     keep: bool,
 ) -> Taken
+    requires known { Knows input.old (R.remaining reader.old) }
+    ensures known { Knows input.new (R.remaining reader.new) }
     ensures fuel { fuel input.new ≤ fuel input.old }
     ensures taken { MatchTaken result
         (λ kept. Takes count (unread input.old (R.remaining reader.old)) (unread input.new (R.remaining reader.new)) (option_map octets_of kept))

@@ -40,6 +40,13 @@ impl Script {
         Ok(Script { text, judged })
     }
 
+    /// A copy, which is read and checked again.
+    fn copy(&self, alloc: Global) -> Result<Script, AllocError>
+        ensures { IfOk result (λ script. script ≡ self.now) }
+    {
+        Script::new(alloc, Octets::copied(alloc, self.text.as_slice())?)
+    }
+
     /// The line and the kind of the text's first fault.
     pub(crate) fn fault(&self) -> Option<(u64, FaultKind)>
         ensures { result ≡ fault_of (judgement_of self.now) }
@@ -77,8 +84,34 @@ impl Model for Scripts {
 }
 
 impl Scripts {
-    ghost use Rattle.std.specs.Prelude.{OnOk, OnErr};
-    ghost use Rattle.sievebench.specs.Content.{with_script};
+    ghost use Rattle.std.specs.Prelude.{OnOk, OnErr, is_some};
+    ghost use Rattle.sievebench.specs.Content.{text_at, with_script, without_script, with_renamed};
+
+    /// Whether there is a script of that name.
+    pub(crate) fn contains(&self, name: &ScriptName) -> bool
+        ensures { result ≡ is_some (text_at self.now name.now) }
+    {
+        self.by_name.contains_key(name)
+    }
+
+    /// Keeps a script at a name, in place of the one there. An error changes nothing.
+    fn keep(&mut self, name: ScriptName, script: Script) -> Result<(), AllocError>
+        ensures ok { OnOk result (self.new ≡ with_script name script self.old) }
+        ensures err { OnErr result (self.new ≡ self.old) }
+    {
+        self.by_name.insert(name, script)?;
+        Ok(())
+    }
+
+    /// A copy of the script of a name.
+    fn copied(&self, alloc: Global, name: &ScriptName) -> Result<Option<Script>, AllocError>
+        ensures { IfOk result (λ script. script ≡ text_at self.now name.now) }
+    {
+        match self.by_name.get(name) {
+            None => Ok(None),
+            Some(script) => Ok(Some(script.copy(alloc)?)),
+        }
+    }
 
     /// Puts a text at a name, in place of the one there. An error changes nothing.
     pub(crate) fn put(
@@ -92,8 +125,33 @@ impl Scripts {
         ensures err { OnErr result (self.new ≡ self.old) }
     {
         let script = Script::new(alloc, text)?;
-        self.by_name.insert(name, script)?;
+        self.keep(name, script)
+    }
+
+    /// Puts the text at one name at another, and then removes the first. An error changes nothing.
+    pub(crate) fn rename(
+        &mut self,
+        alloc: Global,
+        from: &ScriptName,
+        to: &ScriptName,
+    ) -> Result<(), AllocError>
+        ensures ok { OnOk result (self.new ≡ with_renamed from.now (text_at self.old from.now) to.now self.old) }
+        ensures err { OnErr result (self.new ≡ self.old) }
+    {
+        let Some(script) = self.copied(alloc, from)? else {
+            return Ok(());
+        };
+        let to = to.copy(alloc)?;
+        self.keep(to, script)?;
+        self.remove(from);
         Ok(())
+    }
+
+    /// Removes the script of a name, if there is one.
+    pub(crate) fn remove(&mut self, name: &ScriptName)
+        ensures { self.new ≡ without_script name.now self.old }
+    {
+        self.by_name.remove(name);
     }
 }
 

@@ -1,14 +1,14 @@
 //! A session: commands in, replies out.
-ghost use Rattle.std.specs.Prelude.{◌≡◌, ◌≤◌, ◌<◌, IfSome, ℕ, List, Option, OnOk, OnErr, IfOk, Ok, codes, nat_lt, if◌then◌else◌};
+ghost use Rattle.std.specs.Prelude.{◌≡◌, true, Some, ◌≤◌, ◌<◌, IfSome, ℕ, List, Option, OnOk, OnErr, IfOk, Ok, codes, nat_lt, if◌then◌else◌};
 ghost use Rattle.sieve_code.specs.Writers.{Wrote};
-ghost use Rattle.sievebench.specs.Content.{Content, Edit, after, set_main, Refuses};
-ghost use Rattle.sievebench.specs.Input.{unread, fuel};
-ghost use Rattle.sievebench.specs.Session.{Request, with_octets, request_by, request_of, edits, reports, unreadable};
+ghost use Rattle.sievebench.specs.Content.{Content, Edit, after, remove_message, Refuses};
+ghost use Rattle.sievebench.specs.Input.{unread, fuel, Knows};
+ghost use Rattle.sievebench.specs.Session.{Request, with_octets, request_by, request_of, edits, reports, unreadable, takes_memory};
 ghost use Rattle.sievebench.specs.SessionLine as line;
 ghost use Rattle.sievebench.specs.SessionLine.{command_of_line};
 ghost use Rattle.std.specs.Io.KnownBytes.{IsAtEnd};
-ghost use Rattle.sievebench.specs.Task.{IsTask, edit_of, limit_of};
-ghost use Rattle.sievebench.specs.Turn.{TurnsFrom, Continues, EndsBy, OnContinues, AtLast, AtLastEnd, MatchSessionEnd, SessionFrom, reply_line};
+ghost use Rattle.sievebench.specs.Task.{IsTask, Tasks, Drops, command_of, edit_by, edit_of, limit_of};
+ghost use Rattle.sievebench.specs.Turn.{TurnsFrom, RefusesIf, Continues, EndsBy, OnContinues, AtLast, AtLastEnd, MatchSessionEnd, SessionFrom, reply_line};
 
 use crate::bench::{Bench, MAX_MESSAGE, MAX_TEXT};
 use crate::fault::{EditFault, ReportFault};
@@ -17,6 +17,7 @@ use crate::line::Line;
 use crate::payload::{Taken, take_octets};
 use crate::session_line::{Command, command_of_line};
 use crate::status::SessionEnd;
+use crate::word::Word;
 use sieve_code::{Octets, Place, Sink, Source, WriteFault, write_out};
 use sieve_run::{Meter, ScriptName};
 use std::alloc::{AllocError, Global};
@@ -28,13 +29,27 @@ pub(crate) enum Subject {
     Message(Octets),
 }
 
+/// An edit that no octets follow.
+#[derive(Debug, Drop)]
+pub(crate) enum Change {
+    Main { name: ScriptName },
+    NoMain,
+    Rename { from: ScriptName, to: ScriptName },
+    DropScript { name: ScriptName },
+    Envelope { from: Octets, to: Octets },
+    Mailbox { mailbox: Octets },
+}
+
 /// What a line asks for, with copies of its words.
 #[derive(Debug, Drop)]
 pub(crate) enum Task {
     Idle,
     /// To put the octets that follow.
     Put { subject: Subject, count: u64 },
-    Main { name: ScriptName },
+    /// To make an edit that no octets follow.
+    Change { change: Change },
+    /// A message is removed already, or why it isn't.
+    Dropped { outcome: Result<(), EditFault> },
     Report,
     /// Memory was refused for the words of an edit, which so many octets follow.
     Forgotten { count: u64 },
@@ -50,43 +65,176 @@ pub(crate) enum Turn {
     Ends(SessionEnd),
 }
 
-/// What to do for a line.
-fn task_of(alloc: Global, line: &[u8]) -> Task
-    ensures { IsTask result (command_of_line line.now) }
-{
-    match command_of_line(line) {
-        None => Task::Unreadable,
-        Some(Command::Nothing) => Task::Idle,
-        Some(Command::Report) => Task::Report,
-        Some(Command::Script { place, name, count }) => match copied_name(alloc, place, name) {
-            Ok(name) => Task::Put {
-                subject: Subject::Script(name),
-                count,
-            },
-            Err(_) => Task::Forgotten { count },
-        },
-        Some(Command::Message { id, count }) => match Octets::copied(alloc, id) {
-            Ok(id) => Task::Put {
-                subject: Subject::Message(id),
-                count,
-            },
-            Err(_) => Task::Forgotten { count },
-        },
-        Some(Command::Main { place, name }) => match copied_name(alloc, place, name) {
-            Ok(name) => Task::Main { name },
-            Err(_) => Task::Forgotten { count: 0 },
-        },
-    }
-}
-
 /// A script's name with a copy of its octets.
-fn copied_name(alloc: Global, place: Place, name: &[u8]) -> Result<ScriptName, AllocError>
+fn copied_name(alloc: Global, place: Place, name: &Word<'_>) -> Result<ScriptName, AllocError>
     ensures { IfOk result (λ copy. copy ≡ record { place = place; name = name.now }) }
 {
     Ok(ScriptName {
         place,
-        name: Octets::copied(alloc, name)?,
+        name: name.copied(alloc)?,
     })
+}
+
+/// To put a script.
+fn script_task(alloc: Global, place: Place, name: &Word<'_>, count: u64) -> Task
+    ensures { IsTask result (Some (line.script place name.now count)) }
+{
+    match copied_name(alloc, place, name) {
+        Ok(name) => Task::Put {
+            subject: Subject::Script(name),
+            count,
+        },
+        Err(_) => Task::Forgotten { count },
+    }
+}
+
+/// To put a message.
+fn message_task(alloc: Global, id: &Word<'_>, count: u64) -> Task
+    ensures { IsTask result (Some (line.message id.now count)) }
+{
+    match id.copied(alloc) {
+        Ok(id) => Task::Put {
+            subject: Subject::Message(id),
+            count,
+        },
+        Err(_) => Task::Forgotten { count },
+    }
+}
+
+/// The edit to make a script main.
+fn main_change(alloc: Global, place: Place, name: &Word<'_>) -> Result<Change, AllocError>
+    ensures { IfOk result (λ change. command_of change ≡ line.main place name.now) }
+{
+    let name = copied_name(alloc, place, name)?;
+    Ok(Change::Main { name })
+}
+
+/// The edit to rename a script.
+fn rename_change(
+    alloc: Global,
+    place: Place,
+    name: &Word<'_>,
+    new_place: Place,
+    new_name: &Word<'_>,
+) -> Result<Change, AllocError>
+    ensures { IfOk result (λ change. command_of change ≡ line.rename place name.now new_place new_name.now) }
+{
+    let from = copied_name(alloc, place, name)?;
+    let to = copied_name(alloc, new_place, new_name)?;
+    Ok(Change::Rename { from, to })
+}
+
+/// The edit to remove a script.
+fn drop_script_change(alloc: Global, place: Place, name: &Word<'_>) -> Result<Change, AllocError>
+    ensures { IfOk result (λ change. command_of change ≡ line.drop_script place name.now) }
+{
+    let name = copied_name(alloc, place, name)?;
+    Ok(Change::DropScript { name })
+}
+
+/// The edit to set the envelope's addresses.
+fn envelope_change(alloc: Global, from: &Word<'_>, to: &Word<'_>) -> Result<Change, AllocError>
+    ensures { IfOk result (λ change. command_of change ≡ line.envelope from.now to.now) }
+{
+    let from = from.copied(alloc)?;
+    let to = to.copied(alloc)?;
+    Ok(Change::Envelope { from, to })
+}
+
+/// The edit to set the mailbox.
+fn mailbox_change(alloc: Global, mailbox: &Word<'_>) -> Result<Change, AllocError>
+    ensures { IfOk result (λ change. command_of change ≡ line.mailbox mailbox.now) }
+{
+    let mailbox = mailbox.copied(alloc)?;
+    Ok(Change::Mailbox { mailbox })
+}
+
+/// To make a script main.
+fn main_task(alloc: Global, place: Place, name: &Word<'_>) -> Task
+    ensures { IsTask result (Some (line.main place name.now)) }
+{
+    match main_change(alloc, place, name) {
+        Ok(change) => Task::Change { change },
+        Err(_) => Task::Forgotten { count: 0 },
+    }
+}
+
+/// To rename a script.
+fn rename_task(
+    alloc: Global,
+    place: Place,
+    name: &Word<'_>,
+    new_place: Place,
+    new_name: &Word<'_>,
+) -> Task
+    ensures { IsTask result (Some (line.rename place name.now new_place new_name.now)) }
+{
+    match rename_change(alloc, place, name, new_place, new_name) {
+        Ok(change) => Task::Change { change },
+        Err(_) => Task::Forgotten { count: 0 },
+    }
+}
+
+/// To remove a script.
+fn drop_script_task(alloc: Global, place: Place, name: &Word<'_>) -> Task
+    ensures { IsTask result (Some (line.drop_script place name.now)) }
+{
+    match drop_script_change(alloc, place, name) {
+        Ok(change) => Task::Change { change },
+        Err(_) => Task::Forgotten { count: 0 },
+    }
+}
+
+/// To set the envelope's addresses.
+fn envelope_task(alloc: Global, from: &Word<'_>, to: &Word<'_>) -> Task
+    ensures { IsTask result (Some (line.envelope from.now to.now)) }
+{
+    match envelope_change(alloc, from, to) {
+        Ok(change) => Task::Change { change },
+        Err(_) => Task::Forgotten { count: 0 },
+    }
+}
+
+/// To set the mailbox.
+fn mailbox_task(alloc: Global, mailbox: &Word<'_>) -> Task
+    ensures { IsTask result (Some (line.mailbox mailbox.now)) }
+{
+    match mailbox_change(alloc, mailbox) {
+        Ok(change) => Task::Change { change },
+        Err(_) => Task::Forgotten { count: 0 },
+    }
+}
+
+/// What to do for a line. A message is removed at once, since that takes no memory for its id.
+fn task_of(bench: &mut Bench, line: &[u8]) -> Task
+    ensures { Tasks result (command_of_line line.now) bench.old bench.new }
+{
+    let alloc = bench.allocator();
+    match command_of_line(line) {
+        None => Task::Unreadable,
+        Some(Command::Nothing) => Task::Idle,
+        Some(Command::Report) => Task::Report,
+        Some(Command::Script { place, name, count }) => script_task(alloc, place, &name, count),
+        Some(Command::Message { id, count }) => message_task(alloc, &id, count),
+        Some(Command::Main { place, name }) => main_task(alloc, place, &name),
+        Some(Command::NoMain) => Task::Change {
+            change: Change::NoMain,
+        },
+        Some(
+            Command::Rename {
+                place,
+                name,
+                new_place,
+                new_name,
+            },
+        ) => rename_task(alloc, place, &name, new_place, &new_name),
+        Some(Command::DropScript { place, name }) => { drop_script_task(alloc, place, &name) }
+        Some(Command::DropMessage { id }) => Task::Dropped {
+            outcome: bench.drop_message(&id),
+        },
+        Some(Command::Envelope { from, to }) => envelope_task(alloc, &from, &to),
+        Some(Command::Mailbox { mailbox }) => mailbox_task(alloc, &mailbox),
+    }
 }
 
 /// The reply to an edit.
@@ -157,6 +305,25 @@ fn keep(bench: &mut Bench, subject: Subject, octets: Vec<u8>) -> Result<(), Edit
     }
 }
 
+/// Makes an edit that no octets follow.
+fn carry_out(bench: &mut Bench, change: Change) -> Result<(), EditFault>
+    ensures ok { OnOk result (after bench.old (edit_by change) ≡ Ok bench.new) }
+    ensures err { OnErr result (bench.new ≡ bench.old) }
+    ensures refused { RefusesIf (takes_memory (edit_by change)) (after bench.old (edit_by change)) result }
+{
+    match change {
+        Change::Main { name } => bench.keep_main(name),
+        Change::NoMain => {
+            bench.clear_main();
+            Ok(())
+        }
+        Change::Rename { from, to } => bench.rename_script(&from, &to),
+        Change::DropScript { name } => { bench.remove_script(&name) }
+        Change::Envelope { from, to } => bench.set_envelope(from.as_slice(), to.as_slice()),
+        Change::Mailbox { mailbox } => bench.set_mailbox(mailbox.as_slice()),
+    }
+}
+
 /// Why octets that weren't kept aren't put: there are too many, or memory was refused.
 fn unkept(count: u64, limit: u64) -> EditFault
     ensures { result ≡ (if nat_lt limit count then EditFault.TooLarge else EditFault.NoMemory) }
@@ -178,6 +345,8 @@ fn serve_put<R: Source, W: Sink>(
     subject: Subject,
     count: u64,
 ) -> Turn
+    requires known { Knows input.old (R.remaining reader.old) }
+    ensures known { Knows input.new (R.remaining reader.new) }
     ensures turn { TurnsFrom (λ rest. with_octets count rest (edit_of subject)) result
         bench.old (unread input.old (R.remaining reader.old)) (W.contents writer.old)
         bench.new (unread input.new (R.remaining reader.new)) (W.contents writer.new) }
@@ -209,10 +378,12 @@ fn serve_forgotten<R: Source, W: Sink>(
     writer: &mut W,
     count: u64,
 ) -> Turn
-    ensures put { (content : Content) (edit : List ℕ → Edit) → TurnsFrom (λ rest. with_octets count rest edit) result
+    requires known { Knows input.old (R.remaining reader.old) }
+    ensures known { Knows input.new (R.remaining reader.new) }
+    ensures put { (content : Content) (edit : List ℕ → Edit) → ((octets : List ℕ) → takes_memory (edit octets) ≡ true) → TurnsFrom (λ rest. with_octets count rest edit) result
         content (unread input.old (R.remaining reader.old)) (W.contents writer.old)
         content (unread input.new (R.remaining reader.new)) (W.contents writer.new) }
-    ensures other { count ≡ 0 → (content : Content) (edit : Edit) → TurnsFrom (λ rest. edits edit rest) result
+    ensures other { count ≡ 0 → (content : Content) (edit : Edit) → takes_memory edit ≡ true → TurnsFrom (λ rest. edits edit rest) result
         content (unread input.old (R.remaining reader.old)) (W.contents writer.old)
         content (unread input.new (R.remaining reader.new)) (W.contents writer.new) }
     ensures fuel { fuel input.new ≤ fuel input.old }
@@ -226,14 +397,24 @@ fn serve_forgotten<R: Source, W: Sink>(
     }
 }
 
-/// Makes a script main, and replies.
+/// Makes an edit that no octets follow, and replies.
 #[tactic(auto, using(crate::proofs::Serving::serving))]
-fn serve_main<W: Sink>(bench: &mut Bench, writer: &mut W, name: ScriptName) -> Turn
-    ensures turn { (unread : Option (List ℕ)) → TurnsFrom (λ rest. edits (set_main name) rest) result
+fn serve_change<W: Sink>(bench: &mut Bench, writer: &mut W, change: Change) -> Turn
+    ensures turn { (unread : Option (List ℕ)) → TurnsFrom (λ rest. edits (edit_by change) rest) result
         bench.old unread (W.contents writer.old) bench.new unread (W.contents writer.new) }
     ensures end { AtLast result ⊥ }
 {
-    answer(bench.keep_main(name), writer)
+    answer(carry_out(bench, change), writer)
+}
+
+/// Replies to an edit that is made already.
+#[tactic(auto, using(crate::proofs::Serving::serving))]
+fn serve_dropped<W: Sink>(outcome: Result<(), EditFault>, writer: &mut W) -> Turn
+    ensures turn { (old new : Content) (id : List ℕ) (unread : Option (List ℕ)) → Drops id outcome old new → TurnsFrom (λ rest. edits (remove_message id) rest) result
+        old unread (W.contents writer.old) new unread (W.contents writer.new) }
+    ensures end { AtLast result ⊥ }
+{
+    answer(outcome, writer)
 }
 
 /// Reports, or replies that memory was refused.
@@ -260,8 +441,10 @@ fn perform<R: Source, W: Sink>(
     writer: &mut W,
     task: Task,
 ) -> Turn
-    ensures turn { (command : Option line.Command) → IsTask task command → TurnsFrom (request_by command) result
-        bench.old (unread input.old (R.remaining reader.old)) (W.contents writer.old)
+    requires known { Knows input.old (R.remaining reader.old) }
+    ensures known { Knows input.new (R.remaining reader.new) }
+    ensures turn { (command : Option line.Command) (old : Content) → Tasks task command old bench.old → TurnsFrom (request_by command) result
+        old (unread input.old (R.remaining reader.old)) (W.contents writer.old)
         bench.new (unread input.new (R.remaining reader.new)) (W.contents writer.new) }
     ensures fuel { fuel input.new ≤ fuel input.old }
     ensures end { AtLast result (IsAtEnd (R.remaining reader.new)) }
@@ -269,7 +452,8 @@ fn perform<R: Source, W: Sink>(
     match task {
         Task::Idle => Turn::Continues,
         Task::Put { subject, count } => serve_put(bench, input, reader, writer, subject, count),
-        Task::Main { name } => serve_main(bench, writer, name),
+        Task::Change { change } => serve_change(bench, writer, change),
+        Task::Dropped { outcome } => serve_dropped(outcome, writer),
         Task::Report => serve_report(bench, meter, writer),
         Task::Forgotten { count } => {
             serve_forgotten(bench.allocator(), input, reader, writer, count)
@@ -287,6 +471,8 @@ fn serve<R: Source, W: Sink>(
     reader: &mut R,
     writer: &mut W,
 ) -> Turn
+    requires known { Knows input.old (R.remaining reader.old) }
+    ensures known { Knows input.new (R.remaining reader.new) }
     ensures turn { TurnsFrom request_of result
         bench.old (unread input.old (R.remaining reader.old)) (W.contents writer.old)
         bench.new (unread input.new (R.remaining reader.new)) (W.contents writer.new) }
@@ -300,7 +486,7 @@ fn serve<R: Source, W: Sink>(
         Line::Spent => Turn::Ends(SessionEnd::TurnLimit),
         Line::Whole { len, skip } => {
             let (line, _) = input.pending().split_at(len);
-            let task = task_of(bench.allocator(), line);
+            let task = task_of(bench, line);
             input.consume(skip);
             perform(bench, meter, input, reader, writer, task)
         }

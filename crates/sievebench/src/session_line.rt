@@ -2,45 +2,69 @@
 ghost use Rattle.std.specs.Prelude.{◌≡◌, ◌≢◌, ◌<◌, ◌≤◌, ◌∷◌, take, drop, slice_index, None, Some, length, IsTrue, ◌↔◌, MatchOption, []};
 ghost use Rattle.std.specs.List.{list_all};
 ghost use Rattle.std.specs.Option.{option_map};
-ghost use Rattle.sievebench.specs.SessionLine.{is_bare_or_space, words_of, place_of, count_of, last_count, script_command, message_command, main_command, report_command, command_of_line};
-ghost use Rattle.sievebench.specs.Command.{command_as};
+ghost use Rattle.sievebench.specs.SessionLine.{is_plain, outside, spot_behind, is_gap, piece_length, words_of, place_of, count_of, last_count, named, last_name, last_value, script_command, message_command, rename_command, envelope_command, name_command, value_command, lone_command, command_by, command_of_line};
+ghost use Rattle.sievebench.specs.Command.{command_as, spot_as};
 
+use crate::word::Word;
 use sieve_code::Place;
 
 /// What a line asks for.
-#[derive(Clone, Copy, Debug)]
+#[derive(Debug, Drop)]
 pub(crate) enum Command<'a> {
     /// The line has no words.
     Nothing,
     /// To put a script, whose text is the next `count` octets.
     Script {
         place: Place,
-        name: &'a [u8],
+        name: Word<'a>,
         count: u64,
     },
     /// To put a message, which is the next `count` octets.
     Message {
-        id: &'a [u8],
+        id: Word<'a>,
         count: u64,
     },
     /// To make a script main.
     Main {
         place: Place,
-        name: &'a [u8],
+        name: Word<'a>,
+    },
+    /// To leave no script main.
+    NoMain,
+    /// To rename a script.
+    Rename {
+        place: Place,
+        name: Word<'a>,
+        new_place: Place,
+        new_name: Word<'a>,
+    },
+    /// To remove a script.
+    DropScript {
+        place: Place,
+        name: Word<'a>,
+    },
+    /// To remove a message.
+    DropMessage {
+        id: Word<'a>,
+    },
+    /// To set the envelope's addresses.
+    Envelope {
+        from: Word<'a>,
+        to: Word<'a>,
+    },
+    /// To set the mailbox.
+    Mailbox {
+        mailbox: Word<'a>,
     },
     /// To report.
     Report,
 }
 
-/// Whether an octet may stand in a line: a visible one of ASCII but the quote and the backslash, or a space.
-fn is_bare_or_space(octet: u8) -> bool
-    ensures { result ≡ is_bare_or_space octet }
+/// Whether an octet may stand in a line: a visible one of ASCII, or a space.
+fn is_plain_octet(octet: u8) -> bool
+    ensures { result ≡ is_plain octet }
 {
-    match octet {
-        b'"' | b'\\' => false,
-        32..=126 => true,
-        _ => false,
-    }
+    matches!(octet, 32..=126)
 }
 
 /// How many spaces a line begins with.
@@ -57,16 +81,56 @@ fn leading_spaces(line: &[u8]) -> usize
     line.len()
 }
 
-/// How many octets stand before the first space.
-fn word_len(line: &[u8]) -> usize
-    ensures within { result ≤ length line.now }
-    ensures words { 0 < result → words_of line.now ≡ take result line.now ∷ words_of (drop result line.now) }
-    ensures some { 0 < length line.now → slice_index line.now 0 ≢ 32 → 0 < result }
+/// Where an octet of a line stands.
+#[derive(Clone, Copy, Debug)]
+pub(crate) enum Spot {
+    /// Outside quotes.
+    Outside,
+    /// Inside quotes.
+    Inside,
+    /// Behind a backslash inside quotes.
+    Escaped,
+}
+
+/// Where the octet behind an octet stands.
+fn spot_behind(spot: Spot, octet: u8) -> Spot
+    ensures { spot_as result ≡ spot_behind (spot_as spot) octet }
 {
+    match spot {
+        Spot::Outside => match octet {
+            b'"' => Spot::Inside,
+            _ => Spot::Outside,
+        },
+        Spot::Inside => match octet {
+            b'"' => Spot::Outside,
+            b'\\' => Spot::Escaped,
+            _ => Spot::Inside,
+        },
+        Spot::Escaped => Spot::Inside,
+    }
+}
+
+/// Whether an octet there is a space between words.
+fn is_gap(spot: Spot, octet: u8) -> bool
+    ensures { result ≡ is_gap (spot_as spot) octet }
+{
+    match spot {
+        Spot::Outside => octet == b' ',
+        Spot::Inside | Spot::Escaped => false,
+    }
+}
+
+/// How many octets stand before the first space that is outside quotes.
+fn word_len(line: &[u8]) -> usize
+    ensures value { result ≡ piece_length outside line.now }
+    ensures within { result ≤ length line.now }
+{
+    let mut spot = Spot::Outside;
     for (i, octet) in line.iter().enumerate() {
-        if *octet == b' ' {
+        if is_gap(spot, *octet) {
             return i;
         }
+        spot = spot_behind(spot, *octet);
     }
     line.len()
 }
@@ -127,13 +191,43 @@ fn last_count(line: &[u8]) -> Option<u64>
     if is_over(line) { count_of(count) } else { None }
 }
 
+/// The script of a place and a name.
+fn named<'a>(place: &[u8], name: &'a [u8]) -> Option<(Place, Word<'a>)>
+    ensures { result ≡ named place.now name.now }
+{
+    let place = place_of(place)?;
+    let name = Word::new(name)?;
+    Some((place, name))
+}
+
+/// A place and a name that are the last words.
+fn last_name(line: &[u8]) -> Option<(Place, Word<'_>)>
+    ensures { result ≡ last_name (words_of line.now) }
+{
+    let (place, line) = next_word(line)?;
+    let (name, line) = next_word(line)?;
+    if is_over(line) {
+        named(place, name)
+    } else {
+        None
+    }
+}
+
+/// What the last word stands for.
+fn last_value(line: &[u8]) -> Option<Word<'_>>
+    ensures { result ≡ last_value (words_of line.now) }
+{
+    let (word, line) = next_word(line)?;
+    if is_over(line) { Word::new(word) } else { None }
+}
+
 /// What `script PLACE NAME N` asks for, behind its first word.
 fn script_command(line: &[u8]) -> Option<Command<'_>>
     ensures { option_map command_as result ≡ script_command (words_of line.now) }
 {
     let (place, line) = next_word(line)?;
     let (name, line) = next_word(line)?;
-    let place = place_of(place)?;
+    let (place, name) = named(place, name)?;
     let count = last_count(line)?;
     Some(Command::Script { place, name, count })
 }
@@ -143,31 +237,102 @@ fn message_command(line: &[u8]) -> Option<Command<'_>>
     ensures { option_map command_as result ≡ message_command (words_of line.now) }
 {
     let (id, line) = next_word(line)?;
+    let id = Word::new(id)?;
     let count = last_count(line)?;
     Some(Command::Message { id, count })
 }
 
-/// What `main PLACE NAME` asks for, behind its first word.
-fn main_command(line: &[u8]) -> Option<Command<'_>>
-    ensures { option_map command_as result ≡ main_command (words_of line.now) }
+/// What `rename PLACE NAME PLACE NAME` asks for, behind its first word.
+fn rename_command(line: &[u8]) -> Option<Command<'_>>
+    ensures { option_map command_as result ≡ rename_command (words_of line.now) }
 {
     let (place, line) = next_word(line)?;
     let (name, line) = next_word(line)?;
-    if !is_over(line) {
-        return None;
-    }
-    let place = place_of(place)?;
-    Some(Command::Main { place, name })
+    let (place, name) = named(place, name)?;
+    let (new_place, new_name) = last_name(line)?;
+    Some(Command::Rename {
+        place,
+        name,
+        new_place,
+        new_name,
+    })
 }
 
-/// What `report` asks for, behind its first word.
-fn report_command(line: &[u8]) -> Option<Command<'_>>
-    ensures { option_map command_as result ≡ report_command (words_of line.now) }
+/// What `envelope FROM TO` asks for, behind its first word.
+fn envelope_command(line: &[u8]) -> Option<Command<'_>>
+    ensures { option_map command_as result ≡ envelope_command (words_of line.now) }
 {
-    if is_over(line) {
-        Some(Command::Report)
+    let (from, line) = next_word(line)?;
+    let from = Word::new(from)?;
+    let to = last_value(line)?;
+    Some(Command::Envelope { from, to })
+}
+
+/// What a line with a place and a name behind its first word asks for.
+fn name_command<'a>(word: &[u8], line: &'a [u8]) -> Option<Command<'a>>
+    ensures { option_map command_as result ≡ name_command word.now (words_of line.now) }
+{
+    if word == b"main".as_slice() {
+        let (place, name) = last_name(line)?;
+        Some(Command::Main { place, name })
+    } else if word == b"drop-script".as_slice() {
+        let (place, name) = last_name(line)?;
+        Some(Command::DropScript { place, name })
     } else {
         None
+    }
+}
+
+/// What a line with one word behind its first asks for.
+fn value_command<'a>(word: &[u8], line: &'a [u8]) -> Option<Command<'a>>
+    ensures { option_map command_as result ≡ value_command word.now (words_of line.now) }
+{
+    if word == b"drop-message".as_slice() {
+        let id = last_value(line)?;
+        Some(Command::DropMessage { id })
+    } else if word == b"mailbox".as_slice() {
+        let mailbox = last_value(line)?;
+        Some(Command::Mailbox { mailbox })
+    } else {
+        name_command(word, line)
+    }
+}
+
+/// What a line of one word asks for.
+fn lone_command<'a>(word: &[u8], line: &'a [u8]) -> Option<Command<'a>>
+    ensures { option_map command_as result ≡ lone_command word.now (words_of line.now) }
+{
+    if word == b"no-main".as_slice() {
+        if is_over(line) {
+            Some(Command::NoMain)
+        } else {
+            None
+        }
+    } else if word == b"report".as_slice() {
+        if is_over(line) {
+            Some(Command::Report)
+        } else {
+            None
+        }
+    } else {
+        value_command(word, line)
+    }
+}
+
+/// What a line of some words asks for.
+fn command_by<'a>(word: &[u8], line: &'a [u8]) -> Option<Command<'a>>
+    ensures { option_map command_as result ≡ command_by word.now (words_of line.now) }
+{
+    if word == b"script".as_slice() {
+        script_command(line)
+    } else if word == b"message".as_slice() {
+        message_command(line)
+    } else if word == b"rename".as_slice() {
+        rename_command(line)
+    } else if word == b"envelope".as_slice() {
+        envelope_command(line)
+    } else {
+        lone_command(word, line)
     }
 }
 
@@ -179,25 +344,15 @@ pub(crate) fn command_of_line(line: &[u8]) -> Option<Command<'_>>
     if !is_plain(line) {
         return None;
     }
-    let Some((word, line)) = next_word(line) else {
-        return Some(Command::Nothing);
-    };
-    if word == b"script".as_slice() {
-        script_command(line)
-    } else if word == b"message".as_slice() {
-        message_command(line)
-    } else if word == b"main".as_slice() {
-        main_command(line)
-    } else if word == b"report".as_slice() {
-        report_command(line)
-    } else {
-        None
+    match next_word(line) {
+        None => Some(Command::Nothing),
+        Some((word, line)) => command_by(word, line),
     }
 }
 
-/// Whether a line has bare words and spaces alone.
+/// Whether a line has visible octets of ASCII and spaces alone.
 fn is_plain(line: &[u8]) -> bool
-    ensures { result ≡ list_all is_bare_or_space line.now }
+    ensures { result ≡ list_all is_plain line.now }
 {
-    line.iter().all(|octet| is_bare_or_space(*octet))
+    line.iter().all(|octet| is_plain_octet(*octet))
 }

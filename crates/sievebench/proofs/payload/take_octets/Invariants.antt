@@ -1,6 +1,6 @@
 use Rattle.std.proofs.Common.{◌≡◌, ◌≤◌, ◌-◌}
 use Rattle.std.specs.Option.{option_map}
-use Rattle.sievebench.specs.Input.{unread, fuel}
+use Rattle.sievebench.specs.Input.{unread, fuel, Knows}
 use Rattle.sievebench.specs.Payload.{Takes, octets_of}
 use Rattle.sievebench.proofs.payload.take_octets.Given as goal
 
@@ -10,6 +10,7 @@ invariant-loop-left g l =
     (l.left ≤ l.count)
     × Takes (l.count - l.left) (unread l.fn.input (g.R.Source.remaining l.fn.reader)) (unread l.input (g.R.Source.remaining l.reader)) (option_map octets_of l.kept)
     × (fuel l.input ≤ fuel l.fn.input)
+    × Knows l.input (g.R.Source.remaining l.reader)
     × (g.R.Faults.fault_count l.fn.reader ≤ g.R.Faults.fault_count l.reader)
 
 abbrev pub decreases-loop-left : goal.decreases-loop-left

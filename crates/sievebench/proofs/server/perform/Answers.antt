@@ -1,20 +1,26 @@
 use Rattle.std.proofs.Common.{◌≡◌, Option, Some, rules}
 use Rattle.sievebench.specs.SessionLine as line
-use Rattle.sievebench.specs.Task.{IsTask, IsFollowedBy}
-use Rattle.sievebench.proofs.Requests.{forgotten}
+use Rattle.sievebench.specs.Task.{IsTask, IsFollowedBy, Tasks, command_of}
+use Rattle.sievebench.specs.declared.server.Task.TheVariants as tasks
+use Rattle.sievebench.proofs.Requests.{forgotten, change_turn}
 use Rattle.sievebench.proofs.server.perform.Goals as goal
 
-pub returns-in-Main-clause-turn : goal.returns-in-Main-clause-turn
-returns-in-Main-clause-turn g c = λ command is.
-    let name : command ≡ Some (line.main c.in-Main.name.place c.in-Main.name.name) = rw c.in-Main.is at is in
-    rw name (c.serve_main.ensures.turn _)
+pub returns-in-Change-clause-turn : goal.returns-in-Change-clause-turn
+returns-in-Change-clause-turn g c = λ command old is.
+    let is' : (command ≡ Some (command_of c.in-Change.change)) × (c.args.bench.now ≡ old) = rw c.in-Change.is at is in
+    rw is'.0 (rw (← is'.1) (change_turn c.in-Change.change _ _ _ _ _ _ _ (c.serve_change.ensures.turn _)))
+
+pub returns-in-Dropped-clause-turn : goal.returns-in-Dropped-clause-turn
+returns-in-Dropped-clause-turn g c = λ command old is.
+    let is' : Tasks (tasks.Dropped c.in-Dropped.outcome) command old c.args.bench.now = rw c.in-Dropped.is at is in
+    rw is'.1 (c.serve_dropped.ensures.turn old c.args.bench.now is'.0 _ is'.2)
 
 pub returns-in-Report-clause-turn : goal.returns-in-Report-clause-turn
-returns-in-Report-clause-turn g c = λ command is.
-    let report : command ≡ Some line.report = rw c.in-Report.is at is in
-    rw report (c.serve_report.ensures.turn _)
+returns-in-Report-clause-turn g c = λ command old is.
+    let is' : (command ≡ Some line.report) × (c.args.bench.now ≡ old) = rw c.in-Report.is at is in
+    rw is'.0 (rw (← is'.1) (c.serve_report.ensures.turn _))
 
 pub returns-in-Forgotten-clause-turn : goal.returns-in-Forgotten-clause-turn
-returns-in-Forgotten-clause-turn g c = λ command is.
-    let followed : IsFollowedBy c.in-Forgotten.count command = rw c.in-Forgotten.is at is in
-    forgotten command c.in-Forgotten.count _ _ _ _ _ _ followed (c.serve_forgotten.ensures.put _) (λ none. c.serve_forgotten.ensures.other none _)
+returns-in-Forgotten-clause-turn g c = λ command old is.
+    let is' : IsFollowedBy c.in-Forgotten.count command × (c.args.bench.now ≡ old) = rw c.in-Forgotten.is at is in
+    rw (← is'.1) (forgotten command c.in-Forgotten.count _ _ _ _ _ _ is'.0 (λ edit takes. c.serve_forgotten.ensures.put _ edit takes) (λ none edit takes. c.serve_forgotten.ensures.other none _ edit takes))

@@ -21,4 +21,4 @@ returns-in-Whole-clause-turn g c =
     let left = g.R.Source.remaining c.next.new.reader in
     turns_moved request_of (request_by (command_of_line (take c.in-Whole.len pending))) c.perform.result _ _ _ (unread c.consume.new.self left) _ _ _
     (rw c.consume.ensures.pending (whole_moves _ left pending c.in-Whole.len c.in-Whole.skip c.in-Whole.ensures.keeps c.in-Whole.ensures.line c.in-Whole.ensures.within))
-    (c.perform.ensures.turn (command_of_line (take c.in-Whole.len pending)) (rw (← line) c.task_of-task.ensures))
+    (c.perform.ensures.turn (command_of_line (take c.in-Whole.len pending)) c.args.bench.now (rw (← line) c.task_of-task.ensures))

@@ -1,4 +1,4 @@
-use Rattle.sievebench.specs.Input.{unread, fuel}
+use Rattle.sievebench.specs.Input.{unread, fuel, Knows}
 use Rattle.sievebench.specs.Turn.{SoFar}
 use Rattle.sievebench.proofs.server.session.Given as goal
 
@@ -6,6 +6,7 @@ use Rattle.sievebench.proofs.server.session.Given as goal
 abbrev pub invariant-loop-end : goal.invariant-loop-end
 invariant-loop-end g l =
     SoFar l.fn.bench (g.R.Source.remaining l.fn.reader) (g.W.Sink.contents l.fn.writer) l.bench (unread l.input (g.R.Source.remaining l.reader)) (g.W.Sink.contents l.writer)
+    × Knows l.input (g.R.Source.remaining l.reader)
 
 abbrev pub decreases-loop-end : goal.decreases-loop-end
 decreases-loop-end g l = fuel l.input

@@ -1,6 +1,8 @@
-use Rattle.std.proofs.Common.{◌≡◌, ℕ, ◌<◌, get_or}
+use Rattle.std.proofs.Common.{◌≡◌, ◌+◌, drop}
+use Rattle.sievebench.specs.SessionLine.{piece_length, outside}
+use Rattle.sievebench.specs.Command.{spot_as}
 use Rattle.sievebench.proofs.session_line.word_len.Given as goal
 
--- no octet so far is a space
+-- the octets so far, and those of what is left before the first such space
 abbrev pub invariant-loop-i : goal.invariant-loop-i
-invariant-loop-i l = (k : ℕ) → k < l.i → get_or l.line k 0 ≡ 32 → ⊥
+invariant-loop-i l = piece_length outside l.line ≡ l.i + piece_length (spot_as l.spot) (drop l.i l.line)

@@ -1,4 +1,4 @@
-use Rattle.std.proofs.Common.{◌≡◌, ◌+◌, ◌<◌, ◌≤◌}
+use Rattle.std.proofs.Common.{◌≡◌, false, ◌+◌, ◌<◌, ◌≤◌}
 use Rattle.std.specs.Io.KnownBytes.{Keeps}
 use Rattle.sieve_code.specs.Devices.{HasRisen}
 use Rattle.sievebench.specs.Input.{unread}
@@ -8,6 +8,7 @@ use Rattle.sievebench.proofs.input.Input.fill.Given as goal
 abbrev pub invariant-loop-retry : goal.invariant-loop-retry
 invariant-loop-retry g l =
     (l.self.pending ≡ l.fn.self.pending)
+    × (l.self.ended ≡ false)
     × Keeps (unread l.fn.self (g.R.Source.remaining l.fn.reader)) (unread l.self (g.R.Source.remaining l.reader))
     × (l.self.turns + l._retry ≡ l.fn.self.turns)
     × (g.R.Faults.fault_count l.fn.reader ≤ g.R.Faults.fault_count l.reader)
