@@ -30,6 +30,28 @@ fn judgements(rt: HostRuntime) -> Result<(), Fail> {
 }
 
 #[test]
+fn nested_blocks(rt: HostRuntime) -> Result<(), Fail> {
+    for (depth, want) in [
+        (32, (1, b"unknown-command".as_slice())),
+        (33, (33, b"syntax")),
+    ] {
+        let mut text = Vec::new(rt.alloc());
+        for _block in 0..depth {
+            text.extend_from_slice(b"if true {\n")?;
+        }
+        for _block in 0..depth {
+            text.extend_from_slice(b"}")?;
+        }
+        assert!(rt; text.len() <= 1_048_576);
+        match judge(rt.alloc(), &text)? {
+            Judged::Sound(_) => panic!(rt; "{depth} blocks are sound"),
+            Judged::Faulty { line, kind } => assert_eq!(rt; (line, kind.word()), want),
+        }
+    }
+    Ok(())
+}
+
+#[test]
 fn a_sound_script_has_its_commands(rt: HostRuntime) -> Result<(), Fail> {
     let script = parse(rt.alloc(), b"keep;\ndiscard; stop;\n\nkeep;")?;
     let checked = check(rt.alloc(), &script)?;
