@@ -4,8 +4,6 @@
 
 mod bench;
 mod command_line;
-#[cfg(test)]
-mod edit_tests;
 mod fault;
 mod input;
 mod line;

@@ -393,41 +393,6 @@ fn reads_are_limited(rt: HostRuntime) -> Result<(), Fail> {
 }
 
 #[test]
-fn the_end_is_read_once(rt: HostRuntime) -> Result<(), Fail> {
-    let alloc = rt.alloc();
-    for (turns, wanted) in [(7, SessionEnd::Done), (6, SessionEnd::TurnLimit)] {
-        let mut bench = Bench::new(alloc)?;
-        let mut meter = Meter::new();
-        let mut reader = Counted::new(Dripping {
-            octets: b"report",
-            interruptions: 0,
-            left: 0,
-        });
-        let mut writer = Counted::new(Vec::new(alloc));
-        let end = session(&mut bench, &mut meter, &mut reader, &mut writer, turns);
-        assert_eq!(rt; end, wanted);
-        assert_eq!(rt; reader.calls(), turns);
-    }
-    Ok(())
-}
-
-#[test]
-fn octets_past_the_limit_are_passed_over(rt: HostRuntime) -> Result<(), Fail> {
-    let alloc = rt.alloc();
-    let text = vec![in alloc; b' '; 1_048_577]?;
-    let mut input = Vec::from_slice(alloc, b"script personal a 1048577\n")?;
-    input.extend_from_slice(&text)?;
-    let mut bench = Bench::new(alloc)?;
-    let (output, end) = served(alloc, &mut bench, &input)?;
-    assert_eq!(rt; output.as_slice(), b"no too-large\n".as_slice());
-    assert_eq!(rt; end, SessionEnd::Done);
-    let (output, end) = served(alloc, &mut bench, &input[..1_000_000])?;
-    assert_eq!(rt; output.as_slice(), b"no truncated\n".as_slice());
-    assert_eq!(rt; end, SessionEnd::Truncated);
-    Ok(())
-}
-
-#[test]
 fn a_report_counts_its_runs(rt: HostRuntime) -> Result<(), Fail> {
     let alloc = rt.alloc();
     let mut bench = Bench::new(alloc)?;
