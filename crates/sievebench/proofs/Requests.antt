@@ -9,8 +9,8 @@ use Rattle.sievebench.specs.Session.{Request, takes_memory, request_of, request_
 use Rattle.sievebench.specs.SessionLine as line
 use Rattle.sievebench.specs.SessionLine.{first_line, command_of_line}
 use Rattle.sievebench.specs.Task.{IsFollowedBy, command_of, edit_by}
-use Rattle.sievebench.specs.declared.server.Change.{Change}
-use Rattle.sievebench.specs.declared.server.Change.TheVariants as changes
+use Rattle.sievebench.specs.declared.task.Change.{Change}
+use Rattle.sievebench.specs.declared.task.Change.TheVariants as changes
 use Rattle.sievebench.specs.Turn.{StepFrom, EndFrom, TurnsFrom, EndsBy, MatchSessionEnd}
 use Rattle.sievebench.specs.declared.line.Line.TheVariants.{Over, Whole, TooLong}
 use Rattle.sievebench.specs.declared.server.Turn.{Turn}

@@ -11,8 +11,8 @@ use Rattle.sievebench.specs.Task.{edit_of, limit_of}
 use Rattle.sievebench.specs.Turn.{RefusesIf, StepFrom, EndFrom, TurnsFrom, Continues, EndsBy, reply_line}
 use Rattle.sievebench.specs.declared.fault.EditFault.{EditFault}
 use Rattle.sievebench.specs.declared.fault.EditFault.TheVariants.{TooLarge, Full, NoMemory}
-use Rattle.sievebench.specs.declared.server.Subject.{Subject}
-use Rattle.sievebench.specs.declared.server.Subject.TheVariants as subjects
+use Rattle.sievebench.specs.declared.task.Subject.{Subject}
+use Rattle.sievebench.specs.declared.task.Subject.TheVariants as subjects
 use Rattle.sievebench.specs.declared.status.SessionEnd.TheVariants as ends
 
 -- what an edit answers is what its definition allows

@@ -2,13 +2,14 @@
 use Rattle.std.specs.Prelude.{◌≡◌, ℕ, List, Option, Some, None, Result, Ok, Err, OnOk, OnErr}
 use Rattle.sievebench.specs.SessionLine.{Command, nothing, script, message, main, no_main, rename, drop_script, drop_message, envelope, mailbox, report}
 use Rattle.sievebench.specs.Content.{Content, Edit, put_script, put_message, set_main, rename_script, remove_script, remove_message, clear_main, set_envelope, set_mailbox, after, Answers}
-use Rattle.sievebench.specs.declared.server.Subject.{Subject}
-use Rattle.sievebench.specs.declared.server.Subject.TheVariants as subjects
-use Rattle.sievebench.specs.declared.server.Change.{Change}
-use Rattle.sievebench.specs.declared.server.Change.TheVariants as changes
+use Rattle.sievebench.specs.declared.task.Subject.{Subject}
+use Rattle.sievebench.specs.declared.task.Subject.TheVariants as subjects
+use Rattle.sievebench.specs.declared.task.Change.{Change}
+use Rattle.sievebench.specs.declared.task.Change.TheVariants as changes
+use Rattle.std.specs.declared.alloc.AllocError.{AllocError}
 use Rattle.sievebench.specs.declared.fault.EditFault.{EditFault}
-use Rattle.sievebench.specs.declared.server.Task.{Task}
-use Rattle.sievebench.specs.declared.server.Task.TheVariants as tasks
+use Rattle.sievebench.specs.declared.task.Task.{Task}
+use Rattle.sievebench.specs.declared.task.Task.TheVariants as tasks
 
 -- a command that so many octets follow, and whose words are forgotten
 abbrev pub IsFollowedBy : ℕ → Option Command → Type 0
@@ -53,6 +54,11 @@ IsTask (tasks.Dropped outcome) command = ⊥
 IsTask tasks.Report command = command ≡ Some report
 IsTask (tasks.Forgotten count) command = IsFollowedBy count command
 IsTask tasks.Unreadable command = command ≡ None
+
+-- the task to make an edit, if memory was there for its words
+abbrev pub change_task : Result Change AllocError → Task
+change_task (Ok change) = tasks.Change change
+change_task (Err refused) = tasks.Forgotten 0
 
 -- a message is removed, or it is said why not
 abbrev pub Drops : List ℕ → Result Unit EditFault → Content → Content → Type 0

@@ -14,11 +14,8 @@ mod report_lines;
 mod script;
 mod server;
 mod session_line;
-#[cfg(test)]
-mod session_tests;
 mod status;
-#[cfg(test)]
-mod tests;
+mod task;
 mod word;
 
 pub use bench::Bench;

@@ -1,60 +1,24 @@
 //! A session: commands in, replies out.
-ghost use Rattle.std.specs.Prelude.{◌≡◌, true, Some, ◌≤◌, ◌<◌, IfSome, ℕ, List, Option, OnOk, OnErr, IfOk, Ok, codes, nat_lt, if◌then◌else◌};
+ghost use Rattle.std.specs.Prelude.{◌≡◌, true, ◌≤◌, ◌<◌, ℕ, List, Option, OnOk, OnErr, Ok, codes, nat_lt, if◌then◌else◌};
 ghost use Rattle.sieve_code.specs.Writers.{Wrote};
 ghost use Rattle.sievebench.specs.Content.{Content, Edit, after, remove_message, Refuses};
 ghost use Rattle.sievebench.specs.Input.{unread, fuel, Knows};
-ghost use Rattle.sievebench.specs.Session.{Request, with_octets, request_by, request_of, edits, reports, unreadable, takes_memory};
+ghost use Rattle.sievebench.specs.Session.{with_octets, request_by, request_of, edits, reports, takes_memory};
 ghost use Rattle.sievebench.specs.SessionLine as line;
-ghost use Rattle.sievebench.specs.SessionLine.{command_of_line};
 ghost use Rattle.std.specs.Io.KnownBytes.{IsAtEnd};
-ghost use Rattle.sievebench.specs.Task.{IsTask, Tasks, Drops, command_of, edit_by, edit_of, limit_of};
+ghost use Rattle.sievebench.specs.Task.{Tasks, Drops, edit_by, edit_of};
 ghost use Rattle.sievebench.specs.Turn.{TurnsFrom, RefusesIf, Continues, EndsBy, OnContinues, AtLast, AtLastEnd, MatchSessionEnd, SessionFrom, reply_line};
 
-use crate::bench::{Bench, MAX_MESSAGE, MAX_TEXT};
+use crate::bench::Bench;
 use crate::fault::{EditFault, ReportFault};
 use crate::input::Input;
 use crate::line::Line;
 use crate::payload::{Taken, take_octets};
-use crate::session_line::{Command, command_of_line};
 use crate::status::SessionEnd;
-use crate::word::Word;
-use sieve_code::{Octets, Place, Sink, Source, WriteFault, write_out};
-use sieve_run::{Meter, ScriptName};
-use std::alloc::{AllocError, Global};
-
-/// What octets are put at: a script's name or a message's id.
-#[derive(Debug, Drop)]
-pub(crate) enum Subject {
-    Script(ScriptName),
-    Message(Octets),
-}
-
-/// An edit that no octets follow.
-#[derive(Debug, Drop)]
-pub(crate) enum Change {
-    Main { name: ScriptName },
-    NoMain,
-    Rename { from: ScriptName, to: ScriptName },
-    DropScript { name: ScriptName },
-    Envelope { from: Octets, to: Octets },
-    Mailbox { mailbox: Octets },
-}
-
-/// What a line asks for, with copies of its words.
-#[derive(Debug, Drop)]
-pub(crate) enum Task {
-    Idle,
-    /// To put the octets that follow.
-    Put { subject: Subject, count: u64 },
-    /// To make an edit that no octets follow.
-    Change { change: Change },
-    /// A message is removed already, or why it isn't.
-    Dropped { outcome: Result<(), EditFault> },
-    Report,
-    /// Memory was refused for the words of an edit, which so many octets follow.
-    Forgotten { count: u64 },
-    Unreadable,
-}
+use crate::task::{Change, Subject, Task, limit_of, task_of};
+use sieve_code::{Octets, Sink, Source, write_out};
+use sieve_run::Meter;
+use std::alloc::Global;
 
 /// How a command went.
 #[derive(Debug, Drop)]
@@ -63,178 +27,6 @@ pub(crate) enum Turn {
     Continues,
     /// The session ends.
     Ends(SessionEnd),
-}
-
-/// A script's name with a copy of its octets.
-fn copied_name(alloc: Global, place: Place, name: &Word<'_>) -> Result<ScriptName, AllocError>
-    ensures { IfOk result (λ copy. copy ≡ record { place = place; name = name.now }) }
-{
-    Ok(ScriptName {
-        place,
-        name: name.copied(alloc)?,
-    })
-}
-
-/// To put a script.
-fn script_task(alloc: Global, place: Place, name: &Word<'_>, count: u64) -> Task
-    ensures { IsTask result (Some (line.script place name.now count)) }
-{
-    match copied_name(alloc, place, name) {
-        Ok(name) => Task::Put {
-            subject: Subject::Script(name),
-            count,
-        },
-        Err(_) => Task::Forgotten { count },
-    }
-}
-
-/// To put a message.
-fn message_task(alloc: Global, id: &Word<'_>, count: u64) -> Task
-    ensures { IsTask result (Some (line.message id.now count)) }
-{
-    match id.copied(alloc) {
-        Ok(id) => Task::Put {
-            subject: Subject::Message(id),
-            count,
-        },
-        Err(_) => Task::Forgotten { count },
-    }
-}
-
-/// The edit to make a script main.
-fn main_change(alloc: Global, place: Place, name: &Word<'_>) -> Result<Change, AllocError>
-    ensures { IfOk result (λ change. command_of change ≡ line.main place name.now) }
-{
-    let name = copied_name(alloc, place, name)?;
-    Ok(Change::Main { name })
-}
-
-/// The edit to rename a script.
-fn rename_change(
-    alloc: Global,
-    place: Place,
-    name: &Word<'_>,
-    new_place: Place,
-    new_name: &Word<'_>,
-) -> Result<Change, AllocError>
-    ensures { IfOk result (λ change. command_of change ≡ line.rename place name.now new_place new_name.now) }
-{
-    let from = copied_name(alloc, place, name)?;
-    let to = copied_name(alloc, new_place, new_name)?;
-    Ok(Change::Rename { from, to })
-}
-
-/// The edit to remove a script.
-fn drop_script_change(alloc: Global, place: Place, name: &Word<'_>) -> Result<Change, AllocError>
-    ensures { IfOk result (λ change. command_of change ≡ line.drop_script place name.now) }
-{
-    let name = copied_name(alloc, place, name)?;
-    Ok(Change::DropScript { name })
-}
-
-/// The edit to set the envelope's addresses.
-fn envelope_change(alloc: Global, from: &Word<'_>, to: &Word<'_>) -> Result<Change, AllocError>
-    ensures { IfOk result (λ change. command_of change ≡ line.envelope from.now to.now) }
-{
-    let from = from.copied(alloc)?;
-    let to = to.copied(alloc)?;
-    Ok(Change::Envelope { from, to })
-}
-
-/// The edit to set the mailbox.
-fn mailbox_change(alloc: Global, mailbox: &Word<'_>) -> Result<Change, AllocError>
-    ensures { IfOk result (λ change. command_of change ≡ line.mailbox mailbox.now) }
-{
-    let mailbox = mailbox.copied(alloc)?;
-    Ok(Change::Mailbox { mailbox })
-}
-
-/// To make a script main.
-fn main_task(alloc: Global, place: Place, name: &Word<'_>) -> Task
-    ensures { IsTask result (Some (line.main place name.now)) }
-{
-    match main_change(alloc, place, name) {
-        Ok(change) => Task::Change { change },
-        Err(_) => Task::Forgotten { count: 0 },
-    }
-}
-
-/// To rename a script.
-fn rename_task(
-    alloc: Global,
-    place: Place,
-    name: &Word<'_>,
-    new_place: Place,
-    new_name: &Word<'_>,
-) -> Task
-    ensures { IsTask result (Some (line.rename place name.now new_place new_name.now)) }
-{
-    match rename_change(alloc, place, name, new_place, new_name) {
-        Ok(change) => Task::Change { change },
-        Err(_) => Task::Forgotten { count: 0 },
-    }
-}
-
-/// To remove a script.
-fn drop_script_task(alloc: Global, place: Place, name: &Word<'_>) -> Task
-    ensures { IsTask result (Some (line.drop_script place name.now)) }
-{
-    match drop_script_change(alloc, place, name) {
-        Ok(change) => Task::Change { change },
-        Err(_) => Task::Forgotten { count: 0 },
-    }
-}
-
-/// To set the envelope's addresses.
-fn envelope_task(alloc: Global, from: &Word<'_>, to: &Word<'_>) -> Task
-    ensures { IsTask result (Some (line.envelope from.now to.now)) }
-{
-    match envelope_change(alloc, from, to) {
-        Ok(change) => Task::Change { change },
-        Err(_) => Task::Forgotten { count: 0 },
-    }
-}
-
-/// To set the mailbox.
-fn mailbox_task(alloc: Global, mailbox: &Word<'_>) -> Task
-    ensures { IsTask result (Some (line.mailbox mailbox.now)) }
-{
-    match mailbox_change(alloc, mailbox) {
-        Ok(change) => Task::Change { change },
-        Err(_) => Task::Forgotten { count: 0 },
-    }
-}
-
-/// What to do for a line. A message is removed at once, since that takes no memory for its id.
-fn task_of(bench: &mut Bench, line: &[u8]) -> Task
-    ensures { Tasks result (command_of_line line.now) bench.old bench.new }
-{
-    let alloc = bench.allocator();
-    match command_of_line(line) {
-        None => Task::Unreadable,
-        Some(Command::Nothing) => Task::Idle,
-        Some(Command::Report) => Task::Report,
-        Some(Command::Script { place, name, count }) => script_task(alloc, place, &name, count),
-        Some(Command::Message { id, count }) => message_task(alloc, &id, count),
-        Some(Command::Main { place, name }) => main_task(alloc, place, &name),
-        Some(Command::NoMain) => Task::Change {
-            change: Change::NoMain,
-        },
-        Some(
-            Command::Rename {
-                place,
-                name,
-                new_place,
-                new_name,
-            },
-        ) => rename_task(alloc, place, &name, new_place, &new_name),
-        Some(Command::DropScript { place, name }) => { drop_script_task(alloc, place, &name) }
-        Some(Command::DropMessage { id }) => Task::Dropped {
-            outcome: bench.drop_message(&id),
-        },
-        Some(Command::Envelope { from, to }) => envelope_task(alloc, &from, &to),
-        Some(Command::Mailbox { mailbox }) => mailbox_task(alloc, &mailbox),
-    }
 }
 
 /// The reply to an edit.
@@ -282,16 +74,6 @@ fn refuse_octets<W: Sink>(writer: &mut W) -> Turn
     }
 }
 
-/// The most octets that may be put there.
-fn limit_of(subject: &Subject) -> u64
-    ensures { result ≡ limit_of subject.now }
-{
-    match subject {
-        Subject::Script(_) => MAX_TEXT as u64,
-        Subject::Message(_) => MAX_MESSAGE as u64,
-    }
-}
-
 /// Puts octets at a name or an id.
 fn keep(bench: &mut Bench, subject: Subject, octets: Vec<u8>) -> Result<(), EditFault>
     ensures ok { OnOk result (after bench.old (edit_of subject octets.items) ≡ Ok bench.new) }
@@ -318,7 +100,7 @@ fn carry_out(bench: &mut Bench, change: Change) -> Result<(), EditFault>
             Ok(())
         }
         Change::Rename { from, to } => bench.rename_script(&from, &to),
-        Change::DropScript { name } => { bench.remove_script(&name) }
+        Change::DropScript { name } => bench.remove_script(&name),
         Change::Envelope { from, to } => bench.set_envelope(from.as_slice(), to.as_slice()),
         Change::Mailbox { mailbox } => bench.set_mailbox(mailbox.as_slice()),
     }
