@@ -1,6 +1,7 @@
 -- What it means that two octet strings are equal under a comparator, and that one contains the other (RFC 4790, RFC 5228
 -- section 2.7). A comparator is known by its fold: two octets are equal under it where their folds are equal.
-use Rattle.std.specs.Prelude.{◌≡◌, ℕ, ◌-◌, ◌<◌, ◌≤◌, ◌&&◌, nat_le, if◌then◌else◌, List, length, slice_index, slice_range}
+use Rattle.std.specs.Prelude.{◌≡◌, ℕ, Bool, ◌-◌, ◌<◌, ◌≤◌, ◌&&◌, ◌||◌, ◌==◌, nat_le, if◌then◌else◌, List, [], ◌∷◌, length, take, slice_index, slice_range}
+use lib.Pointwise.{pointwise}
 
 -- i;octet: each octet is equal to itself alone (RFC 4790, section 9.3.1)
 abbrev pub octet : ℕ → ℕ
@@ -22,3 +23,12 @@ pub record IsPart (fold : ℕ → ℕ) (value key : List ℕ) : Type 0 where
   pub ordered : start ≤ end
   pub within : end ≤ length value
   pub same : Same fold (slice_range value start end) key
+
+-- whether they are the same
+abbrev pub same : (ℕ → ℕ) → List ℕ → List ℕ → Bool
+same fold a b = pointwise (λ x y. fold x == fold y) a b
+
+-- whether some slice of the value is the same as the key
+abbrev pub is_part : (ℕ → ℕ) → List ℕ → List ℕ → Bool
+is_part fold [] key = same fold [] key
+is_part fold (x ∷ rest) key = same fold (take (length key) (x ∷ rest)) key || is_part fold rest key

@@ -2,7 +2,7 @@
 ghost use Rattle.std.specs.Prelude.{◌≡◌, ◌==◌, ◌↔◌, ℕ, IsTrue};
 ghost use Rattle.std.proofs.Common.{rules};
 ghost use Rattle.memchr.specs.Find.{IsFirstByte};
-ghost use Rattle.match_text.specs.Comparator.{IsPart, Same, ascii_casemap, octet};
+ghost use Rattle.match_text.specs.Comparator.{IsPart, Same, ascii_casemap, is_part, octet, same};
 
 use memchr::{memchr2, memmem};
 
@@ -129,7 +129,8 @@ pub enum Collation {
 
 /// Whether `value` is `key` under the comparator: the match type `:is`. It takes no memory.
 pub fn is<C: Comparator>(value: &[u8], key: &[u8]) -> bool
-    ensures { IsTrue result ↔ Same C.folded value.now key.now }
+    ensures same { IsTrue result ↔ Same C.folded value.now key.now }
+    ensures exact { result ≡ same C.folded value.now key.now }
 {
     C::is(value, key)
 }
@@ -137,7 +138,8 @@ pub fn is<C: Comparator>(value: &[u8], key: &[u8]) -> bool
 /// Whether some slice of `value` is `key` under the comparator: the match type `:contains`. It takes
 /// no memory.
 pub fn contains<C: Comparator>(value: &[u8], key: &[u8]) -> bool
-    ensures { IsTrue result ↔ IsPart C.folded value.now key.now }
+    ensures part { IsTrue result ↔ IsPart C.folded value.now key.now }
+    ensures exact { result ≡ is_part C.folded value.now key.now }
 {
     C::contains(value, key)
 }
