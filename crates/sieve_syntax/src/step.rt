@@ -42,6 +42,7 @@ impl From<AllocError> for Stop {
     }
 }
 
+/// The state behind a word that stands between commands.
 #[tactic(auto, unfolding(crate::specs::Machine::step))]
 fn between(alloc: Global, outer: Outer, word: Word) -> Result<State, Stop>
     ensures { Steps result (step test_depth block_room (Machine.between (outer_value outer)) (word_value word)) }
