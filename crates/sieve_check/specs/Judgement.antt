@@ -1,10 +1,13 @@
--- What a script's text is: a script without a fault, or the line and kind of its first one.
+-- What a script's text is: the tree of a script without a fault, its strings cut into parts, or the line and kind of the
+-- first fault.
 use Rattle.std.specs.Prelude.{ℕ, List, codes, Option, None, Some, Result, Ok, Err}
-use Rattle.sieve_syntax.specs.Tree.{Node}
+use Rattle.sieve_syntax.specs.Tree as syntax
 use Rattle.sieve_syntax.specs.Syntax.{syntax_of}
 use Rattle.sieve_check.specs.Breach as breaches
-use Rattle.sieve_check.specs.Breach.{first_breach, abstract_of}
-use Rattle.sieve_check.specs.Script.{Commands, script_of}
+use Rattle.sieve_check.specs.Breach.{first_breach}
+use Rattle.sieve_check.specs.Checked.{tree_of}
+use Rattle.sieve_check.specs.Parted.{parted}
+use Rattle.sieve_check.specs.Tree.{Node}
 use Rattle.sieve_check.specs.Rule.{rule_word}
 use Rattle.sieve_check.specs.declared.judged.FaultKind.{FaultKind}
 use Rattle.sieve_check.specs.declared.judged.FaultKind.TheVariants.{Syntax, Breach}
@@ -12,7 +15,7 @@ use Rattle.sieve_check.specs.declared.judged.Judged.{Judged}
 use Rattle.sieve_check.specs.declared.judged.Judged.TheVariants.{Sound, Faulty}
 
 pub data Judgement : Type 0 where
-  sound : (commands : Commands) → Judgement
+  sound : (tree : List Node) → Judgement
   faulty : (line : ℕ) (kind : FaultKind) → Judgement
 
 -- the word by which a report names a fault
@@ -25,19 +28,19 @@ abbrev pub fault_of : Judgement → Option (ℕ × FaultKind)
 fault_of (sound _) = None
 fault_of (faulty line kind) = Some (line, kind)
 
--- the first breach, or else the script
-abbrev pub judgement_by : Option breaches.Breach → Commands → Judgement
-judgement_by None script = sound script
-judgement_by (Some breach) script = faulty breach.line (Breach breach.rule)
+-- the first breach, or else the tree
+abbrev pub judgement_by : Option breaches.Breach → List Node → Judgement
+judgement_by None tree = sound tree
+judgement_by (Some breach) tree = faulty breach.line (Breach breach.rule)
 
 -- a text that no tree writes has a fault of syntax, on the line that the syntax says
-abbrev pub judgement_from : Result (List Node) ℕ → Judgement
-judgement_from (Ok tree) = judgement_by (first_breach tree) (abstract_of tree)
+abbrev pub judgement_from : Result (List syntax.Node) ℕ → Judgement
+judgement_from (Ok tree) = judgement_by (first_breach tree) (parted tree)
 judgement_from (Err line) = faulty line Syntax
 
 unfoldable pub judgement_of : List ℕ → Judgement
 judgement_of text = judgement_from (syntax_of text)
 
 abbrev pub judged_as : Judged → Judgement
-judged_as (Sound checked) = sound (script_of checked)
+judged_as (Sound checked) = sound (tree_of checked)
 judged_as (Faulty line kind) = faulty line kind

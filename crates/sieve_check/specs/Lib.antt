@@ -1,6 +1,14 @@
 pub mod Breach
+pub mod Checked
 pub mod CheckFault
+pub mod Faultless
+pub mod Finds
+pub mod Items
 pub mod Judgement
-pub mod Kind
+pub mod Parted
+pub mod Reading
 pub mod Rule
 pub mod Script
+pub mod Seen
+pub mod Table
+pub mod Tree

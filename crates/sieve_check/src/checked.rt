@@ -1,26 +1,22 @@
-ghost use Rattle.std.specs.Prelude.{◌≡◌};
+ghost use Rattle.std.specs.Prelude.{◌≡◌, map};
+ghost use Rattle.sieve_check.specs.Faultless.{AreFaultless};
+ghost use Rattle.sieve_check.specs.Tree.{node_of};
 
-/// A command of a script without a fault, with its line.
-#[derive(Debug, Drop)]
-pub enum Command {
-    /// `keep` (RFC 5228, section 4.3).
-    Keep { line: u64 },
-    /// `discard` (RFC 5228, section 4.4).
-    Discard { line: u64 },
-    /// `stop` (RFC 5228, section 3.3).
-    Stop,
-}
+use crate::tree::Command;
 
 /// A script that breaks no rule. Only the validator makes one.
 #[derive(Debug, Drop)]
 pub struct Checked {
     pub(crate) commands: Vec<Command>,
+    pub ghost faultless: { ∥ AreFaultless (map node_of commands.items) ∥₁ },
 }
 
 impl Checked {
-    /// The script's commands in order. Takes no memory.
+    ghost use Rattle.sieve_check.specs.Checked.{tree_of};
+
+    /// The script's commands in order, in the shape of its text's tree, with each string cut into parts. Takes no memory.
     pub fn commands(&self) -> &[Command]
-        ensures { result.now ≡ self.now.commands.items }
+        ensures { map node_of result.now ≡ tree_of self.now }
     {
         self.commands.as_slice()
     }

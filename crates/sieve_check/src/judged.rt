@@ -1,9 +1,11 @@
-ghost use Rattle.std.specs.Prelude.{◌≡◌, ◌≤◌, length, IfOk};
+ghost use Rattle.std.specs.Prelude.{◌≡◌, ◌<◌, ◌↔◌, length, IfOk, IsErrOf};
+ghost use Rattle.sieve_syntax.specs.Syntax.{text_limit};
 ghost use Rattle.sieve_check.specs.Judgement.{judged_as, judgement_of, fault_word};
 
 use crate::{CheckFault, Checked, Rule, check};
 use sieve_syntax::{SyntaxFault, parse};
-use std::alloc::{AllocError, Global};
+use std::alloc::Global;
+use thiserror::Error;
 
 /// What is wrong with a script's text.
 #[derive(Clone, Copy, Debug, PartialEq, Eq)]
@@ -35,11 +37,24 @@ pub enum Judged {
     Faulty { line: u64, kind: FaultKind },
 }
 
-/// Reads and checks a script's text, which has at most 1,048,576 octets.
+/// Why a text isn't judged. The refusals are numbered from 1 on, in this order.
+#[derive(Clone, Copy, Debug, PartialEq, Eq, Error)]
+pub enum JudgeFault {
+    /// 1: the text has more than 1,048,576 octets. This comes before the other.
+    #[error("the text is too large")]
+    TooLarge = 1,
+    /// 2: memory ran out.
+    #[error("out of memory")]
+    NoMemory = 2,
+}
+
+/// Reads and checks a script's text.
+///
+/// `TooLarge` is the answer exactly where the text has more than 1,048,576 octets, and `NoMemory` where memory runs out.
 #[tactic(auto, unfolding(crate::specs::Judgement::judgement_of))]
-pub fn judge(alloc: Global, text: &[u8]) -> Result<Judged, AllocError>
-    requires { length text.now ≤ 1048576 }
-    ensures { IfOk result (λ judged. judged_as judged ≡ judgement_of text.now) }
+pub fn judge(alloc: Global, text: &[u8]) -> Result<Judged, JudgeFault>
+    ensures large { IsErrOf result JudgeFault.TooLarge ↔ text_limit < length text.now }
+    ensures judged { IfOk result (λ judged. judged_as judged ≡ judgement_of text.now) }
 {
     let script = match parse(alloc, text) {
         Ok(script) => script,
@@ -49,8 +64,8 @@ pub fn judge(alloc: Global, text: &[u8]) -> Result<Judged, AllocError>
                 kind: FaultKind::Syntax,
             });
         }
-        Err(SyntaxFault::TooLarge) => unreachable!(),
-        Err(SyntaxFault::NoMemory) => return Err(AllocError),
+        Err(SyntaxFault::TooLarge) => return Err(JudgeFault::TooLarge),
+        Err(SyntaxFault::NoMemory) => return Err(JudgeFault::NoMemory),
     };
     match check(alloc, &script) {
         Ok(checked) => Ok(Judged::Sound(checked)),
@@ -58,6 +73,6 @@ pub fn judge(alloc: Global, text: &[u8]) -> Result<Judged, AllocError>
             line,
             kind: FaultKind::Breach(rule),
         }),
-        Err(CheckFault::NoMemory) => Err(AllocError),
+        Err(CheckFault::NoMemory) => Err(JudgeFault::NoMemory),
     }
 }

@@ -2,39 +2,130 @@
 
 use super::*;
 use sieve_syntax::parse;
+use std::alloc::Global;
 use std::test::Fail;
 
+/// The line and the word of a text's first fault.
+fn fault(alloc: Global, text: &[u8]) -> Result<Option<(u64, &'static [u8])>, JudgeFault> {
+    match judge(alloc, text)? {
+        Judged::Sound(_) => Ok(None),
+        Judged::Faulty { line, kind } => Ok(Some((line, kind.word()))),
+    }
+}
+
 #[test]
-fn judgements(rt: HostRuntime) -> Result<(), Fail> {
-    for (text, want) in [
-        (b"keep;".as_slice(), None),
-        (b"", None),
-        (b"KEEP;Discard;sToP;", None),
-        (b"kep;", Some((1, b"unknown-command".as_slice()))),
-        (b"keep;\ndiscard\n", Some((3, b"syntax"))),
-        (b"keep \"x\";", Some((1, b"bad-arguments"))),
-        (b"keep :flags \"x\";", Some((1, b"bad-tag"))),
-        (b"keep \"x\";\nkep;", Some((1, b"bad-arguments"))),
-        (b"stop 18446744073709551616;", Some((1, b"bad-arguments"))),
-        (b"kep;\nrequire \"x\";", Some((1, b"unknown-command"))),
+fn sound_texts(rt: HostRuntime) -> Result<(), Fail> {
+    for text in [
+        b"".as_slice(),
+        b"KEEP;Discard;sToP;",
+        b"require [\"comparator-i;octet\", \"comparator-i;ascii-casemap\"]; IF TRUE { KEEP; }",
+        b"if size :over 18446744073709551615 {}",
+        b"if size :over 17179869183G {}",
+        b"if header :contains :comparator \"i;octet\" [\"a\"] \"b\" {} elsif exists \"c\" {} else {}",
+        b"if anyof (allof (true, false), not exists [\"a\", \"b\"]) { stop; }",
     ] {
-        assert!(rt; text.len() <= 1_048_576);
-        match judge(rt.alloc(), text)? {
-            Judged::Sound(_) => assert!(rt; want.is_none(), "at {text:?}"),
-            Judged::Faulty { line, kind } => {
-                assert_eq!(rt; Some((line, kind.word())), want, "at {text:?}");
-            }
-        }
+        assert_eq!(rt; fault(rt.alloc(), text)?, None, "at {text:?}");
+    }
+    Ok(())
+}
+
+#[test]
+fn places_and_names(rt: HostRuntime) -> Result<(), Fail> {
+    for (text, line, word) in [
+        (
+            b"kep;\nrequire \"x\";".as_slice(),
+            1,
+            b"unknown-command".as_slice(),
+        ),
+        (b"require \"vacation\";\nkeep;\nstop;\nkeep }", 4, b"syntax"),
+        (
+            b"require \"vacation\";\nkeep;\nstop;\nkeep;",
+            1,
+            b"unknown-capability",
+        ),
+        (b"require \"Comparator-i;octet\";", 1, b"unknown-capability"),
+        (
+            b"keep; require \"comparator-i;octet\";",
+            1,
+            b"require-place",
+        ),
+        (b"else {}", 1, b"else-place"),
+        (b"if true {} keep; elsif true {}", 1, b"else-place"),
+        (
+            b"if true {} elsif false {} else {} else {}",
+            1,
+            b"else-place",
+        ),
+        (b"kep 18446744073709551616;", 1, b"unknown-command"),
+        (b"if true\n{\nkep; }", 3, b"unknown-command"),
+        (b"if anyof (true, foo) {}", 1, b"unknown-command"),
+    ] {
+        assert_eq!(rt; fault(rt.alloc(), text)?, Some((line, word)), "at {text:?}");
+    }
+    Ok(())
+}
+
+#[test]
+fn tags(rt: HostRuntime) -> Result<(), Fail> {
+    for text in [
+        b"if header \"Subject\" :is \"x\" {}".as_slice(),
+        b"if header :is :contains \"a\" \"b\" {}",
+        b"if header :comparator \"i;octet\" :comparator \"i;octet\" \"a\" \"b\" {}",
+        b"if size :over :under 1 {}",
+        b"keep :flags \"x\";",
+    ] {
+        assert_eq!(rt;
+            fault(rt.alloc(), text)?,
+            Some((1, b"bad-tag".as_slice())),
+            "at {text:?}"
+        );
+    }
+    Ok(())
+}
+
+#[test]
+fn arguments(rt: HostRuntime) -> Result<(), Fail> {
+    for text in [
+        b"if header :comparator [\"i;octet\"] \"a\" \"b\" {}".as_slice(),
+        b"if size 1 {}",
+        b"if size :over \"1\" {}",
+        b"if not (true) {}",
+        b"if allof true {}",
+        b"if true;",
+        b"stop {}",
+        b"keep \"x\";",
+        b"stop 18446744073709551616;",
+    ] {
+        assert_eq!(rt;
+            fault(rt.alloc(), text)?,
+            Some((1, b"bad-arguments".as_slice())),
+            "at {text:?}"
+        );
+    }
+    Ok(())
+}
+
+#[test]
+fn comparators_and_numbers(rt: HostRuntime) -> Result<(), Fail> {
+    for (text, word) in [
+        (
+            b"if header :comparator \"i;basic\" \"a\" \"b\" {}".as_slice(),
+            b"unknown-comparator".as_slice(),
+        ),
+        (
+            b"if header :comparator \"I;OCTET\" \"a\" \"b\" {}",
+            b"unknown-comparator",
+        ),
+        (b"if size :over 17179869184G {}", b"number-too-large"),
+    ] {
+        assert_eq!(rt; fault(rt.alloc(), text)?, Some((1, word)), "at {text:?}");
     }
     Ok(())
 }
 
 #[test]
 fn nested_blocks(rt: HostRuntime) -> Result<(), Fail> {
-    for (depth, want) in [
-        (32, (1, b"unknown-command".as_slice())),
-        (33, (33, b"syntax")),
-    ] {
+    for (depth, want) in [(32, None), (33, Some((33, b"syntax".as_slice())))] {
         let mut text = Vec::new(rt.alloc());
         for _block in 0..depth {
             text.extend_from_slice(b"if true {\n")?;
@@ -42,28 +133,85 @@ fn nested_blocks(rt: HostRuntime) -> Result<(), Fail> {
         for _block in 0..depth {
             text.extend_from_slice(b"}")?;
         }
-        assert!(rt; text.len() <= 1_048_576);
-        match judge(rt.alloc(), &text)? {
-            Judged::Sound(_) => panic!(rt; "{depth} blocks are sound"),
-            Judged::Faulty { line, kind } => assert_eq!(rt; (line, kind.word()), want),
-        }
+        assert_eq!(rt; fault(rt.alloc(), &text)?, want, "at {depth}");
     }
     Ok(())
 }
 
 #[test]
-fn a_sound_script_has_its_commands(rt: HostRuntime) -> Result<(), Fail> {
-    let script = parse(rt.alloc(), b"keep;\ndiscard; stop;\n\nkeep;")?;
-    let checked = check(rt.alloc(), &script)?;
-    match checked.commands() {
-        [
-            Command::Keep { line: 1 },
-            Command::Discard { line: 2 },
-            Command::Stop,
-            Command::Keep { line: 4 },
-        ] => Ok(()),
-        other => panic!(rt; "{other:?}"),
+fn nested_tests(rt: HostRuntime) -> Result<(), Fail> {
+    for (depth, want) in [(31, None), (32, Some((1, b"syntax".as_slice())))] {
+        let mut text = Vec::from_slice(rt.alloc(), b"if ")?;
+        for _test in 0..depth {
+            text.extend_from_slice(b"not ")?;
+        }
+        text.extend_from_slice(b"true {}")?;
+        assert_eq!(rt; fault(rt.alloc(), &text)?, want, "at {depth}");
     }
+    Ok(())
+}
+
+#[test]
+fn a_sound_script_has_its_tree(rt: HostRuntime) -> Result<(), Fail> {
+    let script = parse(rt.alloc(), b"keep;\nif NOT size :over 2K {\nStop; }")?;
+    let checked = check(rt.alloc(), &script)?;
+    let [keep, choice] = checked.commands() else {
+        panic!(rt; "{checked:?}");
+    };
+    assert_eq!(rt; (keep.name.as_slice(), keep.line), (b"keep".as_slice(), 1));
+    assert_eq!(rt; keep.kind(), Some(CommandKind::Keep));
+    assert!(rt; keep.args.is_empty() && keep.block.is_none());
+    assert_eq!(rt; (choice.kind(), choice.line), (Some(CommandKind::If), 2));
+    let (Tests::One(negation), Some(block)) = (&choice.tests, &choice.block) else {
+        panic!(rt; "{choice:?}");
+    };
+    assert!(rt; matches!(negation.reading(), Reading::Not));
+    let Tests::One(size) = &negation.tests else {
+        panic!(rt; "{negation:?}");
+    };
+    assert!(rt; matches!(size.reading(), Reading::Asks(Ask::Over { limit: 2048 })));
+    let [stop] = block.as_slice() else {
+        panic!(rt; "{block:?}");
+    };
+    assert_eq!(rt; (stop.name.as_slice(), stop.line), (b"Stop".as_slice(), 3));
+    assert_eq!(rt; stop.kind(), Some(CommandKind::Stop));
+    Ok(())
+}
+
+#[test]
+fn a_header_test_has_its_strings(rt: HostRuntime) -> Result<(), Fail> {
+    let script = parse(
+        rt.alloc(),
+        b"if header :comparator \"i;octet\" \"a\"\n[\"b\", \"c\"] {}",
+    )?;
+    let checked = check(rt.alloc(), &script)?;
+    let [
+        Command {
+            tests: Tests::One(test),
+            ..
+        },
+    ] = checked.commands()
+    else {
+        panic!(rt; "{checked:?}");
+    };
+    let Reading::Asks(
+        Ask::Header {
+            match_type: MatchType::Is,
+            collation: match_text::Collation::Octet,
+            names: [name],
+            keys: [first, second],
+        },
+    ) = test.reading()
+    else {
+        panic!(rt; "{test:?}");
+    };
+    for (text, octets, line) in [(name, b"a", 1), (first, b"b", 2), (second, b"c", 2)] {
+        let [Part::Literal(literal)] = text.parts.as_slice() else {
+            panic!(rt; "{text:?}");
+        };
+        assert_eq!(rt; (literal.as_slice(), text.line), (octets.as_slice(), line));
+    }
+    Ok(())
 }
 
 #[test]

@@ -2,14 +2,15 @@
 use Rattle.std.specs.Prelude.{ℕ, List, [], ◌∷◌, ◌++◌, Bool, true, false, not, Option, None, Some, if◌then◌else◌, nat_eq}
 use Rattle.std.specs.List.{list_any}
 use lib.Pointwise.{pointwise}
-use Rattle.sieve_check.specs.Script.{Commands, no_commands, stops, acts, Leaf, keep_leaf, discard_leaf}
+use Rattle.sieve_check.specs.Script.{Ask, Condition, always, never, asks, negated, both, either, Commands, no_commands, stops, acts, chooses, Leaf, keep_leaf, discard_leaf, script_of}
 use Rattle.sieve_run.specs.declared.name.ScriptName.{ScriptName}
 use Rattle.sieve_run.specs.declared.envelope.Envelope.{Envelope}
 use Rattle.sieve_run.specs.declared.outcome.Action.{Action}
 use Rattle.sieve_run.specs.declared.outcome.Action.TheVariants.{Store, Discard}
 use Rattle.sieve_run.specs.declared.outcome.RunError.{RunError}
 use Rattle.sieve_run.specs.declared.outcome.ErrorKind.TheVariants.{MissingScript, InvalidScript}
-use Rattle.sieve_run.specs.Library.{Lookup, missing, invalid, present}
+use Rattle.sieve_run.specs.Matching.{truth_of}
+use Rattle.sieve_run.specs.Library.{Lookup, missing, invalid, present, found_at}
 use Rattle.sieve_run.specs.Verdict.{Verdict}
 
 -- the state of a run: the actions in order, whether one of them cancelled the implicit keep, and the names looked
@@ -49,11 +50,52 @@ and_then (goes_on state) next = next state
 and_then (stopped state) next = stopped state
 and_then (failed error state) next = failed error state
 
--- what a list of commands does, where `act` says what those that act do
-abbrev pub exec : (Leaf → ℕ → RunState → Ending) → Commands → RunState → Ending
-exec act no_commands state = goes_on state
-exec act (stops rest) state = stopped state
-exec act (acts leaf line rest) state = and_then (act leaf line state) (exec act rest)
+-- TESTS
+
+-- the truth of a test, and the state behind it
+pub record Answer : Type 0 where
+  pub truth : Bool
+  pub state : RunState
+
+-- what a test asks of the message, which leaves the state as it is
+abbrev pub answer_of : List ℕ → Ask → RunState → Answer
+answer_of message ask state = record { truth = truth_of message ask; state = state }
+
+abbrev pub inverted : Answer → Answer
+inverted answer = record { truth = not answer.truth; state = answer.state }
+
+-- the second is asked only where the first holds, or only where it doesn't
+abbrev pub also : Bool → (RunState → Answer) → RunState → Answer
+also true second state = second state
+also false second state = record { truth = false; state = state }
+
+abbrev pub or_else : Bool → (RunState → Answer) → RunState → Answer
+or_else true second state = record { truth = true; state = state }
+or_else false second state = second state
+
+-- a condition, where `ask` says what is asked; it goes from left to right and no further than needed (RFC 5228, section 5)
+unfoldable pub decide : (Ask → RunState → Answer) → Condition → RunState → Answer
+decide ask always state = record { truth = true; state = state }
+decide ask never state = record { truth = false; state = state }
+decide ask (asks a) state = ask a state
+decide ask (negated c) state = inverted (decide ask c state)
+decide ask (both c d) state = also (decide ask c state).truth (decide ask d) (decide ask c state).state
+decide ask (either c d) state = or_else (decide ask c state).truth (decide ask d) (decide ask c state).state
+
+-- COMMANDS
+
+-- one of two blocks
+abbrev pub chosen : Bool → (RunState → Ending) → (RunState → Ending) → RunState → Ending
+chosen true block otherwise state = block state
+chosen false block otherwise state = otherwise state
+
+-- what a list of commands does, where `ask` says what tests ask and `act` what commands do that act
+unfoldable pub exec : (Ask → RunState → Answer) → (Leaf → ℕ → RunState → Ending) → Commands → RunState → Ending
+exec ask act no_commands state = goes_on state
+exec ask act (stops rest) state = stopped state
+exec ask act (acts leaf line rest) state = and_then (act leaf line state) (exec ask act rest)
+exec ask act (chooses condition block otherwise rest) state =
+    and_then (chosen (decide ask condition state).truth (exec ask act block) (exec ask act otherwise) (decide ask condition state).state) (exec ask act rest)
 
 -- after an error no action is taken, and the implicit keep stands
 abbrev pub verdict_of : Ending → Verdict
@@ -66,12 +108,12 @@ abbrev pub begun : ScriptName → RunState
 begun main = record { actions = []; cancelled = false; reads = (main, true) ∷ [] }
 
 -- the verdict where the main script is this
-abbrev pub verdict_at : Envelope → ScriptName → Lookup → Verdict
-verdict_at envelope main missing = record { actions = []; implicit = true; error = Some (record { script = main; line = 0; kind = MissingScript }); reads = (main, false) ∷ [] }
-verdict_at envelope main invalid = record { actions = []; implicit = true; error = Some (record { script = main; line = 0; kind = InvalidScript }); reads = (main, true) ∷ [] }
-verdict_at envelope main (present commands) = verdict_of (exec (act_of envelope) commands (begun main))
+abbrev pub verdict_at : Envelope → List ℕ → ScriptName → Lookup → Verdict
+verdict_at envelope message main missing = record { actions = []; implicit = true; error = Some (record { script = main; line = 0; kind = MissingScript }); reads = (main, false) ∷ [] }
+verdict_at envelope message main invalid = record { actions = []; implicit = true; error = Some (record { script = main; line = 0; kind = InvalidScript }); reads = (main, true) ∷ [] }
+verdict_at envelope message main (present tree) = verdict_of (exec (answer_of message) (act_of envelope) (script_of tree) (begun main))
 
 -- the verdict on a message, and the names that it looked up, over a library
 unfoldable pub outcome_of : (ScriptName → Lookup) → Option ScriptName → Envelope → List ℕ → Verdict
 outcome_of find None envelope message = record { actions = []; implicit = true; error = None; reads = [] }
-outcome_of find (Some main) envelope message = verdict_at envelope main (find main)
+outcome_of find (Some main) envelope message = verdict_at envelope message main (found_at find main)

@@ -1,51 +1,22 @@
 ghost use Rattle.std.specs.Prelude.{◌≡◌, [], ◌∷◌, true, None, Some, IfOk};
 ghost use Rattle.std.specs.Option.{option_copied};
-ghost use Rattle.sieve_run.specs.Library.{lookup_of, present};
+ghost use Rattle.sieve_run.specs.Library.{found_as, found_at, lookup_of, present};
 ghost use Rattle.sieve_run.specs.Meter.{next_run};
-ghost use Rattle.sieve_run.specs.Run.{exec, act_of, outcome_of, verdict_at};
-ghost use Rattle.sieve_run.specs.State.{state_of};
-ghost use Rattle.sieve_run.specs.Flow.{ending_by};
-ghost use Rattle.sieve_check.specs.Script.{commands_of};
-ghost use Rattle.sieve_check.specs.Script.{script_of};
+ghost use Rattle.sieve_run.specs.Run.{outcome_of, verdict_at};
+ghost use Rattle.sieve_check.specs.Checked.{tree_of};
 
+use crate::delivery::Delivery;
 use crate::envelope::Envelope;
 use crate::library::{Found, Library};
 use crate::meter::Meter;
 use crate::name::ScriptName;
 use crate::outcome::{ErrorKind, Outcome, RunError};
 use crate::state::State;
+use crate::steps::execute;
 use indexmap::IndexMap;
-use sieve_check::{Checked, Command};
+use message_text::Message;
+use sieve_check::Checked;
 use std::alloc::{AllocError, Global};
-
-/// How a list of commands ended.
-#[derive(Debug, Drop)]
-pub(crate) enum Flow {
-    /// At its end.
-    GoesOn,
-    /// By `stop`.
-    Stopped,
-}
-
-/// Carries out commands in order.
-fn execute(
-    alloc: Global,
-    commands: &[Command],
-    envelope: &Envelope,
-    state: &mut State,
-) -> Result<Flow, AllocError>
-    ensures { IfOk result (λ flow.
-        exec (act_of envelope.now) (commands_of commands.now) (state_of state.old) ≡ ending_by flow (state_of state.new)) }
-{
-    for command in commands {
-        match command {
-            Command::Keep { .. } => state.store(alloc, envelope.mailbox.as_slice())?,
-            Command::Discard { .. } => state.discard()?,
-            Command::Stop => return Ok(Flow::Stopped),
-        }
-    }
-    Ok(Flow::GoesOn)
-}
 
 /// The outcome where the main script itself can't run: the implicit keep stands.
 fn failed_at_main(
@@ -94,15 +65,21 @@ fn run_main(
     main: &ScriptName,
     script: &Checked,
     envelope: &Envelope,
+    message: &Message,
 ) -> Result<Outcome, AllocError>
-    ensures { IfOk result (λ outcome. outcome ≡ verdict_at envelope.now main.now (present (script_of script.now))) }
+    ensures { IfOk result (λ outcome. outcome ≡ verdict_at envelope.now message.now main.now (present (tree_of script.now))) }
 {
     let mut state = State {
         actions: Vec::new(alloc),
         cancelled: false,
         reads: first_read(alloc, main, true)?,
     };
-    let _ = execute(alloc, script.commands(), envelope, &mut state)?;
+    let delivery = Delivery {
+        alloc,
+        message,
+        envelope,
+    };
+    let _ = execute(&delivery, script.commands(), &mut state)?;
     let State {
         actions,
         cancelled,
@@ -128,6 +105,20 @@ fn no_main(alloc: Global) -> Outcome
     }
 }
 
+/// The most octets of a script's name. A longer one names no script.
+const MAX_NAME: usize = 1_024;
+
+/// What a library has at a name, where that isn't too long.
+fn find<'a, L: Library>(lib: &'a L, name: &ScriptName) -> Found<'a>
+    ensures { found_as result ≡ found_at (λ name. lookup_of (L.texts lib.now name)) name.now }
+{
+    if name.name.as_slice().len() > MAX_NAME {
+        Found::Missing
+    } else {
+        lib.find(name)
+    }
+}
+
 /// Runs the main script on a message. The meter counts the run, also where memory runs out.
 #[tactic(auto, unfolding(crate::specs::Run::outcome_of))]
 pub fn run<L: Library>(
@@ -135,7 +126,7 @@ pub fn run<L: Library>(
     lib: &L,
     main: Option<&ScriptName>,
     envelope: &Envelope,
-    message: &[u8],
+    message: &Message,
     meter: &mut Meter,
 ) -> Result<Outcome, AllocError>
     ensures outcome { IfOk result (λ outcome. outcome ≡
@@ -146,9 +137,9 @@ pub fn run<L: Library>(
     let Some(name) = main else {
         return Ok(no_main(alloc));
     };
-    match lib.find(name) {
+    match find(lib, name) {
         Found::Missing => failed_at_main(alloc, name, false, ErrorKind::MissingScript),
         Found::Invalid => failed_at_main(alloc, name, true, ErrorKind::InvalidScript),
-        Found::Present(script) => run_main(alloc, name, script, envelope),
+        Found::Present(script) => run_main(alloc, name, script, envelope, message),
     }
 }

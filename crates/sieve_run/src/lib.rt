@@ -2,20 +2,28 @@
 //! verdict looked at.
 #![tactic(auto)]
 
+mod decision;
+mod delivery;
 mod envelope;
 mod interpreter;
+pub mod laws;
 mod library;
+mod matching;
 mod meter;
 mod name;
 mod outcome;
+mod shelf;
 mod state;
+mod steps;
 
 pub use envelope::Envelope;
 pub use interpreter::run;
 pub use library::{Found, Library};
+pub use message_text::{Message, MessageFault};
 pub use meter::Meter;
 pub use name::ScriptName;
 pub use outcome::{Action, ErrorKind, Outcome, RunError};
+pub use shelf::Shelf;
 pub use sieve_code::{Octets, Place};
 
 #[cfg(test)]

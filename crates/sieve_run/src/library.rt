@@ -8,7 +8,7 @@ use sieve_check::Checked;
 pub enum Found<'a> {
     /// No script.
     Missing,
-    /// A script with a fault.
+    /// A script with a fault, or a text past the limit of 1,048,576 octets.
     Invalid,
     /// A script without a fault.
     Present(&'a Checked),

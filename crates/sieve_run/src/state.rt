@@ -28,6 +28,7 @@ fn is_store_into(mailbox: &[u8], action: &Action) -> bool
     }
 }
 
+/// Whether an action discards.
 fn is_discard(action: &Action) -> bool
     ensures { result ≡ is_discard action.now }
 {
@@ -37,12 +38,14 @@ fn is_discard(action: &Action) -> bool
     }
 }
 
+/// Whether one of the actions stores into the mailbox.
 fn has_store_into(actions: &[Action], mailbox: &[u8]) -> bool
     ensures { result ≡ list_any (is_store_into mailbox.now) actions.now }
 {
     actions.iter().any(|action| is_store_into(mailbox, action))
 }
 
+/// Whether one of the actions discards.
 fn has_discard(actions: &[Action]) -> bool
     ensures { result ≡ list_any is_discard actions.now }
 {

@@ -1,69 +1,29 @@
 //! What runs come to. What is expected was written by hand from RFC 5228.
 
-ghost use Rattle.std.specs.Prelude.{◌≡◌, ◌≤◌, Some, None, IfOk, length};
+ghost use Rattle.std.specs.Prelude.{◌≤◌, IfOk, length};
 
 use super::*;
-use sieve_check::{Judged, judge};
 use std::alloc::{AllocError, Global};
-use std::marker::Model;
 use std::test::Fail;
-
-/// A library without scripts.
-#[derive(Debug, Drop)]
-struct Bare;
-
-impl Library for Bare {
-    ghost texts = { λ _ _. None };
-
-    fn find(&self, _name: &ScriptName) -> Found<'_> {
-        Found::Missing
-    }
-}
-
-/// A library that has one text at every name.
-#[derive(Debug, Drop)]
-struct Same {
-    text: Octets,
-    judged: Judged,
-}
-
-impl Model for Same {
-    ghost use Rattle.std.specs.Prelude.{ℕ, List, ◌≡◌, ◌≤◌, length};
-    ghost use Rattle.sieve_check.specs.Judgement.{judged_as, judgement_of};
-
-    ghost Value = { List ℕ };
-
-    ghost view = { λ a. a.text };
-
-    ghost invariant = { λ a. (judged_as a.judged ≡ judgement_of a.text) × (length a.text ≤ 1048576) };
-}
-
-impl Same {
-    fn new(alloc: Global, text: &[u8]) -> Result<Same, AllocError>
-        requires { length text.now ≤ 1048576 }
-        ensures { IfOk result (λ library. library ≡ text.now) }
-    {
-        let judged = judge(alloc, text)?;
-        Ok(Same {
-            text: Octets::copied(alloc, text)?,
-            judged,
-        })
-    }
-}
-
-impl Library for Same {
-    ghost texts = { λ text _. Some text };
-
-    fn find(&self, _name: &ScriptName) -> Found<'_> {
-        match &self.judged {
-            Judged::Sound(checked) => Found::Present(checked),
-            Judged::Faulty { .. } => Found::Invalid,
-        }
-    }
-}
 
 fn named(alloc: Global, place: Place, name: &[u8]) -> Result<ScriptName, AllocError> {
     Ok(ScriptName::new(place, Vec::from_slice(alloc, name)?))
+}
+
+/// The name of the main script.
+fn main_name(alloc: Global) -> Result<ScriptName, AllocError>
+    ensures { IfOk result (λ main. length main.name ≤ 1024) }
+{
+    Ok(ScriptName::new(Place::Personal, Vec::from_slice(alloc, b"main")?))
+}
+
+/// A shelf with this text at the name.
+fn shelf_with(alloc: Global, name: &ScriptName, text: &[u8]) -> Result<Shelf, AllocError>
+    requires { length name.now.name ≤ 1024 }
+{
+    let mut shelf = Shelf::new(alloc);
+    shelf.add(name, text)?;
+    Ok(shelf)
 }
 
 fn push_octets(out: &mut String, octets: &[u8]) -> Result<(), AllocError> {
@@ -110,11 +70,29 @@ fn envelope(alloc: Global) -> Result<Envelope, AllocError> {
     })
 }
 
+/// What a run of a main script comes to, as words.
+fn words_at(
+    alloc: Global,
+    shelf: &Shelf,
+    main: Option<&ScriptName>,
+    message: &[u8],
+    meter: &mut Meter,
+) -> Result<String, Fail> {
+    let envelope = envelope(alloc)?;
+    let message = Message::new(alloc, Vec::from_slice(alloc, message)?)?;
+    let outcome = run(alloc, shelf, main, &envelope, &message, meter)?;
+    Ok(words_of(alloc, &outcome)?)
+}
+
+/// What a run of this text comes to, as words.
+fn words_for(alloc: Global, text: &[u8], message: &[u8]) -> Result<String, Fail> {
+    let main = main_name(alloc)?;
+    let shelf = shelf_with(alloc, &main, text)?;
+    words_at(alloc, &shelf, Some(&main), message, &mut Meter::new())
+}
+
 #[test]
 fn runs_of_a_script(rt: HostRuntime) -> Result<(), Fail> {
-    let main = named(rt.alloc(), Place::Personal, b"main")?;
-    let envelope = envelope(rt.alloc())?;
-    let mut meter = Meter::new();
     for (text, want) in [
         (b"".as_slice(), "implicit main "),
         (b"discard;", "discard main "),
@@ -127,38 +105,148 @@ fn runs_of_a_script(rt: HostRuntime) -> Result<(), Fail> {
         (b"keep;\ndiscard\n", "implicit main@0=invalid-script main "),
         (b"kep;", "implicit main@0=invalid-script main "),
     ] {
-        assert!(rt; text.len() <= 1_048_576);
-        let library = Same::new(rt.alloc(), text)?;
-        let outcome = run(
-            rt.alloc(),
-            &library,
-            Some(&main),
-            &envelope,
-            b"",
-            &mut meter,
-        )?;
-        let got = words_of(rt.alloc(), &outcome)?;
+        let got = words_for(rt.alloc(), text, b"")?;
         assert_eq!(rt; got.as_str(), want, "at {text:?}");
     }
-    assert_eq!(rt; meter.runs(), 10);
+    Ok(())
+}
+
+#[test]
+fn choices(rt: HostRuntime) -> Result<(), Fail> {
+    for (text, want) in [
+        (
+            b"if true { keep; } elsif true { discard; } else { discard; }".as_slice(),
+            "store=INBOX main ",
+        ),
+        (
+            b"if false { discard; } elsif true { keep; } else { discard; }",
+            "store=INBOX main ",
+        ),
+        (
+            b"if false { discard; } elsif false { discard; } else { keep; }",
+            "store=INBOX main ",
+        ),
+        (b"if false { discard; }", "implicit main "),
+        (b"if true { stop; } discard;", "implicit main "),
+        (b"if true { } discard;", "discard main "),
+        (b"if not allof (true, false) { discard; }", "discard main "),
+        (b"if allof (true, true) { discard; }", "discard main "),
+        (b"if anyof (false, true) { discard; }", "discard main "),
+        (b"if anyof (false, not true) { discard; }", "implicit main "),
+    ] {
+        let got = words_for(rt.alloc(), text, b"")?;
+        assert_eq!(rt; got.as_str(), want, "at {text:?}");
+    }
+    Ok(())
+}
+
+#[test]
+fn headers(rt: HostRuntime) -> Result<(), Fail> {
+    for (text, message, want) in [
+        (
+            b"if header :contains \"X-None\" \"\" { discard; }".as_slice(),
+            b"Subject: a\n\n".as_slice(),
+            "implicit main ",
+        ),
+        (
+            b"if header :contains \"X-None\" \"\" { discard; }",
+            b"X-None:\n\n",
+            "discard main ",
+        ),
+        (
+            b"if header \"subject\" \"hello\" { discard; }",
+            b"Subject: HELLO\n\n",
+            "discard main ",
+        ),
+        (
+            b"if header :comparator \"i;octet\" \"subject\" \"hello\" { discard; }",
+            b"Subject: HELLO\n\n",
+            "implicit main ",
+        ),
+        (
+            b"if exists [\"to\", \"subject\"] { discard; }",
+            b"Subject: HELLO\n\n",
+            "implicit main ",
+        ),
+        (
+            b"if exists [\"to\", \"subject\"] { discard; }",
+            b"Subject: a\nTo: b\n\n",
+            "discard main ",
+        ),
+    ] {
+        let got = words_for(rt.alloc(), text, message)?;
+        assert_eq!(rt; got.as_str(), want, "at {text:?} {message:?}");
+    }
+    Ok(())
+}
+
+/// A message of exactly the limit's octets is neither over nor under it (RFC 5228, section 5.9).
+#[test]
+fn sizes(rt: HostRuntime) -> Result<(), Fail> {
+    let mut message = Vec::new(rt.alloc());
+    for _octet in 0..1024 {
+        message.push(b'a')?;
+    }
+    for (text, want) in [
+        (
+            b"if size :over 1K { discard; } if size :under 1K { discard; }".as_slice(),
+            "implicit main ",
+        ),
+        (b"if size :over 1023 { discard; }", "discard main "),
+        (b"if size :under 1025 { discard; }", "discard main "),
+    ] {
+        let got = words_for(rt.alloc(), text, &message)?;
+        assert_eq!(rt; got.as_str(), want, "at {text:?}");
+    }
     Ok(())
 }
 
 #[test]
 fn runs_without_a_script(rt: HostRuntime) -> Result<(), Fail> {
-    let main = named(rt.alloc(), Place::Personal, b"main")?;
-    let envelope = envelope(rt.alloc())?;
+    let main = main_name(rt.alloc())?;
+    let shelf = Shelf::new(rt.alloc());
     let mut meter = Meter::new();
     assert_eq!(rt; meter.runs(), 0);
     for (main, want) in [
         (None, "implicit "),
         (Some(&main), "implicit main@0=missing-script main=missing "),
     ] {
-        let outcome = run(rt.alloc(), &Bare, main, &envelope, b"", &mut meter)?;
-        let got = words_of(rt.alloc(), &outcome)?;
+        let got = words_at(rt.alloc(), &shelf, main, b"", &mut meter)?;
         assert_eq!(rt; got.as_str(), want);
     }
     assert_eq!(rt; meter.runs(), 2);
+    Ok(())
+}
+
+#[test]
+fn shelves(rt: HostRuntime) -> Result<(), Fail> {
+    let main = main_name(rt.alloc())?;
+    let mut shelf = shelf_with(rt.alloc(), &main, b"keep;")?;
+    let mut meter = Meter::new();
+    shelf.add(&main, b"discard;")?;
+    let got = words_at(rt.alloc(), &shelf, Some(&main), b"", &mut meter)?;
+    assert_eq!(rt; got.as_str(), "discard main ");
+    let other = named(rt.alloc(), Place::Global, b"main")?;
+    let got = words_at(rt.alloc(), &shelf, Some(&other), b"", &mut meter)?;
+    assert_eq!(rt;
+        got.as_str(),
+        "implicit main@0=missing-script main=missing "
+    );
+    Ok(())
+}
+
+/// A text of 1,048,576 octets can be run, and none of more.
+#[test]
+fn long_texts(rt: HostRuntime) -> Result<(), Fail> {
+    let mut text = Vec::new(rt.alloc());
+    for _octet in 0..1_048_576 {
+        text.push(b' ')?;
+    }
+    let got = words_for(rt.alloc(), &text, b"")?;
+    assert_eq!(rt; got.as_str(), "implicit main ");
+    text.push(b' ')?;
+    let got = words_for(rt.alloc(), &text, b"")?;
+    assert_eq!(rt; got.as_str(), "implicit main@0=invalid-script main ");
     Ok(())
 }
 

@@ -1,7 +1,6 @@
 -- Where a message is among the others.
-use Rattle.std.proofs.Common.{◌≡◌, ℕ, ◌+◌, List, ◌∷◌, remove, nat_eq, Bool, true, false, refl, ap, ◌∙◌, suc, arith, rules}
+use Rattle.std.proofs.Common.{◌≡◌, ℕ, ◌+◌, List, ◌∷◌, remove, Bool, true, false, refl, ap, ◌∙◌, suc, arith}
 use Rattle.std.specs.Map.{remove_entry}
-use lib.Pointwise.{pointwise}
 
 -- the first of some entries is removed at their first place
 pub removed_here : (test : List ℕ → Bool) (all : List (List ℕ × List ℕ)) (key value : List ℕ) (es : List (List ℕ × List ℕ)) (index : ℕ) → test key ≡ true

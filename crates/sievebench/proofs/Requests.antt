@@ -1,11 +1,11 @@
 -- What the lines of a session's input ask for.
-use Rattle.std.proofs.Common.{◌≡◌, ℕ, ◌<◌, ◌≤◌, ◌⊎◌, inl, inr, List, [], ◌∷◌, ◌++◌, length, take, drop, sym, ap, ◌∙◌, refl, arith, Option, None, Some, Bool, true, false, nat_lt, cond, codes, IfSome, length-append, length-take, ◌+◌}
+use Rattle.std.proofs.Common.{◌≡◌, ℕ, ◌<◌, ◌≤◌, inl, inr, List, [], ◌∷◌, ◌++◌, length, take, drop, sym, ap, ◌∙◌, refl, arith, Option, None, Some, Bool, true, false, nat_lt, cond, codes, IfSome, length-append, length-take, ◌+◌}
 use Rattle.std.proofs.lemmas.Bool.Decides.{nat_tests}
 use Rattle.std.proofs.KnownBytes.{Appends-nil}
 use Rattle.std.specs.Io.KnownBytes.{Appends, Keeps, prepend_known}
 use Rattle.sievebench.specs.Content.{Content, Edit, put_script, put_message, set_main, rename_script, remove_script, set_envelope, set_mailbox}
 use Rattle.sievebench.specs.Line.{IsLine, IsWithin}
-use Rattle.sievebench.specs.Session.{Request, takes_memory, request_of, request_at, request_by, with_octets, edits, over, unreadable}
+use Rattle.sievebench.specs.Session.{Request, takes_memory, request_of, request_at, request_by, with_octets, edits, unreadable}
 use Rattle.sievebench.specs.SessionLine as line
 use Rattle.sievebench.specs.SessionLine.{first_line, command_of_line}
 use Rattle.sievebench.specs.Task.{IsFollowedBy, command_of, edit_by}

@@ -1,14 +1,13 @@
 -- How the commands of a session are served.
-use Rattle.std.proofs.Common.{◌≡◌, ℕ, ◌<◌, ◌≤◌, ◌⊎◌, inl, inr, List, [], ◌++◌, length, take, drop, sym, ap, ◌∙◌, refl, arith, rules, Option, None, Some, Result, Ok, Err, OnOk, OnErr, Bool, true, false, nat_lt, nat_le, ◌||◌, ◌&&◌, is_none, cond, codes, IfSome, length-take}
+use Rattle.std.proofs.Common.{◌≡◌, ℕ, ◌<◌, ◌≤◌, ◌⊎◌, inl, inr, List, length, take, drop, sym, ap, refl, arith, rules, Option, None, Some, Result, Ok, Err, OnOk, OnErr, Bool, true, false, nat_lt, nat_le, ◌||◌, ◌&&◌, is_none, cond, codes, IfSome, length-take}
 use Rattle.std.proofs.lemmas.Bool.Decides.{nat_tests}
-use Rattle.std.specs.Io.KnownBytes.{Appends, Keeps, IsAtEnd}
-use Rattle.sieve_code.specs.Writers.{Wrote}
+use Rattle.std.specs.Io.KnownBytes.{Appends}
 use Rattle.sievebench.specs.Content.{Content, Edit, after, Refuses, unless, is_long, text_at, message_at, with_script, with_message}
 use Rattle.sievebench.specs.Payload.{Takes, FallsShort}
-use Rattle.sievebench.specs.Session.{Request, takes_memory, with_octets, edits, reports, truncated, Replies, Step, refusal_line}
+use Rattle.sievebench.specs.Session.{takes_memory, with_octets, edits, reports, truncated, Replies, refusal_line}
 use Rattle.sievebench.specs.Report.{report_text}
 use Rattle.sievebench.specs.Task.{edit_of, limit_of}
-use Rattle.sievebench.specs.Turn.{RefusesIf, StepFrom, EndFrom, TurnsFrom, Continues, EndsBy, reply_line}
+use Rattle.sievebench.specs.Turn.{RefusesIf, StepFrom, EndFrom, reply_line}
 use Rattle.sievebench.specs.declared.fault.EditFault.{EditFault}
 use Rattle.sievebench.specs.declared.fault.EditFault.TheVariants.{TooLarge, Full, NoMemory}
 use Rattle.sievebench.specs.declared.task.Subject.{Subject}

@@ -1,7 +1,7 @@
 -- How a line falls into words.
-use Rattle.std.proofs.Common.{◌≡◌, ◌≢◌, ℕ, ◌+◌, ◌<◌, ◌≤◌, List, [], ◌∷◌, ◌++◌, length, get_or, take, drop, sym, ap, ◌∙◌, refl, arith, take-append-drop, filter, length-take, length-drop, add-zero, get_or-take, suc, rules, Bool, true, false, cond}
+use Rattle.std.proofs.Common.{◌≡◌, ◌≢◌, ℕ, ◌+◌, ◌<◌, ◌≤◌, List, [], ◌∷◌, length, get_or, take, drop, sym, ap, ◌∙◌, refl, arith, filter, length-take, rules, Bool, true, false}
 use Rattle.std.proofs.lemmas.Bool.Decides.{nat_tests}
-use Rattle.std.proofs.lemmas.List.{drop_more, get_or-drop}
+use Rattle.std.proofs.lemmas.List.{drop_more}
 use Rattle.sievebench.specs.SessionLine.{pieces_from, piece_length, words_of, grow_first, is_word, is_gap, spot_behind, Spot, outside, inside, escaped}
 
 -- a space in front changes no word

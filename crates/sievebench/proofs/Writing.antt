@@ -1,5 +1,5 @@
 -- How a text that is written in several steps comes about.
-use Rattle.std.proofs.Common.{◌≡◌, ℕ, ◌≤◌, List, [], ◌++◌, sym, ap, ◌∙◌, append_assoc, append-nil, refl, arith, Option, Result, Ok, Err, OnErr, ◌<◌, ◌+◌, ◌∷◌, length, get_or, drop}
+use Rattle.std.proofs.Common.{◌≡◌, ℕ, ◌≤◌, List, [], ◌++◌, sym, ap, ◌∙◌, append_assoc, append-nil, refl, arith, Option, Result, Ok, Err, OnErr, ◌<◌, ◌+◌, length, get_or, drop}
 use Rattle.std.specs.List.{flat_map}
 use Rattle.std.proofs.lemmas.List.{drop_more}
 use Rattle.std.proofs.KnownBytes.{Appends-nil, Appends-trans}

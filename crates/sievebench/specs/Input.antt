@@ -1,5 +1,5 @@
 -- What a session has read and not yet used.
-use Rattle.std.specs.Prelude.{ℕ, Bool, IsTrue, ◌+◌, ◌*◌, ◌-◌, List, length, take, drop, Option, slice_range}
+use Rattle.std.specs.Prelude.{ℕ, Bool, IsTrue, ◌+◌, ◌*◌, List, length, Option}
 use Rattle.std.specs.Io.KnownBytes.{prepend_known, IsAtEnd}
 
 -- the octets that are read and not used, how many reads may still be made, and whether a read has come to the end

@@ -1,5 +1,5 @@
 -- The text of a report.
-use Rattle.std.specs.Prelude.{ℕ, Bool, true, false, List, [], ◌∷◌, ◌++◌, length, map, Option, None, Some, is_some, count_by, codes, decimal}
+use Rattle.std.specs.Prelude.{ℕ, Bool, true, false, List, [], ◌++◌, length, map, Option, None, Some, is_some, count_by, codes, decimal}
 use Rattle.std.specs.List.{flat_map}
 use Rattle.sieve_code.specs.declared.place.Place.{Place}
 use Rattle.sieve_code.specs.declared.place.Place.TheVariants.{Personal, Global}

@@ -1,6 +1,5 @@
 -- A session: the replies to a stream of octets, and what the bench holds in the end.
-use Rattle.std.specs.Prelude.{◌≡◌, ⊤, ℕ, Bool, true, false, ◌⊎◌, List, [], ◌∷◌, ◌++◌, length, take, drop, Option, None, Some, Result, Ok, Err, nat_lt, if◌then◌else◌, codes}
-use Rattle.std.specs.Io.KnownBytes.{Appends}
+use Rattle.std.specs.Prelude.{◌≡◌, ℕ, Bool, true, false, ◌⊎◌, List, [], ◌∷◌, ◌++◌, length, take, drop, Option, None, Some, Result, Ok, Err, nat_lt, if◌then◌else◌, codes}
 use Rattle.sievebench.specs.Content.{Content, Edit, put_script, put_message, set_main, rename_script, remove_script, remove_message, clear_main, set_envelope, set_mailbox, after}
 use Rattle.sievebench.specs.Report.{report_text}
 use Rattle.sievebench.specs.SessionLine.{Command, nothing, script, message, main, no_main, rename, drop_script, drop_message, envelope, mailbox, report, first_line, command_of_line}

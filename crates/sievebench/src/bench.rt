@@ -1,36 +1,26 @@
-ghost use Rattle.std.specs.Prelude.{◌≡◌, ◌≤◌, IfOk, OnOk, OnErr, IfErr, Ok, length, remove, is_some, IfSome};
+ghost use Rattle.std.specs.Prelude.{◌≡◌, ⊤, ◌≤◌, IfOk, OnOk, OnErr, IfErr, Ok, length, remove, is_some, IfSome};
 ghost use Rattle.sievebench.specs.Task.{Drops};
 ghost use Rattle.sieve_code.specs.Writers.{Wrote, WroteFront};
+ghost use Rattle.sieve_run.specs.Meter.{runs_after};
 ghost use Rattle.sievebench.specs.Report.{report_text};
 ghost use Rattle.sievebench.specs.ReportFault.{MatchReportFault};
-ghost use Rattle.sievebench.specs.Content.{without_message, message_at, Refuses, Answers, is_long, new_content, after, put_script, put_message, set_main, rename_script, remove_script, remove_message, clear_main, set_envelope, set_mailbox, script_refusal, message_refusal, main_refusal, rename_refusal, remove_script_refusal, remove_message_refusal, envelope_refusal, mailbox_refusal};
+ghost use Rattle.sievebench.specs.Content.{without_message, message_at, Refuses, Answers, new_content, after, put_script, put_message, set_main, rename_script, remove_script, remove_message, clear_main, set_envelope, set_mailbox};
 
 use crate::fault::{EditFault, ReportFault};
-use crate::message::Message;
+use crate::message::message_of;
+use crate::refusal::{
+    MAX_NAME, refuse_envelope, refuse_mailbox, refuse_main, refuse_message, refuse_remove_message,
+    refuse_remove_script, refuse_rename, refuse_script,
+};
 use crate::report::{run_all, write_report};
 use crate::script::Scripts;
 use crate::word::Word;
 use indexmap::IndexMap;
 use sieve_code::{Octets, Sink};
-use sieve_run::{Envelope, Meter, ScriptName};
+use sieve_run::{Envelope, Message, Meter, ScriptName};
 use std::alloc::{AllocError, Global};
 use std::collections::BTreeMap;
 use std::marker::Model;
-
-/// The most octets of a script's text.
-pub(crate) const MAX_TEXT: usize = 1_048_576;
-/// The most octets of a message.
-pub(crate) const MAX_MESSAGE: usize = 16_777_216;
-/// The most octets of a script's name or a message's id.
-const MAX_NAME: usize = 1_024;
-/// The most octets of an address of the envelope.
-const MAX_ADDRESS: usize = 1_024;
-/// The most octets of the mailbox's name.
-const MAX_MAILBOX: usize = 255;
-/// The most scripts.
-const MAX_SCRIPTS: usize = 1_024;
-/// The most messages.
-const MAX_MESSAGES: usize = 65_536;
 
 /// Scripts beside sample messages, with the main script's name and the envelope. Contracts see what it holds as
 /// plain data.
@@ -49,117 +39,6 @@ impl Model for Bench {
     ghost Value = { Content };
 
     ghost view = { λ b. record { main = b.main; envelope = b.envelope; scripts = b.scripts; messages = b.messages.entries } };
-}
-
-/// Whether a name or an id is past its limit.
-fn is_long(name: &Octets) -> bool
-    ensures { result ≡ is_long name.now }
-{
-    name.as_slice().len() > MAX_NAME
-}
-
-/// Why a script isn't put, apart from memory.
-fn refuse_script(scripts: &Scripts, name: &ScriptName, text: &[u8]) -> Option<EditFault>
-    ensures { result ≡ script_refusal scripts.now name.now text.now }
-{
-    if is_long(&name.name) || text.len() > MAX_TEXT {
-        return Some(EditFault::TooLarge);
-    }
-    if !scripts.contains(name) && scripts.by_name.len() >= MAX_SCRIPTS {
-        return Some(EditFault::Full);
-    }
-    None
-}
-
-/// Why a message isn't put, apart from memory.
-fn refuse_message(
-    messages: &IndexMap<Octets, Message>,
-    id: &Octets,
-    bytes: &[u8],
-) -> Option<EditFault>
-    ensures { result ≡ message_refusal messages.now.entries id.now bytes.now }
-{
-    if is_long(id) || bytes.len() > MAX_MESSAGE {
-        return Some(EditFault::TooLarge);
-    }
-    if !messages.contains_key(id) && messages.len() >= MAX_MESSAGES {
-        return Some(EditFault::Full);
-    }
-    None
-}
-
-/// Why a main script's name isn't taken, apart from memory.
-fn refuse_main(name: &ScriptName) -> Option<EditFault>
-    ensures { result ≡ main_refusal name.now }
-{
-    if is_long(&name.name) {
-        Some(EditFault::TooLarge)
-    } else {
-        None
-    }
-}
-
-/// Why a script isn't renamed, apart from memory.
-fn refuse_rename(scripts: &Scripts, from: &ScriptName, to: &ScriptName) -> Option<EditFault>
-    ensures { result ≡ rename_refusal scripts.now from.now to.now }
-{
-    if is_long(&from.name) || is_long(&to.name) {
-        Some(EditFault::TooLarge)
-    } else if !scripts.contains(from) {
-        Some(EditFault::NoSuchScript)
-    } else if scripts.contains(to) {
-        Some(EditFault::NameTaken)
-    } else {
-        None
-    }
-}
-
-/// Why a script isn't removed.
-fn refuse_remove_script(scripts: &Scripts, name: &ScriptName) -> Option<EditFault>
-    ensures { result ≡ remove_script_refusal scripts.now name.now }
-{
-    if is_long(&name.name) {
-        Some(EditFault::TooLarge)
-    } else if !scripts.contains(name) {
-        Some(EditFault::NoSuchScript)
-    } else {
-        None
-    }
-}
-
-/// Why a message isn't removed.
-fn refuse_remove_message(messages: &IndexMap<Octets, Message>, id: &Octets) -> Option<EditFault>
-    ensures { result ≡ remove_message_refusal messages.now.entries id.now }
-{
-    if is_long(id) {
-        Some(EditFault::TooLarge)
-    } else if !messages.contains_key(id) {
-        Some(EditFault::NoSuchMessage)
-    } else {
-        None
-    }
-}
-
-/// Why an envelope isn't taken, apart from memory.
-fn refuse_envelope(from: &[u8], to: &[u8]) -> Option<EditFault>
-    ensures { result ≡ envelope_refusal from.now to.now }
-{
-    if from.len() > MAX_ADDRESS || to.len() > MAX_ADDRESS {
-        Some(EditFault::TooLarge)
-    } else {
-        None
-    }
-}
-
-/// Why a mailbox isn't taken, apart from memory.
-fn refuse_mailbox(mailbox: &[u8]) -> Option<EditFault>
-    ensures { result ≡ mailbox_refusal mailbox.now }
-{
-    if mailbox.len() > MAX_MAILBOX {
-        Some(EditFault::TooLarge)
-    } else {
-        None
-    }
 }
 
 /// Where among the messages the one of a word's id is. Takes no memory, since the word isn't copied.
@@ -206,7 +85,8 @@ impl Bench {
         if let Some(fault) = refuse_message(&self.messages, &id, bytes.as_slice()) {
             return Err(fault);
         }
-        match self.messages.insert(id, Message { bytes }) {
+        let message = message_of(self.alloc, bytes).map_err(|_| EditFault::NoMemory)?;
+        match self.messages.insert(id, message) {
             Ok(_) => Ok(()),
             Err(_) => Err(EditFault::NoMemory),
         }
@@ -388,6 +268,10 @@ impl Bench {
         ensures err { IfErr result (λ fault. MatchReportFault fault (writer.new ≡ writer.old)
             (WroteFront W.contents W.fault_count writer.old writer.new (report_text self.old))) }
         ensures content { self.new ≡ self.old }
+        // Each message was run once, unless memory was refused.
+        ensures runs { OnOk result (meter.new ≡ runs_after (length self.old.messages) meter.old) }
+        ensures runs_at_fault { IfErr result (λ fault. MatchReportFault fault ⊤
+            (meter.new ≡ runs_after (length self.old.messages) meter.old)) }
     {
         let main = self.main.as_ref();
         let Ok(reported) = run_all(

@@ -9,6 +9,7 @@ mod input;
 mod line;
 mod message;
 mod payload;
+mod refusal;
 mod report;
 mod report_lines;
 mod script;

@@ -1,16 +1,17 @@
+ghost use Rattle.std.specs.Prelude.{◌≡◌, ◌≤◌, IfOk, length};
+
 use sieve_code::Octets;
-use std::marker::Model;
+use sieve_run::{Message, MessageFault};
+use std::alloc::{AllocError, Global};
 
-/// A message of a bench. Contracts see its octets.
-#[derive(Debug, Drop)]
-pub(crate) struct Message {
-    pub(crate) bytes: Octets,
-}
-
-impl Model for Message {
-    ghost use Rattle.std.specs.Prelude.{ℕ, List};
-
-    ghost Value = { List ℕ };
-
-    ghost view = { λ a. a.bytes };
+/// The message of these octets, which are no more than a message may have.
+pub(crate) fn message_of(alloc: Global, bytes: Octets) -> Result<Message, AllocError>
+    requires { length bytes ≤ 16777216 }
+    ensures { IfOk result (λ message. message ≡ bytes) }
+{
+    match Message::new(alloc, bytes.into_vec()) {
+        Ok(message) => Ok(message),
+        Err((MessageFault::TooLarge, _)) => unreachable!(),
+        Err((MessageFault::NoMemory, _)) => Err(AllocError),
+    }
 }

@@ -3,9 +3,9 @@ ghost use Rattle.std.specs.List.{flat_map};
 ghost use Rattle.std.specs.Option.{option_copied};
 ghost use Rattle.sieve_code.specs.Writers.{Wrote, WroteFront};
 ghost use Rattle.sievebench.specs.Report.{action_line, read_line, script_line, verdict_lines, message_lines, error_count, total_line, report_with, verdicts};
+ghost use Rattle.sieve_run.specs.Meter.{runs_after};
 ghost use Rattle.sievebench.specs.Reported.{reported_of};
 
-use crate::message::Message;
 use crate::report_lines::{
     write_action, write_envelope, write_error, write_implicit, write_main, write_message,
     write_read, write_script, write_total,
@@ -13,7 +13,7 @@ use crate::report_lines::{
 use crate::script::Scripts;
 use indexmap::IndexMap;
 use sieve_code::{Octets, Sink, WriteFault};
-use sieve_run::{Envelope, Meter, Outcome, ScriptName, run};
+use sieve_run::{Envelope, Message, Meter, Outcome, ScriptName, run};
 use std::alloc::{AllocError, Global};
 
 /// A message's id with the verdict on it.
@@ -33,19 +33,13 @@ pub(crate) fn run_all<'a>(
     messages: &'a IndexMap<Octets, Message>,
     meter: &mut Meter,
 ) -> Result<Vec<Reported<'a>>, AllocError>
-    ensures { IfOk result (λ reported.
+    ensures verdicts { IfOk result (λ reported.
         map reported_of reported.items ≡ verdicts (option_copied main.entry) envelope.now scripts.now messages.now.entries) }
+    ensures meter { OnOk result (meter.new ≡ runs_after (length messages.now.entries) meter.old) }
 {
     let mut reported = Vec::new(alloc);
     for (id, message) in messages {
-        let outcome = run(
-            alloc,
-            scripts,
-            main,
-            envelope,
-            message.bytes.as_slice(),
-            meter,
-        )?;
+        let outcome = run(alloc, scripts, main, envelope, message, meter)?;
         reported.push(Reported { id, outcome })?;
     }
     Ok(reported)

@@ -5,7 +5,7 @@ ghost use Rattle.sieve_run.specs.Library.{lookup_of, found_as};
 ghost use Rattle.sieve_run.specs.Name.{name_cmp};
 ghost use Rattle.sieve_check.specs.Judgement.{judgement_of, fault_of};
 
-use sieve_check::{FaultKind, Judged, judge};
+use sieve_check::{FaultKind, JudgeFault, Judged, judge};
 use sieve_code::Octets;
 use sieve_run::{Found, Library, ScriptName};
 use std::alloc::{AllocError, Global};
@@ -36,8 +36,11 @@ impl Script {
         requires { length text ≤ 1048576 }
         ensures { IfOk result (λ script. script ≡ text) }
     {
-        let judged = judge(alloc, text.as_slice())?;
-        Ok(Script { text, judged })
+        match judge(alloc, text.as_slice()) {
+            Ok(judged) => Ok(Script { text, judged }),
+            Err(JudgeFault::TooLarge) => unreachable!(),
+            Err(JudgeFault::NoMemory) => Err(AllocError),
+        }
     }
 
     /// A copy, which is read and checked again.

@@ -4,8 +4,9 @@ ghost use Rattle.sievebench.specs.SessionLine as line;
 ghost use Rattle.sievebench.specs.SessionLine.{command_of_line};
 ghost use Rattle.sievebench.specs.Task.{IsTask, Tasks, command_of, change_task, limit_of};
 
-use crate::bench::{Bench, MAX_MESSAGE, MAX_TEXT};
+use crate::bench::Bench;
 use crate::fault::EditFault;
+use crate::refusal::{MAX_MESSAGE, MAX_TEXT};
 use crate::session_line::{Command, command_of_line};
 use crate::word::Word;
 use sieve_code::{Octets, Place};

@@ -4,10 +4,12 @@ mod calls;
 mod devices;
 mod edits;
 mod limits;
+mod memory;
 mod program;
 mod refusals;
 mod reports;
 mod sessions;
+mod standard;
 
 use sievebench::{Bench, Counted, Meter, Place, ScriptName, SessionEnd, session};
 use std::alloc::{AllocError, Global};

@@ -1,5 +1,5 @@
-use Rattle.std.proofs.Common.{◌≡◌, ◌∷◌, nat_eq, true, false, rules, ◌+◌, length, arith, ap, ◌∙◌, refl, suc}
-use Rattle.std.specs.Map.{lookup, remove_entry}
+use Rattle.std.proofs.Common.{◌≡◌, ◌∷◌, nat_eq, true, false, rules, length, arith, ◌∙◌, refl, suc}
+use Rattle.std.specs.Map.{lookup}
 use lib.Pointwise.{pointwise}
 use Rattle.sievebench.proofs.Messages.{removed_here, removed_later}
 use Rattle.sievebench.proofs.bench.position_of.Goals as goal

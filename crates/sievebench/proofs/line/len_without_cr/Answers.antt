@@ -1,4 +1,4 @@
-use Rattle.std.proofs.Common.{◌≡◌, ℕ, ◌+◌, ◌-◌, ◌<◌, ◌≤◌, List, take, length, arith, ap, ◌∙◌, sym, suc, zero, get_or, eqb, cond, ◌≢◌, refl}
+use Rattle.std.proofs.Common.{◌≡◌, ℕ, ◌+◌, ◌-◌, ◌<◌, ◌≤◌, List, take, length, arith, ap, ◌∙◌, get_or, eqb, cond, ◌≢◌, refl}
 use Rattle.std.proofs.lemmas.Bool.Decides.{nat_tests}
 use Rattle.sievebench.specs.SessionLine.{without_cr}
 use Rattle.sievebench.proofs.Lines.{without_cr-take}

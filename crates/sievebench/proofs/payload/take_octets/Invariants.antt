@@ -1,4 +1,4 @@
-use Rattle.std.proofs.Common.{◌≡◌, ◌≤◌, ◌-◌}
+use Rattle.std.proofs.Common.{◌≤◌, ◌-◌}
 use Rattle.std.specs.Option.{option_map}
 use Rattle.sievebench.specs.Input.{unread, fuel, Knows}
 use Rattle.sievebench.specs.Payload.{Takes, octets_of}

@@ -1,6 +1,7 @@
-use Rattle.std.proofs.Common.{◌≡◌, List, [], ◌∷◌, ◌++◌, rules, ap, ◌∙◌, sym, map, append_assoc}
+use Rattle.std.proofs.Common.{◌≡◌, ℕ, length, List, [], ◌∷◌, ◌++◌, rules, ap, ◌∙◌, sym, map, append_assoc}
 use Rattle.std.specs.Option.{option_copied}
 use Rattle.sieve_run.specs.Library.{lookup_of}
+use Rattle.sieve_run.specs.Meter.{next_run, runs_after}
 use Rattle.sieve_run.specs.Run.{outcome_of}
 use Rattle.sievebench.specs.Content.{text_at}
 use Rattle.sievebench.specs.Report.{verdicts}
@@ -19,9 +20,16 @@ one_more f g done after left rest x y all so_far cut grown same =
     ∙ ap (λ l. map f done ++ map g l) (sym cut)
     ∙ so_far
 
+-- one more of the runs that are left is made
+one_run : {A : Type 0} (left rest : List A) (x : A) (before after runs : ℕ) → left ≡ x ∷ rest → after ≡ next_run before → runs_after (length left) before ≡ runs → runs_after (length rest) after ≡ runs
+one_run left rest x before after runs cut counted so_far =
+    ap (λ n. runs_after (length rest) n) counted ∙ ap (λ l. runs_after (length l) before) (sym cut) ∙ so_far
+
 pub loop-id-preserved : goal.loop-id-preserved
 unfolding verdicts
-loop-id-preserved c =
-    one_more reported_of (λ e. (e.0, outcome_of (λ name. lookup_of (text_at c.args.scripts.now name)) (option_copied c.args.main) c.args.envelope.now e.1))
-    c.loop-id.reported.items c.push.new.self.items c.loop-id.id-iterator c.next.new.self _ (c.in-Some.id.now, c.in-Some.message.now) _
-    c.loop-id.invariant (search rules) (c.in_ok-push.ensures.items) (search rules)
+loop-id-preserved c = (
+  one_more reported_of (λ e. (e.0, outcome_of (λ name. lookup_of (text_at c.args.scripts.now name)) (option_copied c.args.main) c.args.envelope.now e.1))
+      c.loop-id.reported.items c.push.new.self.items c.loop-id.id-iterator c.next.new.self _ (c.in-Some.id.now, c.in-Some.message.now) _
+      c.loop-id.invariant.0 (search rules) (c.in_ok-push.ensures.items) (search rules),
+  one_run c.loop-id.id-iterator c.next.new.self (c.in-Some.id.now, c.in-Some.message.now) c.loop-id.meter _ _ (search rules) c.run.ensures.meter c.loop-id.invariant.1,
+)

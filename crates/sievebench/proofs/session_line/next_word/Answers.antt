@@ -1,5 +1,5 @@
 use Rattle.std.proofs.Common.{◌≡◌, ◌<◌, ap, sym, ◌∙◌, rules, ◌∷◌, take, drop}
-use Rattle.sievebench.specs.SessionLine.{words_of, piece_length, outside}
+use Rattle.sievebench.specs.SessionLine.{words_of}
 use Rattle.sievebench.proofs.Words.{words_of-none, words_of-word, piece_length-some}
 use Rattle.sievebench.proofs.session_line.next_word.Goals as goal
 

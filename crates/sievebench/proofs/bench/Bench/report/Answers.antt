@@ -17,4 +17,4 @@ pub returns-clause-err : goal.returns-clause-err
 returns-clause-err g c =
     let content : Content = record { main = c.self.inside.main; envelope = c.self.inside.envelope; scripts = c.self.inside.scripts; messages = c.self.inside.messages.entries } in
     rw (← c.self.view_is) (subst (λ (text : List ℕ). WroteFront g.W.Sink.contents g.W.Faults.fault_count c.args.writer.now c.write_report.new.writer text)
-    (whole_report content _ _ c.as_ref-main.ensures.value (rw c.deref.ensures.value c.in-Ok.ensures)) c.in-Err.ensures.err)
+    (whole_report content _ _ c.as_ref-main.ensures.value (rw c.deref.ensures.value c.in-Ok.ensures.verdicts)) c.in-Err.ensures.err)

@@ -1,5 +1,4 @@
-use Rattle.std.proofs.Common.{◌≡◌, ◌∙◌, List, ℕ, ◌++◌, ◌<◌, ◌+◌, take, drop, length, ap, subst, sym, arith, length-take}
-use Rattle.sievebench.specs.SessionLine.{first_line, without_cr}
+use Rattle.std.proofs.Common.{◌∙◌, List, ℕ, ◌++◌, ◌+◌, drop, ap, arith, length-take}
 use Rattle.sievebench.proofs.Lines.{first_line-found}
 use Rattle.sievebench.proofs.line.Line.before.Goals as goal
 

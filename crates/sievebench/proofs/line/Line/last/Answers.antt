@@ -1,4 +1,4 @@
-use Rattle.std.proofs.Common.{◌≡◌, ◌∙◌, List, ℕ, [], ◌++◌, take, drop, length, ap, sym, arith}
+use Rattle.std.proofs.Common.{◌≡◌, ◌∙◌, List, ℕ, [], ◌++◌, length, ap, sym, arith}
 use Rattle.std.proofs.lemmas.List.{take_all, drop_all}
 use Rattle.sievebench.proofs.Lines.{first_line-last}
 use Rattle.sievebench.proofs.line.Line.last.Goals as goal

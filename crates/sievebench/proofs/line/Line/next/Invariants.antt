@@ -1,4 +1,4 @@
-use Rattle.std.proofs.Common.{◌≡◌, ◌≤◌}
+use Rattle.std.proofs.Common.{◌≤◌}
 use Rattle.std.specs.Io.KnownBytes.{Keeps}
 use Rattle.sievebench.specs.Input.{unread, fuel, Knows}
 use Rattle.sievebench.proofs.line.Line.next.Given as goal

@@ -1,0 +1,51 @@
+-- What the recursions over arguments and parts give at one element.
+use Rattle.std.proofs.Common.{◌≡◌, ℕ, suc, ◌-◌, ◌<◌, ◌≤◌, Bool, true, false, ◌&&◌, nat_eq, List, [], ◌∷◌, ◌++◌, map, length, get_or, drop, Some, refl, sym, ap, subst, ◌∙◌, arith}
+use Rattle.std.proofs.lemmas.Bool.{lt-ltb}
+use Rattle.std.proofs.lemmas.Bool.Decides.{nat_tests}
+use Rattle.std.proofs.lemmas.List.{length-map}
+use Rattle.std.proofs.lemmas.Option.{slice_get-map, slice_get_read}
+use Rattle.std.specs.List.{flat_map, slice_get, starts_with}
+use lib.Pointwise.{pointwise}
+use Rattle.sieve_check.specs.Script.{from_end, part_value}
+use Rattle.sieve_check.specs.Tree.{Argument, part_of}
+use Rattle.sieve_check.specs.declared.tree.Part as parts
+
+-- an argument before the end
+pub from_end_read : {X : Type 0} (view : X → Argument) (args : List X) (count i : ℕ) (argument : X) → count < length args → i ≡ length args - suc count → argument ≡ get_or args i argument → Some (view argument) ≡ from_end count (map view args)
+from_end_read view args count i argument h at e =
+    let read : slice_get args (length args - suc count) ≡ Some argument = subst (λ n. slice_get args n ≡ Some argument) at (slice_get_read args (length args) i argument refl (omega arith) e) in
+    rw (length-map args view, slice_get-map view args (length args - suc count), read, lt-ltb count (length args) h) refl
+
+same_either_way : (a b : ℕ) → nat_eq a b ≡ nat_eq b a
+same_either_way a b = grind (arith, nat_tests)
+
+and_assoc : (a b c : Bool) → (a && (b && c)) ≡ ((a && b) && c)
+and_assoc true b c = refl
+and_assoc false b c = refl
+
+-- a list in two pieces is another exactly if that begins with the first and goes on with the second
+pub pointwise-append : (xs ys zs : List ℕ) → pointwise nat_eq xs (ys ++ zs) ≡ (starts_with nat_eq xs ys && pointwise nat_eq (drop (length ys) xs) zs)
+pointwise-append xs [] zs = refl
+pointwise-append [] (y ∷ ys) zs = refl
+pointwise-append (x ∷ xs) (y ∷ ys) zs =
+    ap (λ b. b && pointwise nat_eq xs (ys ++ zs)) (same_either_way x y)
+    ∙ ap (λ b. nat_eq y x && b) (pointwise-append xs ys zs)
+    ∙ and_assoc (nat_eq y x) (starts_with nat_eq xs ys) (pointwise nat_eq (drop (length ys) xs) zs)
+
+literally_at : (octets : List ℕ) (items : List parts.Part) (part : parts.Part) (front : List ℕ) → 1 ≤ length items → part ≡ get_or items 0 part → front ≡ part_value (part_of part) → pointwise nat_eq octets (flat_map part_value (map part_of items)) ≡ (starts_with nat_eq octets front && pointwise nat_eq (drop (length front) octets) (flat_map part_value (map part_of (drop 1 items))))
+literally_at octets [] part front h e f = absurd (omega arith)
+literally_at octets (first ∷ rest) part front h e f =
+    sym (ap (λ p. pointwise nat_eq octets (p ++ flat_map part_value (map part_of rest))) (f ∙ ap (λ p. part_value (part_of p)) e))
+    ∙ pointwise-append octets front (flat_map part_value (map part_of rest))
+
+-- a part that the octets begin with, and one that they don't
+pub literally_more : (octets left : List ℕ) (items : List parts.Part) (part : parts.Part) (front : List ℕ) → 1 ≤ length items → part ≡ get_or items 0 part → front ≡ part_value (part_of part) → (starts_with nat_eq octets front ≡ true) × (left ≡ drop (length front) octets) → pointwise nat_eq left (flat_map part_value (map part_of (drop 1 items))) ≡ pointwise nat_eq octets (flat_map part_value (map part_of items))
+literally_more octets left items part front h e f so =
+    ap (λ l. pointwise nat_eq l (flat_map part_value (map part_of (drop 1 items)))) so.1
+    ∙ ap (λ b. b && pointwise nat_eq (drop (length front) octets) (flat_map part_value (map part_of (drop 1 items)))) (sym so.0)
+    ∙ sym (literally_at octets items part front h e f)
+
+pub literally_not : (octets : List ℕ) (items : List parts.Part) (part : parts.Part) (front : List ℕ) → 1 ≤ length items → part ≡ get_or items 0 part → front ≡ part_value (part_of part) → starts_with nat_eq octets front ≡ false → false ≡ pointwise nat_eq octets (flat_map part_value (map part_of items))
+literally_not octets items part front h e f so =
+    ap (λ b. b && pointwise nat_eq (drop (length front) octets) (flat_map part_value (map part_of (drop 1 items)))) (sym so)
+    ∙ sym (literally_at octets items part front h e f)

@@ -1,0 +1,110 @@
+-- Worked rows of the definitions.
+use Rattle.std.proofs.Common.{◌≡◌, ℕ, true, false, List, [], ◌∷◌, Some, None, refl, codes}
+use Rattle.match_text.specs.declared.comparators.Collation.TheVariants.{Octet, Casemap}
+use Rattle.sieve_syntax.specs.Tree as syntax
+use Rattle.sieve_check.specs.Breach.{breaches_of, nodes_breaches, node_breaches, block_breaches, tests_breaches, test_breaches}
+use Rattle.sieve_check.specs.Parted.{parted}
+use Rattle.sieve_check.specs.Script.{no_commands, stops, acts, chooses, keep_leaf, discard_leaf, always, asks, header_ask, script_of, chain_of, node_before, block_commands, condition_of, conditions_in}
+use Rattle.sieve_check.specs.Table.{command_kind, test_kind}
+use Rattle.sieve_check.specs.Tree.{literal}
+use Rattle.sieve_check.specs.declared.reading.MatchType.TheVariants.{Is, Contains}
+use Rattle.sieve_check.specs.declared.rule.Rule.TheVariants.{RequirePlace, UnknownCapability, UnknownCommand, ElsePlace, BadTag, BadArguments, UnknownComparator, NumberTooLarge}
+
+-- a string on line 1, a string without brackets as an argument, and a tag
+abbrev text : List ℕ → syntax.Text
+text octets = record { octets = octets; line = 1 }
+
+abbrev one : List ℕ → syntax.Argument
+one octets = syntax.strings (text octets ∷ []) false
+
+abbrev tagged : List ℕ → syntax.Argument
+tagged name = syntax.tag name 1
+
+-- a command that ends by a semicolon, and one with a test and an empty block
+abbrev plain : List ℕ → ℕ → List syntax.Argument → syntax.Node
+plain name line args = syntax.node name line args syntax.no_tests syntax.no_block
+
+abbrev branch : List ℕ → ℕ → syntax.Test → List syntax.Node → syntax.Node
+branch name line t ns = syntax.node name line [] (syntax.one_test t) (syntax.block (syntax.nodes ns))
+
+abbrev header : List syntax.Argument → syntax.Test
+header args = syntax.test (codes "header") 1 args syntax.no_tests
+
+abbrev size : List syntax.Argument → syntax.Test
+size args = syntax.test (codes "size") 1 args syntax.no_tests
+
+abbrev truth : syntax.Test
+truth = syntax.test (codes "TRUE") 1 [] syntax.no_tests
+
+-- kep; require "x";
+unknown_row : breaches_of (plain (codes "kep") 1 [] ∷ plain (codes "require") 2 (one (codes "x") ∷ []) ∷ [])
+    ≡ record { line = 1; rule = UnknownCommand } ∷ record { line = 2; rule = RequirePlace } ∷ []
+unfolding nodes_breaches node_breaches block_breaches tests_breaches command_kind
+unknown_row = refl
+
+-- require "vacation"; keep;
+capability_row : breaches_of (plain (codes "require") 1 (one (codes "vacation") ∷ []) ∷ plain (codes "keep") 2 [] ∷ []) ≡ record { line = 1; rule = UnknownCapability } ∷ []
+unfolding nodes_breaches node_breaches block_breaches tests_breaches command_kind
+capability_row = refl
+
+-- require "comparator-i;octet"; Keep;
+required_row : breaches_of (plain (codes "require") 1 (one (codes "comparator-i;octet") ∷ []) ∷ plain (codes "Keep") 2 [] ∷ []) ≡ []
+unfolding nodes_breaches node_breaches block_breaches tests_breaches command_kind
+required_row = refl
+
+-- if header "Subject" :is "x" {}
+late_tag_row : breaches_of (branch (codes "if") 1 (header (one (codes "Subject") ∷ tagged (codes "is") ∷ one (codes "x") ∷ [])) [] ∷ []) ≡ record { line = 1; rule = BadTag } ∷ []
+unfolding nodes_breaches node_breaches block_breaches tests_breaches test_breaches command_kind test_kind
+late_tag_row = refl
+
+-- if header :comparator "i;basic" "a" "b" {}
+comparator_row : breaches_of (branch (codes "if") 1 (header (tagged (codes "comparator") ∷ one (codes "i;basic") ∷ one (codes "a") ∷ one (codes "b") ∷ [])) [] ∷ []) ≡ record { line = 1; rule = UnknownComparator } ∷ []
+unfolding nodes_breaches node_breaches block_breaches tests_breaches test_breaches command_kind test_kind
+comparator_row = refl
+
+-- if header :comparator ["i;octet"] "a" "b" {}
+bracketed_comparator_row : breaches_of (branch (codes "if") 1 (header (tagged (codes "comparator") ∷ syntax.strings (text (codes "i;octet") ∷ []) true ∷ one (codes "a") ∷ one (codes "b") ∷ [])) [] ∷ []) ≡ record { line = 1; rule = BadArguments } ∷ []
+unfolding nodes_breaches node_breaches block_breaches tests_breaches test_breaches command_kind test_kind
+bracketed_comparator_row = refl
+
+-- if size 1 {}
+size_row : breaches_of (branch (codes "if") 1 (size (syntax.number (Some 1) 1 ∷ [])) [] ∷ []) ≡ record { line = 1; rule = BadArguments } ∷ []
+unfolding nodes_breaches node_breaches block_breaches tests_breaches test_breaches command_kind test_kind
+size_row = refl
+
+-- if size :over :under 1 {}
+both_bounds_row : breaches_of (branch (codes "if") 1 (size (tagged (codes "over") ∷ tagged (codes "under") ∷ syntax.number (Some 1) 1 ∷ [])) [] ∷ []) ≡ record { line = 1; rule = BadTag } ∷ []
+unfolding nodes_breaches node_breaches block_breaches tests_breaches test_breaches command_kind test_kind
+both_bounds_row = refl
+
+-- if size :over 17179869184G {}
+large_row : breaches_of (branch (codes "if") 1 (size (tagged (codes "over") ∷ syntax.number None 1 ∷ [])) [] ∷ []) ≡ record { line = 1; rule = NumberTooLarge } ∷ []
+unfolding nodes_breaches node_breaches block_breaches tests_breaches test_breaches command_kind test_kind
+large_row = refl
+
+-- if true {} keep; elsif true {}
+else_row : breaches_of (branch (codes "if") 1 truth [] ∷ plain (codes "keep") 2 [] ∷ branch (codes "elsif") 3 truth [] ∷ []) ≡ record { line = 3; rule = ElsePlace } ∷ []
+unfolding nodes_breaches node_breaches block_breaches tests_breaches test_breaches command_kind test_kind
+else_row = refl
+
+-- keep "x" :flags;
+two_rules_row : breaches_of (plain (codes "keep") 1 (one (codes "x") ∷ tagged (codes "flags") ∷ []) ∷ []) ≡ record { line = 1; rule = BadTag } ∷ record { line = 1; rule = BadArguments } ∷ []
+unfolding nodes_breaches node_breaches block_breaches tests_breaches command_kind
+two_rules_row = refl
+
+-- if header :contains "a" "b" { discard; } elsif true { stop; } else { } keep;
+chain_row : script_of (parted (branch (codes "if") 1 (header (tagged (codes "contains") ∷ one (codes "a") ∷ one (codes "b") ∷ [])) (plain (codes "discard") 2 [] ∷ [])
+    ∷ branch (codes "elsif") 3 truth (plain (codes "stop") 4 [] ∷ [])
+    ∷ syntax.node (codes "else") 5 [] syntax.no_tests (syntax.block syntax.end_nodes)
+    ∷ plain (codes "keep") 6 [] ∷ []))
+    ≡ chooses (asks (header_ask Contains Casemap ((literal (codes "a") ∷ []) ∷ []) ((literal (codes "b") ∷ []) ∷ []))) (acts discard_leaf 2 no_commands)
+    (chooses always (stops no_commands) no_commands no_commands)
+    (acts keep_leaf 6 no_commands)
+unfolding chain_of node_before block_commands condition_of conditions_in command_kind test_kind
+chain_row = refl
+
+-- if header :comparator "i;octet" ["a", "c"] "b" {}
+octet_row : script_of (parted (branch (codes "if") 1 (header (tagged (codes "comparator") ∷ one (codes "i;octet") ∷ syntax.strings (text (codes "a") ∷ text (codes "c") ∷ []) true ∷ one (codes "b") ∷ [])) [] ∷ []))
+    ≡ chooses (asks (header_ask Is Octet ((literal (codes "a") ∷ []) ∷ (literal (codes "c") ∷ []) ∷ []) ((literal (codes "b") ∷ []) ∷ []))) no_commands no_commands no_commands
+unfolding chain_of node_before block_commands condition_of conditions_in command_kind test_kind
+octet_row = refl

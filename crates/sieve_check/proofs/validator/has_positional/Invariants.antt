@@ -1,9 +1,0 @@
-use Rattle.std.proofs.Common.{◌≡◌, drop, map}
-use Rattle.std.specs.List.{list_any}
-use Rattle.sieve_syntax.specs.Tree.{argument_of}
-use Rattle.sieve_check.specs.Breach.{is_positional}
-use Rattle.sieve_check.proofs.validator.has_positional.Given as goal
-
--- the arguments that are left decide
-abbrev pub invariant-loop-argument : goal.invariant-loop-argument
-invariant-loop-argument l = list_any is_positional (map argument_of (drop l.argument-index l.args)) ≡ list_any is_positional (map argument_of l.args)

@@ -1,0 +1,6 @@
+mod Rows
+pub mod Unchanged
+pub mod Searching
+pub mod Views
+pub mod Deciding
+pub mod Stepping

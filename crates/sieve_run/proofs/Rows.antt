@@ -1,0 +1,229 @@
+-- Worked rows of what tests find and of what a run does.
+use Rattle.std.proofs.Common.{◌≡◌, ℕ, Bool, true, false, List, [], ◌∷◌, ◌++◌, length, nat_lt, if◌then◌else◌, Some, None, refl, ap, codes}
+use Rattle.match_text.specs.declared.comparators.Collation.{Collation}
+use Rattle.match_text.specs.declared.comparators.Collation.TheVariants.{Octet, Casemap}
+use Rattle.message_text.specs.Fields.{fields_of, field_groups}
+use Rattle.sieve_check.specs.Script.{Ask, header_ask, exists_ask, over_ask, under_ask, Condition, always, never, asks, negated, both, either, Commands, no_commands, stops, acts, chooses, keep_leaf, discard_leaf, chain_of, node_before, block_commands, conditions_in}
+use Rattle.sieve_check.specs.Table.{command_kind}
+use Rattle.sieve_check.specs.Tree.{Part, literal, node, no_tests, no_block}
+use Rattle.sieve_check.specs.declared.reading.MatchType.{MatchType}
+use Rattle.sieve_check.specs.declared.reading.MatchType.TheVariants.{Is, Contains}
+use Rattle.sieve_code.specs.declared.place.Place.TheVariants.{Personal}
+use Rattle.sieve_run.specs.Library.{Lookup, missing, invalid, present, name_limit}
+use Rattle.sieve_run.specs.Matching.{truth_of, values_named, header_pairs}
+use Rattle.sieve_run.specs.Run.{RunState, Ending, goes_on, stopped, Answer, answer_of, act_of, decide, exec, begun, verdict_at, outcome_of}
+use Rattle.sieve_run.specs.declared.envelope.Envelope.{Envelope}
+use Rattle.sieve_run.specs.declared.name.ScriptName.{ScriptName}
+use Rattle.sieve_run.specs.declared.outcome.Action.{Action}
+use Rattle.sieve_run.specs.declared.outcome.Action.TheVariants.{Store, Discard}
+use Rattle.sieve_run.specs.declared.outcome.ErrorKind.TheVariants.{MissingScript, InvalidScript}
+
+-- FIELDS
+
+-- a message of one header line, and of two, ended by line feeds
+abbrev headed : List ℕ → List ℕ
+headed line = line ++ (10 ∷ 10 ∷ [])
+
+abbrev headed_twice : List ℕ → List ℕ → List ℕ
+headed_twice line other = line ++ (10 ∷ other ++ (10 ∷ 10 ∷ []))
+
+-- a string without parts to expand
+abbrev text : List ℕ → List Part
+text octets = literal octets ∷ []
+
+-- header with one name and one key
+abbrev header : MatchType → Collation → List ℕ → List ℕ → Ask
+header match_type collation name key = header_ask match_type collation (text name ∷ []) (text key ∷ [])
+
+-- an absent field contains nothing, not even the empty key
+absent_row : truth_of (headed (codes "Subject: a")) (header Contains Casemap (codes "X-None") []) ≡ false
+unfolding truth_of fields_of field_groups
+absent_row = refl
+
+-- an empty field contains the empty key
+empty_row : truth_of (headed (codes "X-None:")) (header Contains Casemap (codes "X-None") []) ≡ true
+unfolding truth_of fields_of field_groups
+empty_row = refl
+
+-- i;ascii-casemap ignores the case of a value
+casemap_row : truth_of (headed (codes "Subject: HELLO")) (header Is Casemap (codes "subject") (codes "hello")) ≡ true
+unfolding truth_of fields_of field_groups
+casemap_row = refl
+
+-- i;octet minds it, though names of fields still ignore it
+octet_row : truth_of (headed (codes "Subject: HELLO")) (header Is Octet (codes "subject") (codes "hello")) ≡ false
+unfolding truth_of fields_of field_groups
+octet_row = refl
+
+octet_same_row : truth_of (headed (codes "Subject: HELLO")) (header Is Octet (codes "subject") (codes "HELLO")) ≡ true
+unfolding truth_of fields_of field_groups
+octet_same_row = refl
+
+-- a part of a value is contained, and isn't the value
+is_row : truth_of (headed (codes "Subject: hello")) (header Is Casemap (codes "Subject") (codes "ell")) ≡ false
+unfolding truth_of fields_of field_groups
+is_row = refl
+
+contains_row : truth_of (headed (codes "Subject: hello")) (header Contains Casemap (codes "Subject") (codes "ell")) ≡ true
+unfolding truth_of fields_of field_groups
+contains_row = refl
+
+-- exists asks for all names
+exists_row : truth_of (headed_twice (codes "From: a") (codes "To: b")) (exists_ask (text (codes "to") ∷ text (codes "from") ∷ [])) ≡ true
+unfolding truth_of fields_of field_groups
+exists_row = refl
+
+one_absent_row : truth_of (headed_twice (codes "From: a") (codes "To: b")) (exists_ask (text (codes "From") ∷ text (codes "Cc") ∷ [])) ≡ false
+unfolding truth_of fields_of field_groups
+one_absent_row = refl
+
+-- the values of a name stand in the order of the fields; the body has none
+values_row : values_named (fields_of (headed_twice (codes "A: 1") (codes "B: 2") ++ codes "A: 3")) (codes "a") ≡ codes "1" ∷ []
+unfolding fields_of field_groups
+values_row = refl
+
+order_row : values_named (fields_of (codes "A: 1" ++ (13 ∷ 10 ∷ codes "B: 2" ++ (13 ∷ 10 ∷ codes "a: 3" ++ (13 ∷ 10 ∷ 13 ∷ 10 ∷ []))))) (codes "A") ≡ codes "1" ∷ codes "3" ∷ []
+unfolding fields_of field_groups
+order_row = refl
+
+-- by names, then by fields, then by keys
+pairs_row : header_pairs (fields_of (codes "A: 1" ++ (10 ∷ headed_twice (codes "B: 2") (codes "A: 3")))) (codes "B" ∷ codes "A" ∷ []) (codes "x" ∷ codes "y" ∷ [])
+    ≡ record { value = codes "2"; key = codes "x" } ∷ record { value = codes "2"; key = codes "y" }
+    ∷ record { value = codes "1"; key = codes "x" } ∷ record { value = codes "1"; key = codes "y" }
+    ∷ record { value = codes "3"; key = codes "x" } ∷ record { value = codes "3"; key = codes "y" } ∷ []
+unfolding fields_of field_groups
+pairs_row = refl
+
+-- SIZE
+
+-- three octets are neither over nor under 3
+over_row : truth_of (codes "abc") (over_ask 3) ≡ false
+unfolding truth_of
+over_row = refl
+
+under_row : truth_of (codes "abc") (under_ask 3) ≡ false
+unfolding truth_of
+under_row = refl
+
+over_less_row : truth_of (codes "abc") (over_ask 2) ≡ true
+unfolding truth_of
+over_less_row = refl
+
+under_more_row : truth_of (codes "abc") (under_ask 4) ≡ true
+unfolding truth_of
+under_more_row = refl
+
+-- CONDITIONS
+
+-- whatever asking does, the second test isn't asked where the first decides
+both_row : (ask : Ask → RunState → Answer) (c : Condition) (state : RunState) → decide ask (both never c) state ≡ record { truth = false; state = state }
+unfolding decide
+both_row ask c state = refl
+
+either_row : (ask : Ask → RunState → Answer) (c : Condition) (state : RunState) → decide ask (either always c) state ≡ record { truth = true; state = state }
+unfolding decide
+either_row ask c state = refl
+
+-- and it is where the first doesn't
+second_row : (ask : Ask → RunState → Answer) (a : Ask) (state : RunState) → decide ask (both always (either never (asks a))) state ≡ ask a state
+unfolding decide
+second_row ask a state = refl
+
+-- not size :over 3, of three octets
+negated_row : (state : RunState) → decide (answer_of (codes "abc")) (negated (asks (over_ask 3))) state ≡ record { truth = true; state = state }
+unfolding decide truth_of
+negated_row state = refl
+
+-- COMMANDS
+
+abbrev main : ScriptName
+main = record { place = Personal; name = codes "main" }
+
+abbrev envelope : Envelope
+envelope = record { from = []; to = []; mailbox = codes "INBOX" }
+
+abbrev inbox : Action
+inbox = Store (codes "INBOX")
+
+-- the state of a run of the main script after some actions
+abbrev after : List Action → Bool → RunState
+after actions cancelled = record { actions = actions; cancelled = cancelled; reads = (main, true) ∷ [] }
+
+-- what commands do to a message of such octets
+abbrev done : List ℕ → Commands → Ending
+done message commands = exec (answer_of message) (act_of envelope) commands (begun main)
+
+-- no command: nothing is done
+no_commands_row : done [] no_commands ≡ goes_on (after [] false)
+unfolding exec
+no_commands_row = refl
+
+-- if true { keep; stop; discard; } discard;
+stop_row : done [] (chooses always (acts keep_leaf 1 (stops (acts discard_leaf 1 no_commands))) no_commands (acts discard_leaf 2 no_commands)) ≡ stopped (after (inbox ∷ []) true)
+unfolding exec decide
+stop_row = refl
+
+-- discard; keep;
+discard_row : done [] (acts discard_leaf 1 (acts keep_leaf 2 no_commands)) ≡ goes_on (after (Discard ∷ inbox ∷ []) true)
+unfolding exec
+discard_row = refl
+
+-- keep; discard; keep; discard;
+second_row_of_keep : done [] (acts keep_leaf 1 (acts discard_leaf 2 (acts keep_leaf 3 (acts discard_leaf 4 no_commands)))) ≡ goes_on (after (inbox ∷ Discard ∷ []) true)
+unfolding exec
+second_row_of_keep = refl
+
+-- if size :over 3 { keep; } elsif size :over 2 { discard; } else { stop; } keep;
+abbrev branches : Commands
+branches = chooses (asks (over_ask 3)) (acts keep_leaf 1 no_commands) (chooses (asks (over_ask 2)) (acts discard_leaf 2 no_commands) (stops no_commands) no_commands) (acts keep_leaf 4 no_commands)
+
+if_row : done (codes "abcd") branches ≡ goes_on (after (inbox ∷ []) true)
+unfolding exec decide truth_of
+if_row = refl
+
+elsif_row : done (codes "abc") branches ≡ goes_on (after (Discard ∷ inbox ∷ []) true)
+unfolding exec decide truth_of
+elsif_row = refl
+
+else_row : done (codes "ab") branches ≡ stopped (after [] false)
+unfolding exec decide truth_of
+else_row = refl
+
+-- OUTCOMES
+
+-- no main script: the implicit keep stands, and nothing was looked up
+no_main_row : (find : ScriptName → Lookup) (message : List ℕ) → outcome_of find None envelope message ≡ record { actions = []; implicit = true; error = None; reads = [] }
+unfolding outcome_of
+no_main_row find message = refl
+
+missing_row : (message : List ℕ) → outcome_of (λ name. missing) (Some main) envelope message
+    ≡ record { actions = []; implicit = true; error = Some (record { script = main; line = 0; kind = MissingScript }); reads = (main, false) ∷ [] }
+unfolding outcome_of
+missing_row message = refl
+
+invalid_row : (message : List ℕ) → outcome_of (λ name. invalid) (Some main) envelope message
+    ≡ record { actions = []; implicit = true; error = Some (record { script = main; line = 0; kind = InvalidScript }); reads = (main, true) ∷ [] }
+unfolding outcome_of
+invalid_row message = refl
+
+-- a name of 1,025 octets is missing in every library
+long_name_row : (find : ScriptName → Lookup) (name : ScriptName) (message : List ℕ) → length name.name ≡ 1025 → outcome_of find (Some name) envelope message
+    ≡ record { actions = []; implicit = true; error = Some (record { script = name; line = 0; kind = MissingScript }); reads = (name, false) ∷ [] }
+unfolding outcome_of
+long_name_row find name message is = ap (λ n. verdict_at envelope message name (if nat_lt name_limit n then missing else find name)) is
+
+-- and one of 1,024 octets is looked up
+limit_name_row : (find : ScriptName → Lookup) (name : ScriptName) (message : List ℕ) → length name.name ≡ 1024 → outcome_of find (Some name) envelope message ≡ verdict_at envelope message name (find name)
+unfolding outcome_of
+limit_name_row find name message is = ap (λ n. verdict_at envelope message name (if nat_lt name_limit n then missing else find name)) is
+
+-- an empty script: the implicit keep stands
+empty_script_row : (message : List ℕ) → outcome_of (λ name. present []) (Some main) envelope message ≡ record { actions = []; implicit = true; error = None; reads = (main, true) ∷ [] }
+unfolding outcome_of exec chain_of
+empty_script_row message = refl
+
+-- discard; discard; keep;
+present_row : (message : List ℕ) → outcome_of (λ name. present (node (codes "discard") 1 [] no_tests no_block ∷ node (codes "DISCARD") 2 [] no_tests no_block ∷ node (codes "keep") 3 [] no_tests no_block ∷ [])) (Some main) envelope message
+    ≡ record { actions = Discard ∷ inbox ∷ []; implicit = false; error = None; reads = (main, true) ∷ [] }
+unfolding outcome_of exec chain_of node_before block_commands conditions_in command_kind
+present_row message = refl

@@ -1,0 +1,19 @@
+//! Laws over the definitions. Each of these functions does nothing: its contract is the law.
+
+ghost use Rattle.std.specs.Prelude.{◌≡◌, ℕ, List};
+ghost use Rattle.sieve_check.specs.Script.{Ask, Commands, Condition, Leaf, stops};
+ghost use Rattle.sieve_run.specs.Run.{Answer, Ending, RunState, answer_of, decide, exec};
+
+/// Commands behind a `stop` change nothing, whatever they are, whatever tests ask and whatever commands that act do
+/// (RFC 5228, section 3.3).
+#[tactic(auto, using(crate::proofs::Unchanged::stop_ends))]
+pub fn stop_ends_the_commands()
+    ensures same { (ask : Ask → RunState → Answer) (act : Leaf → ℕ → RunState → Ending) (rest other : Commands) (state : RunState) → exec ask act (stops rest) state ≡ exec ask act (stops other) state }
+{}
+
+/// No test changes the state of a run (RFC 5228, section 5): neither its actions, nor whether the implicit keep is
+/// cancelled, nor the names looked up.
+#[tactic(auto, using(crate::proofs::Unchanged::decide_keeps))]
+pub fn tests_change_nothing()
+    ensures state { (message : List ℕ) (condition : Condition) (state : RunState) → (decide (answer_of message) condition state).state ≡ state }
+{}

@@ -1,0 +1,175 @@
+//! What tests ask of a message (RFC 5228, sections 2.7 and 5).
+ghost use Rattle.std.specs.Prelude.{◌≡◌, ◌<◌, length, map, Some, slice_get, IfOk};
+ghost use Rattle.std.specs.List.{list_all};
+ghost use Rattle.message_text.specs.Fields.{fields_of};
+ghost use Rattle.sieve_check.specs.Reading.{ask_as, texts_as};
+ghost use Rattle.sieve_check.specs.Script.{text_value};
+ghost use Rattle.sieve_check.specs.Tree.{text_of};
+ghost use Rattle.sieve_run.specs.FieldTests.{field_matches, octets_of};
+ghost use Rattle.sieve_run.specs.Matching.{fold_of, has_field, header_pairs, is_field_named, matches, pairs_named, pairs_with, some_matches, truth_of};
+
+use match_text::{AsciiCasemap, Collation, Octet, contains, is};
+use message_text::Message;
+use sieve_check::{Ask, MatchType, Part, Text};
+use std::alloc::{AllocError, Global};
+
+/// How a test compares a value with keys.
+#[derive(Clone, Copy, Debug)]
+struct Comparison<'a> {
+    match_type: MatchType,
+    collation: Collation,
+    keys: &'a [Vec<u8>],
+}
+
+impl Comparison<'_> {
+    /// Whether a value matches a key.
+    fn matches_key(&self, value: &[u8], key: &[u8]) -> bool
+        ensures { result ≡ matches self.now.match_type (fold_of self.now.collation) value.now key.now }
+    {
+        match (self.match_type, self.collation) {
+            (MatchType::Is, Collation::Octet) => is::<Octet>(value, key),
+            (MatchType::Is, Collation::Casemap) => is::<AsciiCasemap>(value, key),
+            (MatchType::Contains, Collation::Octet) => contains::<Octet>(value, key),
+            (MatchType::Contains, Collation::Casemap) => contains::<AsciiCasemap>(value, key),
+        }
+    }
+
+    /// Whether a value matches some key.
+    fn matches_some(&self, value: &[u8]) -> bool
+        ensures { result ≡ some_matches self.now.match_type (fold_of self.now.collation) (pairs_with (octets_of self.now.keys.now) value.now) }
+    {
+        self.keys.iter().any(|key| self.matches_key(value, key))
+    }
+}
+
+/// Whether field `i` has that name.
+fn is_named(message: &Message, i: usize, name: &[u8]) -> bool
+    requires { i < length (fields_of message.now) }
+    ensures { slice_get (map (is_field_named name.now) (fields_of message.now)) i ≡ Some result }
+{
+    is::<AsciiCasemap>(message.name(i), name)
+}
+
+/// Whether a field of that name is there.
+fn has_field(message: &Message, name: &[u8]) -> bool
+    ensures { result ≡ has_field (fields_of message.now) name.now }
+{
+    for i in 0..message.fields() {
+        if is_named(message, i, name) {
+            return true;
+        }
+    }
+    false
+}
+
+/// Whether there is a field of each name.
+fn has_fields(message: &Message, names: &[Vec<u8>]) -> bool
+    ensures { result ≡ list_all (has_field (fields_of message.now)) (octets_of names.now) }
+{
+    names.iter().all(|name| has_field(message, name))
+}
+
+/// Whether field `i` has that name and its value matches some key.
+fn field_matches(
+    alloc: Global,
+    message: &Message,
+    i: usize,
+    name: &[u8],
+    comparison: &Comparison<'_>,
+) -> Result<bool, AllocError>
+    requires { i < length (fields_of message.now) }
+    ensures { IfOk result (λ truth. slice_get (map (field_matches comparison.now.match_type (fold_of comparison.now.collation) (octets_of comparison.now.keys.now) name.now) (fields_of message.now)) i ≡ Some truth) }
+{
+    if !is_named(message, i, name) {
+        return Ok(false);
+    }
+    let value = message.value(alloc, i)?;
+    Ok(comparison.matches_some(value.as_slice()))
+}
+
+/// Whether the value of some field of that name matches some key.
+fn name_matches(
+    alloc: Global,
+    message: &Message,
+    name: &[u8],
+    comparison: &Comparison<'_>,
+) -> Result<bool, AllocError>
+    ensures { IfOk result (λ truth. truth ≡ some_matches comparison.now.match_type (fold_of comparison.now.collation) (pairs_named (fields_of message.now) (octets_of comparison.now.keys.now) name.now)) }
+{
+    for i in 0..message.fields() {
+        if field_matches(alloc, message, i, name, comparison)? {
+            return Ok(true);
+        }
+    }
+    Ok(false)
+}
+
+/// Whether the value of some field of some name matches some key.
+fn header_matches(
+    alloc: Global,
+    message: &Message,
+    names: &[Vec<u8>],
+    comparison: &Comparison<'_>,
+) -> Result<bool, AllocError>
+    ensures { IfOk result (λ truth. truth ≡ some_matches comparison.now.match_type (fold_of comparison.now.collation) (header_pairs (fields_of message.now) (octets_of names.now) (octets_of comparison.now.keys.now))) }
+{
+    for name in names {
+        if name_matches(alloc, message, name, comparison)? {
+            return Ok(true);
+        }
+    }
+    Ok(false)
+}
+
+/// The octets that a string stands for.
+fn expanded_text(alloc: Global, text: &Text) -> Result<Vec<u8>, AllocError>
+    ensures { IfOk result (λ octets. octets.items ≡ text_value (text_of text.now).parts) }
+{
+    let mut octets = Vec::new(alloc);
+    for part in &text.parts {
+        let Part::Literal(literal) = part;
+        octets.extend_from_slice(literal)?;
+    }
+    Ok(octets)
+}
+
+/// The octets that each string stands for.
+fn expanded(alloc: Global, texts: &[Text]) -> Result<Vec<Vec<u8>>, AllocError>
+    ensures { IfOk result (λ values. octets_of values.items ≡ map text_value (texts_as texts.now)) }
+{
+    let mut values = Vec::new(alloc);
+    for text in texts {
+        values.push(expanded_text(alloc, text)?)?;
+    }
+    Ok(values)
+}
+
+/// Whether what a test asks of the message is so. Its strings are expanded before the first comparison.
+#[tactic(auto, unfolding(crate::specs::Matching::truth_of))]
+pub(crate) fn truth_of(alloc: Global, message: &Message, ask: &Ask<'_>) -> Result<bool, AllocError>
+    ensures { IfOk result (λ truth. truth ≡ truth_of message.now (ask_as ask.now)) }
+{
+    match ask {
+        Ask::Header {
+            match_type,
+            collation,
+            names,
+            keys,
+        } => {
+            let names = expanded(alloc, names)?;
+            let keys = expanded(alloc, keys)?;
+            let comparison = Comparison {
+                match_type: *match_type,
+                collation: *collation,
+                keys: &keys,
+            };
+            header_matches(alloc, message, &names, &comparison)
+        }
+        Ask::Exists { names } => {
+            let names = expanded(alloc, names)?;
+            Ok(has_fields(message, &names))
+        }
+        Ask::Over { limit } => Ok(message.size() as u64 > *limit),
+        Ask::Under { limit } => Ok((message.size() as u64) < *limit),
+    }
+}

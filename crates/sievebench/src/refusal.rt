@@ -1,0 +1,142 @@
+//! Why an edit is refused, apart from memory.
+ghost use Rattle.std.specs.Prelude.{◌≡◌};
+ghost use Rattle.sievebench.specs.Content.{is_long, script_refusal, message_refusal, main_refusal, rename_refusal, remove_script_refusal, remove_message_refusal, envelope_refusal, mailbox_refusal};
+
+use crate::fault::EditFault;
+use crate::script::Scripts;
+use indexmap::IndexMap;
+use sieve_code::Octets;
+use sieve_run::{Message, ScriptName};
+
+/// The most octets of a script's text.
+pub(crate) const MAX_TEXT: usize = 1_048_576;
+/// The most octets of a message.
+pub(crate) const MAX_MESSAGE: usize = 16_777_216;
+/// The most octets of a script's name or a message's id.
+pub(crate) const MAX_NAME: usize = 1_024;
+/// The most octets of an address of the envelope.
+const MAX_ADDRESS: usize = 1_024;
+/// The most octets of the mailbox's name.
+const MAX_MAILBOX: usize = 255;
+/// The most scripts.
+const MAX_SCRIPTS: usize = 1_024;
+/// The most messages.
+const MAX_MESSAGES: usize = 65_536;
+
+/// Whether a name or an id is past its limit.
+fn is_long(name: &Octets) -> bool
+    ensures { result ≡ is_long name.now }
+{
+    name.as_slice().len() > MAX_NAME
+}
+
+/// Why a script isn't put, apart from memory.
+pub(crate) fn refuse_script(scripts: &Scripts, name: &ScriptName, text: &[u8]) -> Option<EditFault>
+    ensures { result ≡ script_refusal scripts.now name.now text.now }
+{
+    if is_long(&name.name) || text.len() > MAX_TEXT {
+        return Some(EditFault::TooLarge);
+    }
+    if !scripts.contains(name) && scripts.by_name.len() >= MAX_SCRIPTS {
+        return Some(EditFault::Full);
+    }
+    None
+}
+
+/// Why a message isn't put, apart from memory.
+pub(crate) fn refuse_message(
+    messages: &IndexMap<Octets, Message>,
+    id: &Octets,
+    bytes: &[u8],
+) -> Option<EditFault>
+    ensures { result ≡ message_refusal messages.now.entries id.now bytes.now }
+{
+    if is_long(id) || bytes.len() > MAX_MESSAGE {
+        return Some(EditFault::TooLarge);
+    }
+    if !messages.contains_key(id) && messages.len() >= MAX_MESSAGES {
+        return Some(EditFault::Full);
+    }
+    None
+}
+
+/// Why a main script's name isn't taken, apart from memory.
+pub(crate) fn refuse_main(name: &ScriptName) -> Option<EditFault>
+    ensures { result ≡ main_refusal name.now }
+{
+    if is_long(&name.name) {
+        Some(EditFault::TooLarge)
+    } else {
+        None
+    }
+}
+
+/// Why a script isn't renamed, apart from memory.
+pub(crate) fn refuse_rename(
+    scripts: &Scripts,
+    from: &ScriptName,
+    to: &ScriptName,
+) -> Option<EditFault>
+    ensures { result ≡ rename_refusal scripts.now from.now to.now }
+{
+    if is_long(&from.name) || is_long(&to.name) {
+        Some(EditFault::TooLarge)
+    } else if !scripts.contains(from) {
+        Some(EditFault::NoSuchScript)
+    } else if scripts.contains(to) {
+        Some(EditFault::NameTaken)
+    } else {
+        None
+    }
+}
+
+/// Why a script isn't removed.
+pub(crate) fn refuse_remove_script(scripts: &Scripts, name: &ScriptName) -> Option<EditFault>
+    ensures { result ≡ remove_script_refusal scripts.now name.now }
+{
+    if is_long(&name.name) {
+        Some(EditFault::TooLarge)
+    } else if !scripts.contains(name) {
+        Some(EditFault::NoSuchScript)
+    } else {
+        None
+    }
+}
+
+/// Why a message isn't removed.
+pub(crate) fn refuse_remove_message(
+    messages: &IndexMap<Octets, Message>,
+    id: &Octets,
+) -> Option<EditFault>
+    ensures { result ≡ remove_message_refusal messages.now.entries id.now }
+{
+    if is_long(id) {
+        Some(EditFault::TooLarge)
+    } else if !messages.contains_key(id) {
+        Some(EditFault::NoSuchMessage)
+    } else {
+        None
+    }
+}
+
+/// Why an envelope isn't taken, apart from memory.
+pub(crate) fn refuse_envelope(from: &[u8], to: &[u8]) -> Option<EditFault>
+    ensures { result ≡ envelope_refusal from.now to.now }
+{
+    if from.len() > MAX_ADDRESS || to.len() > MAX_ADDRESS {
+        Some(EditFault::TooLarge)
+    } else {
+        None
+    }
+}
+
+/// Why a mailbox isn't taken, apart from memory.
+pub(crate) fn refuse_mailbox(mailbox: &[u8]) -> Option<EditFault>
+    ensures { result ≡ mailbox_refusal mailbox.now }
+{
+    if mailbox.len() > MAX_MAILBOX {
+        Some(EditFault::TooLarge)
+    } else {
+        None
+    }
+}
