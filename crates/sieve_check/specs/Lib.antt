@@ -5,6 +5,7 @@ pub mod Faultless
 pub mod Finds
 pub mod Items
 pub mod Judgement
+pub mod Order
 pub mod Parted
 pub mod Reading
 pub mod Rule

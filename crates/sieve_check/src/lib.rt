@@ -7,6 +7,7 @@ mod command_rules;
 mod copying;
 mod items;
 mod judged;
+pub mod laws;
 mod reading;
 mod rule;
 mod table;
