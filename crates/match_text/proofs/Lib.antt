@@ -1,3 +1,4 @@
 pub mod Places
 pub mod Letters
 pub mod Deciding
+pub mod Folding

@@ -2,14 +2,15 @@
 -- section 2.7). A comparator is known by its fold: two octets are equal under it where their folds are equal.
 use Rattle.std.specs.Prelude.{◌≡◌, ℕ, Bool, ◌-◌, ◌<◌, ◌≤◌, ◌&&◌, ◌||◌, ◌==◌, nat_le, if◌then◌else◌, List, [], ◌∷◌, length, take, slice_index, slice_range}
 use lib.Pointwise.{pointwise}
+use Rattle.sieve_base.specs.Octet.{octet_of}
 
 -- i;octet: each octet is equal to itself alone (RFC 4790, section 9.3.1)
 abbrev pub octet : ℕ → ℕ
 octet b = b
 
--- i;ascii-casemap: the lower-case letters, 97 to 122, are changed to upper case, 65 to 90 (RFC 4790, section 9.2.1)
+-- i;ascii-casemap: the lower-case letters are changed to upper case (RFC 4790, section 9.2.1)
 abbrev pub ascii_casemap : ℕ → ℕ
-ascii_casemap b = if nat_le 97 b && nat_le b 122 then b - 32 else b
+ascii_casemap b = if nat_le (octet_of "a") b && nat_le b (octet_of "z") then b - (octet_of "a" - octet_of "A") else b
 
 -- equal lengths, and equal octets after folding
 pub record Same (fold : ℕ → ℕ) (a b : List ℕ) : Type 0 where
@@ -24,11 +25,11 @@ pub record IsPart (fold : ℕ → ℕ) (value key : List ℕ) : Type 0 where
   pub within : end ≤ length value
   pub same : Same fold (slice_range value start end) key
 
--- whether they are the same
+-- whether they are the same (`:is` of RFC 5228, section 2.7.1)
 abbrev pub same : (ℕ → ℕ) → List ℕ → List ℕ → Bool
 same fold a b = pointwise (λ x y. fold x == fold y) a b
 
--- whether some slice of the value is the same as the key
+-- whether some slice of the value is the same as the key (`:contains` of RFC 5228, section 2.7.1)
 abbrev pub is_part : (ℕ → ℕ) → List ℕ → List ℕ → Bool
 is_part fold [] key = same fold [] key
 is_part fold (x ∷ rest) key = same fold (take (length key) (x ∷ rest)) key || is_part fold rest key

@@ -1,10 +1,11 @@
 //! Comparators, and what they say of two texts.
-ghost use Rattle.std.specs.Prelude.{◌≡◌, ◌==◌, ◌↔◌, ℕ, IsTrue};
+ghost use Rattle.std.specs.Prelude.{◌≡◌, ◌==◌, ◌↔◌, ℕ, IfOk, IsTrue, map};
 ghost use Rattle.std.proofs.Common.{rules};
 ghost use Rattle.memchr.specs.Find.{IsFirstByte};
 ghost use Rattle.match_text.specs.Comparator.{IsPart, Same, ascii_casemap, is_part, octet, same};
 
 use memchr::{memchr2, memmem};
+use std::alloc::{AllocError, Global};
 
 /// Which octets are equal.
 ///
@@ -142,4 +143,36 @@ pub fn contains<C: Comparator>(value: &[u8], key: &[u8]) -> bool
     ensures exact { result ≡ is_part C.folded value.now key.now }
 {
     C::contains(value, key)
+}
+
+/// The longest key that [`contains_in`] looks for without copies.
+const MAX_SHORT_KEY: usize = 64;
+
+// The folds of the octets.
+fn folded<C: Comparator>(alloc: Global, octets: &[u8]) -> Result<Vec<u8>, AllocError>
+    ensures { IfOk result (λ copy. copy.items ≡ map C.folded octets.now) }
+{
+    let mut copy = Vec::new(alloc);
+    for octet in octets {
+        copy.push(C::fold(*octet))?;
+    }
+    Ok(copy)
+}
+
+/// As [`contains`], in time linear in the octets of `value` and `key`: a key of more than 64 octets is looked for in folded
+/// copies, for which memory may be refused.
+#[tactic(auto, using(crate::proofs::Folding::folded_part))]
+pub fn contains_in<C: Comparator>(
+    alloc: Global,
+    value: &[u8],
+    key: &[u8],
+) -> Result<bool, AllocError>
+    ensures { IfOk result (λ found. found ≡ is_part C.folded value.now key.now) }
+{
+    if key.len() <= MAX_SHORT_KEY {
+        return Ok(contains::<C>(value, key));
+    }
+    let value = folded::<C>(alloc, value)?;
+    let key = folded::<C>(alloc, key)?;
+    Ok(contains::<Octet>(&value, &key))
 }

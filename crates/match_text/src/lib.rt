@@ -6,7 +6,6 @@
 
 mod comparators;
 
-pub use crate::comparators::{AsciiCasemap, Collation, Comparator, Octet, contains, is};
-
-#[cfg(test)]
-mod tests;
+pub use crate::comparators::{
+    AsciiCasemap, Collation, Comparator, Octet, contains, contains_in, is,
+};

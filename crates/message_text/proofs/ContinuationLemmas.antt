@@ -5,7 +5,7 @@ use Rattle.std.specs.Str.Lines.{lines, lines_of_parts, strip_carriage_return}
 use Rattle.std.proofs.lemmas.Bool.{cond_both, cond-false, cond-true, eqb-true, ne_eqb}
 use Rattle.std.proofs.lemmas.List.{drop_more}
 use Rattle.std.proofs.lemmas.List.Sums.{take_while-cons}
-use Rattle.message_text.specs.Blanks.{is_blank}
+use Rattle.sieve_base.specs.Octet.{is_blank}
 use Rattle.message_text.specs.Fields.{is_continuation}
 
 -- the first line begins with space or tab

@@ -1,11 +1,11 @@
 -- The fields of a message one by one.
-use Rattle.std.proofs.Common.{◌≡◌, ℕ, ◌==◌, List, [], Some, Result, Ok, Err, IfOk, length, slice_get, sym, ap, ◌∙◌}
+use Rattle.std.proofs.Common.{◌≡◌, ◌≢◌, ℕ, ◌==◌, false, List, [], Some, Result, Ok, Err, IfOk, length, slice_get, sym, ap, ◌∙◌}
 use Rattle.std.specs.Option.{option_map}
-use Rattle.std.proofs.lemmas.Bool.{eqb-true}
+use Rattle.std.proofs.lemmas.Bool.{eqb-false, eqb-true}
 use Rattle.std.proofs.lemmas.List.{length-map, nil_from_length}
 use Rattle.std.proofs.lemmas.Option.{slice_get-map}
-use Rattle.message_text.specs.Fields.{Field, Group, IsUnfolded, field_groups, field_of, fields_of, name_in, names_of, values_of}
-use Rattle.message_text.specs.Spans.{AreSpans, group_at}
+use Rattle.message_text.specs.Fields.{Field, Group, IsFolded, IsUnfolded, field_groups, field_of, fields_of, name_in, names_of, values_of}
+use Rattle.message_text.specs.view.Spans.{AreSpans, group_at}
 use Rattle.message_text.specs.declared.fields.FieldSpan.{FieldSpan}
 
 pub spans_len : (octets : List ℕ) (spans : List FieldSpan) → AreSpans octets spans → length (fields_of octets) ≡ length spans
@@ -33,6 +33,12 @@ pub one_line : (octets : List ℕ) (i : ℕ) (group : Group) → slice_get (fiel
 one_line octets i group is unfolded =
     let none = sym (slice_get-map (λ (group : Group). length group.continuations == 0) (field_groups octets) i ∙ ap (option_map (λ (group : Group). length group.continuations == 0)) is) ∙ unfolded in
     nil_from_length group.continuations (eqb-true (length group.continuations) 0 cc)
+
+pub more_lines : (octets : List ℕ) (i : ℕ) (group : Group) → slice_get (field_groups octets) i ≡ Some group → IsFolded octets i → group.continuations ≢ []
+more_lines octets i group is folded none =
+    let some = sym (slice_get-map (λ (group : Group). length group.continuations == 0) (field_groups octets) i ∙ ap (option_map (λ (group : Group). length group.continuations == 0)) is) ∙ folded in
+    let not_none : (length group.continuations == 0) ≡ false = cc in
+    eqb-false (length group.continuations) 0 not_none (ap length none)
 
 -- where the octets of an answer are known, they are what a look-up finds
 pub some_octets : {X E : Type 0} (r : Result X E) (octets_of : X → List ℕ) (octets : List ℕ) → IfOk r (λ x. octets_of x ≡ octets) → IfOk r (λ x. Some octets ≡ Some (octets_of x))

@@ -6,8 +6,8 @@ use Rattle.std.proofs.lemmas.Bool.{cond-true, cond-false, lt-ltb}
 use Rattle.std.proofs.lemmas.List.{append-nil, drop-drop, drop-take, length-drop, length-take-le, take-take}
 use Rattle.std.proofs.lemmas.List.Sums.{take_while-cons}
 use Rattle.message_text.specs.Fields.{Group, field_groups, groups_of, is_continuation, is_field, is_filled}
-use Rattle.message_text.specs.Heads.{IsHead}
-use Rattle.message_text.specs.Spans.{AreSpans, IsSpan, field_here, group_at}
+use Rattle.message_text.specs.view.Heads.{IsHead}
+use Rattle.message_text.specs.view.Spans.{AreSpans, IsSpan, field_here, group_at}
 use Rattle.message_text.specs.declared.fields.FieldSpan.{FieldSpan}
 
 -- a line that isn't empty is of the header section where it stands first

@@ -6,7 +6,7 @@ use Rattle.std.proofs.lemmas.Bool.{cond_both, ne_eqb, cond-false, eqb-true, fals
 use Rattle.std.proofs.lemmas.List.{drop_more, get_or-take, length-take-le, length-take, length-drop, take-append-drop, take-take, take_all, take_rest, drop-drop, drop_all, get_or_default}
 use Rattle.std.proofs.lemmas.List.Splits.{slice_split_at, slice_split_none}
 use Rattle.memchr.specs.Find.{Nowhere, Passes, is_byte}
-use Rattle.message_text.specs.Positions.{IsLineAt}
+use Rattle.message_text.specs.view.Positions.{IsLineAt}
 
 is_feed : ℕ → Bool
 is_feed b = b == 10

@@ -3,7 +3,8 @@ use Rattle.std.proofs.Common.{◌≡◌, ℕ, ◌+◌, ◌-◌, ◌<◌, ◌≤�
 use Rattle.std.specs.List.{prefix_len, suffix_len}
 use Rattle.std.proofs.lemmas.Bool.{cond-true}
 use Rattle.std.proofs.lemmas.List.{append-nil, length-drop, length-take-le}
-use Rattle.message_text.specs.Blanks.{is_blank, trim_end, trim_start}
+use Rattle.sieve_base.specs.Octet.{is_blank}
+use Rattle.message_text.specs.Blanks.{trim_end, trim_start}
 
 drop_by : (b : Bool) (n x : ℕ) (xs : List ℕ) → drop (cond b (1 + n) 0) (x ∷ xs) ≡ cond b (drop n xs) (x ∷ xs)
 drop_by true n x xs = ap (λ k. drop k (x ∷ xs)) (let e : 1 + n ≡ Prim.Native.Nat.suc n = omega arith in e)

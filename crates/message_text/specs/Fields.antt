@@ -1,12 +1,9 @@
 -- The header fields of a message (RFC 5322, sections 2.1 and 2.2), by whole lines and groups of lines.
-use Rattle.std.specs.Prelude.{◌≡◌, ℕ, Bool, true, false, ◌&&◌, ◌==◌, nat_le, nat_lt, length, cond, List, [], ◌∷◌, ◌++◌, Some, map, filter}
+use Rattle.std.specs.Prelude.{◌≡◌, ℕ, Bool, true, false, ◌&&◌, ◌==◌, nat_lt, length, cond, List, [], ◌∷◌, ◌++◌, Some, map, filter}
 use Rattle.std.specs.List.{after_first, before_first, concat, list_all, list_any, slice_get, take_while}
 use Rattle.std.specs.Str.Lines.{lines}
-use Rattle.message_text.specs.Blanks.{is_blank, trim, trim_end}
-
--- the greatest number of octets of a message
-abbrev pub size_limit : ℕ
-size_limit = 16777216
+use Rattle.sieve_base.specs.Octet.{octet_of, is_blank, is_visible}
+use Rattle.message_text.specs.Blanks.{trim, trim_end}
 
 -- a field: its name, and its value on one line
 pub record Field : Type 0 where
@@ -18,7 +15,7 @@ pub record Group : Type 0 where
   pub first : List ℕ
   pub continuations : List (List ℕ)
 
--- the line begins with space or tab, so that it continues the line before
+-- the line begins with space or tab, so that it continues the line before (RFC 5322, section 2.2.3)
 abbrev pub is_continuation : List ℕ → Bool
 is_continuation [] = false
 is_continuation (b ∷ bs) = is_blank b
@@ -33,7 +30,7 @@ is_filled line = nat_lt 0 (length line)
 abbrev pub header_lines : List ℕ → List (List ℕ)
 header_lines message = take_while is_filled (lines message)
 
--- the groups of lines; continuations with nothing before them are in none
+-- the groups of lines (RFC 5322, section 2.2.3); continuations with nothing before them are in none
 abbrev pub groups_of : List (List ℕ) → List Group
 groups_of [] = []
 groups_of (line ∷ more) =
@@ -41,15 +38,11 @@ groups_of (line ∷ more) =
     (record { first = line; continuations = take_while is_continuation more } ∷ groups_of more)
 
 abbrev pub is_colon : ℕ → Bool
-is_colon b = b == 58
+is_colon b = b == octet_of ":"
 
--- the octets that a name is made of: printable, and no space; a colon ends it
-abbrev pub is_name_octet : ℕ → Bool
-is_name_octet b = nat_le 33 b && nat_le b 126
-
--- one or more such octets
+-- one or more octets, all of them visible; a colon ends a name (RFC 5322, section 2.2)
 abbrev pub is_name : List ℕ → Bool
-is_name text = nat_lt 0 (length text) && list_all is_name_octet text
+is_name text = nat_lt 0 (length text) && list_all is_visible text
 
 -- what stands before the first colon of a line, without spaces and tabs at its end
 abbrev pub name_in : List ℕ → List ℕ
@@ -62,8 +55,8 @@ begins_field line = list_any is_colon line && is_name (name_in line)
 abbrev pub is_field : Group → Bool
 is_field group = begins_field group.first
 
--- The field of such a group. Its value is what follows the first colon, and the other lines as they are, without outer
--- spaces and tabs.
+-- The field of such a group. Its value is what follows the first colon, and the other lines as they are (RFC 5322, section
+-- 2.2.3: unfolding takes the line ends away), without outer spaces and tabs (RFC 5228, section 5.7).
 abbrev pub field_of : Group → Field
 field_of group = record {
   name = name_in group.first;
@@ -74,7 +67,7 @@ field_of group = record {
 unfoldable pub field_groups : List ℕ → List Group
 field_groups message = filter is_field (groups_of (header_lines message))
 
--- the fields of a message, in order
+-- the fields of a message, in order (RFC 5322, section 2.2)
 unfoldable pub fields_of : List ℕ → List Field
 fields_of message = map field_of (field_groups message)
 
@@ -90,3 +83,8 @@ values_of message = map (λ field. field.value) (fields_of message)
 abbrev pub IsUnfolded : List ℕ → ℕ → Type 0
 IsUnfolded message i =
     slice_get (map (λ group. length group.continuations == 0) (field_groups message)) i ≡ Some true
+
+-- field i goes on in lines that continue its first one
+abbrev pub IsFolded : List ℕ → ℕ → Type 0
+IsFolded message i =
+    slice_get (map (λ group. length group.continuations == 0) (field_groups message)) i ≡ Some false

@@ -1,5 +1,3 @@
 pub mod Blanks
 pub mod Fields
-pub mod Positions
-pub mod Spans
-pub mod Heads
+pub mod view

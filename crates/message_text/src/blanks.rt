@@ -1,6 +1,7 @@
 //! Spaces and tabs round a text.
 ghost use Rattle.std.specs.Prelude.{◌≡◌};
-ghost use Rattle.message_text.specs.Blanks.{is_blank, trim, trim_end, trim_start};
+ghost use Rattle.sieve_base.specs.Octet.{is_blank};
+ghost use Rattle.message_text.specs.Blanks.{trim, trim_end, trim_start};
 
 /// Whether the octet is a space or a tab.
 pub(crate) fn is_blank(octet: u8) -> bool

@@ -1,6 +1,6 @@
 //! Messages and their header fields (RFC 5322).
 //!
-//! Every octet string up to [`MAX_SIZE`] is a [`Message`]. It keeps its octets once, with the places
+//! Every octet string up to [`MAX_MESSAGE`](sieve_base::limits::MAX_MESSAGE) is a [`Message`]. It keeps its octets once, with the places
 //! of its fields.
 #![tactic(auto)]
 
@@ -10,7 +10,4 @@ mod lines;
 mod messages;
 mod values;
 
-pub use crate::messages::{MAX_SIZE, Message, MessageFault};
-
-#[cfg(test)]
-mod tests;
+pub use crate::messages::{Message, MessageFault};

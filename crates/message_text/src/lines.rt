@@ -1,7 +1,7 @@
 //! Where the lines of a text end.
 ghost use Rattle.std.specs.Prelude.{◌≡◌, ◌<◌, length};
 ghost use Rattle.std.specs.Str.Lines.{strip_carriage_return};
-ghost use Rattle.message_text.specs.Positions.{IsLineAt};
+ghost use Rattle.message_text.specs.view.Positions.{IsLineAt};
 
 use memchr::memchr;
 

@@ -1,22 +1,21 @@
 //! A message and its header fields.
 ghost use Rattle.std.specs.Prelude.{◌≡◌, ◌<◌, ◌≤◌, ◌↔◌, IfErr, IfOk, IsErrAnd, IsOkAnd, Some, length, slice_get};
-ghost use Rattle.std.specs.Cow.{IsBorrowedSlice, cow_slice_items};
-ghost use Rattle.message_text.specs.Fields.{IsUnfolded, fields_of, names_of, size_limit, values_of};
+ghost use Rattle.std.specs.Cow.{IsBorrowedSlice, IsOwnedSlice, cow_slice_items};
+ghost use Rattle.sieve_base.specs.Limits.{message_limit};
+ghost use Rattle.message_text.specs.Fields.{IsFolded, IsUnfolded, fields_of, names_of, values_of};
 
 use crate::fields::{FieldSpan, span_in, spans_of};
 use crate::values::value_at;
+use sieve_base::limits::MAX_MESSAGE;
 use std::alloc::{AllocError, Global};
 use std::borrow::CowSlice;
 use std::marker::Model;
 use thiserror::Error;
 
-/// The greatest size of a message, in octets.
-pub const MAX_SIZE: usize = 16_777_216;
-
 /// Why a message was refused.
 #[derive(Clone, Copy, Debug, PartialEq, Eq, Error)]
 pub enum MessageFault {
-    /// It has more than [`MAX_SIZE`] octets.
+    /// It has more than [`MAX_MESSAGE`] octets.
     #[error("the message is too large")]
     TooLarge = 1,
     /// There was no memory for the places of its fields.
@@ -24,7 +23,7 @@ pub enum MessageFault {
     NoMemory = 2,
 }
 
-/// A message: any octets up to [`MAX_SIZE`] of them.
+/// A message: any octets up to [`MAX_MESSAGE`] of them.
 ///
 /// Its header fields (RFC 5322, section 2.2) stand in the lines before the first empty one. A line
 /// ends by a line feed, and a carriage return directly before that belongs to the line end. A line
@@ -39,7 +38,7 @@ pub struct Message {
 
 impl Model for Message {
     ghost use Rattle.std.specs.Prelude.{List, ℕ};
-    ghost use Rattle.message_text.specs.Spans.{IsMessage};
+    ghost use Rattle.message_text.specs.view.Spans.{IsMessage};
 
     ghost Value = { List ℕ };
 
@@ -51,14 +50,14 @@ impl Model for Message {
 impl Message {
     /// The message of these octets. A refusal gives them back.
     ///
-    /// It is [`TooLarge`](MessageFault::TooLarge) exactly past [`MAX_SIZE`].
+    /// It is [`TooLarge`](MessageFault::TooLarge) exactly past [`MAX_MESSAGE`].
     pub fn new(alloc: Global, bytes: Vec<u8>) -> Result<Message, (MessageFault, Vec<u8>)>
         ensures ok { IfOk result (λ message. message ≡ bytes.items) }
         ensures too_large { IsErrAnd result (λ refused. refused.0 ≡ MessageFault.TooLarge)
-            ↔ (size_limit < length bytes.items) }
+            ↔ (message_limit < length bytes.items) }
         ensures given_back { IfErr result (λ refused. refused.1.items ≡ bytes.items) }
     {
-        if bytes.len() > MAX_SIZE {
+        if bytes.len() > MAX_MESSAGE {
             return Err((MessageFault::TooLarge, bytes));
         }
         match spans_of(alloc, &bytes) {
@@ -73,7 +72,7 @@ impl Message {
     /// The number of octets.
     pub fn size(&self) -> usize
         ensures size { result ≡ length self.now }
-        ensures limit { result ≤ size_limit }
+        ensures limit { result ≤ message_limit }
     {
         self.octets.len()
     }
@@ -98,12 +97,14 @@ impl Message {
     /// The value of field `i`: what follows the colon, the lines joined as they are, without outer
     /// spaces and tabs.
     ///
-    /// It is borrowed from the message, and no memory is taken, where the field stands on one line.
+    /// It is borrowed from the message, and no memory is taken, where the field stands on one line; where lines
+    /// continue the field, it is a copy.
     pub fn value(&self, alloc: Global, i: usize) -> Result<CowSlice<'_, u8>, AllocError>
         requires { i < length (fields_of self.now) }
         ensures octets { IfOk result (λ value. slice_get (values_of self.now) i
             ≡ Some (cow_slice_items value)) }
         ensures unfolded { IsUnfolded self.now i → IsOkAnd result IsBorrowedSlice }
+        ensures folded { IsFolded self.now i → IfOk result IsOwnedSlice }
     {
         let octets = self.octets.as_slice();
         let span = span_in(octets, &self.fields, i);

@@ -1,12 +1,12 @@
 //! The value of a field on one line.
-ghost use Rattle.std.specs.Prelude.{◌≡◌, ◌≤◌, ◌++◌, IfNone, IfOk, IfSome, IsOkAnd, OnOk, [], true, drop, length, slice_range};
-ghost use Rattle.std.specs.Cow.{IsBorrowedSlice, cow_slice_items};
+ghost use Rattle.std.specs.Prelude.{◌≡◌, ◌≢◌, ◌≤◌, ◌++◌, IfNone, IfOk, IfSome, IsOkAnd, OnOk, [], true, drop, length, slice_range};
+ghost use Rattle.std.specs.Cow.{IsBorrowedSlice, IsOwnedSlice, cow_slice_items};
 ghost use Rattle.std.specs.List.{concat, take_while};
 ghost use Rattle.std.specs.Str.Lines.{lines};
 ghost use Rattle.message_text.specs.Blanks.{trim, trim_start};
 ghost use Rattle.message_text.specs.Fields.{field_of, is_continuation};
-ghost use Rattle.message_text.specs.Positions.{IsLineAt};
-ghost use Rattle.message_text.specs.Spans.{IsSpan, group_at};
+ghost use Rattle.message_text.specs.view.Positions.{IsLineAt};
+ghost use Rattle.message_text.specs.view.Spans.{IsSpan, group_at};
 
 use crate::blanks::{is_blank, trim, trim_end, trim_start};
 use crate::fields::FieldSpan;
@@ -28,7 +28,7 @@ pub(crate) fn continuation_at(octets: &[u8], start: usize) -> Option<Line>
     Some(line_at(octets, start))
 }
 
-/// The value of a field. It is borrowed where the field stands on one line.
+/// The value of a field. It is borrowed exactly where the field stands on one line.
 pub(crate) fn value_at(
     alloc: Global,
     octets: &[u8],
@@ -39,6 +39,7 @@ pub(crate) fn value_at(
         ≡ (field_of (group_at octets.now span)).value) }
     ensures unfolded { (group_at octets.now span).continuations ≡ []
         → IsOkAnd result IsBorrowedSlice }
+    ensures folded { (group_at octets.now span).continuations ≢ [] → IfOk result IsOwnedSlice }
 {
     let first = &octets[span.value_start..span.end];
     if continuation_at(octets, span.next).is_none() {

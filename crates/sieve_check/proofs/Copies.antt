@@ -1,7 +1,10 @@
 -- Lists of commands and of tests, cut into parts one by one.
 use Rattle.std.proofs.Common.{◌≡◌, ℕ, Option, Some, None, List, [], ◌∷◌, map, refl, ap, sym, ◌∙◌}
 use Rattle.sieve_syntax.specs.Tree as syntax
-use Rattle.sieve_check.specs.Parted.{parted_argument, parted_block, parted_node, parted_nodes, parted_test, parted_test_list, parted_tests}
+use Rattle.sieve_syntax.specs.view.Tree as seen
+use Rattle.sieve_check.specs.Parted.{command_labels, parted_block, parted_labelled, parted_node, parted_nodes, parted_test, parted_test_list, parted_tests}
+use Rattle.sieve_check.specs.Context.{Context, inside}
+use Rattle.sieve_check.specs.Table.{command_of}
 use Rattle.std.specs.declared.vec.Vec.{Vec}
 use Rattle.std.specs.declared.alloc.Global.{Global}
 use Rattle.sieve_syntax.specs.declared.tree.Command as syntax_commands
@@ -10,9 +13,10 @@ use Rattle.sieve_syntax.specs.declared.tree.Test as syntax_one_tests
 use Rattle.sieve_syntax.specs.declared.tree.Tests.TheFolds as syntax_test_folds
 use Rattle.sieve_syntax.specs.declared.tree.Tests.TheOpen as syntax_test_layers
 use Rattle.sieve_syntax.specs.declared.tree.Tests.TheVariants as syntax_test_variants
-use Rattle.sieve_check.specs.Seen.{block_as}
+use Rattle.sieve_check.specs.view.Head.{block_as}
 use Rattle.sieve_check.proofs.Views.{seen_command}
-use Rattle.sieve_check.specs.Tree.{Node, node, Block, no_block, block, nodes, more_nodes, Test, Tests, test_list, tests, more_tests, tests_of, test_of, tests_step, test_step, node_of, command_step, argument_of}
+use Rattle.sieve_check.specs.Tree.{Argument, Node, node, Nodes, end_nodes, items, Block, no_block, block, nodes, more_nodes, Test, Tests, test_list, tests, more_tests}
+use Rattle.sieve_check.specs.view.Tree.{tests_of, test_of, tests_step, test_step, node_of, command_step, argument_of}
 use Rattle.sieve_check.specs.declared.tree.Argument as arguments
 use Rattle.sieve_check.specs.declared.tree.Command as commands
 use Rattle.sieve_check.specs.declared.tree.Command.TheFolds as command_folds
@@ -22,51 +26,59 @@ use Rattle.sieve_check.specs.declared.tree.Tests.TheFolds as test_folds
 use Rattle.sieve_check.specs.declared.tree.Tests.TheOpen as test_layers
 use Rattle.sieve_check.specs.declared.tree.Tests.TheVariants as test_variants
 
-test_list_parted : (ts : List syntax.Test) → parted_test_list (syntax.tests ts) ≡ tests (map parted_test ts)
-test_list_parted [] = refl
-test_list_parted (t ∷ ts) = ap (λ rest. more_tests (parted_test t) rest) (test_list_parted ts)
+test_list_parted : (context : Context) (ts : List syntax.Test) → parted_test_list context (syntax.tests ts) ≡ tests (map (parted_test context) ts)
+test_list_parted context [] = refl
+test_list_parted context (t ∷ ts) = ap (λ rest. more_tests (parted_test context t) rest) (test_list_parted context ts)
 
-nodes_parted : (ns : List syntax.Node) → parted_nodes (syntax.nodes ns) ≡ nodes (map parted_node ns)
-nodes_parted [] = refl
-nodes_parted (n ∷ ns) = ap (λ rest. more_nodes (parted_node n) rest) (nodes_parted ns)
+-- the list of commands and back
+nodes-items : (ns : Nodes) → nodes (items ns) ≡ ns
+nodes-items end_nodes = refl
+nodes-items (more_nodes n ns) = ap (λ rest. more_nodes n rest) (nodes-items ns)
 
 -- VIEWS
 
 seen_list : (ts : Vec one_tests.Test Global) → tests_of (test_variants.List ts) ≡ test_list (tests (map test_of ts.items))
 seen_list ts = ap tests_of (sym (test_variants.rolls-List ts)) ∙ test_folds.fold-roll-Tests Tests Test tests_step test_step (test_layers.List ts)
 
-seen_syntax_list : (ts : Vec syntax_one_tests.Test Global) → syntax.tests_of (syntax_test_variants.List ts) ≡ syntax.test_list (syntax.tests (map syntax.test_of ts.items))
-seen_syntax_list ts = ap syntax.tests_of (sym (syntax_test_variants.rolls-List ts)) ∙ syntax_test_folds.fold-roll-Tests syntax.Tests syntax.Test syntax.tests_step syntax.test_step (syntax_test_layers.List ts)
+seen_syntax_list : (ts : Vec syntax_one_tests.Test Global) → seen.tests_of (syntax_test_variants.List ts) ≡ syntax.test_list (syntax.tests (map seen.test_of ts.items))
+seen_syntax_list ts = ap seen.tests_of (sym (syntax_test_variants.rolls-List ts)) ∙ syntax_test_folds.fold-roll-Tests syntax.Tests syntax.Test seen.tests_step seen.test_step (syntax_test_layers.List ts)
 
 abbrev block_of : Option (Vec commands.Command Global) → Block
 block_of None = no_block
 block_of (Some v) = block (nodes (map node_of v.items))
 
-seen : (name : Vec ℕ Global) (line : ℕ) (args : Vec arguments.Argument Global) (ts : test_variants.the_data) (inner : Option (Vec commands.Command Global)) → node_of (command_views.roll-Command (record { name = name; line = line; args = args; tests = ts; block = inner })) ≡ node name.items line (map argument_of args.items) (tests_of ts) (block_of inner)
-seen name line args ts None = command_folds.fold-roll-Command Node command_step (record { name = name; line = line; args = args; tests = ts; block = None })
-seen name line args ts (Some v) = command_folds.fold-roll-Command Node command_step (record { name = name; line = line; args = args; tests = ts; block = Some v })
+seen_whole : (name : Vec ℕ Global) (line : ℕ) (args : Vec arguments.Argument Global) (ts : test_variants.the_data) (inner : Option (Vec commands.Command Global)) → node_of (command_views.roll-Command (record { name = name; line = line; args = args; tests = ts; block = inner })) ≡ node name.items line (map argument_of args.items) (tests_of ts) (block_of inner)
+seen_whole name line args ts None = command_folds.fold-roll-Command Node command_step (record { name = name; line = line; args = args; tests = ts; block = None })
+seen_whole name line args ts (Some v) = command_folds.fold-roll-Command Node command_step (record { name = name; line = line; args = args; tests = ts; block = Some v })
 
 -- COPIES
 
 -- copies of the tests of a list make the copy of the list
-pub list_copied : (copies : Vec one_tests.Test Global) (ts : Vec syntax_one_tests.Test Global) (xs : List syntax_one_tests.Test) (whole : syntax_test_variants.the_data) → whole ≡ syntax_test_variants.List ts → xs ≡ ts.items → map test_of copies.items ≡ map parted_test (map syntax.test_of xs) → tests_of (test_variants.List copies) ≡ parted_tests (syntax.tests_of whole)
-list_copied copies ts xs whole is same e =
+pub list_copied : (context : Context) (copies : Vec one_tests.Test Global) (ts : Vec syntax_one_tests.Test Global) (xs : List syntax_one_tests.Test) (whole : syntax_test_variants.the_data) → whole ≡ syntax_test_variants.List ts → xs ≡ ts.items → map test_of copies.items ≡ map (parted_test context) (map seen.test_of xs) → tests_of (test_variants.List copies) ≡ parted_tests context (seen.tests_of whole)
+list_copied context copies ts xs whole is same e =
     seen_list copies
-    ∙ ap (λ cs. test_list (tests cs)) (e ∙ ap (λ l. map parted_test (map syntax.test_of l)) same)
-    ∙ sym (ap (λ cs. test_list cs) (test_list_parted (map syntax.test_of ts.items)))
-    ∙ sym (ap parted_tests (ap syntax.tests_of is ∙ seen_syntax_list ts))
+    ∙ ap (λ cs. test_list (tests cs)) (e ∙ ap (λ l. map (parted_test context) (map seen.test_of l)) same)
+    ∙ sym (ap (λ cs. test_list cs) (test_list_parted context (map seen.test_of ts.items)))
+    ∙ sym (ap (parted_tests context) (ap seen.tests_of is ∙ seen_syntax_list ts))
+
+-- the arguments of a command of that name
+abbrev pub parted_args : Context → List ℕ → List syntax.Argument → List Argument
+parted_args context name args = parted_labelled context (command_labels (command_of name) args) args
 
 -- copies of a command's parts make the copy of the command
-pub command_copied : (name : Vec ℕ Global) (args : Vec arguments.Argument Global) (ts : test_variants.the_data) (copies : Vec commands.Command Global) (whole : syntax_commands.Command) (inner : Vec syntax_commands.Command Global) (xs : List syntax_commands.Command) → let o = syntax_command_views.out-Command whole in
-    name.items ≡ o.name.items → map argument_of args.items ≡ map parted_argument (map syntax.argument_of o.args.items) → tests_of ts ≡ parted_tests (syntax.tests_of o.tests) → o.block ≡ Some inner → xs ≡ inner.items → map node_of copies.items ≡ map parted_node (map syntax.node_of xs)
-    → node_of (command_views.roll-Command (record { name = name; line = o.line; args = args; tests = ts; block = Some copies })) ≡ parted_node (syntax.node_of whole)
-command_copied name args ts copies whole inner xs n a t b same e =
+pub command_copied : (context within : Context) (name : Vec ℕ Global) (args : Vec arguments.Argument Global) (ts : test_variants.the_data) (copies : Vec commands.Command Global) (whole : syntax_commands.Command) (inner : Vec syntax_commands.Command Global) (xs : List syntax_commands.Command) → let o = syntax_command_views.out-Command whole in
+    name.items ≡ o.name.items → map argument_of args.items ≡ parted_args context o.name.items (map seen.argument_of o.args.items) → tests_of ts ≡ parted_tests context (seen.tests_of o.tests) → o.block ≡ Some inner → xs ≡ inner.items → within ≡ inside context → map node_of copies.items ≡ items (parted_nodes within (syntax.nodes (map seen.node_of xs)))
+    → node_of (command_views.roll-Command (record { name = name; line = o.line; args = args; tests = ts; block = Some copies })) ≡ parted_node context (seen.node_of whole)
+command_copied context within name args ts copies whole inner xs n a t b same start e =
     let o = syntax_command_views.out-Command whole in
-    seen name o.line args ts (Some copies)
+    let made : nodes (map node_of copies.items) ≡ parted_nodes (inside context) (syntax.nodes (map seen.node_of inner.items)) =
+    ap nodes e ∙ nodes-items (parted_nodes within (syntax.nodes (map seen.node_of xs)))
+    ∙ ap (λ w. parted_nodes w (syntax.nodes (map seen.node_of xs))) start
+    ∙ ap (λ l. parted_nodes (inside context) (syntax.nodes (map seen.node_of l))) same in
+    seen_whole name o.line args ts (Some copies)
     ∙ ap (λ x. node x o.line (map argument_of args.items) (tests_of ts) (block (nodes (map node_of copies.items)))) n
     ∙ ap (λ x. node o.name.items o.line x (tests_of ts) (block (nodes (map node_of copies.items)))) a
-    ∙ ap (λ x. node o.name.items o.line (map parted_argument (map syntax.argument_of o.args.items)) x (block (nodes (map node_of copies.items)))) t
-    ∙ ap (λ x. node o.name.items o.line (map parted_argument (map syntax.argument_of o.args.items)) (parted_tests (syntax.tests_of o.tests)) (block (nodes x))) (e ∙ ap (λ l. map parted_node (map syntax.node_of l)) same)
-    ∙ ap (λ x. node o.name.items o.line (map parted_argument (map syntax.argument_of o.args.items)) (parted_tests (syntax.tests_of o.tests)) (block x)) (sym (nodes_parted (map syntax.node_of inner.items)))
-    ∙ ap (λ x. node o.name.items o.line (map parted_argument (map syntax.argument_of o.args.items)) (parted_tests (syntax.tests_of o.tests)) (parted_block (block_as x))) (sym b)
-    ∙ sym (ap parted_node (seen_command whole))
+    ∙ ap (λ x. node o.name.items o.line (parted_args context o.name.items (map seen.argument_of o.args.items)) x (block (nodes (map node_of copies.items)))) t
+    ∙ ap (λ x. node o.name.items o.line (parted_args context o.name.items (map seen.argument_of o.args.items)) (parted_tests context (seen.tests_of o.tests)) (block x)) made
+    ∙ ap (λ x. node o.name.items o.line (parted_args context o.name.items (map seen.argument_of o.args.items)) (parted_tests context (seen.tests_of o.tests)) (parted_block context (block_as x))) (sym b)
+    ∙ sym (ap (parted_node context) (seen_command whole))

@@ -1,23 +1,29 @@
 -- The breaches of commands and tests, part by part.
-use Rattle.std.proofs.Common.{◌≡◌, ℕ, ◌+◌, ◌<◌, ◌≤◌, List, [], ◌++◌, map, length, get_or, drop, Option, None, Some, Result, sym, ap, ◌∙◌, subst}
+use Rattle.std.proofs.Common.{◌≡◌, ℕ, ◌+◌, ◌<◌, ◌≤◌, Bool, true, false, not, ◌&&◌, List, [], ◌++◌, map, length, get_or, drop, Option, None, Some, is_some, Result, refl, sym, ap, ◌∙◌, subst}
 use Rattle.std.proofs.lemmas.List.{at_drop_more, at_drop_all}
-use Rattle.sieve_syntax.specs.Tree.{nodes, tests, argument_of, node_of, test_of, tests_of}
+use Rattle.std.specs.declared.vec.Vec.{Vec}
+use Rattle.std.specs.declared.alloc.Global.{Global}
+use Rattle.sieve_syntax.specs.Tree.{nodes, tests}
+use Rattle.sieve_syntax.specs.view.Tree.{argument_of, node_of, test_of, tests_of}
 use Rattle.sieve_syntax.specs.declared.tree.Argument as arguments
 use Rattle.sieve_syntax.specs.declared.tree.Command as commands
 use Rattle.sieve_syntax.specs.declared.tree.Test as one_tests
-use Rattle.std.specs.declared.vec.Vec.{Vec}
-use Rattle.std.specs.declared.alloc.Global.{Global}
-use Rattle.sieve_check.specs.Breach.{Place, test_breaches, tests_breaches, test_list_breaches, test_head_breaches, test_items_breaches, node_breaches, nodes_breaches, block_breaches, command_head_breaches, command_items_breaches, block_start, kind_of, place_behind}
+use Rattle.sieve_check.specs.Breach.{Breach, all_rules, breach_if, breaches_at, breaches_by, breaches_in, command_breaks, row_breaks, test_breaks}
 use Rattle.sieve_check.specs.CheckFault.{IsFirst}
-use Rattle.sieve_check.specs.Finds.{Finds}
-use Rattle.sieve_check.specs.Items.{Item, items_of}
-use Rattle.sieve_check.specs.Seen.{block_as, test_head, command_head}
-use Rattle.sieve_check.specs.Table.{command_kind, test_kind, command_shape, test_shape}
+use Rattle.sieve_check.specs.Context.{Context, behind, behind_kind, inside, is_require, continues_if}
+use Rattle.sieve_check.specs.Element.{the_command, the_test, test_arguments, command_arguments, test_elements, tests_elements, test_list_elements, node_elements, nodes_elements, block_elements}
+use Rattle.sieve_check.specs.Table as table
+use Rattle.sieve_check.specs.Table.{Row, command_row, test_row}
+use Rattle.sieve_check.specs.Use.{has_block}
+use Rattle.sieve_check.specs.view.Finds.{Finds, FindsIn}
+use Rattle.sieve_check.specs.view.Head.{block_as, test_head, command_head, kind_found}
+use Rattle.sieve_check.specs.view.Use.{row_found}
+use Rattle.sieve_check.specs.declared.rule.Rule.TheVariants.{RequirePlace, ElsePlace, UnknownCommand}
 use Rattle.sieve_check.specs.declared.table.CommandKind.{CommandKind}
-use Rattle.sieve_check.specs.declared.table.Shape.{Shape}
 use Rattle.sieve_check.specs.declared.table.TestKind.{TestKind}
 use Rattle.sieve_check.specs.declared.validator.CheckFault.{CheckFault}
-use Rattle.sieve_check.proofs.Searches.{first_of}
+use Rattle.sieve_check.specs.declared.validator.CheckFault.TheVariants as faults
+use Rattle.sieve_check.proofs.Searches.{first_stops, front_stops, front_passes, finds_past, none_in, cons_in}
 use Rattle.sieve_check.proofs.Views.{seen_command, seen_test}
 
 abbrev Answer : Type 0
@@ -25,116 +31,213 @@ Answer = Result (Unit {0}) CheckFault
 
 -- TESTS
 
--- a test that there is
-pub test_known : (t : one_tests.Test) (kind : TestKind) (shape : Shape) (name : List ℕ) (args : List arguments.Argument) (items : List Item) (r : Answer) → let o = one_tests.out-Test t in
-    test_kind name ≡ Some kind → name ≡ o.name.items → shape ≡ test_shape kind → items ≡ items_of shape.tags (map argument_of args) → args ≡ o.args.items → Finds (test_items_breaches o.line shape (tests_of o.tests) items) r → Finds (test_head t) r
-test_known t kind shape name args items r is n s e a found =
+-- a test that there isn't
+pub test_unknown : (t : one_tests.Test) (context : Context) (name : List ℕ) (line : ℕ) → None ≡ table.test_of name → name ≡ (one_tests.out-Test t).name.items → line ≡ (one_tests.out-Test t).line → IsFirst (breaches_in (test_head context t)) (faults.Breach line UnknownCommand)
+unfolding breaches_at
+test_unknown t context name line is n l =
     let o = one_tests.out-Test t in
-    let known : test_kind o.name.items ≡ Some kind = ap test_kind (sym n) ∙ is in
-    let made : items ≡ items_of shape.tags (map argument_of o.args.items) = e ∙ ap (λ l. items_of shape.tags (map argument_of l)) a in
+    let args = map argument_of o.args.items in
+    let ts = tests_of o.tests in
+    let known : None ≡ table.test_of o.name.items = is ∙ ap table.test_of n in
+    let here : IsFirst (breaches_at (the_test context o.name.items o.line args ts)) (faults.Breach o.line UnknownCommand) = subst (λ k. IsFirst (breaches_by (test_breaks k args ts) o.line all_rules) (faults.Breach o.line UnknownCommand)) known refl in
+    first_stops (the_test context o.name.items o.line args ts) (test_arguments context (table.test_of o.name.items) args ts) (faults.Breach line UnknownCommand)
+    (subst (λ x. IsFirst (breaches_at (the_test context o.name.items o.line args ts)) (faults.Breach x UnknownCommand)) (sym l) here)
+
+-- a test that there is
+pub test_known : (t : one_tests.Test) (context : Context) (kind : TestKind) (row : Row) (name : List ℕ) (line : ℕ) (xs : List arguments.Argument) (r : Answer) → let o = one_tests.out-Test t in
+    Some kind ≡ table.test_of name → name ≡ o.name.items → line ≡ o.line → row ≡ test_row kind → xs ≡ o.args.items → Finds (row_found context line row (map argument_of xs) (tests_of o.tests) false) r → FindsIn (test_head context t) r
+unfolding breaches_at
+test_known t context kind row name line xs r is n l same a found =
+    let o = one_tests.out-Test t in
+    let args = map argument_of o.args.items in
+    let ts = tests_of o.tests in
+    let known : Some kind ≡ table.test_of o.name.items = is ∙ ap table.test_of n in
     subst (λ bs. Finds bs r)
-    (ap (λ l. test_items_breaches o.line shape (tests_of o.tests) l) made
-    ∙ ap (λ (h : Shape). test_items_breaches o.line h (tests_of o.tests) (items_of h.tags (map argument_of o.args.items))) s
-    ∙ ap (λ k. test_head_breaches k o.line (map argument_of o.args.items) (tests_of o.tests)) (sym known))
+    (ap (λ x. row_found context x row (map argument_of xs) ts false) l
+    ∙ ap (λ x. row_found context o.line x (map argument_of xs) ts false) same
+    ∙ ap (λ x. row_found context o.line (test_row kind) (map argument_of x) ts false) a
+    ∙ ap (λ k. breaches_by (test_breaks k args ts) o.line all_rules ++ breaches_in (test_arguments context k args ts)) known
+    ∙ sym (cons_in (the_test context o.name.items o.line args ts) (test_arguments context (table.test_of o.name.items) args ts)))
     found
 
-test_at : (t : one_tests.Test) → test_breaches (test_of t) ≡ test_head t ++ tests_breaches (tests_of (one_tests.out-Test t).tests)
-unfolding test_breaches
-test_at t = ap test_breaches (seen_test t)
+test_at : (t : one_tests.Test) (context : Context) → test_elements context (test_of t) ≡ test_head context t ++ tests_elements context (tests_of (one_tests.out-Test t).tests)
+unfolding test_elements
+test_at t context = ap (test_elements context) (seen_test t)
 
-pub test_stops : (t : one_tests.Test) (fault : CheckFault) → IsFirst (test_head t) fault → IsFirst (test_breaches (test_of t)) fault
-test_stops t fault h = subst (λ bs. IsFirst bs fault) (sym (test_at t)) (first_of _ _ fault h)
+pub test_stops : (t : one_tests.Test) (context : Context) (fault : CheckFault) → IsFirst (breaches_in (test_head context t)) fault → IsFirst (breaches_in (test_elements context (test_of t))) fault
+test_stops t context fault h = subst (λ es. IsFirst (breaches_in es) fault) (sym (test_at t context)) (front_stops _ _ fault h)
 
-pub test_goes_on : (t : one_tests.Test) (r : Answer) → test_head t ≡ [] → Finds (tests_breaches (tests_of (one_tests.out-Test t).tests)) r → Finds (test_breaches (test_of t)) r
-test_goes_on t r none h = subst (λ bs. Finds bs r) (sym (test_at t ∙ ap (λ bs. bs ++ tests_breaches (tests_of (one_tests.out-Test t).tests)) none)) h
+pub test_goes_on : (t : one_tests.Test) (context : Context) (r : Answer) → breaches_in (test_head context t) ≡ [] → FindsIn (tests_elements context (tests_of (one_tests.out-Test t).tests)) r → FindsIn (test_elements context (test_of t)) r
+test_goes_on t context r none h = subst (λ es. FindsIn es r) (sym (test_at t context)) (finds_past (test_head context t) (tests_elements context (tests_of (one_tests.out-Test t).tests)) r none h)
 
 -- a list of tests from one of them on
-list_at : (xs : List one_tests.Test) (i : ℕ) (t : one_tests.Test) → i < length xs → t ≡ get_or xs i t → test_list_breaches (tests (map test_of (drop i xs))) ≡ test_breaches (test_of t) ++ test_list_breaches (tests (map test_of (drop (i + 1) xs)))
-unfolding test_list_breaches
-list_at xs i t h e =
-    at_drop_more (λ l. test_list_breaches (tests (map test_of l))) xs i t h
-    ∙ ap (λ x. test_breaches (test_of x) ++ test_list_breaches (tests (map test_of (drop (i + 1) xs)))) (sym e)
+list_at : (context : Context) (xs : List one_tests.Test) (i : ℕ) (t : one_tests.Test) → i < length xs → t ≡ get_or xs i t → test_list_elements context (tests (map test_of (drop i xs))) ≡ test_elements context (test_of t) ++ test_list_elements context (tests (map test_of (drop (i + 1) xs)))
+unfolding test_list_elements
+list_at context xs i t h e =
+    at_drop_more (λ l. test_list_elements context (tests (map test_of l))) xs i t h
+    ∙ ap (λ x. test_elements context (test_of x) ++ test_list_elements context (tests (map test_of (drop (i + 1) xs)))) (sym e)
 
-pub list_stops : (xs : List one_tests.Test) (i : ℕ) (t : one_tests.Test) (fault : CheckFault) → i < length xs → t ≡ get_or xs i t → IsFirst (test_breaches (test_of t)) fault → IsFirst (test_list_breaches (tests (map test_of (drop i xs)))) fault
-list_stops xs i t fault h e first = subst (λ bs. IsFirst bs fault) (sym (list_at xs i t h e)) (first_of _ _ fault first)
+pub list_stops : (context : Context) (xs : List one_tests.Test) (i : ℕ) (t : one_tests.Test) (fault : CheckFault) → i < length xs → t ≡ get_or xs i t → IsFirst (breaches_in (test_elements context (test_of t))) fault → IsFirst (breaches_in (test_list_elements context (tests (map test_of (drop i xs))))) fault
+list_stops context xs i t fault h e first = subst (λ es. IsFirst (breaches_in es) fault) (sym (list_at context xs i t h e)) (front_stops _ _ fault first)
 
-pub list_goes_on : (xs : List one_tests.Test) (i : ℕ) (t : one_tests.Test) → i < length xs → t ≡ get_or xs i t → test_breaches (test_of t) ≡ [] → test_list_breaches (tests (map test_of (drop (i + 1) xs))) ≡ test_list_breaches (tests (map test_of (drop i xs)))
-list_goes_on xs i t h e none = sym (list_at xs i t h e ∙ ap (λ bs. bs ++ test_list_breaches (tests (map test_of (drop (i + 1) xs)))) none)
+pub list_goes_on : (context : Context) (xs : List one_tests.Test) (i : ℕ) (t : one_tests.Test) → i < length xs → t ≡ get_or xs i t → breaches_in (test_elements context (test_of t)) ≡ [] → breaches_in (test_list_elements context (tests (map test_of (drop (i + 1) xs)))) ≡ breaches_in (test_list_elements context (tests (map test_of (drop i xs))))
+list_goes_on context xs i t h e none = sym (ap breaches_in (list_at context xs i t h e) ∙ front_passes _ _ none)
 
-pub list_ends : (xs : List one_tests.Test) (i : ℕ) → length xs ≤ i → test_list_breaches (tests (map test_of (drop i xs))) ≡ []
-unfolding test_list_breaches
-list_ends xs i h = at_drop_all (λ l. test_list_breaches (tests (map test_of l))) xs i h
+pub list_ends : (context : Context) (xs : List one_tests.Test) (i : ℕ) → length xs ≤ i → breaches_in (test_list_elements context (tests (map test_of (drop i xs)))) ≡ []
+unfolding test_list_elements
+list_ends context xs i h = ap breaches_in (at_drop_all (λ l. test_list_elements context (tests (map test_of l))) xs i h) ∙ none_in
 
 -- COMMANDS
 
+-- whether a block ends a command
+block_there : (inner : Option (Vec commands.Command Global)) → is_some inner ≡ has_block (block_as inner)
+block_there None = refl
+block_there (Some v) = refl
+
+module _ (context : Context) (kind : CommandKind) (c : commands.Command) where
+  -- what is found, by whether a require stands in a wrong place and whether a branch stands alone
+  by_places : Bool → Bool → List Breach
+  by_places misplaced alone =
+      let o = commands.out-Command c in
+      let args = map argument_of o.args.items in
+      (breach_if misplaced o.line RequirePlace ++ (breach_if alone o.line ElsePlace ++ breaches_by (row_breaks (command_row kind) args (tests_of o.tests) (has_block (block_as o.block))) o.line all_rules))
+      ++ breaches_in (command_arguments context (Some kind) args (tests_of o.tests) (block_as o.block))
+
+  found_by : kind_found context kind c ≡ by_places (is_require kind && not context.leads) (continues_if kind && not context.follows_if)
+  unfolding by_places
+  found_by = refl
+
+  pub require_misplaced : (line : ℕ) → line ≡ (commands.out-Command c).line → true ≡ (is_require kind && not context.leads) → IsFirst (kind_found context kind c) (faults.Breach line RequirePlace)
+  unfolding by_places
+  require_misplaced line l is =
+      let o = commands.out-Command c in
+      subst (λ x. IsFirst (kind_found context kind c) (faults.Breach x RequirePlace)) (sym l)
+      (subst (λ bs. IsFirst bs (faults.Breach o.line RequirePlace)) (sym (found_by ∙ ap (λ p. by_places p (continues_if kind && not context.follows_if)) (sym is))) refl)
+
+  pub branch_alone : (line : ℕ) → line ≡ (commands.out-Command c).line → false ≡ (is_require kind && not context.leads) → true ≡ (continues_if kind && not context.follows_if) → IsFirst (kind_found context kind c) (faults.Breach line ElsePlace)
+  unfolding by_places
+  branch_alone line l placed is =
+      let o = commands.out-Command c in
+      subst (λ x. IsFirst (kind_found context kind c) (faults.Breach x ElsePlace)) (sym l)
+      (subst (λ bs. IsFirst bs (faults.Breach o.line ElsePlace)) (sym (found_by ∙ ap (λ p. by_places p (continues_if kind && not context.follows_if)) (sym placed) ∙ ap (by_places false) (sym is))) refl)
+
+  pub kind_placed : (row : Row) (line : ℕ) (xs : List arguments.Argument) (b : Bool) (r : Answer) → let o = commands.out-Command c in
+      line ≡ o.line → row ≡ command_row kind → xs ≡ o.args.items → b ≡ is_some o.block → false ≡ (is_require kind && not context.leads) → false ≡ (continues_if kind && not context.follows_if) → Finds (row_found context line row (map argument_of xs) (tests_of o.tests) b) r → Finds (kind_found context kind c) r
+  unfolding by_places
+  kind_placed row line xs b r l same a ends placed goes found =
+      let o = commands.out-Command c in
+      let ts = tests_of o.tests in
+      subst (λ bs. Finds bs r)
+      (ap (λ x. row_found context x row (map argument_of xs) ts b) l
+      ∙ ap (λ x. row_found context o.line x (map argument_of xs) ts b) same
+      ∙ ap (λ x. row_found context o.line (command_row kind) (map argument_of x) ts b) a
+      ∙ ap (row_found context o.line (command_row kind) (map argument_of o.args.items) ts) (ends ∙ block_there o.block)
+      ∙ sym (found_by ∙ ap (λ p. by_places p (continues_if kind && not context.follows_if)) (sym placed) ∙ ap (by_places false) (sym goes)))
+      found
+
+-- a command that there isn't
+pub command_unknown : (c : commands.Command) (context : Context) (name : List ℕ) (line : ℕ) → None ≡ table.command_of name → name ≡ (commands.out-Command c).name.items → line ≡ (commands.out-Command c).line → IsFirst (breaches_in (command_head context c)) (faults.Breach line UnknownCommand)
+unfolding breaches_at
+command_unknown c context name line is n l =
+    let o = commands.out-Command c in
+    let args = map argument_of o.args.items in
+    let ts = tests_of o.tests in
+    let ending = block_as o.block in
+    let known : None ≡ table.command_of o.name.items = is ∙ ap table.command_of n in
+    let here : IsFirst (breaches_at (the_command context o.name.items o.line args ts ending)) (faults.Breach o.line UnknownCommand) = subst (λ k. IsFirst (breaches_by (command_breaks context k args ts ending) o.line all_rules) (faults.Breach o.line UnknownCommand)) known refl in
+    first_stops (the_command context o.name.items o.line args ts ending) (command_arguments context (table.command_of o.name.items) args ts ending) (faults.Breach line UnknownCommand)
+    (subst (λ x. IsFirst (breaches_at (the_command context o.name.items o.line args ts ending)) (faults.Breach x UnknownCommand)) (sym l) here)
+
+head_by : (c : commands.Command) (context : Context) (kind : CommandKind) (name : List ℕ) → Some kind ≡ table.command_of name → name ≡ (commands.out-Command c).name.items → kind_found context kind c ≡ breaches_in (command_head context c)
+unfolding breaches_at
+head_by c context kind name is n =
+    let o = commands.out-Command c in
+    let args = map argument_of o.args.items in
+    let ts = tests_of o.tests in
+    let ending = block_as o.block in
+    ap (λ k. breaches_by (command_breaks context k args ts ending) o.line all_rules ++ breaches_in (command_arguments context k args ts ending)) (is ∙ ap table.command_of n)
+    ∙ sym (cons_in (the_command context o.name.items o.line args ts ending) (command_arguments context (table.command_of o.name.items) args ts ending))
+
 -- a command that there is
-pub command_known : (c : commands.Command) (place : Place) (kind : CommandKind) (shape : Shape) (name : List ℕ) (args : List arguments.Argument) (items : List Item) (r : Answer) → let o = commands.out-Command c in
-    command_kind name ≡ Some kind → name ≡ o.name.items → shape ≡ command_shape kind → items ≡ items_of shape.tags (map argument_of args) → args ≡ o.args.items → Finds (command_items_breaches place o.line kind (tests_of o.tests) (block_as o.block) items) r → Finds (command_head place c) r
-command_known c place kind shape name args items r is n s e a found =
+pub command_stops : (c : commands.Command) (context : Context) (kind : CommandKind) (name : List ℕ) (fault : CheckFault) → Some kind ≡ table.command_of name → name ≡ (commands.out-Command c).name.items → IsFirst (kind_found context kind c) fault → IsFirst (breaches_in (command_head context c)) fault
+command_stops c context kind name fault is n h = subst (λ bs. IsFirst bs fault) (head_by c context kind name is n) h
+
+pub command_passes : (c : commands.Command) (context : Context) (kind : CommandKind) (name : List ℕ) → Some kind ≡ table.command_of name → name ≡ (commands.out-Command c).name.items → kind_found context kind c ≡ [] → breaches_in (command_head context c) ≡ []
+command_passes c context kind name is n none = sym (head_by c context kind name is n) ∙ none
+
+pub command_moves : (c : commands.Command) (context next : Context) (kind : CommandKind) (name : List ℕ) → Some kind ≡ table.command_of name → name ≡ (commands.out-Command c).name.items → next ≡ behind_kind context (Some kind) → next ≡ behind_kind context (table.command_of (commands.out-Command c).name.items)
+command_moves c context next kind name is n goes = goes ∙ ap (behind_kind context) (is ∙ ap table.command_of n)
+
+command_at : (c : commands.Command) (context : Context) → let o = commands.out-Command c in node_elements context (node_of c) ≡ command_head context c ++ (tests_elements context (tests_of o.tests) ++ block_elements context (block_as o.block))
+unfolding node_elements
+command_at c context = ap (node_elements context) (seen_command c)
+
+pub head_stops : (c : commands.Command) (context : Context) (fault : CheckFault) → IsFirst (breaches_in (command_head context c)) fault → IsFirst (breaches_in (node_elements context (node_of c))) fault
+head_stops c context fault h = subst (λ es. IsFirst (breaches_in es) fault) (sym (command_at c context)) (front_stops _ _ fault h)
+
+pub tests_stop : (c : commands.Command) (context : Context) (fault : CheckFault) → breaches_in (command_head context c) ≡ [] → IsFirst (breaches_in (tests_elements context (tests_of (commands.out-Command c).tests))) fault → IsFirst (breaches_in (node_elements context (node_of c))) fault
+tests_stop c context fault none h =
     let o = commands.out-Command c in
-    let known : command_kind o.name.items ≡ Some kind = ap command_kind (sym n) ∙ is in
-    let made : items ≡ items_of shape.tags (map argument_of o.args.items) = e ∙ ap (λ l. items_of shape.tags (map argument_of l)) a in
-    subst (λ bs. Finds bs r)
-    (ap (λ l. command_items_breaches place o.line kind (tests_of o.tests) (block_as o.block) l) made
-    ∙ ap (λ (h : Shape). command_items_breaches place o.line kind (tests_of o.tests) (block_as o.block) (items_of h.tags (map argument_of o.args.items))) s
-    ∙ ap (λ k. command_head_breaches place k o.line (map argument_of o.args.items) (tests_of o.tests) (block_as o.block)) (sym known))
-    found
-
-command_at : (c : commands.Command) (place : Place) → let o = commands.out-Command c in node_breaches place (node_of c) ≡ command_head place c ++ (tests_breaches (tests_of o.tests) ++ block_breaches (block_as o.block))
-unfolding node_breaches
-command_at c place = ap (node_breaches place) (seen_command c)
-
-pub head_stops : (c : commands.Command) (place : Place) (fault : CheckFault) → IsFirst (command_head place c) fault → IsFirst (node_breaches place (node_of c)) fault
-head_stops c place fault h = subst (λ bs. IsFirst bs fault) (sym (command_at c place)) (first_of _ _ fault h)
-
-pub tests_stop : (c : commands.Command) (place : Place) (fault : CheckFault) → command_head place c ≡ [] → IsFirst (tests_breaches (tests_of (commands.out-Command c).tests)) fault → IsFirst (node_breaches place (node_of c)) fault
-tests_stop c place fault none h =
-    let o = commands.out-Command c in
-    subst (λ bs. IsFirst bs fault) (sym (command_at c place ∙ ap (λ bs. bs ++ (tests_breaches (tests_of o.tests) ++ block_breaches (block_as o.block))) none)) (first_of _ _ fault h)
+    subst (λ bs. IsFirst bs fault)
+    (sym (ap breaches_in (command_at c context) ∙ front_passes (command_head context c) (tests_elements context (tests_of o.tests) ++ block_elements context (block_as o.block)) none))
+    (front_stops _ _ fault h)
 
 -- what is left where neither the command nor its tests break a rule
-block_left : (c : commands.Command) (place : Place) (inner : Option (Vec commands.Command Global)) → let o = commands.out-Command c in command_head place c ≡ [] → tests_breaches (tests_of o.tests) ≡ [] → o.block ≡ inner → node_breaches place (node_of c) ≡ block_breaches (block_as inner)
-block_left c place inner none fine is =
+block_left : (c : commands.Command) (context : Context) (inner : Option (Vec commands.Command Global)) → let o = commands.out-Command c in breaches_in (command_head context c) ≡ [] → breaches_in (tests_elements context (tests_of o.tests)) ≡ [] → o.block ≡ inner → breaches_in (node_elements context (node_of c)) ≡ breaches_in (block_elements context (block_as inner))
+block_left c context inner none fine is =
     let o = commands.out-Command c in
-    command_at c place
-    ∙ ap (λ bs. bs ++ (tests_breaches (tests_of o.tests) ++ block_breaches (block_as o.block))) none
-    ∙ ap (λ bs. bs ++ block_breaches (block_as o.block)) fine
-    ∙ ap (λ b. block_breaches (block_as b)) is
+    ap breaches_in (command_at c context)
+    ∙ front_passes (command_head context c) (tests_elements context (tests_of o.tests) ++ block_elements context (block_as o.block)) none
+    ∙ front_passes (tests_elements context (tests_of o.tests)) (block_elements context (block_as o.block)) fine
+    ∙ ap (λ b. breaches_in (block_elements context (block_as b))) is
 
-pub command_ends : (c : commands.Command) (place : Place) → let o = commands.out-Command c in command_head place c ≡ [] → tests_breaches (tests_of o.tests) ≡ [] → o.block ≡ None → node_breaches place (node_of c) ≡ []
-unfolding block_breaches
-command_ends c place none fine is = block_left c place None none fine is
+pub command_ends : (c : commands.Command) (context : Context) → let o = commands.out-Command c in breaches_in (command_head context c) ≡ [] → breaches_in (tests_elements context (tests_of o.tests)) ≡ [] → o.block ≡ None → breaches_in (node_elements context (node_of c)) ≡ []
+unfolding block_elements
+command_ends c context none fine is = block_left c context None none fine is ∙ none_in
 
-pub block_goes_on : (c : commands.Command) (place : Place) (inner : Vec commands.Command Global) (xs : List commands.Command) (r : Answer) → let o = commands.out-Command c in command_head place c ≡ [] → tests_breaches (tests_of o.tests) ≡ [] → o.block ≡ Some inner → xs ≡ inner.items → Finds (nodes_breaches block_start (nodes (map node_of xs))) r → Finds (node_breaches place (node_of c)) r
-unfolding block_breaches
-block_goes_on c place inner xs r none fine is same h =
-    subst (λ bs. Finds bs r) (ap (λ l. nodes_breaches block_start (nodes (map node_of l))) same ∙ sym (block_left c place (Some inner) none fine is)) h
+pub block_stops : (c : commands.Command) (context within : Context) (inner : Vec commands.Command Global) (xs : List commands.Command) (fault : CheckFault) → let o = commands.out-Command c in breaches_in (command_head context c) ≡ [] → breaches_in (tests_elements context (tests_of o.tests)) ≡ [] → o.block ≡ Some inner → xs ≡ inner.items → within ≡ inside context → IsFirst (breaches_in (nodes_elements within (nodes (map node_of xs)))) fault → IsFirst (breaches_in (node_elements context (node_of c))) fault
+unfolding block_elements
+block_stops c context within inner xs fault none fine is same start h =
+    subst (λ bs. IsFirst bs fault) (ap (λ l. breaches_in (nodes_elements within (nodes (map node_of l)))) same ∙ ap (λ w. breaches_in (nodes_elements w (nodes (map node_of inner.items)))) start ∙ sym (block_left c context (Some inner) none fine is)) h
+
+pub block_ends : (c : commands.Command) (context within : Context) (inner : Vec commands.Command Global) (xs : List commands.Command) → let o = commands.out-Command c in breaches_in (command_head context c) ≡ [] → breaches_in (tests_elements context (tests_of o.tests)) ≡ [] → o.block ≡ Some inner → xs ≡ inner.items → within ≡ inside context → breaches_in (nodes_elements within (nodes (map node_of xs))) ≡ [] → breaches_in (node_elements context (node_of c)) ≡ []
+unfolding block_elements
+block_ends c context within inner xs none fine is same start h =
+    block_left c context (Some inner) none fine is
+    ∙ sym (ap (λ w. breaches_in (nodes_elements w (nodes (map node_of inner.items)))) start)
+    ∙ sym (ap (λ l. breaches_in (nodes_elements within (nodes (map node_of l)))) same)
+    ∙ h
+
+pub whole_moves : (c : commands.Command) (context next : Context) → next ≡ behind_kind context (table.command_of (commands.out-Command c).name.items) → next ≡ behind context (node_of c)
+whole_moves c context next goes = goes ∙ sym (ap (behind context) (seen_command c))
 
 -- commands from one of them on
-commands_at : (xs : List commands.Command) (i : ℕ) (c : commands.Command) (place : Place) → i < length xs → c ≡ get_or xs i c → nodes_breaches place (nodes (map node_of (drop i xs))) ≡ node_breaches place (node_of c) ++ nodes_breaches (place_behind place (kind_of (node_of c))) (nodes (map node_of (drop (i + 1) xs)))
-unfolding nodes_breaches
-commands_at xs i c place h e =
-    at_drop_more (λ l. nodes_breaches place (nodes (map node_of l))) xs i c h
-    ∙ ap (λ x. node_breaches place (node_of x) ++ nodes_breaches (place_behind place (kind_of (node_of x))) (nodes (map node_of (drop (i + 1) xs)))) (sym e)
+commands_at : (xs : List commands.Command) (i : ℕ) (c : commands.Command) (context : Context) → i < length xs → c ≡ get_or xs i c → nodes_elements context (nodes (map node_of (drop i xs))) ≡ node_elements context (node_of c) ++ nodes_elements (behind context (node_of c)) (nodes (map node_of (drop (i + 1) xs)))
+unfolding nodes_elements
+commands_at xs i c context h e =
+    at_drop_more (λ l. nodes_elements context (nodes (map node_of l))) xs i c h
+    ∙ ap (λ x. node_elements context (node_of x) ++ nodes_elements (behind context (node_of x)) (nodes (map node_of (drop (i + 1) xs)))) (sym e)
 
-pub commands_stop : (xs : List commands.Command) (i : ℕ) (c : commands.Command) (place : Place) (fault : CheckFault) → i < length xs → c ≡ get_or xs i c → IsFirst (node_breaches place (node_of c)) fault → IsFirst (nodes_breaches place (nodes (map node_of (drop i xs)))) fault
-commands_stop xs i c place fault h e first = subst (λ bs. IsFirst bs fault) (sym (commands_at xs i c place h e)) (first_of _ _ fault first)
+pub commands_stop : (xs : List commands.Command) (i : ℕ) (c : commands.Command) (context : Context) (fault : CheckFault) → i < length xs → c ≡ get_or xs i c → IsFirst (breaches_in (node_elements context (node_of c))) fault → IsFirst (breaches_in (nodes_elements context (nodes (map node_of (drop i xs))))) fault
+commands_stop xs i c context fault h e first = subst (λ es. IsFirst (breaches_in es) fault) (sym (commands_at xs i c context h e)) (front_stops _ _ fault first)
 
-pub commands_go_on : (xs : List commands.Command) (i : ℕ) (c : commands.Command) (place next : Place) (name : List ℕ) → i < length xs → c ≡ get_or xs i c → node_breaches place (node_of c) ≡ [] → name ≡ (commands.out-Command c).name.items → next ≡ place_behind place (command_kind name) → nodes_breaches next (nodes (map node_of (drop (i + 1) xs))) ≡ nodes_breaches place (nodes (map node_of (drop i xs)))
-commands_go_on xs i c place next name h e none n goes =
-    let rest = nodes (map node_of (drop (i + 1) xs)) in
-    let kind : command_kind name ≡ kind_of (node_of c) = ap command_kind n ∙ sym (ap kind_of (seen_command c)) in
-    ap (λ p. nodes_breaches p rest) (goes ∙ ap (place_behind place) kind)
-    ∙ sym (commands_at xs i c place h e ∙ ap (λ bs. bs ++ nodes_breaches (place_behind place (kind_of (node_of c))) rest) none)
+pub commands_go_on : (xs : List commands.Command) (i : ℕ) (c : commands.Command) (context next : Context) → i < length xs → c ≡ get_or xs i c → breaches_in (node_elements context (node_of c)) ≡ [] → next ≡ behind context (node_of c) → breaches_in (nodes_elements next (nodes (map node_of (drop (i + 1) xs)))) ≡ breaches_in (nodes_elements context (nodes (map node_of (drop i xs))))
+commands_go_on xs i c context next h e none goes =
+    ap (λ p. breaches_in (nodes_elements p (nodes (map node_of (drop (i + 1) xs))))) goes
+    ∙ sym (ap breaches_in (commands_at xs i c context h e) ∙ front_passes _ _ none)
 
-pub commands_end : (xs : List commands.Command) (i : ℕ) (place : Place) → length xs ≤ i → nodes_breaches place (nodes (map node_of (drop i xs))) ≡ []
-unfolding nodes_breaches
-commands_end xs i place h = at_drop_all (λ l. nodes_breaches place (nodes (map node_of l))) xs i h
+pub commands_end : (xs : List commands.Command) (i : ℕ) (context : Context) → length xs ≤ i → breaches_in (nodes_elements context (nodes (map node_of (drop i xs)))) ≡ []
+unfolding nodes_elements
+commands_end xs i context h = ap breaches_in (at_drop_all (λ l. nodes_elements context (nodes (map node_of l))) xs i h) ∙ none_in
 
 pub ruleset test_steps = (test_stops, test_goes_on)
 
 pub ruleset list_steps = (list_stops, list_goes_on, list_ends)
 
-pub ruleset command_steps = (head_stops, tests_stop, command_ends)
+pub ruleset kind_steps = (require_misplaced, branch_alone, kind_placed)
+
+pub ruleset command_head_steps = (command_unknown, command_stops, command_passes, command_moves)
+
+pub ruleset command_steps = (head_stops, tests_stop, command_ends, block_stops, block_ends, whole_moves)
 
 pub ruleset commands_steps = (commands_stop, commands_go_on, commands_end)

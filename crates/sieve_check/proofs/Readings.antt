@@ -1,20 +1,11 @@
--- What the recursions over arguments and parts give at one element.
-use Rattle.std.proofs.Common.{◌≡◌, ℕ, suc, ◌-◌, ◌<◌, ◌≤◌, Bool, true, false, ◌&&◌, nat_eq, List, [], ◌∷◌, ◌++◌, map, length, get_or, drop, Some, refl, sym, ap, subst, ◌∙◌, arith}
-use Rattle.std.proofs.lemmas.Bool.{lt-ltb}
+-- What the recursion over parts gives at one of them.
+use Rattle.std.proofs.Common.{◌≡◌, ℕ, ◌≤◌, Bool, true, false, ◌&&◌, nat_eq, List, [], ◌∷◌, ◌++◌, map, length, get_or, drop, refl, sym, ap, ◌∙◌, arith}
 use Rattle.std.proofs.lemmas.Bool.Decides.{nat_tests}
-use Rattle.std.proofs.lemmas.List.{length-map}
-use Rattle.std.proofs.lemmas.Option.{slice_get-map, slice_get_read}
-use Rattle.std.specs.List.{flat_map, slice_get, starts_with}
+use Rattle.std.specs.List.{flat_map, starts_with}
 use lib.Pointwise.{pointwise}
-use Rattle.sieve_check.specs.Script.{from_end, part_value}
-use Rattle.sieve_check.specs.Tree.{Argument, part_of}
+use Rattle.sieve_check.specs.Reading.{part_value}
+use Rattle.sieve_check.specs.view.Tree.{part_of}
 use Rattle.sieve_check.specs.declared.tree.Part as parts
-
--- an argument before the end
-pub from_end_read : {X : Type 0} (view : X → Argument) (args : List X) (count i : ℕ) (argument : X) → count < length args → i ≡ length args - suc count → argument ≡ get_or args i argument → Some (view argument) ≡ from_end count (map view args)
-from_end_read view args count i argument h at e =
-    let read : slice_get args (length args - suc count) ≡ Some argument = subst (λ n. slice_get args n ≡ Some argument) at (slice_get_read args (length args) i argument refl (omega arith) e) in
-    rw (length-map args view, slice_get-map view args (length args - suc count), read, lt-ltb count (length args) h) refl
 
 same_either_way : (a b : ℕ) → nat_eq a b ≡ nat_eq b a
 same_either_way a b = grind (arith, nat_tests)

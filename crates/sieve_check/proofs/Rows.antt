@@ -2,11 +2,19 @@
 use Rattle.std.proofs.Common.{◌≡◌, ℕ, true, false, List, [], ◌∷◌, Some, None, refl, codes}
 use Rattle.match_text.specs.declared.comparators.Collation.TheVariants.{Octet, Casemap}
 use Rattle.sieve_syntax.specs.Tree as syntax
-use Rattle.sieve_check.specs.Breach.{breaches_of, nodes_breaches, node_breaches, block_breaches, tests_breaches, test_breaches}
+use Rattle.sieve_check.specs.Breach.{breaches_of, breaches_in, breaches_at}
+use Rattle.sieve_check.specs.Element.{nodes_elements, node_elements, block_elements, tests_elements, test_elements}
+use Rattle.sieve_check.specs.Label.{labels_of}
 use Rattle.sieve_check.specs.Parted.{parted}
-use Rattle.sieve_check.specs.Script.{no_commands, stops, acts, chooses, keep_leaf, discard_leaf, always, asks, header_ask, script_of, chain_of, node_before, block_commands, condition_of, conditions_in}
-use Rattle.sieve_check.specs.Table.{command_kind, test_kind}
+use Rattle.sieve_check.specs.Reading.{keep_leaf, discard_leaf, header_ask}
+use Rattle.sieve_check.specs.Script.{no_commands, stops, acts, chooses, always, asks, script_of, chain_of, node_before, block_commands, condition_of, conditions_in}
+use Rattle.sieve_check.specs.Table.{Row, slot, bare, command_of, test_of}
 use Rattle.sieve_check.specs.Tree.{literal}
+use Rattle.sieve_check.specs.declared.label.Label.TheVariants as label
+use Rattle.sieve_check.specs.declared.label.Shape.TheVariants as shape
+use Rattle.sieve_check.specs.declared.row.Form.TheVariants as form
+use Rattle.sieve_check.specs.declared.row.Role.TheVariants as role
+use Rattle.sieve_check.specs.declared.table.Tag.TheVariants as tag
 use Rattle.sieve_check.specs.declared.reading.MatchType.TheVariants.{Is, Contains}
 use Rattle.sieve_check.specs.declared.rule.Rule.TheVariants.{RequirePlace, UnknownCapability, UnknownCommand, ElsePlace, BadTag, BadArguments, UnknownComparator, NumberTooLarge}
 
@@ -39,58 +47,80 @@ truth = syntax.test (codes "TRUE") 1 [] syntax.no_tests
 -- kep; require "x";
 unknown_row : breaches_of (plain (codes "kep") 1 [] ∷ plain (codes "require") 2 (one (codes "x") ∷ []) ∷ [])
     ≡ record { line = 1; rule = UnknownCommand } ∷ record { line = 2; rule = RequirePlace } ∷ []
-unfolding nodes_breaches node_breaches block_breaches tests_breaches command_kind
+unfolding breaches_in breaches_at nodes_elements node_elements block_elements tests_elements command_of
 unknown_row = refl
 
 -- require "vacation"; keep;
 capability_row : breaches_of (plain (codes "require") 1 (one (codes "vacation") ∷ []) ∷ plain (codes "keep") 2 [] ∷ []) ≡ record { line = 1; rule = UnknownCapability } ∷ []
-unfolding nodes_breaches node_breaches block_breaches tests_breaches command_kind
+unfolding breaches_in breaches_at nodes_elements node_elements block_elements tests_elements command_of
 capability_row = refl
 
 -- require "comparator-i;octet"; Keep;
 required_row : breaches_of (plain (codes "require") 1 (one (codes "comparator-i;octet") ∷ []) ∷ plain (codes "Keep") 2 [] ∷ []) ≡ []
-unfolding nodes_breaches node_breaches block_breaches tests_breaches command_kind
+unfolding breaches_in breaches_at nodes_elements node_elements block_elements tests_elements command_of
 required_row = refl
 
 -- if header "Subject" :is "x" {}
 late_tag_row : breaches_of (branch (codes "if") 1 (header (one (codes "Subject") ∷ tagged (codes "is") ∷ one (codes "x") ∷ [])) [] ∷ []) ≡ record { line = 1; rule = BadTag } ∷ []
-unfolding nodes_breaches node_breaches block_breaches tests_breaches test_breaches command_kind test_kind
+unfolding breaches_in breaches_at nodes_elements node_elements block_elements tests_elements test_elements command_of test_of
 late_tag_row = refl
 
 -- if header :comparator "i;basic" "a" "b" {}
 comparator_row : breaches_of (branch (codes "if") 1 (header (tagged (codes "comparator") ∷ one (codes "i;basic") ∷ one (codes "a") ∷ one (codes "b") ∷ [])) [] ∷ []) ≡ record { line = 1; rule = UnknownComparator } ∷ []
-unfolding nodes_breaches node_breaches block_breaches tests_breaches test_breaches command_kind test_kind
+unfolding breaches_in breaches_at nodes_elements node_elements block_elements tests_elements test_elements command_of test_of
 comparator_row = refl
 
 -- if header :comparator ["i;octet"] "a" "b" {}
 bracketed_comparator_row : breaches_of (branch (codes "if") 1 (header (tagged (codes "comparator") ∷ syntax.strings (text (codes "i;octet") ∷ []) true ∷ one (codes "a") ∷ one (codes "b") ∷ [])) [] ∷ []) ≡ record { line = 1; rule = BadArguments } ∷ []
-unfolding nodes_breaches node_breaches block_breaches tests_breaches test_breaches command_kind test_kind
+unfolding breaches_in breaches_at nodes_elements node_elements block_elements tests_elements test_elements command_of test_of
 bracketed_comparator_row = refl
 
 -- if size 1 {}
 size_row : breaches_of (branch (codes "if") 1 (size (syntax.number (Some 1) 1 ∷ [])) [] ∷ []) ≡ record { line = 1; rule = BadArguments } ∷ []
-unfolding nodes_breaches node_breaches block_breaches tests_breaches test_breaches command_kind test_kind
+unfolding breaches_in breaches_at nodes_elements node_elements block_elements tests_elements test_elements command_of test_of
 size_row = refl
 
 -- if size :over :under 1 {}
 both_bounds_row : breaches_of (branch (codes "if") 1 (size (tagged (codes "over") ∷ tagged (codes "under") ∷ syntax.number (Some 1) 1 ∷ [])) [] ∷ []) ≡ record { line = 1; rule = BadTag } ∷ []
-unfolding nodes_breaches node_breaches block_breaches tests_breaches test_breaches command_kind test_kind
+unfolding breaches_in breaches_at nodes_elements node_elements block_elements tests_elements test_elements command_of test_of
 both_bounds_row = refl
 
 -- if size :over 17179869184G {}
 large_row : breaches_of (branch (codes "if") 1 (size (tagged (codes "over") ∷ syntax.number None 1 ∷ [])) [] ∷ []) ≡ record { line = 1; rule = NumberTooLarge } ∷ []
-unfolding nodes_breaches node_breaches block_breaches tests_breaches test_breaches command_kind test_kind
+unfolding breaches_in breaches_at nodes_elements node_elements block_elements tests_elements test_elements command_of test_of
 large_row = refl
 
 -- if true {} keep; elsif true {}
 else_row : breaches_of (branch (codes "if") 1 truth [] ∷ plain (codes "keep") 2 [] ∷ branch (codes "elsif") 3 truth [] ∷ []) ≡ record { line = 3; rule = ElsePlace } ∷ []
-unfolding nodes_breaches node_breaches block_breaches tests_breaches test_breaches command_kind test_kind
+unfolding breaches_in breaches_at nodes_elements node_elements block_elements tests_elements test_elements command_of test_of
 else_row = refl
 
 -- keep "x" :flags;
 two_rules_row : breaches_of (plain (codes "keep") 1 (one (codes "x") ∷ tagged (codes "flags") ∷ []) ∷ []) ≡ record { line = 1; rule = BadTag } ∷ record { line = 1; rule = BadArguments } ∷ []
-unfolding nodes_breaches node_breaches block_breaches tests_breaches command_kind
+unfolding breaches_in breaches_at nodes_elements node_elements block_elements tests_elements command_of
 two_rules_row = refl
+
+-- if true { require "comparator-i;octet"; }
+inner_require_row : breaches_of (branch (codes "if") 1 truth (plain (codes "require") 2 (one (codes "comparator-i;octet") ∷ []) ∷ []) ∷ []) ≡ record { line = 2; rule = RequirePlace } ∷ []
+unfolding breaches_in breaches_at nodes_elements node_elements block_elements tests_elements test_elements command_of test_of
+inner_require_row = refl
+
+-- A test of a row with an argument in front, as hasflag [<variables>] <flags> has it (RFC 5232, section 4): the string of the
+-- comparator isn't taken for it.
+abbrev fronted : Row
+fronted = record (bare (codes "hasflag")) { tags = tag.Comparator ∷ []; front = Some (slot form.List role.NamesToRead); slots = slot form.List role.Keys ∷ [] }
+
+-- :comparator "i;octet" "a"
+shorter_row : labels_of fronted (shape.Tag (Some tag.Comparator) ∷ shape.Text ∷ shape.Text ∷ []) ≡ label.Tagged tag.Comparator ∷ label.Own (slot form.One role.ComparatorName) ∷ label.InSlot (slot form.List role.Keys) ∷ []
+shorter_row = refl
+
+-- "a" ["b"]
+longer_row : labels_of fronted (shape.Text ∷ shape.Texts ∷ []) ≡ label.InSlot (slot form.List role.NamesToRead) ∷ label.InSlot (slot form.List role.Keys) ∷ []
+longer_row = refl
+
+-- "a" 1
+neither_row : labels_of fronted (shape.Text ∷ shape.Number ∷ []) ≡ label.InSlot (slot form.List role.Keys) ∷ label.Unfit ∷ []
+neither_row = refl
 
 -- if header :contains "a" "b" { discard; } elsif true { stop; } else { } keep;
 chain_row : script_of (parted (branch (codes "if") 1 (header (tagged (codes "contains") ∷ one (codes "a") ∷ one (codes "b") ∷ [])) (plain (codes "discard") 2 [] ∷ [])
@@ -100,11 +130,11 @@ chain_row : script_of (parted (branch (codes "if") 1 (header (tagged (codes "con
     ≡ chooses (asks (header_ask Contains Casemap ((literal (codes "a") ∷ []) ∷ []) ((literal (codes "b") ∷ []) ∷ []))) (acts discard_leaf 2 no_commands)
     (chooses always (stops no_commands) no_commands no_commands)
     (acts keep_leaf 6 no_commands)
-unfolding chain_of node_before block_commands condition_of conditions_in command_kind test_kind
+unfolding chain_of node_before block_commands condition_of conditions_in command_of test_of
 chain_row = refl
 
 -- if header :comparator "i;octet" ["a", "c"] "b" {}
 octet_row : script_of (parted (branch (codes "if") 1 (header (tagged (codes "comparator") ∷ one (codes "i;octet") ∷ syntax.strings (text (codes "a") ∷ text (codes "c") ∷ []) true ∷ one (codes "b") ∷ [])) [] ∷ []))
     ≡ chooses (asks (header_ask Is Octet ((literal (codes "a") ∷ []) ∷ (literal (codes "c") ∷ []) ∷ []) ((literal (codes "b") ∷ []) ∷ []))) no_commands no_commands no_commands
-unfolding chain_of node_before block_commands condition_of conditions_in command_kind test_kind
+unfolding chain_of node_before block_commands condition_of conditions_in command_of test_of
 octet_row = refl

@@ -5,14 +5,11 @@ use Rattle.sieve_syntax.specs.Tree as syntax
 use Rattle.sieve_syntax.specs.Syntax.{syntax_of}
 use Rattle.sieve_check.specs.Breach as breaches
 use Rattle.sieve_check.specs.Breach.{first_breach}
-use Rattle.sieve_check.specs.Checked.{tree_of}
 use Rattle.sieve_check.specs.Parted.{parted}
 use Rattle.sieve_check.specs.Tree.{Node}
 use Rattle.sieve_check.specs.Rule.{rule_word}
 use Rattle.sieve_check.specs.declared.judged.FaultKind.{FaultKind}
 use Rattle.sieve_check.specs.declared.judged.FaultKind.TheVariants.{Syntax, Breach}
-use Rattle.sieve_check.specs.declared.judged.Judged.{Judged}
-use Rattle.sieve_check.specs.declared.judged.Judged.TheVariants.{Sound, Faulty}
 
 pub data Judgement : Type 0 where
   sound : (tree : List Node) → Judgement
@@ -40,7 +37,3 @@ judgement_from (Err line) = faulty line Syntax
 
 unfoldable pub judgement_of : List ℕ → Judgement
 judgement_of text = judgement_from (syntax_of text)
-
-abbrev pub judged_as : Judged → Judgement
-judged_as (Sound checked) = sound (tree_of checked)
-judged_as (Faulty line kind) = faulty line kind

@@ -1,27 +1,190 @@
--- What the program's readings of tests stand for.
-use Rattle.std.specs.Prelude.{List, map}
-use Rattle.sieve_check.specs.Script as script
-use Rattle.sieve_check.specs.Tree.{Part, text_of}
-use Rattle.sieve_check.specs.declared.tree.Text.{Text}
-use Rattle.sieve_check.specs.declared.reading.Ask.{Ask}
-use Rattle.sieve_check.specs.declared.reading.Ask.TheVariants.{Header, Exists, Over, Under}
-use Rattle.sieve_check.specs.declared.reading.Reading.{Reading}
-use Rattle.sieve_check.specs.declared.reading.Reading.TheVariants.{Always, Never, Asks, AllOf, AnyOf, Not}
+-- What the commands and tests of a checked tree are, with defaults filled in (RFC 5228, sections 3, 4 and 5). They are read
+-- by the labels of their arguments, as the rules and the parts of strings are. What no row allows isn't read as anything.
+use Rattle.std.specs.Prelude.{ℕ, Bool, true, false, List, [], ◌∷◌, Option, Some, None, map, drop, length, nat_eq, if◌then◌else◌, codes}
+use Rattle.std.specs.List.{list_any, flat_map}
+use Rattle.std.specs.Option.{option_map}
+use lib.Pointwise.{pointwise}
+use Rattle.match_text.specs.declared.comparators.Collation.{Collation}
+use Rattle.match_text.specs.declared.comparators.Collation.TheVariants.{Octet, Casemap}
+use Rattle.sieve_check.specs.Label.{labels_of}
+use Rattle.sieve_check.specs.Role.{has_role, first_role}
+use Rattle.sieve_check.specs.Shape.{texts_shape}
+use Rattle.sieve_check.specs.Table.{Row, command_of, test_of, tag_of, test_row}
+use Rattle.sieve_check.specs.Tree.{Part, literal, Argument, strings, number, tag, Test, test, Node, node}
+use Rattle.sieve_check.specs.declared.label.Label.{Label}
+use Rattle.sieve_check.specs.declared.label.Label.TheVariants.{Tagged, OtherTag, Own, InSlot, Unfit}
+use Rattle.sieve_check.specs.declared.label.Shape.{Shape}
+use Rattle.sieve_check.specs.declared.label.Shape.TheVariants as shape
+use Rattle.sieve_check.specs.declared.reading.MatchType.{MatchType}
+use Rattle.sieve_check.specs.declared.reading.MatchType.TheVariants.{Is, Contains}
+use Rattle.sieve_check.specs.declared.row.Role.{Role}
+use Rattle.sieve_check.specs.declared.row.Role.TheVariants as role
+use Rattle.sieve_check.specs.declared.table.CommandKind.{CommandKind}
+use Rattle.sieve_check.specs.declared.table.CommandKind.TheVariants as command
+use Rattle.sieve_check.specs.declared.table.Tag.{Tag}
+use Rattle.sieve_check.specs.declared.table.Tag.TheVariants as tag
+use Rattle.sieve_check.specs.declared.table.TestKind.{TestKind}
+use Rattle.sieve_check.specs.declared.table.TestKind.TheVariants as kind
 
--- strings, each as its parts
-abbrev pub texts_as : List Text → List (List Part)
-texts_as texts = map (λ t. t.parts) (map text_of texts)
+-- a test without tests in it, which looks at the message (RFC 5228, section 5); a string is its parts
+pub data Ask : Type 0 where
+  header_ask : (match_type : MatchType) (collation : Collation) (names keys : List (List Part)) → Ask
+  exists_ask : (names : List (List Part)) → Ask
+  over_ask : (limit : ℕ) → Ask
+  under_ask : (limit : ℕ) → Ask
 
-abbrev pub ask_as : Ask → script.Ask
-ask_as (Header match_type collation names keys) = script.header_ask match_type collation (texts_as names.now) (texts_as keys.now)
-ask_as (Exists names) = script.exists_ask (texts_as names.now)
-ask_as (Over limit) = script.over_ask limit
-ask_as (Under limit) = script.under_ask limit
+-- a command that acts
+pub data Leaf : Type 0 where
+  keep_leaf : Leaf
+  discard_leaf : Leaf
 
-abbrev pub reading_as : Reading → script.Reading
-reading_as Always = script.reads_always
-reading_as Never = script.reads_never
-reading_as (Asks ask) = script.reads_ask (ask_as ask)
-reading_as AllOf = script.reads_all
-reading_as AnyOf = script.reads_any
-reading_as Not = script.reads_not
+-- ARGUMENTS
+
+-- the shape of an argument, as in its text's tree
+abbrev pub part_shape : List Tag → Argument → Shape
+part_shape tags (strings items bracketed) = texts_shape (length items) bracketed
+part_shape tags (number value line) = shape.Number
+part_shape tags (tag name line) = shape.Tag (tag_of tags name)
+
+abbrev pub labels_in : Row → List Argument → List Label
+labels_in row args = labels_of row (map (part_shape row.tags) args)
+
+-- the first argument in a role
+abbrev pub in_role : Role → List Label → List Argument → Option Argument
+in_role wanted labels [] = None
+in_role wanted labels (a ∷ args) = if has_role wanted (first_role labels) then Some a else in_role wanted (drop 1 labels) args
+
+-- the strings of an argument, each as its parts
+abbrev pub texts_in : Option Argument → Option (List (List Part))
+texts_in None = None
+texts_in (Some (strings items bracketed)) = Some (map (λ t. t.parts) items)
+texts_in (Some (number value line)) = None
+texts_in (Some (tag name line)) = None
+
+-- the number that an argument is
+abbrev pub number_in : Option Argument → Option ℕ
+number_in None = None
+number_in (Some (strings items bracketed)) = None
+number_in (Some (number value line)) = value
+number_in (Some (tag name line)) = None
+
+-- the tags, each told by a number
+abbrev pub tag_number : Tag → ℕ
+tag_number tag.Comparator = 0
+tag_number tag.Is = 1
+tag_number tag.Contains = 2
+tag_number tag.Over = 3
+tag_number tag.Under = 4
+
+abbrev pub is_tagged : Tag → Label → Bool
+is_tagged wanted (Tagged taken) = nat_eq (tag_number wanted) (tag_number taken)
+is_tagged wanted OtherTag = false
+is_tagged wanted (Own slot) = false
+is_tagged wanted (InSlot slot) = false
+is_tagged wanted Unfit = false
+
+abbrev pub has_tag : Tag → List Label → Bool
+has_tag wanted labels = list_any (is_tagged wanted) labels
+
+-- the octets of a part, and of a string
+abbrev pub part_value : Part → List ℕ
+part_value (literal octets) = octets
+
+abbrev pub text_value : List Part → List ℕ
+text_value parts = flat_map part_value parts
+
+-- TESTS
+
+-- the comparator of that name, octet for octet (RFC 4790, section 9)
+abbrev pub collation_named : List ℕ → Option Collation
+collation_named name = if pointwise nat_eq (codes "i;octet") name then Some Octet else if pointwise nat_eq (codes "i;ascii-casemap") name then Some Casemap else None
+
+-- the comparator, which is `i;ascii-casemap` where none is named (RFC 5228, section 2.7.3)
+abbrev pub collation_by : Option Argument → Option Collation
+collation_by None = Some Casemap
+collation_by (Some (strings [] bracketed)) = None
+collation_by (Some (strings (t ∷ []) bracketed)) = collation_named (text_value t.parts)
+collation_by (Some (strings (t ∷ s ∷ ts) bracketed)) = None
+collation_by (Some (number value line)) = None
+collation_by (Some (tag name line)) = None
+
+-- the match type, which is `:is` where none is given (RFC 5228, section 2.7.1)
+abbrev pub match_type_of : List Label → MatchType
+match_type_of labels = if has_tag tag.Contains labels then Contains else Is
+
+-- what a `header` test asks (RFC 5228, section 5.7)
+abbrev pub header_from : MatchType → Option Collation → Option (List (List Part)) → Option (List (List Part)) → Option Ask
+header_from match_type (Some collation) (Some names) (Some keys) = Some (header_ask match_type collation names keys)
+header_from match_type (Some collation) (Some names) None = None
+header_from match_type (Some collation) None keys = None
+header_from match_type None names keys = None
+
+abbrev pub header_by : List Label → List Argument → Option Ask
+header_by labels args = header_from (match_type_of labels) (collation_by (in_role role.ComparatorName labels args)) (texts_in (in_role role.FieldNames labels args)) (texts_in (in_role role.Keys labels args))
+
+-- what an `exists` test asks (RFC 5228, section 5.5)
+abbrev pub exists_by : List Label → List Argument → Option Ask
+exists_by labels args = option_map exists_ask (texts_in (in_role role.FieldNames labels args))
+
+-- what a `size` test asks (RFC 5228, section 5.9)
+abbrev pub size_from : (over under : Bool) → Option ℕ → Option Ask
+size_from true false limit = option_map over_ask limit
+size_from false true limit = option_map under_ask limit
+size_from true true limit = None
+size_from false false limit = None
+
+abbrev pub size_by : List Label → List Argument → Option Ask
+size_by labels args = size_from (has_tag tag.Over labels) (has_tag tag.Under labels) (number_in (in_role role.Limit labels args))
+
+-- a test apart from the tests in it: always or never so (RFC 5228, sections 5.10 and 5.6), asked of the message, or a join of
+-- the tests in it (RFC 5228, sections 5.2, 5.3 and 5.8)
+pub data TestReading : Type 0 where
+  reads_always : TestReading
+  reads_never : TestReading
+  reads_ask : (ask : Ask) → TestReading
+  reads_all : TestReading
+  reads_any : TestReading
+  reads_not : TestReading
+
+abbrev pub test_reading_by : Option TestKind → List Argument → Option TestReading
+test_reading_by None args = None
+test_reading_by (Some kind.Header) args = option_map reads_ask (header_by (labels_in (test_row kind.Header) args) args)
+test_reading_by (Some kind.Exists) args = option_map reads_ask (exists_by (labels_in (test_row kind.Exists) args) args)
+test_reading_by (Some kind.Size) args = option_map reads_ask (size_by (labels_in (test_row kind.Size) args) args)
+test_reading_by (Some kind.AllOf) args = Some reads_all
+test_reading_by (Some kind.AnyOf) args = Some reads_any
+test_reading_by (Some kind.Not) args = Some reads_not
+test_reading_by (Some kind.True) args = Some reads_always
+test_reading_by (Some kind.False) args = Some reads_never
+
+abbrev pub test_reading : Test → Option TestReading
+test_reading (test name line args ts) = test_reading_by (test_of name) args
+
+-- COMMANDS
+
+-- a command apart from its test and its block: it opens a chain of branches, goes on with one, or ends it (RFC 5228, section
+-- 3.1), stops (section 3.3), does nothing, or acts
+pub data CommandReading : Type 0 where
+  opens : CommandReading
+  continues : CommandReading
+  otherwise : CommandReading
+  stops : CommandReading
+  nothing : CommandReading
+  acts : (leaf : Leaf) → CommandReading
+
+abbrev pub command_reading_by : Option CommandKind → Option CommandReading
+command_reading_by None = None
+command_reading_by (Some command.Require) = Some nothing
+command_reading_by (Some command.If) = Some opens
+command_reading_by (Some command.Elsif) = Some continues
+command_reading_by (Some command.Else) = Some otherwise
+command_reading_by (Some command.Keep) = Some (acts keep_leaf)
+command_reading_by (Some command.Discard) = Some (acts discard_leaf)
+command_reading_by (Some command.Stop) = Some stops
+
+-- the kind of a command
+abbrev pub kind_of : Node → Option CommandKind
+kind_of (node name line args ts ending) = command_of name
+
+abbrev pub command_reading : Node → Option CommandReading
+command_reading n = command_reading_by (kind_of n)

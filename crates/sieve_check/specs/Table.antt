@@ -1,85 +1,133 @@
--- The commands and tests that there are, and what each of them takes (RFC 5228, sections 3, 4 and 5).
-use Rattle.std.specs.Prelude.{ℕ, Bool, true, false, List, map, Option, Some, None, if◌then◌else◌, codes, nat_eq, nat_le, ◌&&◌, ◌+◌}
-use lib.Pointwise.{pointwise}
+-- The table: a row for each command, test and tag that there is says what it takes.
+use Rattle.std.specs.Prelude.{ℕ, Bool, true, false, List, [], ◌∷◌, Option, Some, None, find, codes}
+use Rattle.std.specs.Str.{str_eq_ignore_ascii_case}
+use Rattle.sieve_check.specs.declared.capability.Capability.{Capability}
+use Rattle.sieve_check.specs.declared.row.Form.{Form}
+use Rattle.sieve_check.specs.declared.row.Form.TheVariants as form
+use Rattle.sieve_check.specs.declared.row.Inner.{Inner}
+use Rattle.sieve_check.specs.declared.row.Inner.TheVariants as inner
+use Rattle.sieve_check.specs.declared.row.Role.{Role}
+use Rattle.sieve_check.specs.declared.row.Role.TheVariants as role
+use Rattle.sieve_check.specs.declared.row.Slot.{Slot}
+use Rattle.sieve_check.specs.declared.row.TagKind.{TagKind}
+use Rattle.sieve_check.specs.declared.row.TagKind.TheVariants as kind
 use Rattle.sieve_check.specs.declared.table.CommandKind.{CommandKind}
 use Rattle.sieve_check.specs.declared.table.CommandKind.TheVariants as command
+use Rattle.sieve_check.specs.declared.table.Tag.{Tag}
+use Rattle.sieve_check.specs.declared.table.Tag.TheVariants as tag
 use Rattle.sieve_check.specs.declared.table.TestKind.{TestKind}
 use Rattle.sieve_check.specs.declared.table.TestKind.TheVariants as test
-use Rattle.sieve_check.specs.declared.table.Tag.{Tag}
-use Rattle.sieve_check.specs.declared.table.Tag.TheVariants.{Comparator, Is, Contains, Over, Under}
-use Rattle.sieve_check.specs.declared.table.Tags.{Tags}
-use Rattle.sieve_check.specs.declared.table.Tags.TheVariants as tags
-use Rattle.sieve_check.specs.declared.table.Positionals.TheVariants as positionals
-use Rattle.sieve_check.specs.declared.table.Inner.TheVariants as inner
-use Rattle.sieve_check.specs.declared.table.Shape.{Shape}
 
--- a letter of ASCII in lower case, and any other octet as it is
-abbrev pub to_lower : ℕ → ℕ
-to_lower octet = if nat_le 65 octet && nat_le octet 90 then octet + 32 else octet
+-- WHAT A ROW SAYS
 
--- whether an identifier is this one, which is in lower case; identifiers ignore the case of ASCII
-abbrev pub is_named : List ℕ → List ℕ → Bool
-is_named text name = pointwise nat_eq (map to_lower name) text
+-- what a command or a test takes (RFC 5228, section 2.6)
+pub record Row : Type 0 where
+  -- its identifier, in lower case
+  pub name : List ℕ
+  -- its tags, in any order (RFC 5228, section 2.6.2)
+  pub tags : List Tag
+  -- the kind of which exactly one tag is there
+  pub one_of : Option TagKind
+  -- a positional argument that may stand before the others
+  pub front : Option Slot
+  -- the positional arguments in order (RFC 5228, section 2.6.1)
+  pub slots : List Slot
+  -- the tests behind them (RFC 5228, sections 2.5 and 2.5.1)
+  pub tests : Inner
+  -- whether it ends by a block, and not by a semicolon (RFC 5228, sections 2.8 and 2.9)
+  pub has_block : Bool
+  -- what has to be required for it (RFC 5228, section 2.10.5)
+  pub needs : List Capability
 
--- the command of that name
-unfoldable pub command_kind : List ℕ → Option CommandKind
-command_kind name =
-    if is_named (codes "require") name then Some command.Require
-    else if is_named (codes "if") name then Some command.If
-    else if is_named (codes "elsif") name then Some command.Elsif
-    else if is_named (codes "else") name then Some command.Else
-    else if is_named (codes "keep") name then Some command.Keep
-    else if is_named (codes "discard") name then Some command.Discard
-    else if is_named (codes "stop") name then Some command.Stop
-    else None
+-- a tag
+pub record TagRow : Type 0 where
+  -- its identifier without the colon, in lower case
+  pub name : List ℕ
+  -- two of one kind don't stand together
+  pub kind : TagKind
+  -- the argument that it takes itself, directly behind it
+  pub takes : Option Slot
+  -- what has to be required for it
+  pub needs : Option Capability
 
--- the test of that name
-unfoldable pub test_kind : List ℕ → Option TestKind
-test_kind name =
-    if is_named (codes "header") name then Some test.Header
-    else if is_named (codes "exists") name then Some test.Exists
-    else if is_named (codes "size") name then Some test.Size
-    else if is_named (codes "allof") name then Some test.AllOf
-    else if is_named (codes "anyof") name then Some test.AnyOf
-    else if is_named (codes "not") name then Some test.Not
-    else if is_named (codes "true") name then Some test.True
-    else if is_named (codes "false") name then Some test.False
-    else None
+-- an argument of this form and role, for which nothing need be required
+abbrev pub slot : Form → Role → Slot
+slot form role = record { form = form; role = role; needs = None }
 
 -- what takes nothing
-abbrev pub bare : Shape
-bare = record { tags = tags.None; positionals = positionals.None; tests = inner.None; has_block = false }
+abbrev pub bare : List ℕ → Row
+bare name = record { name = name; tags = []; one_of = None; front = None; slots = []; tests = inner.None; has_block = false; needs = [] }
 
--- what a command takes
-abbrev pub command_shape : CommandKind → Shape
-command_shape command.Require = record bare { positionals = positionals.Texts }
-command_shape command.If = record bare { tests = inner.One; has_block = true }
-command_shape command.Elsif = record bare { tests = inner.One; has_block = true }
-command_shape command.Else = record bare { has_block = true }
-command_shape command.Keep = bare
-command_shape command.Discard = bare
-command_shape command.Stop = bare
+-- a tag that takes nothing
+abbrev pub bare_tag : List ℕ → TagKind → TagRow
+bare_tag name kind = record { name = name; kind = kind; takes = None; needs = None }
 
--- what a test takes
-abbrev pub test_shape : TestKind → Shape
-test_shape test.Header = record bare { tags = tags.Comparing; positionals = positionals.TwoTexts }
-test_shape test.Exists = record bare { positionals = positionals.Texts }
-test_shape test.Size = record bare { tags = tags.Bound; positionals = positionals.Number }
-test_shape test.AllOf = record bare { tests = inner.List }
-test_shape test.AnyOf = record bare { tests = inner.List }
-test_shape test.Not = record bare { tests = inner.One }
-test_shape test.True = bare
-test_shape test.False = bare
+-- THE ROWS
 
--- the tag of that name, where such tags are taken; tags ignore the case of ASCII
-abbrev pub tag_of : Tags → List ℕ → Option Tag
-tag_of tags.None name = None
-tag_of tags.Comparing name =
-    if is_named (codes "comparator") name then Some Comparator
-    else if is_named (codes "is") name then Some Is
-    else if is_named (codes "contains") name then Some Contains
-    else None
-tag_of tags.Bound name =
-    if is_named (codes "over") name then Some Over
-    else if is_named (codes "under") name then Some Under
-    else None
+abbrev pub tag_row : Tag → TagRow
+-- RFC 5228, section 2.7.3
+tag_row tag.Comparator = record (bare_tag (codes "comparator") kind.Comparator) { takes = Some (slot form.One role.ComparatorName) }
+-- RFC 5228, section 2.7.1
+tag_row tag.Is = bare_tag (codes "is") kind.MatchType
+tag_row tag.Contains = bare_tag (codes "contains") kind.MatchType
+-- RFC 5228, section 5.9
+tag_row tag.Over = bare_tag (codes "over") kind.Bound
+tag_row tag.Under = bare_tag (codes "under") kind.Bound
+
+-- the match types
+abbrev pub match_tags : List Tag
+match_tags = tag.Is ∷ tag.Contains ∷ []
+
+abbrev pub command_row : CommandKind → Row
+-- RFC 5228, section 3.2
+command_row command.Require = record (bare (codes "require")) { slots = slot form.List role.Capabilities ∷ [] }
+-- RFC 5228, section 3.1
+command_row command.If = record (bare (codes "if")) { tests = inner.One; has_block = true }
+command_row command.Elsif = record (bare (codes "elsif")) { tests = inner.One; has_block = true }
+command_row command.Else = record (bare (codes "else")) { has_block = true }
+-- RFC 5228, section 4.3
+command_row command.Keep = bare (codes "keep")
+-- RFC 5228, section 4.4
+command_row command.Discard = bare (codes "discard")
+-- RFC 5228, section 3.3
+command_row command.Stop = bare (codes "stop")
+
+abbrev pub test_row : TestKind → Row
+-- RFC 5228, section 5.7
+test_row test.Header = record (bare (codes "header")) { tags = tag.Comparator ∷ match_tags; slots = slot form.List role.FieldNames ∷ slot form.List role.Keys ∷ [] }
+-- RFC 5228, section 5.5
+test_row test.Exists = record (bare (codes "exists")) { slots = slot form.List role.FieldNames ∷ [] }
+-- RFC 5228, section 5.9
+test_row test.Size = record (bare (codes "size")) { tags = tag.Over ∷ tag.Under ∷ []; one_of = Some kind.Bound; slots = slot form.Number role.Limit ∷ [] }
+-- RFC 5228, sections 5.2 and 5.3
+test_row test.AllOf = record (bare (codes "allof")) { tests = inner.List }
+test_row test.AnyOf = record (bare (codes "anyof")) { tests = inner.List }
+-- RFC 5228, section 5.8
+test_row test.Not = record (bare (codes "not")) { tests = inner.One }
+-- RFC 5228, sections 5.10 and 5.6
+test_row test.True = bare (codes "true")
+test_row test.False = bare (codes "false")
+
+-- THE LOOK-UP
+
+-- whether an identifier is this one; identifiers ignore the case of ASCII (RFC 5228, section 2.1)
+abbrev pub is_named : List ℕ → List ℕ → Bool
+is_named name written = str_eq_ignore_ascii_case name written
+
+abbrev pub commands : List CommandKind
+commands = command.Require ∷ command.If ∷ command.Elsif ∷ command.Else ∷ command.Keep ∷ command.Discard ∷ command.Stop ∷ []
+
+abbrev pub tests : List TestKind
+tests = test.Header ∷ test.Exists ∷ test.Size ∷ test.AllOf ∷ test.AnyOf ∷ test.Not ∷ test.True ∷ test.False ∷ []
+
+-- the command of that name
+unfoldable pub command_of : List ℕ → Option CommandKind
+command_of written = find (λ kind. is_named (command_row kind).name written) commands
+
+-- the test of that name
+unfoldable pub test_of : List ℕ → Option TestKind
+test_of written = find (λ kind. is_named (test_row kind).name written) tests
+
+-- the tag of that name among some
+abbrev pub tag_of : List Tag → List ℕ → Option Tag
+tag_of tags written = find (λ tag. is_named (tag_row tag).name written) tags

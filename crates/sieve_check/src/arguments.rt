@@ -1,23 +1,24 @@
 //! The breaches in arguments: unknown capabilities and comparators, and numbers that are too large.
-ghost use Rattle.std.specs.Prelude.{◌≡◌, map, true, false, codes, nat_eq};
-ghost use Rattle.std.specs.Option.{option_map};
-ghost use Rattle.std.specs.List.{flat_map};
-ghost use Rattle.sieve_syntax.specs.Tree.{argument_of, text_of};
-ghost use Rattle.sieve_check.specs.Breach.{capability_breaches, comparator_breaches, is_capability, is_comparator_name, item_breaches, number_breaches, value_breaches};
-ghost use Rattle.sieve_check.specs.Finds.{Finds};
-ghost use Rattle.sieve_check.specs.Seen.{item_as};
+ghost use Rattle.std.specs.Prelude.{◌≡◌, map};
+ghost use Rattle.sieve_syntax.specs.view.Tree.{argument_of, tests_of, text_of};
+ghost use Rattle.sieve_check.specs.Breach.{breaches_at, is_comparator_name};
+ghost use Rattle.sieve_check.specs.Element.{argument_elements, labelled_elements, text_elements, the_number, the_text};
+ghost use Rattle.sieve_check.specs.view.Context.{context_as};
+ghost use Rattle.sieve_check.specs.view.Finds.{Finds, FindsIn};
+ghost use Rattle.sieve_check.specs.view.Row.{row_as};
+ghost use Rattle.sieve_check.specs.view.Use.{row_found};
 
-use crate::items::Item;
+use crate::capability::is_capability;
+use crate::context::Context;
+use crate::label::Label;
+use crate::role::{behind_first, first_role, has_role};
+use crate::row::{Role, Row};
 use crate::rule::Rule;
+use crate::shape::row_labels;
+use crate::usage::{has_bad_arguments, has_bad_tag};
 use crate::validator::CheckFault;
-use sieve_syntax::{Argument, Text};
-
-/// Whether there is such a capability. The two comparators need not be required (RFC 5228, section 2.7.3).
-fn is_capability(name: &[u8]) -> bool
-    ensures { result ≡ is_capability name.now }
-{
-    b"comparator-i;octet".as_slice() == name || b"comparator-i;ascii-casemap".as_slice() == name
-}
+use sieve_syntax::{Argument, Tests, Text};
+use std::alloc::Global;
 
 /// Whether there is such a comparator (RFC 4790).
 fn is_comparator_name(name: &[u8]) -> bool
@@ -26,87 +27,102 @@ fn is_comparator_name(name: &[u8]) -> bool
     b"i;octet".as_slice() == name || b"i;ascii-casemap".as_slice() == name
 }
 
-/// Checks a string of a leading require.
-fn check_capability(text: &Text) -> Result<(), CheckFault>
-    ensures { Finds (capability_breaches (text_of text.now)) result }
+/// Checks a string in its role, if it has one.
+#[tactic(auto, unfolding(crate::specs::Breach::breaches_at))]
+fn check_text(context: Context, role: Option<Role>, text: &Text) -> Result<(), CheckFault>
+    ensures { Finds (breaches_at (the_text (context_as context) role (text_of text.now))) result }
 {
-    if is_capability(&text.octets) {
-        Ok(())
-    } else {
-        Err(CheckFault::Breach {
-            line: text.line,
-            rule: Rule::UnknownCapability,
-        })
+    let line = text.line;
+    if has_role(Role::Capabilities, role) && context.leads && !is_capability(&text.octets) {
+        let rule = Rule::UnknownCapability;
+        return Err(CheckFault::Breach { line, rule });
     }
+    if has_role(Role::ComparatorName, role) && !is_comparator_name(&text.octets) {
+        let rule = Rule::UnknownComparator;
+        return Err(CheckFault::Breach { line, rule });
+    }
+    Ok(())
 }
 
-/// Checks the strings of a leading require.
-fn check_capabilities(texts: &[Text]) -> Result<(), CheckFault>
-    ensures { Finds (flat_map capability_breaches (map text_of texts.now)) result }
+/// Checks strings in their role.
+#[tactic(auto, using(crate::proofs::Searches::text_steps))]
+fn check_texts(context: Context, role: Option<Role>, texts: &[Text]) -> Result<(), CheckFault>
+    ensures { FindsIn (text_elements (context_as context) role (map text_of texts.now)) result }
 {
     for text in texts {
-        check_capability(text)?;
+        check_text(context, role, text)?;
     }
     Ok(())
 }
 
-/// Checks the string of a comparator.
-fn check_comparator(text: Option<&Text>) -> Result<(), CheckFault>
-    ensures { Finds (comparator_breaches (option_map (λ t. text_of t.now) text.entry)) result }
+/// Checks a number.
+#[tactic(auto, unfolding(crate::specs::Breach::breaches_at))]
+fn check_number(value: Option<u64>, line: u64) -> Result<(), CheckFault>
+    ensures { Finds (breaches_at (the_number value line)) result }
 {
-    match text {
-        None => Ok(()),
-        Some(text) => {
-            if is_comparator_name(&text.octets) {
-                Ok(())
-            } else {
-                Err(CheckFault::Breach {
-                    line: text.line,
-                    rule: Rule::UnknownComparator,
-                })
-            }
-        }
-    }
-}
-
-/// Checks a positional argument, of which the strings name capabilities, or anything.
-fn check_value(names_capabilities: bool, argument: &Argument) -> Result<(), CheckFault>
-    ensures { Finds (value_breaches names_capabilities (argument_of argument.now)) result }
-{
-    match argument {
-        Argument::Strings { items, .. } => {
-            if names_capabilities {
-                check_capabilities(items)
-            } else {
-                Ok(())
-            }
-        }
-        Argument::Number { value: None, line } => Err(CheckFault::Breach {
-            line: *line,
+    match value {
+        Some(_) => Ok(()),
+        None => Err(CheckFault::Breach {
+            line,
             rule: Rule::NumberTooLarge,
         }),
-        Argument::Number { .. } | Argument::Tag { .. } => Ok(()),
     }
 }
 
-/// Checks an item.
-fn check_item(names_capabilities: bool, item: &Item) -> Result<(), CheckFault>
-    ensures { Finds (item_breaches true names_capabilities (item_as item.now)) result }
+/// Checks an argument in its role.
+#[tactic(auto, using(crate::proofs::Searches::element_steps))]
+fn check_argument(
+    context: Context,
+    role: Option<Role>,
+    argument: &Argument,
+) -> Result<(), CheckFault>
+    ensures { FindsIn (argument_elements (context_as context) role (argument_of argument.now)) result }
 {
-    match item {
-        Item::Tagged { text, .. } => check_comparator(*text),
-        Item::Other => Ok(()),
-        Item::Value(argument) => check_value(names_capabilities, argument),
+    match argument {
+        Argument::Strings { items, .. } => check_texts(context, role, items),
+        Argument::Number { value, line } => check_number(*value, *line),
+        Argument::Tag { .. } => Ok(()),
     }
 }
 
-/// Checks the items of a command or test that breaks no rule itself.
-#[tactic(auto, using(crate::proofs::Searches::first_here))]
-pub(crate) fn check_items(names_capabilities: bool, items: &[Item]) -> Result<(), CheckFault>
-    ensures { Finds (flat_map (item_breaches true names_capabilities) (map item_as items.now)) result }
+/// Checks arguments by their labels.
+#[tactic(auto, using(crate::proofs::Searches::argument_steps))]
+pub(crate) fn check_arguments(
+    context: Context,
+    labels: &[Label],
+    args: &[Argument],
+) -> Result<(), CheckFault>
+    ensures { FindsIn (labelled_elements (context_as context) labels.now (map argument_of args.now)) result }
 {
-    for item in items {
-        check_item(names_capabilities, item)?;
+    let mut labels_left = labels;
+    for argument in args {
+        check_argument(context, first_role(labels_left), argument)?;
+        labels_left = behind_first(labels_left);
     }
     Ok(())
+}
+
+/// Checks a command or a test of a row, apart from where it stands, from its tests and from its block.
+#[tactic(auto, using(crate::proofs::Uses::use_steps))]
+pub(crate) fn check_use(
+    alloc: Global,
+    context: Context,
+    line: u64,
+    row: &Row,
+    args: &[Argument],
+    tests: &Tests,
+    ends_by_block: bool,
+) -> Result<(), CheckFault>
+    ensures { Finds (row_found (context_as context) line (row_as row.now) (map argument_of args.now) (tests_of tests.now) ends_by_block) result }
+{
+    let labels = row_labels(alloc, row, args)?;
+    if has_bad_tag(&labels) {
+        let rule = Rule::BadTag;
+        return Err(CheckFault::Breach { line, rule });
+    }
+    if has_bad_arguments(row, args, &labels, tests, ends_by_block) {
+        let rule = Rule::BadArguments;
+        return Err(CheckFault::Breach { line, rule });
+    }
+    check_arguments(context, &labels, args)
 }

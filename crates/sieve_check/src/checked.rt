@@ -1,6 +1,6 @@
 ghost use Rattle.std.specs.Prelude.{◌≡◌, map};
 ghost use Rattle.sieve_check.specs.Faultless.{AreFaultless};
-ghost use Rattle.sieve_check.specs.Tree.{node_of};
+ghost use Rattle.sieve_check.specs.view.Tree.{node_of};
 
 use crate::tree::Command;
 
@@ -12,7 +12,7 @@ pub struct Checked {
 }
 
 impl Checked {
-    ghost use Rattle.sieve_check.specs.Checked.{tree_of};
+    ghost use Rattle.sieve_check.specs.view.Checked.{tree_of};
 
     /// The script's commands in order, in the shape of its text's tree, with each string cut into parts. Takes no memory.
     pub fn commands(&self) -> &[Command]

@@ -1,15 +1,31 @@
 //! Copies of a text's tree in which each string is cut into parts.
 ghost use Rattle.std.specs.Prelude.{◌≡◌, map, IfOk};
 ghost use Rattle.sieve_syntax.specs.Tree as syntax;
-ghost use Rattle.sieve_check.specs.Parted.{parted, parted_argument, parted_block, parted_node, parted_test, parted_tests, parted_text, parts_of};
-ghost use Rattle.sieve_check.specs.Tree.{argument_of, block_step, node_of, part_of, test_of, tests_of, text_of};
+ghost use Rattle.sieve_syntax.specs.view.Tree as seen;
+ghost use Rattle.sieve_check.specs.Context.{behind};
+ghost use Rattle.sieve_check.specs.Parted.{command_labels, parted, parted_argument, parted_labelled, parted_node, parted_nodes, parted_test, parted_tests, parted_text, parts_of, test_labels};
+ghost use Rattle.sieve_check.specs.Table as table;
+ghost use Rattle.sieve_check.specs.Tree.{items};
+ghost use Rattle.sieve_check.specs.view.Context.{context_as};
+ghost use Rattle.sieve_check.specs.view.Tree.{argument_of, node_of, part_of, test_of, tests_of, text_of};
 
+use crate::context::Context;
+use crate::label::Label;
+use crate::role::{behind_first, first_role};
+use crate::row::Role;
+use crate::shape::row_labels;
+use crate::table::{command_of, test_of};
 use crate::tree::{Argument, Command, Part, Test, Tests, Text};
 use std::alloc::{AllocError, Global};
 
-/// The parts of a string.
-fn parts_of(alloc: Global, octets: &[u8]) -> Result<Vec<Part>, AllocError>
-    ensures { IfOk result (λ parts. map part_of parts.items ≡ parts_of octets.now) }
+/// The parts of a string in its role: one literal.
+fn parts_of(
+    alloc: Global,
+    context: Context,
+    role: Option<Role>,
+    octets: &[u8],
+) -> Result<Vec<Part>, AllocError>
+    ensures { IfOk result (λ parts. map part_of parts.items ≡ parts_of (context_as context) role octets.now) }
 {
     let mut parts = Vec::new(alloc);
     parts.push(Part::Literal(Vec::from_slice(alloc, octets)?))?;
@@ -17,33 +33,48 @@ fn parts_of(alloc: Global, octets: &[u8]) -> Result<Vec<Part>, AllocError>
 }
 
 /// A string in parts.
-fn parted_text(alloc: Global, text: &sieve_syntax::Text) -> Result<Text, AllocError>
-    ensures { IfOk result (λ copy. text_of copy ≡ parted_text (syntax.text_of text.now)) }
+fn parted_text(
+    alloc: Global,
+    context: Context,
+    role: Option<Role>,
+    text: &sieve_syntax::Text,
+) -> Result<Text, AllocError>
+    ensures { IfOk result (λ copy. text_of copy ≡ parted_text (context_as context) role (seen.text_of text.now)) }
 {
     Ok(Text {
-        parts: parts_of(alloc, &text.octets)?,
+        parts: parts_of(alloc, context, role, &text.octets)?,
         line: text.line,
     })
 }
 
 /// Strings in parts.
-fn parted_texts(alloc: Global, texts: &[sieve_syntax::Text]) -> Result<Vec<Text>, AllocError>
-    ensures { IfOk result (λ copies. map text_of copies.items ≡ map parted_text (map syntax.text_of texts.now)) }
+fn parted_texts(
+    alloc: Global,
+    context: Context,
+    role: Option<Role>,
+    texts: &[sieve_syntax::Text],
+) -> Result<Vec<Text>, AllocError>
+    ensures { IfOk result (λ copies. map text_of copies.items ≡ map (parted_text (context_as context) role) (map seen.text_of texts.now)) }
 {
     let mut copies = Vec::new(alloc);
     for text in texts {
-        copies.push(parted_text(alloc, text)?)?;
+        copies.push(parted_text(alloc, context, role, text)?)?;
     }
     Ok(copies)
 }
 
 /// An argument with its strings in parts.
-fn parted_argument(alloc: Global, argument: &sieve_syntax::Argument) -> Result<Argument, AllocError>
-    ensures { IfOk result (λ copy. argument_of copy ≡ parted_argument (syntax.argument_of argument.now)) }
+fn parted_argument(
+    alloc: Global,
+    context: Context,
+    role: Option<Role>,
+    argument: &sieve_syntax::Argument,
+) -> Result<Argument, AllocError>
+    ensures { IfOk result (λ copy. argument_of copy ≡ parted_argument (context_as context) role (seen.argument_of argument.now)) }
 {
     match argument {
         sieve_syntax::Argument::Strings { items, bracketed } => Ok(Argument::Strings {
-            items: parted_texts(alloc, items)?,
+            items: parted_texts(alloc, context, role, items)?,
             bracketed: *bracketed,
         }),
         sieve_syntax::Argument::Number { value, line } => Ok(Argument::Number {
@@ -57,28 +88,90 @@ fn parted_argument(alloc: Global, argument: &sieve_syntax::Argument) -> Result<A
     }
 }
 
-/// Arguments with their strings in parts.
-fn parted_arguments(
+/// Arguments with their strings in parts, by their labels.
+fn parted_labelled(
     alloc: Global,
+    context: Context,
+    labels: &[Label],
     args: &[sieve_syntax::Argument],
 ) -> Result<Vec<Argument>, AllocError>
-    ensures { IfOk result (λ copies. map argument_of copies.items ≡ map parted_argument (map syntax.argument_of args.now)) }
+    ensures { IfOk result (λ copies. map argument_of copies.items ≡ parted_labelled (context_as context) labels.now (map seen.argument_of args.now)) }
 {
     let mut copies = Vec::new(alloc);
+    let mut labels_left = labels;
     for argument in args {
-        copies.push(parted_argument(alloc, argument)?)?;
+        copies.push(parted_argument(alloc, context, first_role(labels_left), argument)?)?;
+        labels_left = behind_first(labels_left);
     }
     Ok(copies)
 }
 
+/// The labels of the arguments of a test of that name.
+fn test_labels(
+    alloc: Global,
+    name: &[u8],
+    args: &[sieve_syntax::Argument],
+) -> Result<Vec<Label>, AllocError>
+    ensures { IfOk result (λ labels. labels.items ≡ test_labels (table.test_of name.now) (map seen.argument_of args.now)) }
+{
+    match test_of(name) {
+        None => Ok(Vec::new(alloc)),
+        Some(kind) => row_labels(alloc, &kind.row(), args),
+    }
+}
+
+/// The labels of the arguments of a command of that name.
+fn command_labels(
+    alloc: Global,
+    name: &[u8],
+    args: &[sieve_syntax::Argument],
+) -> Result<Vec<Label>, AllocError>
+    ensures { IfOk result (λ labels. labels.items ≡ command_labels (table.command_of name.now) (map seen.argument_of args.now)) }
+{
+    match command_of(name) {
+        None => Ok(Vec::new(alloc)),
+        Some(kind) => row_labels(alloc, &kind.row(), args),
+    }
+}
+
+/// The arguments of a test of that name, with their strings in parts.
+fn test_arguments(
+    alloc: Global,
+    context: Context,
+    name: &[u8],
+    args: &[sieve_syntax::Argument],
+) -> Result<Vec<Argument>, AllocError>
+    ensures { IfOk result (λ copies. map argument_of copies.items ≡ parted_labelled (context_as context) (test_labels (table.test_of name.now) (map seen.argument_of args.now)) (map seen.argument_of args.now)) }
+{
+    let labels = test_labels(alloc, name, args)?;
+    parted_labelled(alloc, context, &labels, args)
+}
+
+/// The arguments of a command of that name, with their strings in parts.
+fn command_arguments(
+    alloc: Global,
+    context: Context,
+    name: &[u8],
+    args: &[sieve_syntax::Argument],
+) -> Result<Vec<Argument>, AllocError>
+    ensures { IfOk result (λ copies. map argument_of copies.items ≡ parted_labelled (context_as context) (command_labels (table.command_of name.now) (map seen.argument_of args.now)) (map seen.argument_of args.now)) }
+{
+    let labels = command_labels(alloc, name, args)?;
+    parted_labelled(alloc, context, &labels, args)
+}
+
 /// A test with its strings in parts.
 #[cycle(parted_tests)]
-fn parted_test(alloc: Global, test: &sieve_syntax::Test) -> Result<Test, AllocError>
-    ensures { IfOk result (λ copy. test_of copy ≡ parted_test (syntax.test_of test.now)) }
+fn parted_test(
+    alloc: Global,
+    context: Context,
+    test: &sieve_syntax::Test,
+) -> Result<Test, AllocError>
+    ensures { IfOk result (λ copy. test_of copy ≡ parted_test (context_as context) (seen.test_of test.now)) }
 {
     let name = Vec::from_slice(alloc, &test.name)?;
-    let args = parted_arguments(alloc, &test.args)?;
-    let tests = parted_tests(alloc, &test.tests)?;
+    let args = test_arguments(alloc, context, &test.name, &test.args)?;
+    let tests = parted_tests(alloc, context, &test.tests)?;
     Ok(Test {
         name,
         line: test.line,
@@ -89,17 +182,21 @@ fn parted_test(alloc: Global, test: &sieve_syntax::Test) -> Result<Test, AllocEr
 
 /// Tests behind arguments, with their strings in parts.
 #[cycle(parted_tests)]
-fn parted_tests(alloc: Global, tests: &sieve_syntax::Tests) -> Result<Tests, AllocError>
-    ensures { IfOk result (λ copy. tests_of copy ≡ parted_tests (syntax.tests_of tests.now)) }
+fn parted_tests(
+    alloc: Global,
+    context: Context,
+    tests: &sieve_syntax::Tests,
+) -> Result<Tests, AllocError>
+    ensures { IfOk result (λ copy. tests_of copy ≡ parted_tests (context_as context) (seen.tests_of tests.now)) }
 {
     match tests {
         sieve_syntax::Tests::None => Ok(Tests::None),
         sieve_syntax::Tests::One(test) => {
-            let copy = parted_test(alloc, test)?;
+            let copy = parted_test(alloc, context, test)?;
             Ok(Tests::One(Box::new(alloc, copy)?))
         }
         sieve_syntax::Tests::List(tests) => {
-            let copies = parted_test_list(alloc, tests)?;
+            let copies = parted_test_list(alloc, context, tests)?;
             Ok(Tests::List(copies))
         }
     }
@@ -107,24 +204,40 @@ fn parted_tests(alloc: Global, tests: &sieve_syntax::Tests) -> Result<Tests, All
 
 /// A list of tests, with their strings in parts.
 #[cycle(parted_tests)]
-fn parted_test_list(alloc: Global, tests: &[sieve_syntax::Test]) -> Result<Vec<Test>, AllocError>
-    ensures { IfOk result (λ copies. map test_of copies.items ≡ map parted_test (map syntax.test_of tests.now)) }
+fn parted_test_list(
+    alloc: Global,
+    context: Context,
+    tests: &[sieve_syntax::Test],
+) -> Result<Vec<Test>, AllocError>
+    ensures { IfOk result (λ copies. map test_of copies.items ≡ map (parted_test (context_as context)) (map seen.test_of tests.now)) }
 {
     let mut copies = Vec::new(alloc);
     for test in tests {
-        copies.push(parted_test(alloc, test)?)?;
+        copies.push(parted_test(alloc, context, test)?)?;
     }
     Ok(copies)
 }
 
+/// What stands before the command behind this one.
+#[tactic(auto, using(crate::proofs::Heads::whole_moves))]
+fn behind(context: Context, command: &sieve_syntax::Command) -> Context
+    ensures { context_as result ≡ behind (context_as context) (seen.node_of command.now) }
+{
+    context.behind_kind(command_of(&command.name))
+}
+
 /// A command with its strings in parts.
 #[cycle(parted_commands)]
-fn parted_command(alloc: Global, command: &sieve_syntax::Command) -> Result<Command, AllocError>
-    ensures { IfOk result (λ copy. node_of copy ≡ parted_node (syntax.node_of command.now)) }
+fn parted_command(
+    alloc: Global,
+    context: Context,
+    command: &sieve_syntax::Command,
+) -> Result<Command, AllocError>
+    ensures { IfOk result (λ copy. node_of copy ≡ parted_node (context_as context) (seen.node_of command.now)) }
 {
     let name = Vec::from_slice(alloc, &command.name)?;
-    let args = parted_arguments(alloc, &command.args)?;
-    let tests = parted_tests(alloc, &command.tests)?;
+    let args = command_arguments(alloc, context, &command.name, &command.args)?;
+    let tests = parted_tests(alloc, context, &command.tests)?;
     match &command.block {
         None => Ok(Command {
             name,
@@ -134,7 +247,7 @@ fn parted_command(alloc: Global, command: &sieve_syntax::Command) -> Result<Comm
             block: None,
         }),
         Some(commands) => {
-            let block = parted_commands(alloc, commands)?;
+            let block = parted_commands(alloc, context.inside(), commands)?;
             Ok(Command {
                 name,
                 line: command.line,
@@ -146,17 +259,20 @@ fn parted_command(alloc: Global, command: &sieve_syntax::Command) -> Result<Comm
     }
 }
 
-/// Commands with their strings in parts.
+/// Commands with their strings in parts, before the first of which this stands.
 #[cycle(parted_commands)]
 fn parted_commands(
     alloc: Global,
+    start: Context,
     commands: &[sieve_syntax::Command],
 ) -> Result<Vec<Command>, AllocError>
-    ensures { IfOk result (λ copies. map node_of copies.items ≡ map parted_node (map syntax.node_of commands.now)) }
+    ensures { IfOk result (λ copies. map node_of copies.items ≡ items (parted_nodes (context_as start) (syntax.nodes (map seen.node_of commands.now)))) }
 {
     let mut copies = Vec::new(alloc);
+    let mut context = start;
     for command in commands {
-        copies.push(parted_command(alloc, command)?)?;
+        copies.push(parted_command(alloc, context, command)?)?;
+        context = behind(context, command);
     }
     Ok(copies)
 }
@@ -166,7 +282,7 @@ pub(crate) fn parted(
     alloc: Global,
     script: &sieve_syntax::Script,
 ) -> Result<Vec<Command>, AllocError>
-    ensures { IfOk result (λ commands. map node_of commands.items ≡ parted (syntax.nodes_of script.now)) }
+    ensures { IfOk result (λ commands. map node_of commands.items ≡ parted (seen.nodes_of script.now)) }
 {
-    parted_commands(alloc, &script.commands)
+    parted_commands(alloc, Context::script_start(), &script.commands)
 }

@@ -1,6 +1,7 @@
 ghost use Rattle.std.specs.Prelude.{◌≡◌, ◌<◌, ◌↔◌, length, IfOk, IsErrOf};
-ghost use Rattle.sieve_syntax.specs.Syntax.{text_limit};
-ghost use Rattle.sieve_check.specs.Judgement.{judged_as, judgement_of, fault_word};
+ghost use Rattle.sieve_base.specs.Limits.{text_limit};
+ghost use Rattle.sieve_check.specs.Judgement.{judgement_of, fault_word};
+ghost use Rattle.sieve_check.specs.view.Judged.{judged_as};
 
 use crate::{CheckFault, Checked, Rule, check};
 use sieve_syntax::{SyntaxFault, parse};

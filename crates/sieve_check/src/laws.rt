@@ -1,15 +1,60 @@
 //! Laws over the definitions. Each of these functions does nothing: its contract is the law.
-
-ghost use Rattle.std.specs.Prelude.{◌≡◌, List, Some};
+ghost use Rattle.std.specs.Prelude.{◌≡◌, ℕ, false, All, List, [], None, Some};
 ghost use Rattle.std.specs.List.{flat_map};
+ghost use Rattle.sieve_base.specs.Limits.{test_depth, block_room};
+ghost use Rattle.sieve_syntax.specs.Grammar.{Writes};
+ghost use Rattle.sieve_syntax.specs.Token.{Spells};
 ghost use Rattle.sieve_syntax.specs.Tree.{Node};
-ghost use Rattle.sieve_check.specs.Breach.{Breach, breaches_of, first_breach};
-ghost use Rattle.sieve_check.specs.Order.{breaches_at, judged_in, IsLeastBreach};
+ghost use Rattle.sieve_syntax.specs.Word.{words_of};
+ghost use Rattle.sieve_syntax.specs.declared.token.Token.{Token};
+ghost use Rattle.sieve_check.specs.Breach.{Breach, breaches_at, breaches_of, breaks, first_breach, IsLeastBreach};
+ghost use Rattle.sieve_check.specs.Element.{elements_of};
+ghost use Rattle.sieve_check.specs.Order.{IsInTextOrder};
+ghost use Rattle.sieve_check.specs.Parted.{parted};
+ghost use Rattle.sieve_check.specs.Readable.{IsReadable, DoesAll};
+ghost use Rattle.sieve_check.specs.Table.{command_of, command_row, test_of, test_row};
+ghost use Rattle.sieve_check.specs.Tree as checked;
+ghost use Rattle.sieve_check.specs.declared.rule.Rule.{Rule};
+ghost use Rattle.sieve_check.specs.declared.table.CommandKind.{CommandKind};
+ghost use Rattle.sieve_check.specs.declared.table.TestKind.{TestKind};
 
-/// The breaches of a script are those of the commands, tests, strings and numbers that are judged in it, in the order of
-/// the text, each with the rules that it breaks in the order of their numbers. So the first breach is the least.
+/// The breaches of a script are those of its elements (its commands, tests, strings and numbers in the order of the text),
+/// each with the rules that it breaks in the order of their numbers. So the first breach is the least.
 #[tactic(auto, using(crate::proofs::Least::least))]
 pub fn first_breach_is_least()
-    ensures order { (tree : List Node) → breaches_of tree ≡ flat_map breaches_at (judged_in tree) }
+    ensures order { (tree : List Node) → breaches_of tree ≡ flat_map breaches_at (elements_of tree) }
     ensures least { (tree : List Node) (breach : Breach) → first_breach tree ≡ Some breach → IsLeastBreach tree breach }
+{}
+
+/// Each command and each test is found by the name of its row.
+#[tactic(auto, using(crate::proofs::Names::names))]
+pub fn names_are_found()
+    ensures commands { (kind : CommandKind) → command_of (command_row kind).name ≡ Some kind }
+    ensures tests { (kind : TestKind) → test_of (test_row kind).name ≡ Some kind }
+{}
+
+/// The abstract script of a readable tree has each command's choice, stop or act once, in the order of the text. So nothing of
+/// such a tree vanishes from what a run goes by.
+#[tactic(auto, using(crate::proofs::Marks::marks_kept))]
+pub fn a_readable_script_does_all()
+    ensures { (tree : List checked.Node) → IsReadable tree → DoesAll tree }
+{}
+
+/// Where a script has no first breach, none of its elements breaks a rule.
+#[tactic(auto, using(crate::proofs::Unbroken::unbroken))]
+pub fn without_a_breach_no_rule_is_broken()
+    ensures { (tree : List Node) → first_breach tree ≡ None → All (λ e. (rule : Rule) → breaks e rule ≡ false) (elements_of tree) }
+{}
+
+/// Of a script without a breach each command and each test is read as something: it has a row, its arguments are what the row
+/// says, and it stands where it may. So a faultless script is readable, and does all that its commands say.
+#[tactic(auto, using(crate::proofs::Readable::readable))]
+pub fn faultless_scripts_are_readable()
+    ensures { (tree : List Node) → breaches_of tree ≡ [] → IsReadable (parted tree) }
+{}
+
+/// The elements of a tree that writes a text are, one by one and in order, the text's identifiers, strings and numbers. These
+/// aren't empty, they stand apart and in order in the text, and the lines of the elements never fall.
+pub fn elements_are_in_text_order()
+    ensures { (tree : List Node) (text : List ℕ) (tokens : List Token) → Spells tokens text → Writes test_depth block_room tree (words_of text tokens) → IsInTextOrder tree text tokens }
 {}

@@ -2,26 +2,30 @@
 #![tactic(auto)]
 
 mod arguments;
+mod capability;
 mod checked;
 mod command_rules;
+mod context;
 mod copying;
-mod items;
 mod judged;
+mod label;
+mod labelled;
 pub mod laws;
 mod reading;
+mod role;
+mod row;
 mod rule;
+mod shape;
 mod table;
 mod test_rules;
 mod tree;
+mod usage;
 mod validator;
 
 pub use checked::Checked;
 pub use judged::{FaultKind, JudgeFault, Judged, judge};
-pub use reading::{Ask, MatchType, Reading};
+pub use reading::{Ask, CommandReading, Leaf, MatchType, TestReading};
 pub use rule::Rule;
 pub use table::{CommandKind, TestKind};
 pub use tree::{Argument, Command, Part, Test, Tests, Text};
 pub use validator::{CheckFault, check};
-
-#[cfg(test)]
-mod tests;

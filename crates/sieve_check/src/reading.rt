@@ -1,13 +1,16 @@
-//! What the commands and tests of a checked script are, with defaults filled in.
-ghost use Rattle.std.specs.Prelude.{◌≡◌, true, false, length, drop, map, nat_eq, MatchOption};
+//! What the commands and tests of a checked script are, with defaults filled in (RFC 5228, sections 3, 4 and 5).
+ghost use Rattle.std.specs.Prelude.{◌≡◌, true, false, length, drop, Some, None, map, nat_eq, MatchOption};
 ghost use Rattle.std.specs.Option.{option_map};
-ghost use Rattle.std.specs.List.{list_any, flat_map, starts_with};
+ghost use Rattle.std.specs.List.{flat_map, starts_with};
 ghost use lib.Pointwise.{pointwise};
-ghost use Rattle.sieve_check.specs.Reading.{ask_as, reading_as, texts_as};
-ghost use Rattle.sieve_check.specs.Script.{part_value, from_end, texts_of, number_of, is_tag_named, is_text, names_octet, collation_of, match_type_of, size_ask, header_ask_of, reading_by, reading_of, kind_of};
-ghost use Rattle.sieve_check.specs.Tree.{argument_of, part_of, test_of, node_of};
+ghost use Rattle.sieve_check.specs.Reading.{collation_by, collation_named, command_reading, command_reading_by, exists_by, has_tag, header_by, in_role, kind_of, labels_in, match_type_of, number_in, part_value, reads_ask, size_by, test_reading, test_reading_by, text_value, texts_in};
+ghost use Rattle.sieve_check.specs.view.Reading.{ask_as, command_reading_as, test_reading_as, texts_as};
+ghost use Rattle.sieve_check.specs.view.Row.{row_as};
+ghost use Rattle.sieve_check.specs.view.Tree.{argument_of, node_of, part_of, test_of, text_of};
 
-use crate::table::{CommandKind, TestKind, command_kind, is_named, test_kind};
+use crate::labelled::{argument_in, has_tag};
+use crate::row::{Role, Row};
+use crate::table::{CommandKind, Tag, TestKind, command_of, test_of};
 use crate::tree::{Argument, Command, Part, Test, Text};
 use match_text::Collation;
 
@@ -36,21 +39,24 @@ pub enum Ask<'a> {
     },
     /// Whether all named fields are there (RFC 5228, section 5.5).
     Exists {
+        /// The names of fields.
         names: &'a [Text],
     },
     /// Whether the message has more octets (RFC 5228, section 5.9).
     Over {
+        /// The number of octets.
         limit: u64,
     },
     /// Whether the message has fewer octets (RFC 5228, section 5.9).
     Under {
+        /// The number of octets.
         limit: u64,
     },
 }
 
 /// What a test is, apart from the tests in it.
 #[derive(Clone, Copy, Debug)]
-pub enum Reading<'a> {
+pub enum TestReading<'a> {
     /// True (RFC 5228, section 5.10).
     Always,
     /// False (RFC 5228, section 5.6).
@@ -65,52 +71,54 @@ pub enum Reading<'a> {
     Not,
 }
 
-/// The argument with so many behind it.
-fn from_end(count: usize, args: &[Argument]) -> Option<&Argument>
-    ensures { option_map (λ a. argument_of a.now) result ≡ from_end count (map argument_of args.now) }
-{
-    if count < args.len() {
-        Some(&args[args.len() - count - 1])
-    } else {
-        None
-    }
+/// What a command does that acts.
+#[derive(Clone, Copy, Debug, PartialEq, Eq)]
+pub enum Leaf {
+    /// It stores into the mailbox of the delivery (RFC 5228, section 4.3).
+    Keep,
+    /// It discards the message (RFC 5228, section 4.4).
+    Discard,
+}
+
+/// What a command is, apart from its test and its block.
+#[derive(Clone, Copy, Debug, PartialEq, Eq)]
+pub enum CommandReading {
+    /// It is the first branch of a chain (RFC 5228, section 3.1).
+    Opens,
+    /// It is a branch behind another, with a test (RFC 5228, section 3.1).
+    Continues,
+    /// It is the last branch of a chain (RFC 5228, section 3.1).
+    Otherwise,
+    /// It ends the run (RFC 5228, section 3.3).
+    Stops,
+    /// It does nothing when it runs (RFC 5228, section 3.2).
+    Nothing,
+    /// It acts.
+    Acts(Leaf),
 }
 
 /// The strings of an argument.
-fn texts_of(argument: Option<&Argument>) -> &[Text]
-    ensures { texts_as result.now ≡ texts_of (option_map (λ a. argument_of a.now) argument.entry) }
+fn texts_in(argument: Option<&Argument>) -> Option<&[Text]>
+    ensures { option_map (λ texts. texts_as texts.now) result ≡ texts_in (option_map (λ a. argument_of a.now) argument.entry) }
 {
     match argument {
-        Some(Argument::Strings { items, .. }) => items.as_slice(),
-        _ => &[],
+        Some(Argument::Strings { items, .. }) => Some(items.as_slice()),
+        Some(Argument::Number { .. }) => None,
+        Some(Argument::Tag { .. }) => None,
+        None => None,
     }
 }
 
 /// The number that an argument is.
-fn number_of(argument: Option<&Argument>) -> u64
-    ensures { result ≡ number_of (option_map (λ a. argument_of a.now) argument.entry) }
+fn number_in(argument: Option<&Argument>) -> Option<u64>
+    ensures { result ≡ number_in (option_map (λ a. argument_of a.now) argument.entry) }
 {
     match argument {
-        Some(Argument::Number { value: Some(n), .. }) => *n,
-        _ => 0,
+        Some(Argument::Number { value, .. }) => *value,
+        Some(Argument::Strings { .. }) => None,
+        Some(Argument::Tag { .. }) => None,
+        None => None,
     }
-}
-
-/// Whether an argument is the tag of that name.
-fn is_tag_named(text: &[u8], argument: &Argument) -> bool
-    ensures { result ≡ is_tag_named text.now (argument_of argument.now) }
-{
-    match argument {
-        Argument::Tag { name, .. } => is_named(text, name),
-        Argument::Strings { .. } | Argument::Number { .. } => false,
-    }
-}
-
-/// Whether the tag of that name is among arguments.
-fn has_tag_named(text: &[u8], args: &[Argument]) -> bool
-    ensures { result ≡ list_any (is_tag_named text.now) (map argument_of args.now) }
-{
-    args.iter().any(|argument| is_tag_named(text, argument))
 }
 
 /// The octets of a part.
@@ -119,6 +127,17 @@ fn part_value(part: &Part) -> &[u8]
 {
     match part {
         Part::Literal(octets) => octets.as_slice(),
+    }
+}
+
+/// The match type of a test, which is `:is` where no other is given.
+fn match_type_of(row: &Row, args: &[Argument]) -> MatchType
+    ensures { result ≡ match_type_of (labels_in (row_as row.now) (map argument_of args.now)) }
+{
+    if has_tag(row, Tag::Contains, args) {
+        MatchType::Contains
+    } else {
+        MatchType::Is
     }
 }
 
@@ -148,110 +167,125 @@ fn is_literally(octets: &[u8], parts: &[Part]) -> bool
     }
 }
 
-/// Whether an argument is one string of these octets, without brackets.
-fn is_text(octets: &[u8], argument: &Argument) -> bool
-    ensures { result ≡ is_text octets.now (argument_of argument.now) }
+/// The comparator that a string names.
+fn collation_named(text: &Text) -> Option<Collation>
+    ensures { result ≡ collation_named (text_value (text_of text.now).parts) }
+{
+    if is_literally(b"i;octet", &text.parts) {
+        Some(Collation::Octet)
+    } else if is_literally(b"i;ascii-casemap", &text.parts) {
+        Some(Collation::Casemap)
+    } else {
+        None
+    }
+}
+
+/// The comparator of a test, which is `i;ascii-casemap` where none is named.
+fn collation_by(argument: Option<&Argument>) -> Option<Collation>
+    ensures { result ≡ collation_by (option_map (λ a. argument_of a.now) argument.entry) }
 {
     match argument {
-        Argument::Strings {
-            items,
-            bracketed: false,
-        } => match items.as_slice() {
-            [text] => is_literally(octets, &text.parts),
-            _ => false,
+        None => Some(Collation::Casemap),
+        Some(Argument::Strings { items, .. }) => match items.as_slice() {
+            [text] => collation_named(text),
+            _ => None,
         },
-        _ => false,
-    }
-}
-
-/// Whether `:comparator` stands directly before the string `i;octet`.
-fn names_octet(args: &[Argument]) -> bool
-    ensures { result ≡ names_octet (map argument_of args.now) }
-{
-    let mut left = args;
-    while let [first, rest @ ..] = left {
-        if is_tag_named(b"comparator", first) {
-            if let [text, ..] = rest {
-                if is_text(b"i;octet", text) {
-                    return true;
-                }
-            }
-        }
-        left = rest;
-    }
-    false
-}
-
-/// The comparator of a test, which is `i;ascii-casemap` where no other is named.
-fn collation_of(args: &[Argument]) -> Collation
-    ensures { result ≡ collation_of (map argument_of args.now) }
-{
-    if names_octet(args) {
-        Collation::Octet
-    } else {
-        Collation::Casemap
-    }
-}
-
-/// The match type of a test, which is `:is` where no other is named.
-fn match_type_of(args: &[Argument]) -> MatchType
-    ensures { result ≡ match_type_of (map argument_of args.now) }
-{
-    if has_tag_named(b"contains", args) {
-        MatchType::Contains
-    } else {
-        MatchType::Is
+        Some(Argument::Number { .. }) => None,
+        Some(Argument::Tag { .. }) => None,
     }
 }
 
 /// What a `header` test asks.
-fn header_ask(args: &[Argument]) -> Ask<'_>
-    ensures { ask_as result ≡ header_ask_of (map argument_of args.now) }
+fn header_ask<'a>(row: &Row, args: &'a [Argument]) -> Option<Ask<'a>>
+    ensures { option_map ask_as result ≡ header_by (labels_in (row_as row.now) (map argument_of args.now)) (map argument_of args.now) }
 {
-    Ask::Header {
-        match_type: match_type_of(args),
-        collation: collation_of(args),
-        names: texts_of(from_end(1, args)),
-        keys: texts_of(from_end(0, args)),
-    }
+    let match_type = match_type_of(row, args);
+    let collation = collation_by(argument_in(row, Role::ComparatorName, args))?;
+    let names = texts_in(argument_in(row, Role::FieldNames, args))?;
+    let keys = texts_in(argument_in(row, Role::Keys, args))?;
+    Some(Ask::Header {
+        match_type,
+        collation,
+        names,
+        keys,
+    })
+}
+
+/// What an `exists` test asks.
+fn exists_ask<'a>(row: &Row, args: &'a [Argument]) -> Option<Ask<'a>>
+    ensures { option_map ask_as result ≡ exists_by (labels_in (row_as row.now) (map argument_of args.now)) (map argument_of args.now) }
+{
+    let names = texts_in(argument_in(row, Role::FieldNames, args))?;
+    Some(Ask::Exists { names })
 }
 
 /// What a `size` test asks.
-fn size_ask(args: &[Argument]) -> Ask<'_>
-    ensures { ask_as result ≡ size_ask (map argument_of args.now) }
+fn size_ask<'a>(row: &Row, args: &'a [Argument]) -> Option<Ask<'a>>
+    ensures { option_map ask_as result ≡ size_by (labels_in (row_as row.now) (map argument_of args.now)) (map argument_of args.now) }
 {
-    let limit = number_of(from_end(0, args));
-    if has_tag_named(b"over", args) {
-        Ask::Over { limit }
-    } else {
-        Ask::Under { limit }
+    let limit = number_in(argument_in(row, Role::Limit, args));
+    match (
+        has_tag(row, Tag::Over, args),
+        has_tag(row, Tag::Under, args),
+    ) {
+        (true, false) => Some(Ask::Over { limit: limit? }),
+        (false, true) => Some(Ask::Under { limit: limit? }),
+        (true, true) => None,
+        (false, false) => None,
+    }
+}
+
+/// A test that asks, where its arguments are there.
+fn asking(ask: Option<Ask<'_>>) -> Option<TestReading<'_>>
+    ensures { option_map test_reading_as result ≡ option_map reads_ask (option_map ask_as ask.entry) }
+{
+    match ask {
+        Some(ask) => Some(TestReading::Asks(ask)),
+        None => None,
     }
 }
 
 /// What a test of a kind is.
-fn reading_by(kind: Option<TestKind>, args: &[Argument]) -> Reading<'_>
-    ensures { reading_as result ≡ reading_by kind (map argument_of args.now) }
+fn test_reading_by(kind: TestKind, args: &[Argument]) -> Option<TestReading<'_>>
+    ensures { option_map test_reading_as result ≡ test_reading_by (Some kind) (map argument_of args.now) }
 {
     match kind {
-        Some(TestKind::Header) => Reading::Asks(header_ask(args)),
-        Some(TestKind::Exists) => Reading::Asks(Ask::Exists {
-            names: texts_of(from_end(0, args)),
-        }),
-        Some(TestKind::Size) => Reading::Asks(size_ask(args)),
-        Some(TestKind::AllOf) => Reading::AllOf,
-        Some(TestKind::AnyOf) => Reading::AnyOf,
-        Some(TestKind::Not) => Reading::Not,
-        Some(TestKind::True) => Reading::Always,
-        Some(TestKind::False) | None => Reading::Never,
+        TestKind::Header => asking(header_ask(&kind.row(), args)),
+        TestKind::Exists => asking(exists_ask(&kind.row(), args)),
+        TestKind::Size => asking(size_ask(&kind.row(), args)),
+        TestKind::AllOf => Some(TestReading::AllOf),
+        TestKind::AnyOf => Some(TestReading::AnyOf),
+        TestKind::Not => Some(TestReading::Not),
+        TestKind::True => Some(TestReading::Always),
+        TestKind::False => Some(TestReading::Never),
     }
 }
 
 impl Test {
-    /// What the test is, apart from the tests in it. Takes no memory.
-    pub fn reading(&self) -> Reading<'_>
-        ensures { reading_as result ≡ reading_of (test_of self.now) }
+    /// What the test is, apart from the tests in it, by the labels of its arguments. Each test of a checked script is read as
+    /// something. Takes no memory.
+    pub fn reading(&self) -> Option<TestReading<'_>>
+        ensures { option_map test_reading_as result ≡ test_reading (test_of self.now) }
     {
-        reading_by(test_kind(&self.name), &self.args)
+        match test_of(&self.name) {
+            Some(kind) => test_reading_by(kind, &self.args),
+            None => None,
+        }
+    }
+}
+
+/// What a command of a kind is.
+fn command_reading_by(kind: CommandKind) -> CommandReading
+    ensures { Some (command_reading_as result) ≡ command_reading_by (Some kind) }
+{
+    match kind {
+        CommandKind::Require => CommandReading::Nothing,
+        CommandKind::If => CommandReading::Opens,
+        CommandKind::Elsif => CommandReading::Continues,
+        CommandKind::Else => CommandReading::Otherwise,
+        CommandKind::Keep => CommandReading::Acts(Leaf::Keep),
+        CommandKind::Discard => CommandReading::Acts(Leaf::Discard),
+        CommandKind::Stop => CommandReading::Stops,
     }
 }
 
@@ -260,6 +294,17 @@ impl Command {
     pub fn kind(&self) -> Option<CommandKind>
         ensures { result ≡ kind_of (node_of self.now) }
     {
-        command_kind(&self.name)
+        command_of(&self.name)
+    }
+
+    /// What the command is, apart from its test and its block. Each command of a checked script is read as something. Takes
+    /// no memory.
+    pub fn reading(&self) -> Option<CommandReading>
+        ensures { option_map command_reading_as result ≡ command_reading (node_of self.now) }
+    {
+        match self.kind() {
+            Some(kind) => Some(command_reading_by(kind)),
+            None => None,
+        }
     }
 }

@@ -1,7 +1,9 @@
-//! The commands and tests that there are, and what each of them takes.
-ghost use Rattle.std.specs.Prelude.{◌≡◌};
-ghost use Rattle.std.specs.Option.{option_map};
-ghost use Rattle.sieve_check.specs.Table.{to_lower, is_named, command_kind, test_kind, command_shape, test_shape, tag_of};
+//! The table: a row for each command, test and tag that there is.
+ghost use Rattle.std.specs.Prelude.{◌≡◌, find};
+ghost use Rattle.sieve_check.specs.Table.{bare_tag, command_of, command_row, is_named, tag_of, tag_row, test_of, test_row};
+ghost use Rattle.sieve_check.specs.view.Row.{row_as, tag_row_as};
+
+use crate::row::{Form, Inner, Role, Row, Slot, TagKind, TagRow};
 
 /// A command that there is.
 #[derive(Clone, Copy, Debug, PartialEq, Eq)]
@@ -58,220 +60,236 @@ pub(crate) enum Tag {
     Under,
 }
 
-/// Which tags a command or a test takes.
-#[derive(Clone, Copy, Debug)]
-pub(crate) enum Tags {
-    None,
-    /// At most one comparator and at most one match type.
-    Comparing,
-    /// Exactly one of `:over` and `:under`.
-    Bound,
-}
+/// All commands.
+const COMMANDS: [CommandKind; 7] = [
+    CommandKind::Require,
+    CommandKind::If,
+    CommandKind::Elsif,
+    CommandKind::Else,
+    CommandKind::Keep,
+    CommandKind::Discard,
+    CommandKind::Stop,
+];
 
-/// Which positional arguments a command or a test takes.
-#[derive(Clone, Copy, Debug)]
-pub(crate) enum Positionals {
-    None,
-    /// A list of strings, or one string.
-    Texts,
-    /// Two of these.
-    TwoTexts,
-    Number,
-}
-
-/// Which tests a command or a test takes.
-#[derive(Clone, Copy, Debug)]
-pub(crate) enum Inner {
-    None,
-    /// One, without parentheses.
-    One,
-    /// A list in parentheses.
-    List,
-}
-
-/// What a command or a test takes.
-#[derive(Clone, Copy, Debug)]
-pub(crate) struct Shape {
-    pub(crate) tags: Tags,
-    pub(crate) positionals: Positionals,
-    pub(crate) tests: Inner,
-    pub(crate) has_block: bool,
-}
-
-/// A letter of ASCII in lower case.
-fn to_lower(octet: u8) -> u8
-    ensures { result ≡ to_lower octet }
-{
-    octet.to_ascii_lowercase()
-}
-
-/// Whether an identifier is this one, which is in lower case. Identifiers ignore case.
-pub(crate) fn is_named(text: &[u8], name: &[u8]) -> bool
-    ensures { result ≡ is_named text.now name.now }
-{
-    if name.len() != text.len() {
-        return false;
-    }
-    for (i, octet) in name.iter().enumerate() {
-        if to_lower(*octet) != text[i] {
-            return false;
-        }
-    }
-    true
-}
-
-/// The command of that name.
-#[tactic(auto, unfolding(crate::specs::Table::command_kind))]
-pub(crate) fn command_kind(name: &[u8]) -> Option<CommandKind>
-    ensures { result ≡ command_kind name.now }
-{
-    if is_named(b"require", name) {
-        Some(CommandKind::Require)
-    } else if is_named(b"if", name) {
-        Some(CommandKind::If)
-    } else if is_named(b"elsif", name) {
-        Some(CommandKind::Elsif)
-    } else if is_named(b"else", name) {
-        Some(CommandKind::Else)
-    } else if is_named(b"keep", name) {
-        Some(CommandKind::Keep)
-    } else if is_named(b"discard", name) {
-        Some(CommandKind::Discard)
-    } else if is_named(b"stop", name) {
-        Some(CommandKind::Stop)
-    } else {
-        None
-    }
-}
-
-/// The test of that name.
-#[tactic(auto, unfolding(crate::specs::Table::test_kind))]
-pub(crate) fn test_kind(name: &[u8]) -> Option<TestKind>
-    ensures { result ≡ test_kind name.now }
-{
-    if is_named(b"header", name) {
-        Some(TestKind::Header)
-    } else if is_named(b"exists", name) {
-        Some(TestKind::Exists)
-    } else if is_named(b"size", name) {
-        Some(TestKind::Size)
-    } else if is_named(b"allof", name) {
-        Some(TestKind::AllOf)
-    } else if is_named(b"anyof", name) {
-        Some(TestKind::AnyOf)
-    } else if is_named(b"not", name) {
-        Some(TestKind::Not)
-    } else if is_named(b"true", name) {
-        Some(TestKind::True)
-    } else if is_named(b"false", name) {
-        Some(TestKind::False)
-    } else {
-        None
-    }
-}
+/// All tests.
+const TESTS: [TestKind; 8] = [
+    TestKind::Header,
+    TestKind::Exists,
+    TestKind::Size,
+    TestKind::AllOf,
+    TestKind::AnyOf,
+    TestKind::Not,
+    TestKind::True,
+    TestKind::False,
+];
 
 /// What takes nothing.
-const BARE: Shape = Shape {
-    tags: Tags::None,
-    positionals: Positionals::None,
+const BARE: Row = Row {
+    name: b"",
+    tags: &[],
+    one_of: None,
+    front: None,
+    slots: &[],
     tests: Inner::None,
     has_block: false,
+    needs: &[],
 };
 
-impl CommandKind {
-    /// What the command takes.
-    pub(crate) fn shape(self) -> Shape
-        ensures { result ≡ command_shape self }
+/// A tag that takes nothing.
+const fn bare_tag(name: &'static [u8], kind: TagKind) -> TagRow
+    ensures { tag_row_as result ≡ bare_tag name.now kind }
+{
+    TagRow {
+        name,
+        kind,
+        takes: None,
+        needs: None,
+    }
+}
+
+impl Tag {
+    /// The tag's row.
+    pub(crate) fn row(self) -> TagRow
+        ensures { tag_row_as result ≡ tag_row self }
     {
         match self {
-            CommandKind::Require => Shape {
-                positionals: Positionals::Texts,
+            Tag::Comparator => TagRow {
+                takes: Some(Slot::new(Form::One, Role::ComparatorName)),
+                ..bare_tag(b"comparator", TagKind::Comparator)
+            },
+            Tag::Is => bare_tag(b"is", TagKind::MatchType),
+            Tag::Contains => bare_tag(b"contains", TagKind::MatchType),
+            Tag::Over => bare_tag(b"over", TagKind::Bound),
+            Tag::Under => bare_tag(b"under", TagKind::Bound),
+        }
+    }
+}
+
+impl CommandKind {
+    /// The command's row.
+    pub(crate) fn row(self) -> Row
+        ensures { row_as result ≡ command_row self }
+    {
+        match self {
+            CommandKind::Require => Row {
+                name: b"require",
+                slots: &[Slot {
+                    form: Form::List,
+                    role: Role::Capabilities,
+                    needs: None,
+                }],
                 ..BARE
             },
-            CommandKind::If | CommandKind::Elsif => Shape {
+            CommandKind::If => Row {
+                name: b"if",
                 tests: Inner::One,
                 has_block: true,
                 ..BARE
             },
-            CommandKind::Else => Shape {
+            CommandKind::Elsif => Row {
+                name: b"elsif",
+                tests: Inner::One,
                 has_block: true,
                 ..BARE
             },
-            CommandKind::Keep | CommandKind::Discard | CommandKind::Stop => BARE,
+            CommandKind::Else => Row {
+                name: b"else",
+                has_block: true,
+                ..BARE
+            },
+            CommandKind::Keep => Row {
+                name: b"keep",
+                ..BARE
+            },
+            CommandKind::Discard => Row {
+                name: b"discard",
+                ..BARE
+            },
+            CommandKind::Stop => Row {
+                name: b"stop",
+                ..BARE
+            },
         }
     }
 }
 
+/// A list of the names of header fields.
+const FIELD_NAMES: Slot = Slot {
+    form: Form::List,
+    role: Role::FieldNames,
+    needs: None,
+};
+
+/// A list of keys.
+const KEYS: Slot = Slot {
+    form: Form::List,
+    role: Role::Keys,
+    needs: None,
+};
+
 impl TestKind {
-    /// What the test takes.
-    pub(crate) fn shape(self) -> Shape
-        ensures { result ≡ test_shape self }
+    /// The test's row.
+    pub(crate) fn row(self) -> Row
+        ensures { row_as result ≡ test_row self }
     {
         match self {
-            TestKind::Header => Shape {
-                tags: Tags::Comparing,
-                positionals: Positionals::TwoTexts,
+            TestKind::Header => Row {
+                name: b"header",
+                tags: &[Tag::Comparator, Tag::Is, Tag::Contains],
+                slots: &[FIELD_NAMES, KEYS],
                 ..BARE
             },
-            TestKind::Exists => Shape {
-                positionals: Positionals::Texts,
+            TestKind::Exists => Row {
+                name: b"exists",
+                slots: &[FIELD_NAMES],
                 ..BARE
             },
-            TestKind::Size => Shape {
-                tags: Tags::Bound,
-                positionals: Positionals::Number,
+            TestKind::Size => Row {
+                name: b"size",
+                tags: &[Tag::Over, Tag::Under],
+                one_of: Some(TagKind::Bound),
+                slots: &[Slot {
+                    form: Form::Number,
+                    role: Role::Limit,
+                    needs: None,
+                }],
                 ..BARE
             },
-            TestKind::AllOf | TestKind::AnyOf => Shape {
+            TestKind::AllOf => Row {
+                name: b"allof",
                 tests: Inner::List,
                 ..BARE
             },
-            TestKind::Not => Shape {
+            TestKind::AnyOf => Row {
+                name: b"anyof",
+                tests: Inner::List,
+                ..BARE
+            },
+            TestKind::Not => Row {
+                name: b"not",
                 tests: Inner::One,
                 ..BARE
             },
-            TestKind::True | TestKind::False => BARE,
+            TestKind::True => Row {
+                name: b"true",
+                ..BARE
+            },
+            TestKind::False => Row {
+                name: b"false",
+                ..BARE
+            },
         }
     }
 }
 
-impl Tags {
-    /// The tag of that name, where such tags are taken.
-    pub(crate) fn tag_of(self, name: &[u8]) -> Option<Tag>
-        ensures { result ≡ tag_of self name.now }
-    {
-        match self {
-            Tags::None => None,
-            Tags::Comparing => comparing_tag(name),
-            Tags::Bound => bound_tag(name),
-        }
-    }
+/// Whether an identifier is this one. Identifiers ignore case (RFC 5228, section 2.1).
+fn is_named(name: &[u8], written: &[u8]) -> bool
+    ensures { result ≡ is_named name.now written.now }
+{
+    name.eq_ignore_ascii_case(written)
 }
 
-/// The tag of that name among the comparator and the match types.
-fn comparing_tag(name: &[u8]) -> Option<Tag>
-    ensures { result ≡ tag_of Tags.Comparing name.now }
+/// The command of that name among some.
+fn find_command(kinds: &[CommandKind], written: &[u8]) -> Option<CommandKind>
+    ensures { result ≡ find (λ kind. is_named (command_row kind).name written.now) kinds.now }
 {
-    if is_named(b"comparator", name) {
-        Some(Tag::Comparator)
-    } else if is_named(b"is", name) {
-        Some(Tag::Is)
-    } else if is_named(b"contains", name) {
-        Some(Tag::Contains)
-    } else {
-        None
-    }
+    kinds
+        .iter()
+        .copied()
+        .find(|kind| is_named(kind.row().name, written))
 }
 
-/// The tag of that name among `:over` and `:under`.
-fn bound_tag(name: &[u8]) -> Option<Tag>
-    ensures { result ≡ tag_of Tags.Bound name.now }
+/// The test of that name among some.
+fn find_test(kinds: &[TestKind], written: &[u8]) -> Option<TestKind>
+    ensures { result ≡ find (λ kind. is_named (test_row kind).name written.now) kinds.now }
 {
-    if is_named(b"over", name) {
-        Some(Tag::Over)
-    } else if is_named(b"under", name) {
-        Some(Tag::Under)
-    } else {
-        None
-    }
+    kinds
+        .iter()
+        .copied()
+        .find(|kind| is_named(kind.row().name, written))
+}
+
+/// The tag of that name among some.
+pub(crate) fn tag_of(tags: &[Tag], written: &[u8]) -> Option<Tag>
+    ensures { result ≡ tag_of tags.now written.now }
+{
+    tags.iter()
+        .copied()
+        .find(|tag| is_named(tag.row().name, written))
+}
+
+/// The command of that name.
+#[tactic(auto, unfolding(crate::specs::Table::command_of))]
+pub(crate) fn command_of(written: &[u8]) -> Option<CommandKind>
+    ensures { result ≡ command_of written.now }
+{
+    find_command(&COMMANDS, written)
+}
+
+/// The test of that name.
+#[tactic(auto, unfolding(crate::specs::Table::test_of))]
+pub(crate) fn test_of(written: &[u8]) -> Option<TestKind>
+    ensures { result ≡ test_of written.now }
+{
+    find_test(&TESTS, written)
 }

@@ -1,91 +1,74 @@
 //! The breaches in tests.
 ghost use Rattle.std.specs.Prelude.{◌≡◌, map};
-ghost use Rattle.sieve_syntax.specs.Tree.{argument_of, test_of, tests, tests_of};
-ghost use Rattle.sieve_syntax.specs.declared.tree.Test.{out-Test};
-ghost use Rattle.sieve_check.specs.Breach.{test_breaches, test_items_breaches, test_list_breaches, tests_breaches};
-ghost use Rattle.sieve_check.specs.Finds.{Finds};
-ghost use Rattle.sieve_check.specs.Seen.{item_as, test_head};
+ghost use Rattle.sieve_syntax.specs.Tree.{tests};
+ghost use Rattle.sieve_syntax.specs.view.Tree.{test_of, tests_of};
+ghost use Rattle.sieve_check.specs.Element.{test_elements, test_list_elements, tests_elements};
+ghost use Rattle.sieve_check.specs.view.Context.{context_as};
+ghost use Rattle.sieve_check.specs.view.Finds.{FindsIn};
+ghost use Rattle.sieve_check.specs.view.Head.{test_head};
 
-use crate::arguments::check_items;
-use crate::items::{Item, has_bad_arguments, has_bad_tag, items_of};
+use crate::arguments::check_use;
+use crate::context::Context;
 use crate::rule::Rule;
-use crate::table::{Shape, test_kind};
+use crate::table::test_of;
 use crate::validator::CheckFault;
 use sieve_syntax::{Test, Tests};
 use std::alloc::Global;
 
-/// Checks a test of such a shape apart from the tests in it.
-fn check_test_items(
-    alloc: Global,
-    shape: Shape,
-    test: &Test,
-    items: &[Item],
-) -> Result<(), CheckFault>
-    ensures { Finds (test_items_breaches (out-Test test.now).line shape (tests_of (out-Test test.now).tests) (map item_as items.now)) result }
-{
-    if has_bad_tag(items) {
-        return Err(CheckFault::Breach {
-            line: test.line,
-            rule: Rule::BadTag,
-        });
-    }
-    if has_bad_arguments(alloc, shape, items, &test.tests)? {
-        return Err(CheckFault::Breach {
-            line: test.line,
-            rule: Rule::BadArguments,
-        });
-    }
-    check_items(false, items)
-}
-
 /// Checks a test apart from the tests in it.
-fn check_test_head(alloc: Global, test: &Test) -> Result<(), CheckFault>
-    ensures { Finds (test_head test.now) result }
+#[tactic(auto, using(crate::proofs::Heads::test_unknown))]
+fn check_test_head(alloc: Global, context: Context, test: &Test) -> Result<(), CheckFault>
+    ensures { FindsIn (test_head (context_as context) test.now) result }
 {
-    match test_kind(&test.name) {
+    let line = test.line;
+    match test_of(&test.name) {
         None => Err(CheckFault::Breach {
-            line: test.line,
+            line,
             rule: Rule::UnknownCommand,
         }),
-        Some(kind) => {
-            let shape = kind.shape();
-            let items = items_of(alloc, shape.tags, &test.args)?;
-            check_test_items(alloc, shape, test, &items)
-        }
+        Some(kind) => check_use(
+            alloc,
+            context,
+            line,
+            &kind.row(),
+            &test.args,
+            &test.tests,
+            false,
+        ),
     }
 }
 
 /// Checks a test and the tests in it.
 #[cycle(check_tests)]
 #[tactic(auto, using(crate::proofs::Heads::test_steps))]
-fn check_test(alloc: Global, test: &Test) -> Result<(), CheckFault>
-    ensures { Finds (test_breaches (test_of test.now)) result }
+fn check_test(alloc: Global, context: Context, test: &Test) -> Result<(), CheckFault>
+    ensures { FindsIn (test_elements (context_as context) (test_of test.now)) result }
 {
-    check_test_head(alloc, test)?;
-    check_tests(alloc, &test.tests)
+    check_test_head(alloc, context, test)?;
+    check_tests(alloc, context, &test.tests)
 }
 
 /// Checks the tests behind arguments.
 #[cycle(check_tests)]
-#[tactic(auto, unfolding(crate::specs::Breach::tests_breaches))]
-pub(crate) fn check_tests(alloc: Global, tests: &Tests) -> Result<(), CheckFault>
-    ensures { Finds (tests_breaches (tests_of tests.now)) result }
+#[tactic(auto, unfolding(crate::specs::Element::tests_elements))]
+pub(crate) fn check_tests(alloc: Global, context: Context, tests: &Tests) -> Result<(), CheckFault>
+    ensures { FindsIn (tests_elements (context_as context) (tests_of tests.now)) result }
 {
     match tests {
         Tests::None => Ok(()),
-        Tests::One(test) => check_test(alloc, test),
-        Tests::List(list) => check_test_list(alloc, list),
+        Tests::One(test) => check_test(alloc, context, test),
+        Tests::List(list) => check_test_list(alloc, context, list),
     }
 }
 
 /// Checks a list of tests.
 #[cycle(check_tests)]
 #[tactic(auto, using(crate::proofs::Heads::list_steps))]
-fn check_test_list(alloc: Global, list: &[Test]) -> Result<(), CheckFault>
-    ensures { Finds (test_list_breaches (tests (map test_of list.now))) result }
+fn check_test_list(alloc: Global, context: Context, list: &[Test]) -> Result<(), CheckFault>
+    ensures { FindsIn (test_list_elements (context_as context) (tests (map test_of list.now))) result }
 {
     for test in list {
-        check_test(alloc, test)?;
+        check_test(alloc, context, test)?;
     }
     Ok(())
 }

@@ -30,7 +30,7 @@ pub enum Argument {
 
 /// A test, with its arguments and its own tests (RFC 5228, section 5).
 #[derive(Debug, Drop)]
-#[cycle(test)]
+#[cycle(tests)]
 pub struct Test {
     /// The identifier, as it is written. Case doesn't matter.
     pub name: Vec<u8>,
@@ -44,7 +44,7 @@ pub struct Test {
 
 /// The tests that stand behind the arguments of a command or a test.
 #[derive(Debug, Drop)]
-#[cycle(test)]
+#[cycle(tests)]
 pub enum Tests {
     /// None.
     None,

@@ -1,14 +1,15 @@
 //! The validator.
 ghost use Rattle.std.specs.Prelude.{◌≡◌, [], MatchResult};
-ghost use Rattle.sieve_syntax.specs.Tree.{nodes_of};
+ghost use Rattle.sieve_syntax.specs.view.Tree.{nodes_of};
 ghost use Rattle.sieve_check.specs.Breach.{breaches_of};
-ghost use Rattle.sieve_check.specs.Checked.{tree_of};
+ghost use Rattle.sieve_check.specs.view.Checked.{tree_of};
 ghost use Rattle.sieve_check.specs.CheckFault.{IsFirst};
 ghost use Rattle.sieve_check.specs.Parted.{parted};
 ghost use Rattle.sieve_check.specs.declared.validator.CheckFault.TheVariants.{NoMemory};
 
 use crate::checked::Checked;
-use crate::command_rules::{SCRIPT_START, check_commands};
+use crate::command_rules::check_commands;
+use crate::context::Context;
 use crate::copying::parted;
 use crate::rule::Rule;
 use sieve_syntax::Script;
@@ -41,7 +42,7 @@ pub fn check(alloc: Global, script: &Script) -> Result<Checked, CheckFault>
         (λ checked. (breaches_of (nodes_of script.now) ≡ []) × (tree_of checked ≡ parted (nodes_of script.now)))
         (IsFirst (breaches_of (nodes_of script.now))) }
 {
-    check_commands(alloc, SCRIPT_START, &script.commands)?;
+    check_commands(alloc, Context::script_start(), &script.commands)?;
     let commands = parted(alloc, script)?;
     Ok(Checked { commands })
 }

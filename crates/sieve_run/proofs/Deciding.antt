@@ -2,12 +2,13 @@
 use Rattle.std.proofs.Common.{◌≡◌, ℕ, ◌+◌, ◌<◌, ◌≤◌, Bool, true, false, not, List, [], ◌∷◌, length, get_or, drop, Result, IfOk, refl, ap, sym, subst, ◌∙◌}
 use Rattle.std.specs.declared.alloc.AllocError.{AllocError}
 use Rattle.std.proofs.lemmas.Result.{IfOk-weaker}
-use Rattle.sieve_check.specs.Script.{Ask, Condition, always, never, asks, negated, both, either, all_of, any_of, negation_of, branch_condition, condition_of}
-use Rattle.sieve_check.specs.Tree.{test_of}
+use Rattle.sieve_check.specs.Reading.{Ask}
+use Rattle.sieve_check.specs.Script.{Condition, always, never, asks, negated, both, either, all_of, any_of, negation_of, branch_condition, condition_of}
+use Rattle.sieve_check.specs.view.Tree.{test_of}
 use Rattle.sieve_check.specs.declared.tree.Test as one_tests
 use Rattle.sieve_run.specs.Matching.{truth_of}
 use Rattle.sieve_run.specs.Run.{Answer, answer_of, also, decide, inverted, or_else}
-use Rattle.sieve_run.specs.Step.{ComesTo}
+use Rattle.sieve_run.specs.view.Step.{ComesTo}
 use Rattle.sieve_run.proofs.Views.{conditions_on, conditions_on-at, conditions_on-end}
 
 module _ (m : List ℕ) where

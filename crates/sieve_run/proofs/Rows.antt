@@ -3,13 +3,15 @@ use Rattle.std.proofs.Common.{◌≡◌, ℕ, Bool, true, false, List, [], ◌�
 use Rattle.match_text.specs.declared.comparators.Collation.{Collation}
 use Rattle.match_text.specs.declared.comparators.Collation.TheVariants.{Octet, Casemap}
 use Rattle.message_text.specs.Fields.{fields_of, field_groups}
-use Rattle.sieve_check.specs.Script.{Ask, header_ask, exists_ask, over_ask, under_ask, Condition, always, never, asks, negated, both, either, Commands, no_commands, stops, acts, chooses, keep_leaf, discard_leaf, chain_of, node_before, block_commands, conditions_in}
-use Rattle.sieve_check.specs.Table.{command_kind}
+use Rattle.sieve_check.specs.Reading.{Ask, header_ask, exists_ask, over_ask, under_ask, keep_leaf, discard_leaf}
+use Rattle.sieve_check.specs.Script.{Condition, always, never, asks, negated, both, either, Commands, no_commands, stops, acts, chooses, chain_of, node_before, block_commands, conditions_in}
+use Rattle.sieve_check.specs.Table.{command_of}
 use Rattle.sieve_check.specs.Tree.{Part, literal, node, no_tests, no_block}
 use Rattle.sieve_check.specs.declared.reading.MatchType.{MatchType}
 use Rattle.sieve_check.specs.declared.reading.MatchType.TheVariants.{Is, Contains}
-use Rattle.sieve_code.specs.declared.place.Place.TheVariants.{Personal}
-use Rattle.sieve_run.specs.Library.{Lookup, missing, invalid, present, name_limit}
+use Rattle.sieve_base.specs.declared.place.Place.TheVariants.{Personal}
+use Rattle.sieve_base.specs.Limits.{name_limit}
+use Rattle.sieve_run.specs.Library.{Lookup, missing, invalid, present}
 use Rattle.sieve_run.specs.Matching.{truth_of, values_named, header_pairs}
 use Rattle.sieve_run.specs.Run.{RunState, Ending, goes_on, stopped, Answer, answer_of, act_of, decide, exec, begun, verdict_at, outcome_of}
 use Rattle.sieve_run.specs.declared.envelope.Envelope.{Envelope}
@@ -225,5 +227,5 @@ empty_script_row message = refl
 -- discard; discard; keep;
 present_row : (message : List ℕ) → outcome_of (λ name. present (node (codes "discard") 1 [] no_tests no_block ∷ node (codes "DISCARD") 2 [] no_tests no_block ∷ node (codes "keep") 3 [] no_tests no_block ∷ [])) (Some main) envelope message
     ≡ record { actions = Discard ∷ inbox ∷ []; implicit = false; error = None; reads = (main, true) ∷ [] }
-unfolding outcome_of exec chain_of node_before block_commands conditions_in command_kind
+unfolding outcome_of exec chain_of node_before block_commands conditions_in command_of
 present_row message = refl

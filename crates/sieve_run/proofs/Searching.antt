@@ -2,10 +2,11 @@
 use Rattle.std.proofs.Common.{◌≡◌, ℕ, zero, suc, ◌+◌, Bool, true, false, ◌&&◌, ◌||◌, List, [], ◌∷◌, map, filter, length, drop, cond, Some, refl, sym, ap, ◌∙◌, add-one}
 use Rattle.std.specs.List.{flat_map, list_any, slice_get}
 use Rattle.std.specs.Option.{option_map}
+use Rattle.std.proofs.Math.Bool.{or-true}
 use Rattle.std.proofs.lemmas.List.Folds.{list_any-append}
 use Rattle.message_text.specs.Fields.{Field}
 use Rattle.sieve_check.specs.declared.reading.MatchType.{MatchType}
-use Rattle.sieve_run.specs.FieldTests.{field_matches}
+use Rattle.sieve_run.specs.view.FieldTests.{field_matches}
 use Rattle.sieve_run.specs.Matching.{header_pairs, is_field_named, matches, pairs_named, pairs_with, some_matches}
 
 -- a function of an element that is known at a place
@@ -27,15 +28,11 @@ module _ {X : Type 0} (p q : X → Bool) where
   get-passes (x ∷ xs) (suc i) b first second = get-passes xs i b first second
 
 module _ {X : Type 0} (q : X → Bool) where
-  or_true : (b : Bool) → (b || true) ≡ true
-  or_true true = refl
-  or_true false = refl
-
   -- an element that passes
   pub any_at : (xs : List X) (i : ℕ) → slice_get (map q xs) i ≡ Some true → list_any q xs ≡ true
   any_at [] i at = cc
   any_at (x ∷ xs) zero at = let e : q x ≡ true = cc in ap (λ b. b || list_any q xs) e
-  any_at (x ∷ xs) (suc i) at = ap (λ b. q x || b) (any_at xs i at) ∙ or_true (q x)
+  any_at (x ∷ xs) (suc i) at = ap (λ b. q x || b) (any_at xs i at) ∙ or-true (q x)
 
   any_past : (xs : List X) (i : ℕ) → slice_get (map q xs) i ≡ Some false → list_any q (drop (suc i) xs) ≡ list_any q (drop i xs)
   any_past [] i at = cc
@@ -52,11 +49,6 @@ module _ {X : Type 0} (q : X → Bool) where
       nothing : (ys : List X) → list_any q (drop (length ys) ys) ≡ false
       nothing [] = refl
       nothing (y ∷ ys) = nothing ys
-
--- a test of the elements as they are seen
-pub list_any-map : {X Y : Type 0} (test : Y → Bool) (view : X → Y) (xs : List X) → list_any test (map view xs) ≡ list_any (λ x. test (view x)) xs
-list_any-map test view [] = refl
-list_any-map test view (x ∷ xs) = ap (λ b. test (view x) || b) (list_any-map test view xs)
 
 module _ (match_type : MatchType) (fold : ℕ → ℕ) (keys : List (List ℕ)) where
   one_field : (name : List ℕ) (field : Field) (fields : List Field) (b : Bool) → some_matches match_type fold (flat_map (pairs_with keys) (map (λ f. f.value) (cond b (field ∷ fields) fields))) ≡ ((b && some_matches match_type fold (pairs_with keys field.value)) || some_matches match_type fold (flat_map (pairs_with keys) (map (λ f. f.value) fields)))

@@ -5,16 +5,17 @@ use Rattle.std.specs.declared.alloc.Global.{Global}
 use Rattle.std.specs.declared.vec.Vec.{Vec}
 use Rattle.std.proofs.lemmas.List.{at_drop_all, at_drop_more}
 use Rattle.std.proofs.lemmas.Result.{IfOk-weaker}
-use Rattle.sieve_check.specs.Script.{Ask, Leaf, keep_leaf, discard_leaf, no_commands, Chain, Commands, block_commands, branch_condition, chain_of, command_before, conditions_in, kind_of, node_before, script_of}
-use Rattle.sieve_check.specs.Tree.{Node, node, node_of, nodes, tests_of}
-use Rattle.sieve_check.specs.declared.table.CommandKind.{CommandKind}
-use Rattle.sieve_check.specs.declared.table.CommandKind.TheVariants as kind
+use Rattle.sieve_check.specs.Reading.{Ask, Leaf, keep_leaf, discard_leaf, CommandReading, command_reading}
+use Rattle.sieve_check.specs.Script.{no_commands, Chain, Commands, block_commands, branch_condition, chain_of, command_before, conditions_in, node_before, script_of}
+use Rattle.sieve_check.specs.Tree.{Node, node, nodes}
+use Rattle.sieve_check.specs.view.Tree.{node_of, tests_of}
+use Rattle.sieve_check.specs.Reading as reading
 use Rattle.sieve_check.specs.declared.tree.Command as commands
 use Rattle.sieve_check.specs.declared.tree.Command.TheViews as command_views
-use Rattle.sieve_run.specs.Flow.{ending_by}
+use Rattle.sieve_run.specs.view.Flow.{ending_by}
 use Rattle.sieve_run.specs.Run.{RunState, Ending, Answer, goes_on, stopped, failed, act_of, and_then, answer_of, chosen, decide, exec, is_discard, is_store_into, with_action}
 use Rattle.sieve_run.specs.declared.outcome.Action.TheVariants.{Discard, Store}
-use Rattle.sieve_run.specs.Step.{ComesTo, Doing, StepsTo, block_at, condition_at, doing_after, doing_block, doing_branch, doing_command, doing_rest}
+use Rattle.sieve_run.specs.view.Step.{ComesTo, Doing, StepsTo, block_at, condition_at, doing_after, doing_block, doing_branch, doing_command, doing_rest}
 use Rattle.sieve_run.specs.declared.envelope.Envelope.{Envelope}
 use Rattle.sieve_run.specs.declared.steps.Flow.{Flow}
 use Rattle.sieve_run.specs.declared.steps.Flow.TheVariants as flow
@@ -26,7 +27,7 @@ pub line_at : Node → ℕ
 line_at (node name line args ts ending) = line
 
 -- a command by its kind
-by_kind : (n : Node) (chain : Chain) → node_before n chain ≡ command_before (kind_of n) (line_at n) (condition_at n) (block_at n) chain
+by_kind : (n : Node) (chain : Chain) → node_before n chain ≡ command_before (command_reading n) (line_at n) (condition_at n) (block_at n) chain
 unfolding node_before line_at
 by_kind (node name line args ts ending) chain = refl
 
@@ -37,55 +38,55 @@ module _ (ask : Ask → RunState → Answer) (act : Leaf → ℕ → RunState �
   nothing_more (stopped state) next = refl
   nothing_more (failed error state) next = refl
 
-  before_kind : (p : Bool) (k : Option CommandKind) (n : Node) (chain : Chain) (s : RunState) → k ≡ kind_of n → doing_command p n ask act chain s ≡ doing_rest p ask act (command_before k (line_at n) (condition_at n) (block_at n) chain) s
+  before_kind : (p : Bool) (k : Option CommandReading) (n : Node) (chain : Chain) (s : RunState) → k ≡ command_reading n → doing_command p n ask act chain s ≡ doing_rest p ask act (command_before k (line_at n) (condition_at n) (block_at n) chain) s
   before_kind p k n chain s is =
       ap (λ c. doing_rest p ask act c s) (by_kind n chain)
       ∙ sym (ap (λ x. doing_rest p ask act (command_before x (line_at n) (condition_at n) (block_at n) chain) s) is)
 
-  pub at_if : (p : Bool) (n : Node) (chain : Chain) (s : RunState) → Some kind.If ≡ kind_of n → doing_command p n ask act chain s ≡ doing_branch n ask act chain s
+  pub at_if : (p : Bool) (n : Node) (chain : Chain) (s : RunState) → Some reading.opens ≡ command_reading n → doing_command p n ask act chain s ≡ doing_branch n ask act chain s
   unfolding exec
-  at_if true n chain s is = before_kind true (Some kind.If) n chain s is
-  at_if false n chain s is = before_kind false (Some kind.If) n chain s is
+  at_if true n chain s is = before_kind true (Some reading.opens) n chain s is
+  at_if false n chain s is = before_kind false (Some reading.opens) n chain s is
 
-  pub at_elsif : (n : Node) (chain : Chain) (s : RunState) → Some kind.Elsif ≡ kind_of n → doing_command false n ask act chain s ≡ doing_branch n ask act chain s
+  pub at_elsif : (n : Node) (chain : Chain) (s : RunState) → Some reading.continues ≡ command_reading n → doing_command false n ask act chain s ≡ doing_branch n ask act chain s
   unfolding exec
   at_elsif n chain s is =
-      before_kind false (Some kind.Elsif) n chain s is
+      before_kind false (Some reading.continues) n chain s is
       ∙ nothing_more (chosen (decide ask (condition_at n) s).truth (exec ask act (block_at n)) (exec ask act chain.otherwise) (decide ask (condition_at n) s).state) (exec ask act chain.rest)
 
-  pub at_else : (n : Node) (chain : Chain) (s : RunState) → Some kind.Else ≡ kind_of n → doing_command false n ask act chain s ≡ doing_block n ask act chain s
-  at_else n chain s is = before_kind false (Some kind.Else) n chain s is
+  pub at_else : (n : Node) (chain : Chain) (s : RunState) → Some reading.otherwise ≡ command_reading n → doing_command false n ask act chain s ≡ doing_block n ask act chain s
+  at_else n chain s is = before_kind false (Some reading.otherwise) n chain s is
 
-  pub elsif_over : (n : Node) (chain : Chain) (s : RunState) → Some kind.Elsif ≡ kind_of n → doing_command true n ask act chain s ≡ exec ask act chain.rest s
-  elsif_over n chain s is = before_kind true (Some kind.Elsif) n chain s is
+  pub elsif_over : (n : Node) (chain : Chain) (s : RunState) → Some reading.continues ≡ command_reading n → doing_command true n ask act chain s ≡ exec ask act chain.rest s
+  elsif_over n chain s is = before_kind true (Some reading.continues) n chain s is
 
-  pub else_over : (n : Node) (chain : Chain) (s : RunState) → Some kind.Else ≡ kind_of n → doing_command true n ask act chain s ≡ exec ask act chain.rest s
-  else_over n chain s is = before_kind true (Some kind.Else) n chain s is
+  pub else_over : (n : Node) (chain : Chain) (s : RunState) → Some reading.otherwise ≡ command_reading n → doing_command true n ask act chain s ≡ exec ask act chain.rest s
+  else_over n chain s is = before_kind true (Some reading.otherwise) n chain s is
 
-  pub at_require : (p : Bool) (n : Node) (chain : Chain) (s : RunState) → Some kind.Require ≡ kind_of n → doing_command p n ask act chain s ≡ exec ask act chain.rest s
+  pub at_require : (p : Bool) (n : Node) (chain : Chain) (s : RunState) → Some reading.nothing ≡ command_reading n → doing_command p n ask act chain s ≡ exec ask act chain.rest s
   unfolding exec
-  at_require true n chain s is = before_kind true (Some kind.Require) n chain s is
-  at_require false n chain s is = before_kind false (Some kind.Require) n chain s is
+  at_require true n chain s is = before_kind true (Some reading.nothing) n chain s is
+  at_require false n chain s is = before_kind false (Some reading.nothing) n chain s is
 
-  pub at_none : (p : Bool) (n : Node) (chain : Chain) (s : RunState) → None ≡ kind_of n → doing_command p n ask act chain s ≡ exec ask act chain.rest s
+  pub at_none : (p : Bool) (n : Node) (chain : Chain) (s : RunState) → None ≡ command_reading n → doing_command p n ask act chain s ≡ exec ask act chain.rest s
   unfolding exec
   at_none true n chain s is = before_kind true None n chain s is
   at_none false n chain s is = before_kind false None n chain s is
 
-  pub at_stop : (p : Bool) (n : Node) (chain : Chain) (s : RunState) → Some kind.Stop ≡ kind_of n → doing_command p n ask act chain s ≡ stopped s
+  pub at_stop : (p : Bool) (n : Node) (chain : Chain) (s : RunState) → Some reading.stops ≡ command_reading n → doing_command p n ask act chain s ≡ stopped s
   unfolding exec
-  at_stop true n chain s is = before_kind true (Some kind.Stop) n chain s is
-  at_stop false n chain s is = before_kind false (Some kind.Stop) n chain s is
+  at_stop true n chain s is = before_kind true (Some reading.stops) n chain s is
+  at_stop false n chain s is = before_kind false (Some reading.stops) n chain s is
 
-  pub at_keep : (p : Bool) (n : Node) (chain : Chain) (s : RunState) → Some kind.Keep ≡ kind_of n → doing_command p n ask act chain s ≡ and_then (act keep_leaf (line_at n) s) (exec ask act chain.rest)
+  pub at_keep : (p : Bool) (n : Node) (chain : Chain) (s : RunState) → Some (reading.acts keep_leaf) ≡ command_reading n → doing_command p n ask act chain s ≡ and_then (act keep_leaf (line_at n) s) (exec ask act chain.rest)
   unfolding exec
-  at_keep true n chain s is = before_kind true (Some kind.Keep) n chain s is
-  at_keep false n chain s is = before_kind false (Some kind.Keep) n chain s is
+  at_keep true n chain s is = before_kind true (Some (reading.acts keep_leaf)) n chain s is
+  at_keep false n chain s is = before_kind false (Some (reading.acts keep_leaf)) n chain s is
 
-  pub at_discard : (p : Bool) (n : Node) (chain : Chain) (s : RunState) → Some kind.Discard ≡ kind_of n → doing_command p n ask act chain s ≡ and_then (act discard_leaf (line_at n) s) (exec ask act chain.rest)
+  pub at_discard : (p : Bool) (n : Node) (chain : Chain) (s : RunState) → Some (reading.acts discard_leaf) ≡ command_reading n → doing_command p n ask act chain s ≡ and_then (act discard_leaf (line_at n) s) (exec ask act chain.rest)
   unfolding exec
-  at_discard true n chain s is = before_kind true (Some kind.Discard) n chain s is
-  at_discard false n chain s is = before_kind false (Some kind.Discard) n chain s is
+  at_discard true n chain s is = before_kind true (Some (reading.acts discard_leaf)) n chain s is
+  at_discard false n chain s is = before_kind false (Some (reading.acts discard_leaf)) n chain s is
 
 -- the test and the block of a command
 pub condition_seen : (c : commands.Command) → condition_at (node_of c) ≡ branch_condition (conditions_in (tests_of (command_views.out-Command c).tests))
@@ -122,44 +123,44 @@ module _ (m : List ℕ) (envelope : Envelope) where
 
   module _ (p : Bool) (n : Node) (old : RunState) where
     -- a command that another does the work of
-    pub if_steps : (r : Result Step AllocError) (new : RunState) → Some kind.If ≡ kind_of n → Steps r (doing_branch n) old new → Steps r (doing_command p n) old new
+    pub if_steps : (r : Result Step AllocError) (new : RunState) → Some reading.opens ≡ command_reading n → Steps r (doing_branch n) old new → Steps r (doing_command p n) old new
     if_steps r new is = steps_through r (doing_command p n) (doing_branch n) old new (λ chain. at_if asked acted p n chain old is)
 
-    pub elsif_steps : (r : Result Step AllocError) (new : RunState) → Some kind.Elsif ≡ kind_of n → p ≡ false → Steps r (doing_branch n) old new → Steps r (doing_command p n) old new
+    pub elsif_steps : (r : Result Step AllocError) (new : RunState) → Some reading.continues ≡ command_reading n → p ≡ false → Steps r (doing_branch n) old new → Steps r (doing_command p n) old new
     elsif_steps r new is here =
         steps_through r (doing_command p n) (doing_branch n) old new
         (λ chain. ap (λ q. doing_command q n asked acted chain old) here ∙ at_elsif asked acted n chain old is)
 
-    pub else_steps : (r : Result Step AllocError) (new : RunState) → Some kind.Else ≡ kind_of n → p ≡ false → Steps r (doing_block n) old new → Steps r (doing_command p n) old new
+    pub else_steps : (r : Result Step AllocError) (new : RunState) → Some reading.otherwise ≡ command_reading n → p ≡ false → Steps r (doing_block n) old new → Steps r (doing_command p n) old new
     else_steps r new is here =
         steps_through r (doing_command p n) (doing_block n) old new
         (λ chain. ap (λ q. doing_command q n asked acted chain old) here ∙ at_else asked acted n chain old is)
 
     -- a command that leaves the state as it is
-    pub elsif_passed : Some kind.Elsif ≡ kind_of n → p ≡ true → StepsTo m envelope (doing_command p n) old (Next true) old
+    pub elsif_passed : Some reading.continues ≡ command_reading n → p ≡ true → StepsTo m envelope (doing_command p n) old (Next true) old
     elsif_passed is over = record { before = λ chain. ap (λ q. doing_command q n asked acted chain old) over ∙ elsif_over asked acted n chain old is }
 
-    pub else_passed : Some kind.Else ≡ kind_of n → p ≡ true → StepsTo m envelope (doing_command p n) old (Next true) old
+    pub else_passed : Some reading.otherwise ≡ command_reading n → p ≡ true → StepsTo m envelope (doing_command p n) old (Next true) old
     else_passed is over = record { before = λ chain. ap (λ q. doing_command q n asked acted chain old) over ∙ else_over asked acted n chain old is }
 
-    pub require_passed : Some kind.Require ≡ kind_of n → StepsTo m envelope (doing_command p n) old (Next true) old
+    pub require_passed : Some reading.nothing ≡ command_reading n → StepsTo m envelope (doing_command p n) old (Next true) old
     require_passed is = record { before = λ chain. at_require asked acted p n chain old is }
 
-    pub none_passed : None ≡ kind_of n → StepsTo m envelope (doing_command p n) old (Next true) old
+    pub none_passed : None ≡ command_reading n → StepsTo m envelope (doing_command p n) old (Next true) old
     none_passed is = record { before = λ chain. at_none asked acted p n chain old is }
 
-    pub stop_stops : Some kind.Stop ≡ kind_of n → StepsTo m envelope (doing_command p n) old Stopped old
+    pub stop_stops : Some reading.stops ≡ command_reading n → StepsTo m envelope (doing_command p n) old Stopped old
     stop_stops is = record { before = λ chain. at_stop asked acted p n chain old is }
 
     -- a command that acts
-    pub keep_acts : (mailbox : List ℕ) (new : RunState) → Some kind.Keep ≡ kind_of n → mailbox ≡ envelope.mailbox → new ≡ record old { actions = with_action (is_store_into mailbox) (Store mailbox) old.actions; cancelled = true } → StepsTo m envelope (doing_command p n) old (Next true) new
+    pub keep_acts : (mailbox : List ℕ) (new : RunState) → Some (reading.acts keep_leaf) ≡ command_reading n → mailbox ≡ envelope.mailbox → new ≡ record old { actions = with_action (is_store_into mailbox) (Store mailbox) old.actions; cancelled = true } → StepsTo m envelope (doing_command p n) old (Next true) new
     keep_acts mailbox new is same so = record {
       before = λ chain.
           at_keep asked acted p n chain old is
           ∙ sym (ap (exec asked acted chain.rest) (so ∙ ap (λ (box : List ℕ). record old { actions = with_action (is_store_into box) (Store box) old.actions; cancelled = true }) same));
     }
 
-    pub discard_acts : (new : RunState) → Some kind.Discard ≡ kind_of n → new ≡ record old { actions = with_action is_discard Discard old.actions; cancelled = true } → StepsTo m envelope (doing_command p n) old (Next true) new
+    pub discard_acts : (new : RunState) → Some (reading.acts discard_leaf) ≡ command_reading n → new ≡ record old { actions = with_action is_discard Discard old.actions; cancelled = true } → StepsTo m envelope (doing_command p n) old (Next true) new
     discard_acts new is so = record { before = λ chain. at_discard asked acted p n chain old is ∙ sym (ap (exec asked acted chain.rest) so) }
 
   -- a branch whose test comes to a truth

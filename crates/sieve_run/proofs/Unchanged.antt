@@ -1,6 +1,7 @@
 -- Laws of what tests and commands do to the state of a run.
 use Rattle.std.proofs.Common.{◌≡◌, ℕ, Bool, true, false, List, refl, ◌∙◌}
-use Rattle.sieve_check.specs.Script.{Ask, Condition, always, never, asks, negated, both, either, Leaf, Commands, stops}
+use Rattle.sieve_check.specs.Reading.{Ask, Leaf}
+use Rattle.sieve_check.specs.Script.{Condition, always, never, asks, negated, both, either, Commands, stops}
 use Rattle.sieve_run.specs.Run.{RunState, Ending, Answer, answer_of, also, or_else, decide, exec}
 
 -- the second test is asked or not, and changes nothing

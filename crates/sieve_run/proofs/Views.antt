@@ -4,8 +4,10 @@ use Rattle.std.proofs.lemmas.List.{at_drop_all, at_drop_more}
 use Rattle.std.specs.declared.alloc.Global.{Global}
 use Rattle.std.specs.declared.boxed.Box.{Box}
 use Rattle.std.specs.declared.vec.Vec.{Vec}
-use Rattle.sieve_check.specs.Script.{Condition, condition_of, conditions, conditions_in, joined, reading_of}
-use Rattle.sieve_check.specs.Tree.{Block, Node, Test, Tests, argument_of, block, command_step, no_block, no_tests, node, node_of, nodes, one_test, test, test_list, test_of, test_step, tests, tests_of, tests_step}
+use Rattle.sieve_check.specs.Reading.{test_reading}
+use Rattle.sieve_check.specs.Script.{Condition, condition_of, conditions, conditions_in, joined}
+use Rattle.sieve_check.specs.Tree.{Block, Node, Test, Tests, block, no_block, no_tests, node, nodes, one_test, test, test_list, tests}
+use Rattle.sieve_check.specs.view.Tree.{argument_of, command_step, node_of, test_of, test_step, tests_of, tests_step}
 use Rattle.sieve_check.specs.declared.tree.Argument as arguments
 use Rattle.sieve_check.specs.declared.tree.Command as commands
 use Rattle.sieve_check.specs.declared.tree.Command.TheFolds as command_folds
@@ -67,9 +69,9 @@ pub conditions_on-end : (list : List one_tests.Test) (i : ℕ) → length list �
 conditions_on-end list i all = at_drop_all conditions_on list i all ∙ conditions_on-none
 
 -- the condition of a test, by what the test is and by the tests in it
-pub condition-joined : (t : one_tests.Test) → condition_of (test_of t) ≡ joined (reading_of (test_of t)) (conditions_in (tests_of t.tests))
+pub condition-joined : (t : one_tests.Test) → condition_of (test_of t) ≡ joined (test_reading (test_of t)) (conditions_in (tests_of t.tests))
 unfolding condition_of
-condition-joined t = ap condition_of (seen_test t) ∙ sym (ap (λ x. joined (reading_of x) (conditions_in (tests_of t.tests))) (seen_test t))
+condition-joined t = ap condition_of (seen_test t) ∙ sym (ap (λ x. joined (test_reading x) (conditions_in (tests_of t.tests))) (seen_test t))
 
 -- COMMANDS
 

@@ -1,12 +1,9 @@
 pub mod ErrorKind
-pub mod FieldTests
-pub mod Flow
 pub mod Library
 pub mod Matching
 pub mod Meter
 pub mod Name
 pub mod Run
 pub mod Shelf
-pub mod State
-pub mod Step
 pub mod Verdict
+pub mod view

@@ -5,11 +5,11 @@ use Rattle.std.specs.Cmp.Lexicographic.{slice_cmp}
 use Rattle.std.specs.declared.cmp.Ordering.{Ordering}
 use Rattle.std.specs.declared.cmp.Ordering.TheVariants.{Less, Equal, Greater}
 use lib.Pointwise.{pointwise}
-use Rattle.sieve_code.specs.declared.place.Place.{Place}
-use Rattle.sieve_code.specs.declared.place.Place.TheVariants.{Personal, Global}
+use Rattle.sieve_base.specs.declared.place.Place.{Place}
+use Rattle.sieve_base.specs.declared.place.Place.TheVariants.{Personal, Global}
 use Rattle.sieve_run.specs.declared.name.ScriptName.{ScriptName}
 
--- the personal store comes first
+-- the personal store comes first (the two of RFC 6609, section 3)
 abbrev pub place_cmp : Place → Place → Ordering
 place_cmp Personal Personal = Equal
 place_cmp Personal Global = Less

@@ -2,7 +2,8 @@
 use Rattle.std.specs.Prelude.{ℕ, List, [], ◌∷◌, ◌++◌, Bool, true, false, not, Option, None, Some, if◌then◌else◌, nat_eq}
 use Rattle.std.specs.List.{list_any}
 use lib.Pointwise.{pointwise}
-use Rattle.sieve_check.specs.Script.{Ask, Condition, always, never, asks, negated, both, either, Commands, no_commands, stops, acts, chooses, Leaf, keep_leaf, discard_leaf, script_of}
+use Rattle.sieve_check.specs.Reading.{Ask, Leaf, keep_leaf, discard_leaf}
+use Rattle.sieve_check.specs.Script.{Condition, always, never, asks, negated, both, either, Commands, no_commands, stops, acts, chooses, script_of}
 use Rattle.sieve_run.specs.declared.name.ScriptName.{ScriptName}
 use Rattle.sieve_run.specs.declared.envelope.Envelope.{Envelope}
 use Rattle.sieve_run.specs.declared.outcome.Action.{Action}
@@ -35,11 +36,12 @@ abbrev pub is_discard : Action → Bool
 is_discard (Store box) = false
 is_discard Discard = true
 
--- a second action of a kind adds nothing
+-- a second action of a kind adds nothing (RFC 5228, section 2.10.3)
 abbrev pub with_action : (Action → Bool) → Action → List Action → List Action
 with_action is_alike action actions = if list_any is_alike actions then actions else actions ++ action ∷ []
 
--- what a command that acts does: keep stores into the envelope's mailbox, and no action takes another away
+-- what a command that acts does: keep stores into the envelope's mailbox (RFC 5228, section 4.3), discard discards
+-- (section 4.4), and no action takes another away (section 2.10.1)
 abbrev pub act_of : Envelope → Leaf → ℕ → RunState → Ending
 act_of envelope keep_leaf line state = goes_on (record state { actions = with_action (is_store_into envelope.mailbox) (Store envelope.mailbox) state.actions; cancelled = true })
 act_of envelope discard_leaf line state = goes_on (record state { actions = with_action is_discard Discard state.actions; cancelled = true })
@@ -73,7 +75,8 @@ abbrev pub or_else : Bool → (RunState → Answer) → RunState → Answer
 or_else true second state = record { truth = true; state = state }
 or_else false second state = second state
 
--- a condition, where `ask` says what is asked; it goes from left to right and no further than needed (RFC 5228, section 5)
+-- A condition, where `ask` says what is asked: true (RFC 5228, section 5.10), false (section 5.6), not (section 5.8), allof
+-- (section 5.2) and anyof (section 5.3). It goes from left to right and no further than needed (section 5).
 unfoldable pub decide : (Ask → RunState → Answer) → Condition → RunState → Answer
 decide ask always state = record { truth = true; state = state }
 decide ask never state = record { truth = false; state = state }
@@ -89,7 +92,8 @@ abbrev pub chosen : Bool → (RunState → Ending) → (RunState → Ending) →
 chosen true block otherwise state = block state
 chosen false block otherwise state = otherwise state
 
--- what a list of commands does, where `ask` says what tests ask and `act` what commands do that act
+-- What a list of commands does, where `ask` says what tests ask and `act` what commands do that act: stop (RFC 5228, section
+-- 3.3), and if with its branches (section 3.1).
 unfoldable pub exec : (Ask → RunState → Answer) → (Leaf → ℕ → RunState → Ending) → Commands → RunState → Ending
 exec ask act no_commands state = goes_on state
 exec ask act (stops rest) state = stopped state
@@ -97,7 +101,8 @@ exec ask act (acts leaf line rest) state = and_then (act leaf line state) (exec 
 exec ask act (chooses condition block otherwise rest) state =
     and_then (chosen (decide ask condition state).truth (exec ask act block) (exec ask act otherwise) (decide ask condition state).state) (exec ask act rest)
 
--- after an error no action is taken, and the implicit keep stands
+-- the implicit keep stands where no action cancelled it (RFC 5228, section 2.10.2); after an error no action is taken, and it
+-- stands (section 2.10.6)
 abbrev pub verdict_of : Ending → Verdict
 verdict_of (goes_on state) = record { actions = state.actions; implicit = not state.cancelled; error = None; reads = state.reads }
 verdict_of (stopped state) = record { actions = state.actions; implicit = not state.cancelled; error = None; reads = state.reads }

@@ -1,10 +1,7 @@
 -- A list of scripts, each with its text.
-use Rattle.std.specs.Prelude.{◌≡◌, ℕ, ◌<◌, ◌≤◌, List, length, Option, None, Some}
+use Rattle.std.specs.Prelude.{ℕ, List, Option}
 use Rattle.std.specs.Map.{lookup}
 use Rattle.indexmap.specs.IndexMap as ordered
-use Rattle.sieve_check.specs.Judgement.{judged_as, judgement_of}
-use Rattle.sieve_check.specs.declared.judged.Judged.{Judged}
-use Rattle.sieve_run.specs.Library.{text_limit}
 use Rattle.sieve_run.specs.Name.{name_eq}
 use Rattle.sieve_run.specs.declared.name.ScriptName.{ScriptName}
 
@@ -15,8 +12,3 @@ text_on scripts name = lookup (name_eq name) scripts
 -- the scripts with this text at the name: in the place of the one there, or last
 abbrev pub with_text : ScriptName → List ℕ → List (ScriptName × List ℕ) → List (ScriptName × List ℕ)
 with_text name text scripts = ordered.insert_entry name_eq scripts name text
-
--- what is kept beside a text: its judgement, or none where the text is past the limit
-abbrev pub IsJudged : List ℕ → Option Judged → Type 0
-IsJudged text None = text_limit < length text
-IsJudged text (Some judged) = (judged_as judged ≡ judgement_of text) × (length text ≤ text_limit)

@@ -1,12 +1,13 @@
 //! Whether tests hold (RFC 5228, section 5).
 ghost use Rattle.std.specs.Prelude.{IfOk, map};
 ghost use Rattle.sieve_check.specs.Script.{all_of, any_of, negation_of, branch_condition, condition_of, conditions, conditions_in};
-ghost use Rattle.sieve_check.specs.Tree.{test_of, tests, tests_of};
-ghost use Rattle.sieve_run.specs.Step.{ComesTo};
+ghost use Rattle.sieve_check.specs.Tree.{tests};
+ghost use Rattle.sieve_check.specs.view.Tree.{test_of, tests_of};
+ghost use Rattle.sieve_run.specs.view.Step.{ComesTo};
 
 use crate::delivery::Delivery;
 use crate::matching::truth_of;
-use sieve_check::{Reading, Test, Tests};
+use sieve_check::{Test, TestReading, Tests};
 use std::alloc::AllocError;
 
 /// Whether a test holds.
@@ -15,12 +16,13 @@ pub(crate) fn holds(delivery: &Delivery<'_>, test: &Test) -> Result<bool, AllocE
     ensures { IfOk result (λ truth. ComesTo delivery.now.message.now (condition_of (test_of test.now)) truth) }
 {
     match test.reading() {
-        Reading::Always => Ok(true),
-        Reading::Never => Ok(false),
-        Reading::Asks(ask) => truth_of(delivery.alloc, delivery.message, &ask),
-        Reading::AllOf => all_hold(delivery, &test.tests),
-        Reading::AnyOf => any_holds(delivery, &test.tests),
-        Reading::Not => {
+        Some(TestReading::Always) => Ok(true),
+        Some(TestReading::Never) => Ok(false),
+        None => Ok(false),
+        Some(TestReading::Asks(ask)) => truth_of(delivery.alloc, delivery.message, &ask),
+        Some(TestReading::AllOf) => all_hold(delivery, &test.tests),
+        Some(TestReading::AnyOf) => any_holds(delivery, &test.tests),
+        Some(TestReading::Not) => {
             let truth = first_holds(delivery, &test.tests)?;
             Ok(!truth)
         }

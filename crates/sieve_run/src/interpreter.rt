@@ -1,9 +1,10 @@
 ghost use Rattle.std.specs.Prelude.{◌≡◌, [], ◌∷◌, true, None, Some, IfOk};
 ghost use Rattle.std.specs.Option.{option_copied};
-ghost use Rattle.sieve_run.specs.Library.{found_as, found_at, lookup_of, present};
+ghost use Rattle.sieve_run.specs.Library.{found_at, lookup_of, present};
 ghost use Rattle.sieve_run.specs.Meter.{next_run};
 ghost use Rattle.sieve_run.specs.Run.{outcome_of, verdict_at};
-ghost use Rattle.sieve_check.specs.Checked.{tree_of};
+ghost use Rattle.sieve_run.specs.view.Found.{found_as};
+ghost use Rattle.sieve_check.specs.view.Checked.{tree_of};
 
 use crate::delivery::Delivery;
 use crate::envelope::Envelope;
@@ -15,6 +16,7 @@ use crate::state::State;
 use crate::steps::execute;
 use indexmap::IndexMap;
 use message_text::Message;
+use sieve_base::limits::MAX_NAME;
 use sieve_check::Checked;
 use std::alloc::{AllocError, Global};
 
@@ -104,9 +106,6 @@ fn no_main(alloc: Global) -> Outcome
         reads: IndexMap::new(alloc),
     }
 }
-
-/// The most octets of a script's name. A longer one names no script.
-const MAX_NAME: usize = 1_024;
 
 /// What a library has at a name, where that isn't too long.
 fn find<'a, L: Library>(lib: &'a L, name: &ScriptName) -> Found<'a>

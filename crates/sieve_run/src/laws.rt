@@ -1,7 +1,8 @@
 //! Laws over the definitions. Each of these functions does nothing: its contract is the law.
 
 ghost use Rattle.std.specs.Prelude.{◌≡◌, ℕ, List};
-ghost use Rattle.sieve_check.specs.Script.{Ask, Commands, Condition, Leaf, stops};
+ghost use Rattle.sieve_check.specs.Reading.{Ask, Leaf};
+ghost use Rattle.sieve_check.specs.Script.{Commands, Condition, stops};
 ghost use Rattle.sieve_run.specs.Run.{Answer, Ending, RunState, answer_of, decide, exec};
 
 /// Commands behind a `stop` change nothing, whatever they are, whatever tests ask and whatever commands that act do

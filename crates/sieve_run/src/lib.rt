@@ -12,6 +12,7 @@ mod matching;
 mod meter;
 mod name;
 mod outcome;
+mod script;
 mod shelf;
 mod state;
 mod steps;
@@ -23,8 +24,6 @@ pub use message_text::{Message, MessageFault};
 pub use meter::Meter;
 pub use name::ScriptName;
 pub use outcome::{Action, ErrorKind, Outcome, RunError};
+pub use script::Script;
 pub use shelf::Shelf;
-pub use sieve_code::{Octets, Place};
-
-#[cfg(test)]
-mod tests;
+pub use sieve_base::{Octets, Place};

@@ -1,4 +1,5 @@
-ghost use Rattle.sieve_run.specs.Library.{Lookup, lookup_of, found_as};
+ghost use Rattle.sieve_run.specs.Library.{Lookup, lookup_of};
+ghost use Rattle.sieve_run.specs.view.Found.{found_as};
 
 use crate::name::ScriptName;
 use sieve_check::Checked;

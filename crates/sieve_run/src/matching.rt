@@ -2,13 +2,13 @@
 ghost use Rattle.std.specs.Prelude.{◌≡◌, ◌<◌, length, map, Some, slice_get, IfOk};
 ghost use Rattle.std.specs.List.{list_all};
 ghost use Rattle.message_text.specs.Fields.{fields_of};
-ghost use Rattle.sieve_check.specs.Reading.{ask_as, texts_as};
-ghost use Rattle.sieve_check.specs.Script.{text_value};
-ghost use Rattle.sieve_check.specs.Tree.{text_of};
-ghost use Rattle.sieve_run.specs.FieldTests.{field_matches, octets_of};
+ghost use Rattle.sieve_check.specs.view.Reading.{ask_as, texts_as};
+ghost use Rattle.sieve_check.specs.Reading.{text_value};
+ghost use Rattle.sieve_check.specs.view.Tree.{text_of};
+ghost use Rattle.sieve_run.specs.view.FieldTests.{field_matches, octets_of_each};
 ghost use Rattle.sieve_run.specs.Matching.{fold_of, has_field, header_pairs, is_field_named, matches, pairs_named, pairs_with, some_matches, truth_of};
 
-use match_text::{AsciiCasemap, Collation, Octet, contains, is};
+use match_text::{AsciiCasemap, Collation, Octet, contains, contains_in, is};
 use message_text::Message;
 use sieve_check::{Ask, MatchType, Part, Text};
 use std::alloc::{AllocError, Global};
@@ -23,22 +23,29 @@ struct Comparison<'a> {
 
 impl Comparison<'_> {
     /// Whether a value matches a key.
-    fn matches_key(&self, value: &[u8], key: &[u8]) -> bool
-        ensures { result ≡ matches self.now.match_type (fold_of self.now.collation) value.now key.now }
+    fn matches_key(&self, alloc: Global, value: &[u8], key: &[u8]) -> Result<bool, AllocError>
+        ensures { IfOk result (λ truth. truth ≡ matches self.now.match_type (fold_of self.now.collation) value.now key.now) }
     {
         match (self.match_type, self.collation) {
-            (MatchType::Is, Collation::Octet) => is::<Octet>(value, key),
-            (MatchType::Is, Collation::Casemap) => is::<AsciiCasemap>(value, key),
-            (MatchType::Contains, Collation::Octet) => contains::<Octet>(value, key),
-            (MatchType::Contains, Collation::Casemap) => contains::<AsciiCasemap>(value, key),
+            (MatchType::Is, Collation::Octet) => Ok(is::<Octet>(value, key)),
+            (MatchType::Is, Collation::Casemap) => Ok(is::<AsciiCasemap>(value, key)),
+            (MatchType::Contains, Collation::Octet) => Ok(contains::<Octet>(value, key)),
+            (MatchType::Contains, Collation::Casemap) => {
+                contains_in::<AsciiCasemap>(alloc, value, key)
+            }
         }
     }
 
     /// Whether a value matches some key.
-    fn matches_some(&self, value: &[u8]) -> bool
-        ensures { result ≡ some_matches self.now.match_type (fold_of self.now.collation) (pairs_with (octets_of self.now.keys.now) value.now) }
+    fn matches_some(&self, alloc: Global, value: &[u8]) -> Result<bool, AllocError>
+        ensures { IfOk result (λ truth. truth ≡ some_matches self.now.match_type (fold_of self.now.collation) (pairs_with (octets_of_each self.now.keys.now) value.now)) }
     {
-        self.keys.iter().any(|key| self.matches_key(value, key))
+        for key in self.keys {
+            if self.matches_key(alloc, value, key)? {
+                return Ok(true);
+            }
+        }
+        Ok(false)
     }
 }
 
@@ -64,7 +71,7 @@ fn has_field(message: &Message, name: &[u8]) -> bool
 
 /// Whether there is a field of each name.
 fn has_fields(message: &Message, names: &[Vec<u8>]) -> bool
-    ensures { result ≡ list_all (has_field (fields_of message.now)) (octets_of names.now) }
+    ensures { result ≡ list_all (has_field (fields_of message.now)) (octets_of_each names.now) }
 {
     names.iter().all(|name| has_field(message, name))
 }
@@ -78,13 +85,13 @@ fn field_matches(
     comparison: &Comparison<'_>,
 ) -> Result<bool, AllocError>
     requires { i < length (fields_of message.now) }
-    ensures { IfOk result (λ truth. slice_get (map (field_matches comparison.now.match_type (fold_of comparison.now.collation) (octets_of comparison.now.keys.now) name.now) (fields_of message.now)) i ≡ Some truth) }
+    ensures { IfOk result (λ truth. slice_get (map (field_matches comparison.now.match_type (fold_of comparison.now.collation) (octets_of_each comparison.now.keys.now) name.now) (fields_of message.now)) i ≡ Some truth) }
 {
     if !is_named(message, i, name) {
         return Ok(false);
     }
     let value = message.value(alloc, i)?;
-    Ok(comparison.matches_some(value.as_slice()))
+    comparison.matches_some(alloc, value.as_slice())
 }
 
 /// Whether the value of some field of that name matches some key.
@@ -94,7 +101,7 @@ fn name_matches(
     name: &[u8],
     comparison: &Comparison<'_>,
 ) -> Result<bool, AllocError>
-    ensures { IfOk result (λ truth. truth ≡ some_matches comparison.now.match_type (fold_of comparison.now.collation) (pairs_named (fields_of message.now) (octets_of comparison.now.keys.now) name.now)) }
+    ensures { IfOk result (λ truth. truth ≡ some_matches comparison.now.match_type (fold_of comparison.now.collation) (pairs_named (fields_of message.now) (octets_of_each comparison.now.keys.now) name.now)) }
 {
     for i in 0..message.fields() {
         if field_matches(alloc, message, i, name, comparison)? {
@@ -111,7 +118,7 @@ fn header_matches(
     names: &[Vec<u8>],
     comparison: &Comparison<'_>,
 ) -> Result<bool, AllocError>
-    ensures { IfOk result (λ truth. truth ≡ some_matches comparison.now.match_type (fold_of comparison.now.collation) (header_pairs (fields_of message.now) (octets_of names.now) (octets_of comparison.now.keys.now))) }
+    ensures { IfOk result (λ truth. truth ≡ some_matches comparison.now.match_type (fold_of comparison.now.collation) (header_pairs (fields_of message.now) (octets_of_each names.now) (octets_of_each comparison.now.keys.now))) }
 {
     for name in names {
         if name_matches(alloc, message, name, comparison)? {
@@ -135,7 +142,7 @@ fn expanded_text(alloc: Global, text: &Text) -> Result<Vec<u8>, AllocError>
 
 /// The octets that each string stands for.
 fn expanded(alloc: Global, texts: &[Text]) -> Result<Vec<Vec<u8>>, AllocError>
-    ensures { IfOk result (λ values. octets_of values.items ≡ map text_value (texts_as texts.now)) }
+    ensures { IfOk result (λ values. octets_of_each values.items ≡ map text_value (texts_as texts.now)) }
 {
     let mut values = Vec::new(alloc);
     for text in texts {

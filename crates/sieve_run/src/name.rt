@@ -1,6 +1,6 @@
 ghost use Rattle.std.specs.Prelude.{◌≡◌, IfOk};
 
-use sieve_code::{Octets, Place};
+use sieve_base::{Octets, Place};
 use std::alloc::{AllocError, Global};
 
 /// The name of a script: the store that it is kept in, and its octets there. Personal names come first, and names

@@ -4,7 +4,7 @@ ghost use Rattle.sieve_run.specs.ErrorKind.{error_word};
 
 use crate::name::ScriptName;
 use indexmap::IndexMap;
-use sieve_code::Octets;
+use sieve_base::Octets;
 use std::marker::Model;
 
 /// What is done with a message.

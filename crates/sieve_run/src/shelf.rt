@@ -1,30 +1,40 @@
 ghost use Rattle.std.specs.Prelude.{◌≡◌, ◌<◌, ◌≤◌, IfOk, Some, length};
-ghost use Rattle.sieve_run.specs.Library.{lookup_of, found_as};
+ghost use Rattle.sieve_base.specs.Limits.{name_limit};
+ghost use Rattle.sieve_run.specs.Library.{lookup_of};
+ghost use Rattle.sieve_run.specs.view.Found.{found_as};
 
 use crate::library::{Found, Library};
 use crate::name::ScriptName;
+use crate::script::Script;
 use indexmap::IndexMap;
-use sieve_check::{JudgeFault, Judged, judge};
-use sieve_code::Octets;
+use sieve_base::Octets;
+use sieve_base::limits::MAX_TEXT;
 use std::alloc::{AllocError, Global};
 use std::marker::Model;
 
-/// A script's text, and what it is, unless it is too long. Contracts see the text.
+/// What stands at a name.
+#[derive(Debug, Drop)]
+enum Entry {
+    Script(Script),
+    /// A text that is too long for a script.
+    TooLong(Octets),
+}
+
+/// A text of any length, with its judgement where it isn't too long. Contracts see the text.
 #[derive(Debug, Drop)]
 struct Kept {
-    text: Octets,
-    judged: Option<Judged>,
+    entry: Entry,
 }
 
 impl Model for Kept {
     ghost use Rattle.std.specs.Prelude.{ℕ, List};
-    ghost use Rattle.sieve_run.specs.Shelf.{IsJudged};
+    ghost use Rattle.sieve_run.specs.view.Entry.{IsEntry, entry_text};
 
     ghost Value = { List ℕ };
 
-    ghost view = { λ a. a.text };
+    ghost view = { λ a. entry_text a.entry };
 
-    ghost invariant = { λ a. IsJudged a.text a.judged };
+    ghost invariant = { λ a. IsEntry a.entry };
 }
 
 impl Kept {
@@ -33,26 +43,21 @@ impl Kept {
         ensures { IfOk result (λ kept. kept ≡ text.now) }
     {
         let octets = Octets::copied(alloc, text)?;
-        match judge(alloc, text) {
-            Ok(judged) => Ok(Kept {
-                text: octets,
-                judged: Some(judged),
-            }),
-            Err(JudgeFault::TooLarge) => Ok(Kept {
-                text: octets,
-                judged: None,
-            }),
-            Err(JudgeFault::NoMemory) => Err(AllocError),
-        }
+        let entry = if text.len() > MAX_TEXT {
+            Entry::TooLong(octets)
+        } else {
+            Entry::Script(Script::new(alloc, octets)?)
+        };
+        Ok(Kept { entry })
     }
 
     /// What a run finds here.
     fn found(&self) -> Found<'_>
         ensures { found_as result ≡ lookup_of (Some self.now) }
     {
-        match &self.judged {
-            Some(Judged::Sound(checked)) => Found::Present(checked),
-            Some(Judged::Faulty { .. }) | None => Found::Invalid,
+        match &self.entry {
+            Entry::Script(script) => script.found(),
+            Entry::TooLong(_) => Found::Invalid,
         }
     }
 }
@@ -87,16 +92,24 @@ impl Shelf {
         }
     }
 
+    /// Keeps a text at a name, in place of the one there, which is given back. An error changes nothing.
+    fn replace(&mut self, name: ScriptName, kept: Kept) -> Result<Option<Kept>, AllocError>
+        ensures ok { OnOk result (self.new ≡ with_text name kept self.old) }
+        ensures err { OnErr result (self.new ≡ self.old) }
+    {
+        Ok(self.scripts.insert(name, kept)?)
+    }
+
     /// Puts a text of any length at a name of at most 1,024 octets, in place of the one there. An error, which is a lack
     /// of memory, changes nothing.
     pub fn add(&mut self, name: &ScriptName, text: &[u8]) -> Result<(), AllocError>
-        requires { length name.now.name ≤ 1024 }
+        requires { length name.now.name ≤ name_limit }
         ensures ok { OnOk result (self.new ≡ with_text name.now text.now self.old) }
         ensures err { OnErr result (self.new ≡ self.old) }
     {
         let kept = Kept::new(self.alloc, text)?;
         let name = name.copy(self.alloc)?;
-        self.scripts.insert(name, kept)?;
+        self.replace(name, kept)?;
         Ok(())
     }
 }

@@ -6,7 +6,7 @@ ghost use Rattle.sieve_run.specs.declared.outcome.Action.TheVariants.{Store, Dis
 use crate::name::ScriptName;
 use crate::outcome::Action;
 use indexmap::IndexMap;
-use sieve_code::Octets;
+use sieve_base::Octets;
 use std::alloc::{AllocError, Global};
 
 /// The state of a run.
@@ -74,7 +74,7 @@ fn add_discard(actions: &mut Vec<Action>) -> Result<(), AllocError>
 }
 
 impl State {
-    ghost use Rattle.sieve_run.specs.State.{state_of};
+    ghost use Rattle.sieve_run.specs.view.State.{state_of};
     ghost use Rattle.sieve_run.specs.Run.{RunState};
 
     /// Stores into the mailbox, which takes the place of the implicit keep.

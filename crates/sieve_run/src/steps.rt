@@ -1,16 +1,16 @@
 //! Carries out the commands of a script (RFC 5228, sections 3 and 4).
 ghost use Rattle.std.specs.Prelude.{◌≡◌, map, IfOk};
 ghost use Rattle.sieve_check.specs.Script.{script_of};
-ghost use Rattle.sieve_check.specs.Tree.{node_of};
-ghost use Rattle.sieve_run.specs.Flow.{ending_by};
+ghost use Rattle.sieve_check.specs.view.Tree.{node_of};
+ghost use Rattle.sieve_run.specs.view.Flow.{ending_by};
 ghost use Rattle.sieve_run.specs.Run.{act_of, answer_of, exec};
-ghost use Rattle.sieve_run.specs.State.{state_of};
-ghost use Rattle.sieve_run.specs.Step.{StepsTo, doing_block, doing_branch, doing_command};
+ghost use Rattle.sieve_run.specs.view.State.{state_of};
+ghost use Rattle.sieve_run.specs.view.Step.{StepsTo, doing_block, doing_branch, doing_command};
 
 use crate::decision::first_holds;
 use crate::delivery::Delivery;
 use crate::state::State;
-use sieve_check::{Command, CommandKind};
+use sieve_check::{Command, CommandReading, Leaf};
 use std::alloc::AllocError;
 
 /// How a list of commands ended.
@@ -64,32 +64,32 @@ fn carry_out(
         StepsTo delivery.now.message.now delivery.now.envelope.now (doing_command passes_over (node_of command.now)) (state_of state.old) step (state_of state.new)) }
 {
     let passed_over = Step::Next { passes_over: true };
-    match command.kind() {
-        Some(CommandKind::If) => branch(delivery, command, state),
-        Some(CommandKind::Elsif) => {
+    match command.reading() {
+        Some(CommandReading::Opens) => branch(delivery, command, state),
+        Some(CommandReading::Continues) => {
             if passes_over {
                 Ok(passed_over)
             } else {
                 branch(delivery, command, state)
             }
         }
-        Some(CommandKind::Else) => {
+        Some(CommandReading::Otherwise) => {
             if passes_over {
                 Ok(passed_over)
             } else {
                 block(delivery, command, state)
             }
         }
-        Some(CommandKind::Keep) => {
+        Some(CommandReading::Acts(Leaf::Keep)) => {
             state.store(delivery.alloc, delivery.envelope.mailbox.as_slice())?;
             Ok(passed_over)
         }
-        Some(CommandKind::Discard) => {
+        Some(CommandReading::Acts(Leaf::Discard)) => {
             state.discard()?;
             Ok(passed_over)
         }
-        Some(CommandKind::Stop) => Ok(Step::Stopped),
-        Some(CommandKind::Require) => Ok(passed_over),
+        Some(CommandReading::Stops) => Ok(Step::Stopped),
+        Some(CommandReading::Nothing) => Ok(passed_over),
         None => Ok(passed_over),
     }
 }

@@ -1,6 +1,6 @@
 -- The next token of a text, and what is found up to it.
 use Rattle.std.proofs.Common.{◌≡◌, ℕ, ◌+◌, ◌-◌, ◌<◌, ◌≤◌, ◌++◌, List, [], ◌∷◌, length, drop, Some, None, sym, ap, ◌∙◌, subst, arith, append-nil}
-use Rattle.sieve_syntax.specs.Cursor.{IsCursor, GoesTo, IsNext}
+use Rattle.sieve_syntax.specs.view.Cursor.{IsCursor, GoesTo, IsNext}
 use Rattle.sieve_syntax.specs.Scan.{longest_at, token_at}
 use Rattle.sieve_syntax.specs.Token.{SpellsFrom, Spells}
 use Rattle.sieve_syntax.specs.White.{white_at}

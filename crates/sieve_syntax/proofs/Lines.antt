@@ -1,5 +1,6 @@
 -- Lines, and the multi-line strings that they make.
 use Rattle.std.proofs.Common.{◌≡◌, ℕ, zero, suc, ◌+◌, ◌-◌, ◌<◌, ◌≤◌, ◌==◌, ◌||◌, ◌&&◌, inl, inr, Bool, true, false, if◌then◌else◌, List, [], ◌∷◌, ◌++◌, length, take, drop, Option, Some, None, refl, sym, ap, ◌∙◌, subst, arith}
+use Rattle.std.proofs.lemmas.Option.{same_Some}
 use Rattle.std.specs.List.{list_any}
 use Rattle.std.specs.Option.{option_map}
 use Rattle.std.proofs.lemmas.Bool.{eqb-true, cases_lt}
@@ -152,7 +153,7 @@ dot_found (suc fuel) (c ∷ cs) n h e =
     by_cases (is_dot_line line)
     (λ b. is_dot_line line ≡ b → (if b then Some (length line) else option_map (λ m. length line + m) (dot_length (lines_of ys))) ≡ Some n → IsEnd ends_lines xs n)
     (λ q p f.
-    let same : k ≡ n = sym len ∙ some_is (length line) n f in
+    let same : k ≡ n = sym len ∙ same_Some (length line) n f in
     subst (IsEnd ends_lines xs) same (here xs (omega arith) p))
     (λ q p f.
     let more = some_more (length line) n (dot_length (lines_of ys)) f in
@@ -166,9 +167,6 @@ dot_found (suc fuel) (c ∷ cs) n h e =
     })
     refl step
   where
-    some_is : (a b : ℕ) → Some a ≡ Some b → a ≡ b
-    some_is a b f = cc
-
     here : (zs : List ℕ) → 0 < length zs → is_dot_line (take (line_length zs) zs) ≡ true → IsEnd ends_lines zs (line_length zs)
     here zs some p = record {
       some = line_some zs some;

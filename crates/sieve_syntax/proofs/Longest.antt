@@ -1,12 +1,14 @@
 -- What begins a text, against the spellings and the white space.
 use Rattle.std.proofs.Common.{◌≡◌, ℕ, zero, suc, ◌<◌, ◌≤◌, ◌==◌, ◌||◌, ◌&&◌, true, false, if◌then◌else◌, List, [], ◌∷◌, length, take, Option, Some, None, refl, sym, ap, ◌∙◌, subst, arith}
+use Rattle.std.proofs.lemmas.Option.{same_Some}
 use Rattle.std.specs.List.{list_all}
 use Rattle.std.specs.Option.{option_map}
 use Rattle.std.proofs.lemmas.Bool.{eqb-true}
 use Rattle.std.proofs.lemmas.Bool.Decides.{nat_tests}
+use Rattle.sieve_base.specs.Octet.{is_digit}
 use Rattle.sieve_syntax.specs.Line.{line_length, lines_of}
-use Rattle.sieve_syntax.specs.Octet.{begins_name, is_name_octet, is_blank, is_digit}
-use Rattle.sieve_syntax.specs.Scan.{name_length, number_length, quoted_length, multi_line_length, name_at, tag_at, quoted, mark_at, longest_at}
+use Rattle.sieve_syntax.specs.Octet.{begins_name, is_name_octet, is_white}
+use Rattle.sieve_syntax.specs.Scan.{name_length, number_length, quoted_length, multi_line_length, name_at, tag_at, quoted_token, mark_at, longest_at}
 use Rattle.sieve_syntax.specs.Spelling.{is_identifier, is_tag, is_number, ends_number, is_quoted, ends_quoted, is_multi_line, is_one, spells}
 use Rattle.sieve_syntax.specs.White.{comment_length, bracket_comment, white_at}
 use Rattle.sieve_syntax.specs.declared.token.TokenKind.{TokenKind}
@@ -50,7 +52,7 @@ unfolding white_at
 white_at_bounds [] n = λ e. cc
 white_at_bounds (c ∷ cs) n =
     let line = line_bound cs in
-    by_cases (is_blank c) (λ b. (if b then Some 1 else (if c == 35 then Some (suc (line_length cs)) else (if c == 47 then option_map suc (bracket_comment cs) else None))) ≡ Some n → (0 < n) × (n ≤ suc (length cs)))
+    by_cases (is_white c) (λ b. (if b then Some 1 else (if c == 35 then Some (suc (line_length cs)) else (if c == 47 then option_map suc (bracket_comment cs) else None))) ≡ Some n → (0 < n) × (n ≤ suc (length cs)))
     (λ q e. let f : 1 ≡ n = cc in (omega arith, omega arith))
     (λ q. by_cases (c == 35) (λ b. (if b then Some (suc (line_length cs)) else (if c == 47 then option_map suc (bracket_comment cs) else None)) ≡ Some n → (0 < n) × (n ≤ suc (length cs)))
     (λ r e. let f : suc (line_length cs) ≡ n = cc in (omega arith, omega arith))
@@ -76,9 +78,6 @@ pub record IsFound (rest : List ℕ) (found : TokenKind × ℕ) : Type 0 where
   pub inside : found.1 ≤ length rest
   pub spelled : spells found.0 (take found.1 rest) ≡ true
 
-some_is : (a b : TokenKind × ℕ) → Some a ≡ Some b → a ≡ b
-some_is a b e = cc
-
 name_found : (c : ℕ) (cs : List ℕ) (found : TokenKind × ℕ) → begins_name c ≡ true → name_at (c ∷ cs) ≡ Some found → IsFound (c ∷ cs) found
 unfolding name_at spells is_identifier
 name_found c cs found q =
@@ -86,8 +85,8 @@ name_found c cs found q =
     (λ o. elim o as (λ z. Option (TokenKind × ℕ)) [ Some n ↦ Some (MultiLine, n) | None ↦ Some (Identifier, suc (name_length cs)) ] ≡ Some found → IsFound (c ∷ cs) found)
     (λ n p e.
     let f : IsEnd is_multi_line (c ∷ cs) n = multi_line_found (c ∷ cs) n p in
-    subst (IsFound (c ∷ cs)) (some_is (MultiLine, n) found e) record { some = f.some; inside = f.inside; spelled = f.ends_it })
-    (λ p e. subst (IsFound (c ∷ cs)) (some_is (Identifier, suc (name_length cs)) found e) record {
+    subst (IsFound (c ∷ cs)) (same_Some (MultiLine, n) found e) record { some = f.some; inside = f.inside; spelled = f.ends_it })
+    (λ p e. subst (IsFound (c ∷ cs)) (same_Some (Identifier, suc (name_length cs)) found e) record {
       some = omega arith;
       inside = omega (arith, name_bound cs);
       spelled = both_true (begins_name c) _ q (name_length-all cs);
@@ -98,21 +97,21 @@ unfolding tag_at spells is_tag is_identifier
 tag_found c [] found q = λ e. cc
 tag_found c (d ∷ ds) found q =
     by_cases (begins_name d) (λ b. (if b then Some (Tag, suc (suc (name_length ds))) else None) ≡ Some found → IsFound (c ∷ d ∷ ds) found)
-    (λ p e. subst (IsFound (c ∷ d ∷ ds)) (some_is (Tag, suc (suc (name_length ds))) found e) record {
+    (λ p e. subst (IsFound (c ∷ d ∷ ds)) (same_Some (Tag, suc (suc (name_length ds))) found e) record {
       some = omega arith;
       inside = omega (arith, name_bound ds);
       spelled = both_true (c == 58) _ q (both_true (begins_name d) _ p (name_length-all ds));
     })
     (λ p e. cc)
 
-quoted_is_found : (c : ℕ) (cs : List ℕ) (found : TokenKind × ℕ) → (c == 34) ≡ true → option_map quoted (quoted_length cs) ≡ Some found → IsFound (c ∷ cs) found
+quoted_is_found : (c : ℕ) (cs : List ℕ) (found : TokenKind × ℕ) → (c == 34) ≡ true → option_map quoted_token (quoted_length cs) ≡ Some found → IsFound (c ∷ cs) found
 unfolding spells is_quoted
 quoted_is_found c cs found q =
-    by_option (quoted_length cs) (λ o. option_map quoted o ≡ Some found → IsFound (c ∷ cs) found)
+    by_option (quoted_length cs) (λ o. option_map quoted_token o ≡ Some found → IsFound (c ∷ cs) found)
     (λ n p e.
     let f : IsEnd ends_quoted cs n = quoted_found cs n p in
     let inside = f.inside in
-    subst (IsFound (c ∷ cs)) (some_is (Quoted, suc n) found e) record {
+    subst (IsFound (c ∷ cs)) (same_Some (Quoted, suc n) found e) record {
       some = omega arith;
       inside = omega arith;
       spelled = both_true (c == 34) _ q f.ends_it;
@@ -124,7 +123,7 @@ one_found : (c : ℕ) (cs : List ℕ) (found : TokenKind × ℕ) (kind : TokenKi
     → (if c == octet then Some (kind, 1) else others) ≡ Some found → IsFound (c ∷ cs) found
 one_found c cs found kind others octet spelled below =
     by_cases (c == octet) (λ b. (if b then Some (kind, 1) else others) ≡ Some found → IsFound (c ∷ cs) found)
-    (λ q e. subst (IsFound (c ∷ cs)) (some_is (kind, 1) found e) record { some = omega arith; inside = omega arith; spelled = spelled q })
+    (λ q e. subst (IsFound (c ∷ cs)) (same_Some (kind, 1) found e) record { some = omega arith; inside = omega arith; spelled = spelled q })
     (λ q e. below e)
 
 mark_found : (c : ℕ) (cs : List ℕ) (found : TokenKind × ℕ) → mark_at c ≡ Some found → IsFound (c ∷ cs) found
@@ -143,17 +142,17 @@ pub longest_at-found : (rest : List ℕ) (found : TokenKind × ℕ) → longest_
 unfolding longest_at spells is_number
 longest_at-found [] found = λ e. cc
 longest_at-found (c ∷ cs) found =
-    by_cases (begins_name c) (λ b. (if b then name_at (c ∷ cs) else (if is_digit c then Some (Number, suc (number_length cs)) else (if c == 58 then tag_at cs else (if c == 34 then option_map quoted (quoted_length cs) else mark_at c)))) ≡ Some found → IsFound (c ∷ cs) found)
+    by_cases (begins_name c) (λ b. (if b then name_at (c ∷ cs) else (if is_digit c then Some (Number, suc (number_length cs)) else (if c == 58 then tag_at cs else (if c == 34 then option_map quoted_token (quoted_length cs) else mark_at c)))) ≡ Some found → IsFound (c ∷ cs) found)
     (λ q e. name_found c cs found q e)
-    (λ q. by_cases (is_digit c) (λ b. (if b then Some (Number, suc (number_length cs)) else (if c == 58 then tag_at cs else (if c == 34 then option_map quoted (quoted_length cs) else mark_at c))) ≡ Some found → IsFound (c ∷ cs) found)
-    (λ r e. subst (IsFound (c ∷ cs)) (some_is (Number, suc (number_length cs)) found e) record {
+    (λ q. by_cases (is_digit c) (λ b. (if b then Some (Number, suc (number_length cs)) else (if c == 58 then tag_at cs else (if c == 34 then option_map quoted_token (quoted_length cs) else mark_at c))) ≡ Some found → IsFound (c ∷ cs) found)
+    (λ r e. subst (IsFound (c ∷ cs)) (same_Some (Number, suc (number_length cs)) found e) record {
       some = omega arith;
       inside = omega (arith, number_bound cs);
       spelled = both_true (is_digit c) _ r (number_length-ends cs);
     })
-    (λ r. by_cases (c == 58) (λ b. (if b then tag_at cs else (if c == 34 then option_map quoted (quoted_length cs) else mark_at c)) ≡ Some found → IsFound (c ∷ cs) found)
+    (λ r. by_cases (c == 58) (λ b. (if b then tag_at cs else (if c == 34 then option_map quoted_token (quoted_length cs) else mark_at c)) ≡ Some found → IsFound (c ∷ cs) found)
     (λ s e. tag_found c cs found s e)
-    (λ s. by_cases (c == 34) (λ b. (if b then option_map quoted (quoted_length cs) else mark_at c) ≡ Some found → IsFound (c ∷ cs) found)
+    (λ s. by_cases (c == 34) (λ b. (if b then option_map quoted_token (quoted_length cs) else mark_at c) ≡ Some found → IsFound (c ∷ cs) found)
     (λ t e. quoted_is_found c cs found t e)
     (λ t e. mark_found c cs found e))))
 
@@ -168,7 +167,7 @@ pub record IsAtMost (rest : List ℕ) (kind : TokenKind) (m : ℕ) : Type 0 wher
 
 at_name : (c : ℕ) (cs : List ℕ) → begins_name c ≡ true → longest_at (c ∷ cs) ≡ name_at (c ∷ cs)
 unfolding longest_at
-at_name c cs q = ap (λ b. if b then name_at (c ∷ cs) else (if is_digit c then Some (Number, suc (number_length cs)) else (if c == 58 then tag_at cs else (if c == 34 then option_map quoted (quoted_length cs) else mark_at c)))) q
+at_name c cs q = ap (λ b. if b then name_at (c ∷ cs) else (if is_digit c then Some (Number, suc (number_length cs)) else (if c == 58 then tag_at cs else (if c == 34 then option_map quoted_token (quoted_length cs) else mark_at c)))) q
 
 digit_only : (c : ℕ) → is_digit c ≡ true → begins_name c ≡ false
 digit_only c q = grind (arith, nat_tests)
@@ -176,14 +175,14 @@ digit_only c q = grind (arith, nat_tests)
 at_digit : (c : ℕ) (cs : List ℕ) → is_digit c ≡ true → longest_at (c ∷ cs) ≡ Some (Number, suc (number_length cs))
 unfolding longest_at
 at_digit c cs q =
-    ap (λ b. if b then name_at (c ∷ cs) else (if is_digit c then Some (Number, suc (number_length cs)) else (if c == 58 then tag_at cs else (if c == 34 then option_map quoted (quoted_length cs) else mark_at c)))) (digit_only c q)
-    ∙ ap (λ b. if b then Some (Number, suc (number_length cs)) else (if c == 58 then tag_at cs else (if c == 34 then option_map quoted (quoted_length cs) else mark_at c))) q
+    ap (λ b. if b then name_at (c ∷ cs) else (if is_digit c then Some (Number, suc (number_length cs)) else (if c == 58 then tag_at cs else (if c == 34 then option_map quoted_token (quoted_length cs) else mark_at c)))) (digit_only c q)
+    ∙ ap (λ b. if b then Some (Number, suc (number_length cs)) else (if c == 58 then tag_at cs else (if c == 34 then option_map quoted_token (quoted_length cs) else mark_at c))) q
 
 at_colon : (cs : List ℕ) → longest_at (58 ∷ cs) ≡ tag_at cs
 unfolding longest_at
 at_colon cs = refl
 
-at_quote : (cs : List ℕ) → longest_at (34 ∷ cs) ≡ option_map quoted (quoted_length cs)
+at_quote : (cs : List ℕ) → longest_at (34 ∷ cs) ≡ option_map quoted_token (quoted_length cs)
 unfolding longest_at
 at_quote cs = refl
 
@@ -254,7 +253,7 @@ number-most c cs m h q ends =
     record { found = (Number, suc (number_length cs)); is = at_digit c cs q; most = omega arith; only = λ s. refl }
 
 quoted-most : (cs : List ℕ) (m : ℕ) → m ≤ length cs → ends_quoted (take m cs) ≡ true → IsAtMost (34 ∷ cs) Quoted (suc m)
-quoted-most cs m h ends = exactly (34 ∷ cs) Quoted (suc m) (at_quote cs ∙ ap (option_map quoted) (quoted_only cs m h ends))
+quoted-most cs m h ends = exactly (34 ∷ cs) Quoted (suc m) (at_quote cs ∙ ap (option_map quoted_token) (quoted_only cs m h ends))
 
 is_one-alone : (octet : ℕ) (word : List ℕ) → is_one octet word ≡ true → word ≡ octet ∷ []
 unfolding is_one

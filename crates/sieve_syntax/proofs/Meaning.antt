@@ -1,14 +1,16 @@
 -- The laws of `syntax_of`.
 use Rattle.std.proofs.Common.{◌≡◌, ℕ, ◌⊎◌, inl, inr, List, Result, Ok, Err, ap, ◌∙◌, subst}
 use Rattle.std.specs.Result.{IfOk}
-use Rattle.sieve_syntax.specs.Tree.{Node, nodes_of}
-use Rattle.sieve_syntax.specs.Parsed.{Parses}
+use Rattle.sieve_syntax.specs.Tree.{Node}
+use Rattle.sieve_syntax.specs.view.Tree.{nodes_of}
+use Rattle.sieve_syntax.specs.view.Parsed.{Parses}
 use Rattle.sieve_syntax.specs.declared.tree.Script as scripts
 use Rattle.sieve_syntax.specs.declared.parser.SyntaxFault.{SyntaxFault}
 use Rattle.sieve_syntax.specs.declared.parser.SyntaxFault.TheVariants.{Syntax, TooLarge, NoMemory}
 use Rattle.sieve_syntax.specs.Scan.{tokens_of}
 use Rattle.sieve_syntax.specs.Machine.{start, read}
-use Rattle.sieve_syntax.specs.Syntax.{test_depth, block_room, IsFaultAt, IsFaultAtEnd, WritesText, IsFaultLine, syntax_of}
+use Rattle.sieve_base.specs.Limits.{test_depth, block_room}
+use Rattle.sieve_syntax.specs.Syntax.{IsFaultAt, IsFaultAtEnd, WritesText, IsFaultLine, syntax_of}
 use Rattle.sieve_syntax.proofs.Spelling.{tokens_of_spell, unique}
 use Rattle.sieve_syntax.proofs.Parsing.{IsRead, read_is, read_ok, read_stops, read_stops_at_end}
 

@@ -4,8 +4,8 @@ use Rattle.std.specs.Option.{option_map}
 use Rattle.std.proofs.lemmas.Bool.{eqb-true}
 use Rattle.std.proofs.lemmas.Bool.Decides.{nat_tests}
 use Rattle.std.proofs.lemmas.List.{length-take, length-take-le}
+use Rattle.sieve_base.specs.Octet.{is_blank}
 use Rattle.sieve_syntax.specs.Line.{line_length, lines_of, is_line_end}
-use Rattle.sieve_syntax.specs.Octet.{is_space}
 use Rattle.sieve_syntax.specs.Scan.{shifted, dot_length, opening_stop, opening_end, opening_length, multi_line_length}
 use Rattle.sieve_syntax.specs.Spelling.{is_text, ends_opening, is_opening}
 use Rattle.sieve_syntax.specs.White.{begins_with}
@@ -24,7 +24,7 @@ line_more : (c : ℕ) (cs : List ℕ) → (c == 10) ≡ false → line_length (c
 unfolding line_length
 line_more c cs e = ap (λ b. if b then 1 else suc (line_length cs)) e
 
-space_only : (c : ℕ) → is_space c ≡ true → (c == 10) ≡ false
+space_only : (c : ℕ) → is_blank c ≡ true → (c == 10) ≡ false
 space_only c e = grind (arith, nat_tests)
 
 -- a line that a CR begins is a line end where an LF comes next
@@ -76,12 +76,12 @@ stop_is c cs =
     refl)
     refl
 
-ends_step : (c : ℕ) (cs : List ℕ) (n : ℕ) → 0 < n → is_space c ≡ false → ends_opening (take n (c ∷ cs)) ≡ ((c == 35) || is_line_end (take n (c ∷ cs)))
+ends_step : (c : ℕ) (cs : List ℕ) (n : ℕ) → 0 < n → is_blank c ≡ false → ends_opening (take n (c ∷ cs)) ≡ ((c == 35) || is_line_end (take n (c ∷ cs)))
 unfolding ends_opening
 ends_step c cs zero h e = absurd (omega arith)
 ends_step c cs (suc n) h e = ap (λ b. if b then ends_opening (take n cs) else ((c == 35) || is_line_end (c ∷ take n cs))) e
 
-ends_space : (c : ℕ) (cs : List ℕ) → is_space c ≡ true → ends_opening (take (line_length (c ∷ cs)) (c ∷ cs)) ≡ ends_opening (take (line_length cs) cs)
+ends_space : (c : ℕ) (cs : List ℕ) → is_blank c ≡ true → ends_opening (take (line_length (c ∷ cs)) (c ∷ cs)) ≡ ends_opening (take (line_length cs) cs)
 unfolding ends_opening
 ends_space c cs e =
     ap (λ n. ends_opening (take n (c ∷ cs))) (line_more c cs (space_only c e))
@@ -92,7 +92,7 @@ unfolding opening_end ends_opening line_length
 end_is [] = refl
 end_is (c ∷ cs) =
     let below = end_is cs in
-    by_cases (is_space c) (λ b. is_space c ≡ b → (if b then option_map suc (opening_end cs) else opening_stop (c ∷ cs)) ≡ given (ends_opening (take (line_length (c ∷ cs)) (c ∷ cs))) (line_length (c ∷ cs)))
+    by_cases (is_blank c) (λ b. is_blank c ≡ b → (if b then option_map suc (opening_end cs) else opening_stop (c ∷ cs)) ≡ given (ends_opening (take (line_length (c ∷ cs)) (c ∷ cs))) (line_length (c ∷ cs)))
     (λ q e.
     ap (option_map suc) below ∙ given_suc (ends_opening (take (line_length cs) cs)) (line_length cs)
     ∙ ap (λ b. given b (suc (line_length cs))) (sym (ends_space c cs e))

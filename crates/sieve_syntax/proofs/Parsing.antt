@@ -1,18 +1,16 @@
 -- The machine against the grammar, and against the tokens of a text.
 use Rattle.std.proofs.Common.{◌≡◌, ℕ, ◌⊎◌, inl, inr, List, [], ◌∷◌, ◌++◌, length, Option, Some, None, Result, Ok, Err, refl, sym, ap, ◌∙◌, subst, arith, append_assoc, append-nil}
+use Rattle.std.proofs.lemmas.Option.{same_Some}
 use Rattle.sieve_syntax.specs.Tree.{Tests, no_tests, one_test, test_list, tests, Node, no_block, block, nodes}
 use Rattle.sieve_syntax.specs.Token.{line_at}
 use Rattle.sieve_syntax.specs.Word.{Word, identifier, string_word, semicolon, close_brace, close_parenthesis, close_bracket, word_of, words_of}
 use Rattle.sieve_syntax.specs.Grammar.{written_nodes, NestsNodes, Writes, Begins}
-use Rattle.sieve_syntax.specs.Machine.{Head, Level, for_one, for_list, Open, Outer, State, between, in_arguments, before_string, after_string, before_test, after_tests, begun, test_with, node_with, close_block, step, start, whole, whole_outer, read}
+use Rattle.sieve_syntax.specs.Machine.{Head, Level, for_one, for_list, Open, Outer, State, between, in_arguments, before_string, after_string, before_test, after_tests, bare_head, test_with, node_with, close_block, step, start, whole, whole_outer, read}
 use Rattle.sieve_syntax.specs.Syntax.{IsFaultAt, IsFaultAtEnd}
 use Rattle.sieve_syntax.specs.declared.token.Token.{Token}
 use Rattle.sieve_syntax.proofs.Cases.{by_option}
 use Rattle.sieve_syntax.proofs.Reading.{run, closed, EndsFirst, items-nodes, closed_one, after_list, end_list, end_node, read_no_tests, read_nodes}
 use Rattle.sieve_syntax.proofs.Writing.{state_words, IsReached, Takes, step_takes}
-
-some_is : {A : Type 0} (a b : A) → Some a ≡ Some b → a ≡ b
-some_is a b e = cc
 
 abbrev pub ended : List Node → State
 ended tree = between (record { blocks = []; done = tree })
@@ -84,7 +82,7 @@ module _ (depth room : ℕ) where
       let outer = closes_arguments o ls _ in
       record { more = close_bracket ∷ outer.more; tree = outer.tree; runs = outer.runs }
   closes (before_test o ls) =
-      let outer = closes_arguments o ls (begun [] 0) in
+      let outer = closes_arguments o ls (bare_head [] 0) in
       record { more = identifier [] 0 ∷ outer.more; tree = outer.tree; runs = outer.runs }
   closes (after_tests o ls h ts) =
       let outer = closes_levels ls o h ts in
@@ -187,7 +185,7 @@ module _ (depth room : ℕ) where
     unfolding whole
     part_stops tokens s e f tree h =
         let p = writes_runs tree _ h in
-        let same : s ≡ ended tree = some_is _ _ (sym e ∙ p) in
+        let same : s ≡ ended tree = same_Some _ _ (sym e ∙ p) in
         let clash : Some tree ≡ None = sym (ap whole same) ∙ f in
         cc
 
@@ -196,7 +194,7 @@ module _ (depth room : ℕ) where
     whole_ended (between o) tree e = go o.blocks o.done e
       where
         go : (bs : List Open) (done : List Node) → whole_outer bs done ≡ Some tree → between (record { blocks = bs; done = done }) ≡ ended tree
-        go [] done e = ap ended (some_is _ _ e)
+        go [] done e = ap ended (same_Some _ _ e)
         go (b ∷ bs) done e = cc
     whole_ended (in_arguments o ls h) tree e = cc
     whole_ended (before_string o ls h before) tree e = cc

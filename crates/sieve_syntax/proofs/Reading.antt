@@ -4,7 +4,7 @@ use Rattle.std.proofs.lemmas.Bool.{lt-ltb}
 use Rattle.sieve_syntax.specs.Tree.{Text, Argument, strings, number, tag, Test, test, Tests, no_tests, one_test, test_list, TestList, end_tests, more_tests, tests, test_items, Node, node, Block, no_block, block, Nodes, end_nodes, more_nodes, nodes, items}
 use Rattle.sieve_syntax.specs.Word.{Word, identifier, semicolon, open_brace, close_brace, open_parenthesis, close_parenthesis, close_bracket, comma}
 use Rattle.sieve_syntax.specs.Grammar.{written_more, written_argument, written_arguments, written_test, written_tests, written_test_list, written_test_rest, written_node, written_block, written_nodes, IsArgument, AreArguments, NestsTest, NestsTests, NestsTestList, NestsNode, NestsBlock, NestsNodes}
-use Rattle.sieve_syntax.specs.Machine.{Head, Level, for_one, for_list, Outer, State, between, in_arguments, after_string, before_test, after_tests, begun, with_argument, test_with, node_with, after_node, inside, after_command, after_listed, close, close_block, step}
+use Rattle.sieve_syntax.specs.Machine.{Head, Level, for_one, for_list, Outer, State, between, in_arguments, after_string, before_test, after_tests, bare_head, with_argument, test_with, node_with, after_node, inside_block, after_command, after_listed, close, close_block, step}
 
 -- the state after these words
 unfoldable pub run : ℕ → ℕ → State → List Word → Option State
@@ -83,10 +83,10 @@ module _ (depth room : ℕ) where
   closed_one o ls g h ts (w ∷ ws) = refl
 
   -- into a test
-  enter_one : (o : Outer) (ls : List Level) (h : Head) (name : List ℕ) (line : ℕ) (ws : List Word) → length ls < depth → run depth room (in_arguments o ls h) (identifier name line ∷ ws) ≡ run depth room (in_arguments o (for_one h ∷ ls) (begun name line)) ws
+  enter_one : (o : Outer) (ls : List Level) (h : Head) (name : List ℕ) (line : ℕ) (ws : List Word) → length ls < depth → run depth room (in_arguments o ls h) (identifier name line ∷ ws) ≡ run depth room (in_arguments o (for_one h ∷ ls) (bare_head name line)) ws
   unfolding run step
   enter_one o ls h name line ws fits =
-      ap (λ b. elim (if b then Some (in_arguments o (for_one h ∷ ls) (begun name line)) else None) as (λ x. Option State) [ Some next ↦ run depth room next ws | None ↦ None ]) (lt-ltb (length ls) depth fits)
+      ap (λ b. elim (if b then Some (in_arguments o (for_one h ∷ ls) (bare_head name line)) else None) as (λ x. Option State) [ Some next ↦ run depth room next ws | None ↦ None ]) (lt-ltb (length ls) depth fits)
 
   -- into a list of tests
   enter_list : (o : Outer) (ls : List Level) (h : Head) (ws : List Word) → length ls < depth → run depth room (in_arguments o ls h) (open_parenthesis ∷ ws) ≡ run depth room (before_test o (for_list h [] ∷ ls)) ws
@@ -100,11 +100,11 @@ module _ (depth room : ℕ) where
   after_list o ls h g before ts ws = refl
 
   next_in_list : (o : Outer) (ls : List Level) (h g : Head) (before : List Test) (ts : Tests) (name : List ℕ) (line : ℕ) (ws : List Word) →
-      closed depth room o (for_list h before ∷ ls) g ts (comma ∷ identifier name line ∷ ws) ≡ run depth room (in_arguments o (for_list h (before ++ test_with g ts ∷ []) ∷ ls) (begun name line)) ws
+      closed depth room o (for_list h before ∷ ls) g ts (comma ∷ identifier name line ∷ ws) ≡ run depth room (in_arguments o (for_list h (before ++ test_with g ts ∷ []) ∷ ls) (bare_head name line)) ws
   unfolding closed close after_command after_listed run step
   next_in_list o ls h g before ts name line ws = refl
 
-  first_in_list : (o : Outer) (ls : List Level) (name : List ℕ) (line : ℕ) (ws : List Word) → run depth room (before_test o ls) (identifier name line ∷ ws) ≡ run depth room (in_arguments o ls (begun name line)) ws
+  first_in_list : (o : Outer) (ls : List Level) (name : List ℕ) (line : ℕ) (ws : List Word) → run depth room (before_test o ls) (identifier name line ∷ ws) ≡ run depth room (in_arguments o ls (bare_head name line)) ws
   unfolding run step
   first_in_list o ls name line ws = refl
 
@@ -126,8 +126,8 @@ module _ (depth room : ℕ) where
     read_tests (one_test (test n l as' ts)) o ls h ws zero nests left ends = absurd nests
     read_tests (one_test (test n l as' ts)) o ls h ws (suc d) nests left ends =
         enter_one o ls h n l ((written_arguments as' ++ written_tests ts) ++ ws) (omega arith)
-        ∙ ap (run depth room (in_arguments o (for_one h ∷ ls) (begun n l))) (append_assoc (written_arguments as') (written_tests ts) ws)
-        ∙ read_arguments o (for_one h ∷ ls) (begun n l) as' (written_tests ts ++ ws) nests.0
+        ∙ ap (run depth room (in_arguments o (for_one h ∷ ls) (bare_head n l))) (append_assoc (written_arguments as') (written_tests ts) ws)
+        ∙ read_arguments o (for_one h ∷ ls) (bare_head n l) as' (written_tests ts ++ ws) nests.0
         ∙ read_tests ts o (for_one h ∷ ls) (record { name = n; line = l; args = as' }) ws d nests.1 (omega arith) ends
         ∙ closed_one o ls h (record { name = n; line = l; args = as' }) ts ws
     read_tests (test_list end_tests) o ls h ws d nests left ends = absurd nests
@@ -136,8 +136,8 @@ module _ (depth room : ℕ) where
         let g : Head = record { name = n; line = l; args = as' } in
         enter_list o ls h _ (omega arith)
         ∙ first_in_list o (for_list h [] ∷ ls) n l (((written_arguments as' ++ written_tests ts) ++ written_test_rest more) ++ ws)
-        ∙ ap (run depth room (in_arguments o (for_list h [] ∷ ls) (begun n l))) (append_assoc (written_arguments as' ++ written_tests ts) (written_test_rest more) ws ∙ append_assoc (written_arguments as') (written_tests ts) (written_test_rest more ++ ws))
-        ∙ read_arguments o (for_list h [] ∷ ls) (begun n l) as' (written_tests ts ++ (written_test_rest more ++ ws)) nests.0.0
+        ∙ ap (run depth room (in_arguments o (for_list h [] ∷ ls) (bare_head n l))) (append_assoc (written_arguments as' ++ written_tests ts) (written_test_rest more) ws ∙ append_assoc (written_arguments as') (written_tests ts) (written_test_rest more ++ ws))
+        ∙ read_arguments o (for_list h [] ∷ ls) (bare_head n l) as' (written_tests ts ++ (written_test_rest more ++ ws)) nests.0.0
         ∙ read_tests ts o (for_list h [] ∷ ls) g (written_test_rest more ++ ws) d nests.0.1 (omega arith) (rest_ends more ws)
         ∙ read_rest more o ls h g ts [] ws d nests.1 (omega arith) ends
         ∙ ap (λ x. closed depth room o ls h (test_list (more_tests (test n l as' ts) x)) ws) (tests-items more)
@@ -150,8 +150,8 @@ module _ (depth room : ℕ) where
         let t : Test = test_with g ts in
         let k : Head = record { name = n; line = l; args = as' } in
         next_in_list o ls h g before ts n l (((written_arguments as' ++ written_tests us) ++ written_test_rest more) ++ ws)
-        ∙ ap (run depth room (in_arguments o (for_list h (before ++ t ∷ []) ∷ ls) (begun n l))) (append_assoc (written_arguments as' ++ written_tests us) (written_test_rest more) ws ∙ append_assoc (written_arguments as') (written_tests us) (written_test_rest more ++ ws))
-        ∙ read_arguments o (for_list h (before ++ t ∷ []) ∷ ls) (begun n l) as' (written_tests us ++ (written_test_rest more ++ ws)) nests.0.0
+        ∙ ap (run depth room (in_arguments o (for_list h (before ++ t ∷ []) ∷ ls) (bare_head n l))) (append_assoc (written_arguments as' ++ written_tests us) (written_test_rest more) ws ∙ append_assoc (written_arguments as') (written_tests us) (written_test_rest more ++ ws))
+        ∙ read_arguments o (for_list h (before ++ t ∷ []) ∷ ls) (bare_head n l) as' (written_tests us ++ (written_test_rest more ++ ws)) nests.0.0
         ∙ read_tests us o (for_list h (before ++ t ∷ []) ∷ ls) k (written_test_rest more ++ ws) d nests.0.1 (omega arith) (rest_ends more ws)
         ∙ read_rest more o ls h k us (before ++ t ∷ []) ws d nests.1 left ends
         ∙ ap (λ x. closed depth room o ls h (test_list (tests x)) ws) (append_assoc before (t ∷ []) (test_with k us ∷ test_items more))
@@ -167,17 +167,17 @@ module _ (depth room : ℕ) where
   unfolding closed close after_command after_listed
   end_node o h ts ws = refl
 
-  enter_block : (o : Outer) (h : Head) (ts : Tests) (ws : List Word) → length o.blocks < room → closed depth room o [] h ts (open_brace ∷ ws) ≡ run depth room (between (inside o h ts)) ws
+  enter_block : (o : Outer) (h : Head) (ts : Tests) (ws : List Word) → length o.blocks < room → closed depth room o [] h ts (open_brace ∷ ws) ≡ run depth room (between (inside_block o h ts)) ws
   unfolding closed close after_command after_listed
   enter_block o h ts ws fits =
-      ap (λ b. elim (if b then Some (between (inside o h ts)) else None) as (λ x. Option State) [ Some next ↦ run depth room next ws | None ↦ None ]) (lt-ltb (length o.blocks) room fits)
+      ap (λ b. elim (if b then Some (between (inside_block o h ts)) else None) as (λ x. Option State) [ Some next ↦ run depth room next ws | None ↦ None ]) (lt-ltb (length o.blocks) room fits)
 
   leave_block : (o : Outer) (h : Head) (ts : Tests) (done : List Node) (ws : List Word) →
       run depth room (between (record { blocks = record { done = o.done; head = h; tests = ts } ∷ o.blocks; done = done })) (close_brace ∷ ws) ≡ run depth room (between (after_node o (node_with h ts (block (nodes done))))) ws
   unfolding run step close_block
   leave_block o h ts done ws = refl
 
-  enter_node : (o : Outer) (name : List ℕ) (line : ℕ) (ws : List Word) → run depth room (between o) (identifier name line ∷ ws) ≡ run depth room (in_arguments o [] (begun name line)) ws
+  enter_node : (o : Outer) (name : List ℕ) (line : ℕ) (ws : List Word) → run depth room (between o) (identifier name line ∷ ws) ≡ run depth room (in_arguments o [] (bare_head name line)) ws
   unfolding run step
   enter_node o name line ws = refl
 
@@ -188,8 +188,8 @@ module _ (depth room : ℕ) where
     read_node (node n l as' ts ending) o ws r nests left =
         let h : Head = record { name = n; line = l; args = as' } in
         enter_node o n l ((written_arguments as' ++ written_tests ts ++ written_block ending) ++ ws)
-        ∙ ap (run depth room (in_arguments o [] (begun n l))) (append_assoc (written_arguments as' ++ written_tests ts) (written_block ending) ws ∙ append_assoc (written_arguments as') (written_tests ts) (written_block ending ++ ws))
-        ∙ read_arguments o [] (begun n l) as' (written_tests ts ++ (written_block ending ++ ws)) nests.0
+        ∙ ap (run depth room (in_arguments o [] (bare_head n l))) (append_assoc (written_arguments as' ++ written_tests ts) (written_block ending) ws ∙ append_assoc (written_arguments as') (written_tests ts) (written_block ending ++ ws))
+        ∙ read_arguments o [] (bare_head n l) as' (written_tests ts ++ (written_block ending ++ ws)) nests.0
         ∙ read_tests ts o [] h (written_block ending ++ ws) depth nests.1 (omega arith) (block_ends ending ws)
         ∙ read_block ending o h ts ws r nests.2 left
 
@@ -198,8 +198,8 @@ module _ (depth room : ℕ) where
     read_block (block ns) o h ts ws zero nests left = absurd nests
     read_block (block ns) o h ts ws (suc r) nests left =
         enter_block o h ts ((written_nodes ns ++ close_brace ∷ []) ++ ws) (omega arith)
-        ∙ ap (run depth room (between (inside o h ts))) (append_assoc (written_nodes ns) (close_brace ∷ []) ws)
-        ∙ read_nodes ns (inside o h ts) (close_brace ∷ ws) r nests (omega arith)
+        ∙ ap (run depth room (between (inside_block o h ts))) (append_assoc (written_nodes ns) (close_brace ∷ []) ws)
+        ∙ read_nodes ns (inside_block o h ts) (close_brace ∷ ws) r nests (omega arith)
         ∙ leave_block o h ts (items ns) ws
         ∙ ap (λ x. run depth room (between (after_node o (node_with h ts (block x)))) ws) (nodes-items ns)
 

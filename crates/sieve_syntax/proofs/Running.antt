@@ -1,10 +1,11 @@
 -- The machine over the tokens of a text, one after another.
 use Rattle.std.proofs.Common.{◌≡◌, ℕ, List, [], ◌∷◌, length, Option, Some, None, Result, Ok, Err, sym, ap, ◌∙◌}
-use Rattle.sieve_syntax.specs.Cursor.{IsNext}
+use Rattle.sieve_syntax.specs.view.Cursor.{IsNext}
 use Rattle.sieve_syntax.specs.Machine.{State, step, start, whole, read}
-use Rattle.sieve_syntax.specs.Parsed.{Ends, Goes, Parses}
+use Rattle.sieve_syntax.specs.view.Parsed.{Finishes, Goes, Parses}
 use Rattle.sieve_syntax.specs.Scan.{tokens_of}
-use Rattle.sieve_syntax.specs.Syntax.{test_depth, block_room, syntax_of}
+use Rattle.sieve_base.specs.Limits.{test_depth, block_room}
+use Rattle.sieve_syntax.specs.Syntax.{syntax_of}
 use Rattle.sieve_syntax.specs.Token.{line_at, SpellsFrom}
 use Rattle.sieve_syntax.specs.Tree.{Node}
 use Rattle.sieve_syntax.specs.Word.{word_of}
@@ -48,7 +49,7 @@ stop_means text s place token behind TooLarge is h so = absurd h
 stop_means text s place token behind NoMemory is h so = tt
 
 -- the end
-pub end_means : (text : List ℕ) (s : State) (place : ℕ) (r : Result scripts.Script SyntaxFault) → SpellsFrom text place [] → Means text s place → Ends r (whole s) (line_at text (length text)) → Parses r (syntax_of text)
+pub end_means : (text : List ℕ) (s : State) (place : ℕ) (r : Result scripts.Script SyntaxFault) → SpellsFrom text place [] → Means text s place → Finishes r (whole s) (line_at text (length text)) → Parses r (syntax_of text)
 end_means text s place (Ok script) h so e = sym (so [] h) ∙ read-end text s _ e
 end_means text s place (Err (Syntax line)) h so e = sym (so [] h) ∙ read-end text s None e.0 ∙ ap (λ n. Err n) (sym e.1)
 end_means text s place (Err TooLarge) h so e = absurd e

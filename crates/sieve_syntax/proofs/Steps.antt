@@ -4,8 +4,9 @@ use Rattle.std.specs.Option.{option_map}
 use Rattle.std.proofs.lemmas.List.{take_all, take_rest, at_drop_more, at_drop_all, take-take, drop-take, drop_more, drop_all, drop-drop, length-drop, length-take-le}
 use Rattle.std.proofs.lemmas.List.Sums.{sum_by-take-drop}
 use Rattle.std.proofs.Math.Numerals.{add-one}
+use Rattle.sieve_base.specs.Octet.{is_digit, is_blank}
 use Rattle.sieve_syntax.specs.Line.{line_length, lines_of, is_dot_line}
-use Rattle.sieve_syntax.specs.Octet.{is_name_octet, is_digit, is_unit, is_space}
+use Rattle.sieve_syntax.specs.Octet.{is_name_octet, is_unit}
 use Rattle.sieve_syntax.specs.Scan.{shifted, opening_stop, opening_end, dot_length, name_length, number_length, quoted_length, protected_length}
 use Rattle.sieve_syntax.specs.Token.{line_feeds}
 use Rattle.sieve_syntax.specs.White.{begins_with, comment_length}
@@ -49,11 +50,11 @@ pub number_length-end : (xs : List ℕ) (i : ℕ) → length xs ≤ i → number
 unfolding number_length
 number_length-end xs i h = at_drop_all number_length xs i h
 
-pub opening-more : (xs : List ℕ) (i : ℕ) → i < length xs → shifted i (opening_end (drop i xs)) ≡ (if is_space (get_or xs i 0) then shifted (i + 1) (opening_end (drop (i + 1) xs)) else shifted i (opening_stop (drop i xs)))
+pub opening-more : (xs : List ℕ) (i : ℕ) → i < length xs → shifted i (opening_end (drop i xs)) ≡ (if is_blank (get_or xs i 0) then shifted (i + 1) (opening_end (drop (i + 1) xs)) else shifted i (opening_stop (drop i xs)))
 unfolding opening_end
 opening-more xs i h =
     ap (shifted i) (at_drop_more opening_end xs i 0 h)
-    ∙ by_cases (is_space (get_or xs i 0))
+    ∙ by_cases (is_blank (get_or xs i 0))
     (λ b. shifted i (if b then option_map suc (opening_end (drop (i + 1) xs)) else opening_stop (get_or xs i 0 ∷ drop (i + 1) xs)) ≡ (if b then shifted (i + 1) (opening_end (drop (i + 1) xs)) else shifted i (opening_stop (drop i xs))))
     (λ e. shifted_suc i (opening_end (drop (i + 1) xs)))
     (λ e. ap (λ rest. shifted i (opening_stop rest)) (sym (drop_more xs i 0 h)))

@@ -2,8 +2,8 @@
 use Rattle.std.proofs.Common.{◌≡◌, ℕ, ◌+◌, ◌-◌, ◌*◌, ◌^◌, ◌<◌, ◌≤◌, ◌==◌, ◌||◌, ◌&&◌, Bool, true, false, nat_lt, if◌then◌else◌, List, [], ◌∷◌, ◌++◌, length, take, drop, get_or, Some, None, refl, sym, ap, ◌∙◌, arith, append_assoc, append-nil}
 use Rattle.std.proofs.lemmas.Bool.{lt-ltb}
 use Rattle.std.proofs.lemmas.List.{at_drop_more, at_drop_all, take_rest, drop_all, drop-drop, length-drop}
+use Rattle.sieve_base.specs.Octet.{is_digit}
 use Rattle.sieve_syntax.specs.Line.{line_length, lines_of, is_dot_line}
-use Rattle.sieve_syntax.specs.Octet.{is_digit}
 use Rattle.sieve_syntax.specs.Value.{unit_of, number_from, number_of, line_end, with_cr, is_protector, kept_octet, unprotected, first_kept, quoted_octets, without_dot, dot_lines, multi_line_octets}
 use Rattle.sieve_syntax.proofs.Cases.{by_cases}
 use Rattle.sieve_syntax.proofs.Lines.{lines_some, lines_none}

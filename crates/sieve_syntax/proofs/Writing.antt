@@ -1,10 +1,11 @@
 -- What the machine has read is the front of what a tree writes.
 use Rattle.std.proofs.Common.{◌≡◌, ℕ, zero, suc, ◌+◌, ◌<◌, true, false, nat_lt, if◌then◌else◌, List, [], ◌∷◌, ◌++◌, length, Some, None, refl, sym, ap, ◌∙◌, subst, arith, append_assoc, append-nil}
+use Rattle.std.proofs.lemmas.Option.{same_Some}
 use Rattle.std.proofs.lemmas.Bool.{ltb-true}
 use Rattle.sieve_syntax.specs.Tree.{Text, Argument, strings, number, tag, Test, Tests, no_tests, one_test, test_list, tests, Node, no_block, block, nodes}
 use Rattle.sieve_syntax.specs.Word.{Word, identifier, tag_word, number_word, string_word, semicolon, open_brace, close_brace, open_parenthesis, close_parenthesis, open_bracket, close_bracket, comma, bad}
 use Rattle.sieve_syntax.specs.Grammar.{written_more, written_texts, written_argument, written_arguments, written_test, written_tests, written_test_list, written_test_rest, written_node, written_block, written_nodes, IsArgument, AreArguments, NestsTest, NestsTests, NestsTestList, NestsNode, NestsBlock, NestsNodes}
-use Rattle.sieve_syntax.specs.Machine.{Head, Level, for_one, for_list, Open, Outer, State, between, in_arguments, before_string, after_string, before_test, after_tests, begun, with_argument, test_with, node_with, inside, after_command, after_listed, close, close_block, step}
+use Rattle.sieve_syntax.specs.Machine.{Head, Level, for_one, for_list, Open, Outer, State, between, in_arguments, before_string, after_string, before_test, after_tests, bare_head, with_argument, test_with, node_with, inside_block, after_command, after_listed, close, close_block, step}
 use Rattle.sieve_syntax.proofs.Cases.{by_cases}
 
 -- THE WORDS READ SO FAR
@@ -155,9 +156,6 @@ strings_are (t ∷ s ∷ ts) h = tt
 
 -- ONE STEP
 
-some_is : {A : Type 0} (a b : A) → Some a ≡ Some b → a ≡ b
-some_is a b e = cc
-
 -- the state is reached, and one more word is read
 pub record Takes (depth room : ℕ) (front : List Word) (w : Word) (s : State) : Type 0 where
   pub reached : IsReached depth room s
@@ -190,7 +188,7 @@ module _ (depth room : ℕ) where
   levels_left (for_list g before ∷ ls) d h = omega (arith, levels_left ls (suc d) h.2)
 
   -- into a block
-  enter : (o : Outer) (h : Head) (ts : Tests) (r : ℕ) → IsBlocks depth room o.blocks r → NestsNodes depth (nodes o.done) r → length o.blocks < room → AreArguments h.args → NestsTests ts depth → IsOuter depth room (inside o h ts)
+  enter : (o : Outer) (h : Head) (ts : Tests) (r : ℕ) → IsBlocks depth room o.blocks r → NestsNodes depth (nodes o.done) r → length o.blocks < room → AreArguments h.args → NestsTests ts depth → IsOuter depth room (inside_block o h ts)
   unfolding NestsNodes
   enter o h ts zero blocks done fits args nests = absurd (omega (arith, blocks_left o.blocks 0 blocks))
   enter o h ts (suc r) blocks done fits args nests = record { left = r; blocks = (done, args, nests, blocks); done = tt }
@@ -199,7 +197,7 @@ module _ (depth room : ℕ) where
       Takes depth room (outer_words o ++ (level_words ls ++ (head_words h ++ written_tests ts))) w s
   unfolding close after_command after_listed NestsTests NestsTest NestsNode NestsBlock written_tests written_test written_node written_block
   close_takes [] semicolon o h ts s d outer levels args nests e =
-      subst (Takes depth room (outer_words o ++ (head_words h ++ written_tests ts)) semicolon) (some_is _ s e) record {
+      subst (Takes depth room (outer_words o ++ (head_words h ++ written_tests ts)) semicolon) (same_Some _ s e) record {
         reached = record {
           left = outer.left;
           blocks = outer.blocks;
@@ -209,8 +207,8 @@ module _ (depth room : ℕ) where
       }
   close_takes [] open_brace o h ts s d outer levels args nests e =
       by_cases (nat_lt (length o.blocks) room)
-      (λ b. (if b then Some (between (inside o h ts)) else None) ≡ Some s → Takes depth room (outer_words o ++ (head_words h ++ written_tests ts)) open_brace s)
-      (λ q f. subst (Takes depth room (outer_words o ++ (head_words h ++ written_tests ts)) open_brace) (some_is _ s f) record {
+      (λ b. (if b then Some (between (inside_block o h ts)) else None) ≡ Some s → Takes depth room (outer_words o ++ (head_words h ++ written_tests ts)) open_brace s)
+      (λ q f. subst (Takes depth room (outer_words o ++ (head_words h ++ written_tests ts)) open_brace) (same_Some _ s f) record {
         reached = enter o h ts outer.left outer.blocks outer.done (ltb-true (length o.blocks) room q) args (subst (NestsTests ts) levels nests);
         words = simp (append_assoc, append-nil);
       })
@@ -220,12 +218,12 @@ module _ (depth room : ℕ) where
       subst (λ ws. Takes depth room ws w s) (simp append_assoc)
       (close_takes ls w o g (one_test (test_with h ts)) s (suc d) outer levels.1 levels.0 (args, nests) e)
   close_takes (for_list g before ∷ ls) comma o h ts s d outer levels args nests e =
-      subst (Takes depth room (outer_words o ++ ((level_words ls ++ (head_words g ++ open_parenthesis ∷ tests_before before)) ++ (head_words h ++ written_tests ts))) comma) (some_is _ s e) record {
+      subst (Takes depth room (outer_words o ++ ((level_words ls ++ (head_words g ++ open_parenthesis ∷ tests_before before)) ++ (head_words h ++ written_tests ts))) comma) (same_Some _ s e) record {
         reached = (outer, (d, (levels.0, before_nest before (test_with h ts) d levels.1 (args, nests), levels.2)));
         words = simp (before_words, append_assoc);
       }
   close_takes (for_list g before ∷ ls) close_parenthesis o h ts s d outer levels args nests e =
-      subst (Takes depth room (outer_words o ++ ((level_words ls ++ (head_words g ++ open_parenthesis ∷ tests_before before)) ++ (head_words h ++ written_tests ts))) close_parenthesis) (some_is _ s e) record {
+      subst (Takes depth room (outer_words o ++ ((level_words ls ++ (head_words g ++ open_parenthesis ∷ tests_before before)) ++ (head_words h ++ written_tests ts))) close_parenthesis) (same_Some _ s e) record {
         reached = (record { outer = outer; left = suc d; levels = levels.2; args = levels.0 }, list_nests before (test_with h ts) d levels.1 (args, nests));
         words = simp (list_words, append_assoc);
       }
@@ -236,7 +234,7 @@ module _ (depth room : ℕ) where
   unfolding close_block written_node written_block NestsNode NestsBlock
   close_block_takes [] done s r blocks nest e = cc
   close_block_takes (b ∷ bs) done s r blocks nest e =
-      subst (Takes depth room (block_words (b ∷ bs) ++ written_nodes (nodes done)) close_brace) (some_is _ s e) record {
+      subst (Takes depth room (block_words (b ∷ bs) ++ written_nodes (nodes done)) close_brace) (same_Some _ s e) record {
         reached = record {
           left = suc r;
           blocks = blocks.3;
@@ -269,7 +267,7 @@ module _ (depth room : ℕ) where
   deeper ls (suc n) is fits = (n, refl)
 
   one_takes : (o : Outer) (ls : List Level) (h : Head) (name : List ℕ) (line : ℕ) → IsOpen depth room o ls h → length ls < depth →
-      Takes depth room (outer_words o ++ (level_words ls ++ head_words h)) (identifier name line) (in_arguments o (for_one h ∷ ls) (begun name line))
+      Takes depth room (outer_words o ++ (level_words ls ++ head_words h)) (identifier name line) (in_arguments o (for_one h ∷ ls) (bare_head name line))
   one_takes o ls h name line is fits =
       let below = deeper ls is.left is.levels fits in
       record {
@@ -296,7 +294,7 @@ module _ (depth room : ℕ) where
   pub step_takes : (s : State) (w : Word) (t : State) → IsReached depth room s → step depth room s w ≡ Some t → Takes depth room (state_words s) w t
   unfolding step
   step_takes (between o) (identifier name line) t is e =
-      subst (Takes depth room (outer_words o) (identifier name line)) (some_is _ t e) record {
+      subst (Takes depth room (outer_words o) (identifier name line)) (same_Some _ t e) record {
         reached = record { outer = is; left = depth; levels = refl; args = tt };
         words = refl;
       }
@@ -304,28 +302,28 @@ module _ (depth room : ℕ) where
   step_takes (between o) _ t is e = cc
   step_takes (in_arguments o ls h) (string_word octets line) t is e =
       let text : Text = record { octets = octets; line = line } in
-      subst (Takes depth room (outer_words o ++ (level_words ls ++ head_words h)) (string_word octets line)) (some_is _ t e)
+      subst (Takes depth room (outer_words o ++ (level_words ls ++ head_words h)) (string_word octets line)) (same_Some _ t e)
       (word_takes o ls h (strings (text ∷ []) false) (string_word octets line) is tt refl)
   step_takes (in_arguments o ls h) (number_word value line) t is e =
-      subst (Takes depth room (outer_words o ++ (level_words ls ++ head_words h)) (number_word value line)) (some_is _ t e)
+      subst (Takes depth room (outer_words o ++ (level_words ls ++ head_words h)) (number_word value line)) (same_Some _ t e)
       (word_takes o ls h (number value line) (number_word value line) is tt refl)
   step_takes (in_arguments o ls h) (tag_word name line) t is e =
-      subst (Takes depth room (outer_words o ++ (level_words ls ++ head_words h)) (tag_word name line)) (some_is _ t e)
+      subst (Takes depth room (outer_words o ++ (level_words ls ++ head_words h)) (tag_word name line)) (same_Some _ t e)
       (word_takes o ls h (tag name line) (tag_word name line) is tt refl)
   step_takes (in_arguments o ls h) open_bracket t is e =
-      subst (Takes depth room (outer_words o ++ (level_words ls ++ head_words h)) open_bracket) (some_is _ t e) record {
+      subst (Takes depth room (outer_words o ++ (level_words ls ++ head_words h)) open_bracket) (same_Some _ t e) record {
         reached = is;
         words = one_end (outer_words o) (level_words ls) (head_words h) open_bracket;
       }
   step_takes (in_arguments o ls h) (identifier name line) t is e =
       by_cases (nat_lt (length ls) depth)
-      (λ b. (if b then Some (in_arguments o (for_one h ∷ ls) (begun name line)) else None) ≡ Some t → Takes depth room (outer_words o ++ (level_words ls ++ head_words h)) (identifier name line) t)
-      (λ q f. subst (Takes depth room (outer_words o ++ (level_words ls ++ head_words h)) (identifier name line)) (some_is _ t f) (one_takes o ls h name line is (ltb-true (length ls) depth q)))
+      (λ b. (if b then Some (in_arguments o (for_one h ∷ ls) (bare_head name line)) else None) ≡ Some t → Takes depth room (outer_words o ++ (level_words ls ++ head_words h)) (identifier name line) t)
+      (λ q f. subst (Takes depth room (outer_words o ++ (level_words ls ++ head_words h)) (identifier name line)) (same_Some _ t f) (one_takes o ls h name line is (ltb-true (length ls) depth q)))
       (λ q f. cc) e
   step_takes (in_arguments o ls h) open_parenthesis t is e =
       by_cases (nat_lt (length ls) depth)
       (λ b. (if b then Some (before_test o (for_list h [] ∷ ls)) else None) ≡ Some t → Takes depth room (outer_words o ++ (level_words ls ++ head_words h)) open_parenthesis t)
-      (λ q f. subst (Takes depth room (outer_words o ++ (level_words ls ++ head_words h)) open_parenthesis) (some_is _ t f) (list_takes o ls h is (ltb-true (length ls) depth q)))
+      (λ q f. subst (Takes depth room (outer_words o ++ (level_words ls ++ head_words h)) open_parenthesis) (same_Some _ t f) (list_takes o ls h is (ltb-true (length ls) depth q)))
       (λ q f. cc) e
   step_takes (in_arguments o ls h) semicolon t is e = no_tests_takes o ls h semicolon t is e
   step_takes (in_arguments o ls h) open_brace t is e = no_tests_takes o ls h open_brace t is e
@@ -336,27 +334,27 @@ module _ (depth room : ℕ) where
   step_takes (in_arguments o ls h) bad t is e = no_tests_takes o ls h bad t is e
   step_takes (before_string o ls h before) (string_word octets line) t is e =
       let text : Text = record { octets = octets; line = line } in
-      subst (Takes depth room (outer_words o ++ (level_words ls ++ (head_words h ++ open_bracket ∷ texts_before before))) (string_word octets line)) (some_is _ t e) record {
+      subst (Takes depth room (outer_words o ++ (level_words ls ++ (head_words h ++ open_bracket ∷ texts_before before))) (string_word octets line)) (same_Some _ t e) record {
         reached = (is, texts_some before text);
         words = ap (λ x. outer_words o ++ (level_words ls ++ (head_words h ++ open_bracket ∷ x))) (texts_words before text)
             ∙ text_end (outer_words o) (level_words ls) (head_words h) (texts_before before) open_bracket (string_word octets line);
       }
   step_takes (before_string o ls h before) _ t is e = cc
   step_takes (after_string o ls h before) comma t is e =
-      subst (Takes depth room (outer_words o ++ (level_words ls ++ (head_words h ++ open_bracket ∷ written_texts before))) comma) (some_is _ t e) record {
+      subst (Takes depth room (outer_words o ++ (level_words ls ++ (head_words h ++ open_bracket ∷ written_texts before))) comma) (same_Some _ t e) record {
         reached = is.0;
         words = ap (λ x. outer_words o ++ (level_words ls ++ (head_words h ++ open_bracket ∷ x))) (texts_comma before is.1)
             ∙ text_end (outer_words o) (level_words ls) (head_words h) (written_texts before) open_bracket comma;
       }
   step_takes (after_string o ls h before) close_bracket t is e =
-      subst (Takes depth room (outer_words o ++ (level_words ls ++ (head_words h ++ open_bracket ∷ written_texts before))) close_bracket) (some_is _ t e) record {
+      subst (Takes depth room (outer_words o ++ (level_words ls ++ (head_words h ++ open_bracket ∷ written_texts before))) close_bracket) (same_Some _ t e) record {
         reached = argument_takes o ls h (strings before true) is.0 (strings_are before is.1);
         words = ap (λ x. outer_words o ++ (level_words ls ++ (identifier h.name h.line ∷ x))) (arguments_words h.args (strings before true))
             ∙ text_end (outer_words o) (level_words ls) (head_words h) (written_texts before) open_bracket close_bracket;
       }
   step_takes (after_string o ls h before) _ t is e = cc
   step_takes (before_test o ls) (identifier name line) t is e =
-      subst (Takes depth room (outer_words o ++ level_words ls) (identifier name line)) (some_is _ t e) record {
+      subst (Takes depth room (outer_words o ++ level_words ls) (identifier name line)) (same_Some _ t e) record {
         reached = record { outer = is.0; left = is.1.0; levels = is.1.1; args = tt };
         words = sym (append_assoc (outer_words o) (level_words ls) (identifier name line ∷ []));
       }

@@ -16,7 +16,7 @@ abbrev pub written_texts : List Text → List Word
 written_texts [] = []
 written_texts (t ∷ ts) = string_word t.octets t.line ∷ written_more ts
 
--- argument = string-list | number | tag, string-list = string | "[" string ("," string)* "]"
+-- argument = string-list | number | tag, string-list = string | "[" string ("," string)* "]" (RFC 5228, section 8.2)
 abbrev pub written_argument : Argument → List Word
 written_argument (strings items true) = open_bracket ∷ written_texts items ++ close_bracket ∷ []
 written_argument (strings items false) = written_texts items
@@ -28,7 +28,7 @@ written_arguments [] = []
 written_arguments (a ∷ rest) = written_argument a ++ written_arguments rest
 
 unfoldable mutual
-  -- test = identifier arguments
+  -- test = identifier arguments (RFC 5228, section 8.2)
   pub written_test : Test → List Word
   written_test (test name line args ts) = identifier name line ∷ written_arguments args ++ written_tests ts
 
@@ -49,16 +49,16 @@ unfoldable mutual
   written_test_rest (more_tests t ts) = comma ∷ written_test t ++ written_test_rest ts
 
 unfoldable mutual
-  -- command = identifier arguments ( ";" | block )
+  -- command = identifier arguments ( ";" | block ) (RFC 5228, section 8.2)
   pub written_node : Node → List Word
   written_node (node name line args ts ending) = identifier name line ∷ written_arguments args ++ written_tests ts ++ written_block ending
 
-  -- block = "{" commands "}"
+  -- block = "{" commands "}" (RFC 5228, section 8.2)
   pub written_block : Block → List Word
   written_block no_block = semicolon ∷ []
   written_block (block ns) = open_brace ∷ written_nodes ns ++ close_brace ∷ []
 
-  -- commands = command*
+  -- commands = command* (RFC 5228, section 8.2)
   pub written_nodes : Nodes → List Word
   written_nodes end_nodes = []
   written_nodes (more_nodes n ns) = written_node n ++ written_nodes ns

@@ -1,10 +1,7 @@
-pub mod Cursor
 pub mod Grammar
 pub mod Line
 pub mod Machine
 pub mod Octet
-pub mod Parsed
-pub mod Reader
 pub mod Scan
 pub mod Spelling
 pub mod Syntax
@@ -13,3 +10,4 @@ pub mod Tree
 pub mod Value
 pub mod White
 pub mod Word
+pub mod view

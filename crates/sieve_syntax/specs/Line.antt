@@ -1,11 +1,12 @@
--- The lines of octets, each with the LF that ends it.
+-- The lines of octets, each with the LF that ends it (RFC 5228, section 2.4.2).
 use Rattle.std.specs.Prelude.{ℕ, Bool, false, ◌==◌, ◌&&◌, if◌then◌else◌, List, [], ◌∷◌}
 use Rattle.std.proofs.Common.{suc}
+use Rattle.sieve_base.specs.Octet.{octet_of}
 
 -- how many octets the first line of a text has, its LF among them
 unfoldable pub line_length : List ℕ → ℕ
 line_length [] = 0
-line_length (c ∷ cs) = if c == 10 then 1 else suc (line_length cs)
+line_length (c ∷ cs) = if c == octet_of "\n" then 1 else suc (line_length cs)
 
 -- an octet in front of the first line
 abbrev pub on_first : ℕ → List (List ℕ) → List (List ℕ)
@@ -15,16 +16,16 @@ on_first c (line ∷ lines) = (c ∷ line) ∷ lines
 -- the lines of a text, each with its LF; the last may have none
 unfoldable pub lines_of : List ℕ → List (List ℕ)
 lines_of [] = []
-lines_of (c ∷ cs) = if c == 10 then (10 ∷ []) ∷ lines_of cs else on_first c (lines_of cs)
+lines_of (c ∷ cs) = if c == octet_of "\n" then (octet_of "\n" ∷ []) ∷ lines_of cs else on_first c (lines_of cs)
 
--- LF, or CR and LF
+-- LF, or CR and LF (RFC 5228, section 8.1: CRLF)
 unfoldable pub is_line_end : List ℕ → Bool
 is_line_end [] = false
-is_line_end (c ∷ []) = c == 10
-is_line_end (c ∷ d ∷ []) = c == 13 && (d == 10)
+is_line_end (c ∷ []) = c == octet_of "\n"
+is_line_end (c ∷ d ∷ []) = c == octet_of "\r" && (d == octet_of "\n")
 is_line_end (c ∷ d ∷ e ∷ es) = false
 
--- a dot alone
+-- a dot alone (RFC 5228, section 8.1: multi-line)
 unfoldable pub is_dot_line : List ℕ → Bool
 is_dot_line [] = false
-is_dot_line (c ∷ cs) = c == 46 && is_line_end cs
+is_dot_line (c ∷ cs) = c == octet_of "." && is_line_end cs

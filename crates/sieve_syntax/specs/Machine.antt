@@ -41,8 +41,8 @@ pub data State : Type 0 where
   -- behind a list of tests
   after_tests : Outer → List Level → Head → Tests → State
 
-abbrev pub begun : List ℕ → ℕ → Head
-begun name line = record { name = name; line = line; args = [] }
+abbrev pub bare_head : List ℕ → ℕ → Head
+bare_head name line = record { name = name; line = line; args = [] }
 
 abbrev pub with_argument : Head → Argument → Head
 with_argument h a = record { name = h.name; line = h.line; args = h.args ++ a ∷ [] }
@@ -56,13 +56,13 @@ node_with h ts b = node h.name h.line h.args ts b
 abbrev pub after_node : Outer → Node → Outer
 after_node o n = record { blocks = o.blocks; done = o.done ++ n ∷ [] }
 
-abbrev pub inside : Outer → Head → Tests → Outer
-inside o h ts = record { blocks = record { done = o.done; head = h; tests = ts } ∷ o.blocks; done = [] }
+abbrev pub inside_block : Outer → Head → Tests → Outer
+inside_block o h ts = record { blocks = record { done = o.done; head = h; tests = ts } ∷ o.blocks; done = [] }
 
 -- a word behind a command with all its arguments and tests
 unfoldable pub after_command : ℕ → Outer → Head → Tests → Word → Option State
 after_command room o h ts semicolon = Some (between (after_node o (node_with h ts no_block)))
-after_command room o h ts open_brace = if nat_lt (length o.blocks) room then Some (between (inside o h ts)) else None
+after_command room o h ts open_brace = if nat_lt (length o.blocks) room then Some (between (inside_block o h ts)) else None
 after_command room o h ts _ = None
 
 -- a word behind a test in a list of tests
@@ -83,14 +83,14 @@ close_block [] done = None
 close_block (b ∷ bs) done = Some (between (record { blocks = bs; done = b.done ++ node_with b.head b.tests (block (nodes done)) ∷ [] }))
 
 unfoldable pub step : ℕ → ℕ → State → Word → Option State
-step depth room (between o) (identifier name line) = Some (in_arguments o [] (begun name line))
+step depth room (between o) (identifier name line) = Some (in_arguments o [] (bare_head name line))
 step depth room (between o) close_brace = close_block o.blocks o.done
 step depth room (between o) _ = None
 step depth room (in_arguments o ls h) (string_word octets line) = Some (in_arguments o ls (with_argument h (strings (record { octets = octets; line = line } ∷ []) false)))
 step depth room (in_arguments o ls h) (number_word value line) = Some (in_arguments o ls (with_argument h (number value line)))
 step depth room (in_arguments o ls h) (tag_word name line) = Some (in_arguments o ls (with_argument h (tag name line)))
 step depth room (in_arguments o ls h) open_bracket = Some (before_string o ls h [])
-step depth room (in_arguments o ls h) (identifier name line) = if nat_lt (length ls) depth then Some (in_arguments o (for_one h ∷ ls) (begun name line)) else None
+step depth room (in_arguments o ls h) (identifier name line) = if nat_lt (length ls) depth then Some (in_arguments o (for_one h ∷ ls) (bare_head name line)) else None
 step depth room (in_arguments o ls h) open_parenthesis = if nat_lt (length ls) depth then Some (before_test o (for_list h [] ∷ ls)) else None
 step depth room (in_arguments o ls h) w = close room o ls h no_tests w
 step depth room (before_string o ls h items) (string_word octets line) = Some (after_string o ls h (items ++ record { octets = octets; line = line } ∷ []))
@@ -98,7 +98,7 @@ step depth room (before_string o ls h items) _ = None
 step depth room (after_string o ls h items) comma = Some (before_string o ls h items)
 step depth room (after_string o ls h items) close_bracket = Some (in_arguments o ls (with_argument h (strings items true)))
 step depth room (after_string o ls h items) _ = None
-step depth room (before_test o ls) (identifier name line) = Some (in_arguments o ls (begun name line))
+step depth room (before_test o ls) (identifier name line) = Some (in_arguments o ls (bare_head name line))
 step depth room (before_test o ls) _ = None
 step depth room (after_tests o ls h ts) w = close room o ls h ts w
 

@@ -1,29 +1,19 @@
 -- Classes of octets (RFC 5228, section 8.1).
-use Rattle.std.specs.Prelude.{ℕ, Bool, ◌==◌, ◌||◌, ◌&&◌, nat_le}
+use Rattle.std.specs.Prelude.{ℕ, Bool, ◌==◌, ◌||◌}
+use Rattle.sieve_base.specs.Octet.{octet_of, is_between, is_digit}
 
-abbrev pub is_between : ℕ → ℕ → ℕ → Bool
-is_between low high octet = nat_le low octet && nat_le octet high
-
--- a digit
-abbrev pub is_digit : ℕ → Bool
-is_digit octet = is_between 48 57 octet
-
--- a letter or `_`
+-- a letter or `_`, with which an identifier begins (RFC 5228, section 8.1)
 abbrev pub begins_name : ℕ → Bool
-begins_name octet = is_between 97 122 octet || (is_between 65 90 octet || (octet == 95))
+begins_name octet = is_between (octet_of "a") (octet_of "z") octet || (is_between (octet_of "A") (octet_of "Z") octet || (octet == octet_of "_"))
 
--- a letter, a digit or `_`
+-- a letter, a digit or `_`, of which it goes on (RFC 5228, section 8.1)
 abbrev pub is_name_octet : ℕ → Bool
 is_name_octet octet = begins_name octet || is_digit octet
 
--- the unit of a number: `K`, `M` or `G` in either case
+-- the unit of a number: `K`, `M` or `G` in either case (RFC 5228, section 8.1: QUANTIFIER)
 abbrev pub is_unit : ℕ → Bool
-is_unit octet = octet == 75 || (octet == 107 || (octet == 77 || (octet == 109 || (octet == 71 || (octet == 103)))))
+is_unit octet = octet == octet_of "K" || (octet == octet_of "k" || (octet == octet_of "M" || (octet == octet_of "m" || (octet == octet_of "G" || (octet == octet_of "g")))))
 
--- space or tab
-abbrev pub is_space : ℕ → Bool
-is_space octet = octet == 32 || (octet == 9)
-
--- space, tab, CR or LF
-abbrev pub is_blank : ℕ → Bool
-is_blank octet = octet == 32 || (octet == 9 || (octet == 13 || (octet == 10)))
+-- an octet of white space: space, tab, CR or LF (RFC 5228, section 2.1)
+abbrev pub is_white : ℕ → Bool
+is_white octet = octet == octet_of " " || (octet == octet_of "\t" || (octet == octet_of "\r" || (octet == octet_of "\n")))

@@ -1,14 +1,15 @@
 -- The one list of tokens of a text, as a function.
 use Rattle.std.specs.Prelude.{ℕ, ◌+◌, ◌==◌, ◌&&◌, nat_lt, if◌then◌else◌, List, [], ◌∷◌, length, drop, Option, Some, None, option_map}
 use Rattle.std.proofs.Common.{zero, suc}
+use Rattle.sieve_base.specs.Octet.{octet_of, is_digit, is_blank}
 use Rattle.sieve_syntax.specs.Line.{line_length, lines_of, is_dot_line}
-use Rattle.sieve_syntax.specs.Octet.{begins_name, is_name_octet, is_digit, is_unit, is_space}
+use Rattle.sieve_syntax.specs.Octet.{begins_name, is_name_octet, is_unit}
 use Rattle.sieve_syntax.specs.Spelling.{is_opening, is_text}
 use Rattle.sieve_syntax.specs.Token.{line_at}
 use Rattle.sieve_syntax.specs.White.{begins_with, white_at}
 use Rattle.sieve_syntax.specs.declared.token.Token.{Token}
 use Rattle.sieve_syntax.specs.declared.token.TokenKind.{TokenKind}
-use Rattle.sieve_syntax.specs.declared.token.TokenKind.TheVariants.{Identifier, Tag, Number, Quoted, MultiLine, Semicolon, OpenBrace, CloseBrace, OpenParenthesis, CloseParenthesis, OpenBracket, CloseBracket, Comma, Bad}
+use Rattle.sieve_syntax.specs.declared.token.TokenKind.TheVariants as kinds
 
 -- how many octets of a name begin a text
 unfoldable pub name_length : List ℕ → ℕ
@@ -24,7 +25,7 @@ unfoldable mutual
   -- how many octets a quoted string has, behind its first quotation mark
   pub quoted_length : List ℕ → Option ℕ
   quoted_length [] = None
-  quoted_length (c ∷ cs) = if c == 92 then option_map suc (protected_length cs) else (if c == 34 then Some 1 else option_map suc (quoted_length cs))
+  quoted_length (c ∷ cs) = if c == octet_of "\\" then option_map suc (protected_length cs) else (if c == octet_of "\"" then Some 1 else option_map suc (quoted_length cs))
 
   pub protected_length : List ℕ → Option ℕ
   protected_length [] = None
@@ -44,19 +45,19 @@ dot_length (line ∷ lines) = if is_dot_line line then Some (length line) else o
 unfoldable pub opening_stop : List ℕ → Option ℕ
 opening_stop [] = None
 opening_stop (c ∷ cs) =
-    if c == 10 then Some 1
-    else (if (c == 13) && begins_with 10 cs then Some 2
-    else (if c == 35 then Some (line_length (c ∷ cs))
+    if c == octet_of "\n" then Some 1
+    else (if (c == octet_of "\r") && begins_with (octet_of "\n") cs then Some 2
+    else (if c == octet_of "#" then Some (line_length (c ∷ cs))
     else None))
 
 -- and the blanks in front of them
 unfoldable pub opening_end : List ℕ → Option ℕ
 opening_end [] = None
-opening_end (c ∷ cs) = if is_space c then option_map suc (opening_end cs) else opening_stop (c ∷ cs)
+opening_end (c ∷ cs) = if is_blank c then option_map suc (opening_end cs) else opening_stop (c ∷ cs)
 
 -- how many octets the first line of a multi-line string has that begins a text
 unfoldable pub opening_length : List ℕ → Option ℕ
-opening_length (t ∷ e ∷ x ∷ u ∷ c ∷ cs) = if is_text t e x u && (c == 58) then option_map (λ n. 5 + n) (opening_end cs) else None
+opening_length (t ∷ e ∷ x ∷ u ∷ c ∷ cs) = if is_text t e x u && (c == octet_of ":") then option_map (λ n. 5 + n) (opening_end cs) else None
 opening_length _ = None
 
 -- how many octets of a multi-line string begin lines
@@ -67,15 +68,15 @@ multi_line_length (line ∷ lines) = if is_opening line then option_map (λ n. l
 -- an identifier or a multi-line string
 unfoldable pub name_at : List ℕ → Option (TokenKind × ℕ)
 name_at [] = None
-name_at (c ∷ cs) = elim (multi_line_length (lines_of (c ∷ cs))) [ Some n ↦ Some (MultiLine, n) | None ↦ Some (Identifier, suc (name_length cs)) ]
+name_at (c ∷ cs) = elim (multi_line_length (lines_of (c ∷ cs))) [ Some n ↦ Some (kinds.MultiLine, n) | None ↦ Some (kinds.Identifier, suc (name_length cs)) ]
 
 -- a tag, behind its colon
 unfoldable pub tag_at : List ℕ → Option (TokenKind × ℕ)
 tag_at [] = None
-tag_at (c ∷ cs) = if begins_name c then Some (Tag, suc (suc (name_length cs))) else None
+tag_at (c ∷ cs) = if begins_name c then Some (kinds.Tag, suc (suc (name_length cs))) else None
 
-abbrev pub quoted : ℕ → TokenKind × ℕ
-quoted n = (Quoted, suc n)
+abbrev pub quoted_token : ℕ → TokenKind × ℕ
+quoted_token n = (kinds.Quoted, suc n)
 
 abbrev pub one : TokenKind → Option (TokenKind × ℕ)
 one kind = Some (kind, 1)
@@ -83,14 +84,14 @@ one kind = Some (kind, 1)
 -- punctuation
 unfoldable pub mark_at : ℕ → Option (TokenKind × ℕ)
 mark_at c =
-    if c == 59 then one Semicolon
-    else (if c == 44 then one Comma
-    else (if c == 123 then one OpenBrace
-    else (if c == 125 then one CloseBrace
-    else (if c == 40 then one OpenParenthesis
-    else (if c == 41 then one CloseParenthesis
-    else (if c == 91 then one OpenBracket
-    else (if c == 93 then one CloseBracket
+    if c == octet_of ";" then one kinds.Semicolon
+    else (if c == octet_of "," then one kinds.Comma
+    else (if c == octet_of "{" then one kinds.OpenBrace
+    else (if c == octet_of "}" then one kinds.CloseBrace
+    else (if c == octet_of "(" then one kinds.OpenParenthesis
+    else (if c == octet_of ")" then one kinds.CloseParenthesis
+    else (if c == octet_of "[" then one kinds.OpenBracket
+    else (if c == octet_of "]" then one kinds.CloseBracket
     else None)))))))
 
 -- the longest spelling that begins a text, and its length
@@ -98,9 +99,9 @@ unfoldable pub longest_at : List ℕ → Option (TokenKind × ℕ)
 longest_at [] = None
 longest_at (c ∷ cs) =
     if begins_name c then name_at (c ∷ cs)
-    else (if is_digit c then Some (Number, suc (number_length cs))
-    else (if c == 58 then tag_at cs
-    else (if c == 34 then option_map quoted (quoted_length cs)
+    else (if is_digit c then Some (kinds.Number, suc (number_length cs))
+    else (if c == octet_of ":" then tag_at cs
+    else (if c == octet_of "\"" then option_map quoted_token (quoted_length cs)
     else mark_at c)))
 
 unfoldable pub token_at : List ℕ → ℕ → TokenKind → ℕ → Token
@@ -114,7 +115,7 @@ tokens_from (suc fuel) text place =
       | Some n ↦ tokens_from fuel text (place + n)
       | None ↦ elim (longest_at (drop place text)) [
         | Some found ↦ token_at text place found.0 (place + found.1) ∷ tokens_from fuel text (place + found.1)
-        | None ↦ if nat_lt place (length text) then token_at text place Bad (length text) ∷ [] else []
+        | None ↦ if nat_lt place (length text) then token_at text place kinds.Bad (length text) ∷ [] else []
       ]
     ]
 

@@ -1,31 +1,32 @@
 -- How tokens are spelled (RFC 5228, sections 2.2 to 2.4 and 8.1): whether a list of octets spells a token of a kind.
 use Rattle.std.specs.Prelude.{ℕ, Bool, true, false, ◌==◌, ◌||◌, ◌&&◌, if◌then◌else◌, List, [], ◌∷◌}
 use Rattle.std.specs.List.{list_all}
+use Rattle.sieve_base.specs.Octet.{octet_of, is_digit, is_blank}
 use Rattle.sieve_syntax.specs.Line.{lines_of, is_line_end, is_dot_line}
-use Rattle.sieve_syntax.specs.Octet.{begins_name, is_name_octet, is_digit, is_unit, is_space}
+use Rattle.sieve_syntax.specs.Octet.{begins_name, is_name_octet, is_unit}
 use Rattle.sieve_syntax.specs.declared.token.TokenKind.{TokenKind}
-use Rattle.sieve_syntax.specs.declared.token.TokenKind.TheVariants.{Identifier, Tag, Number, Quoted, MultiLine, Semicolon, OpenBrace, CloseBrace, OpenParenthesis, CloseParenthesis, OpenBracket, CloseBracket, Comma, Bad}
+use Rattle.sieve_syntax.specs.declared.token.TokenKind.TheVariants as kinds
 
 abbrev pub is_none : {A : Type 0} → List A → Bool
 is_none [] = true
 is_none (x ∷ xs) = false
 
--- identifier: a letter or `_`, then letters, digits and `_`
+-- identifier: a letter or `_`, then letters, digits and `_` (RFC 5228, section 8.1)
 unfoldable pub is_identifier : List ℕ → Bool
 is_identifier [] = false
 is_identifier (c ∷ cs) = begins_name c && list_all is_name_octet cs
 
--- tag: a colon and an identifier
+-- tag: a colon and an identifier (RFC 5228, section 8.1)
 unfoldable pub is_tag : List ℕ → Bool
 is_tag [] = false
-is_tag (c ∷ cs) = c == 58 && is_identifier cs
+is_tag (c ∷ cs) = c == octet_of ":" && is_identifier cs
 
 -- digits, and then a unit or nothing
 unfoldable pub ends_number : List ℕ → Bool
 ends_number [] = true
 ends_number (c ∷ cs) = if is_digit c then ends_number cs else (is_unit c && is_none cs)
 
--- number: a digit, digits, and then a unit or nothing
+-- number: a digit, digits, and then a unit or nothing (RFC 5228, section 8.1)
 unfoldable pub is_number : List ℕ → Bool
 is_number [] = false
 is_number (c ∷ cs) = is_digit c && ends_number cs
@@ -34,30 +35,30 @@ unfoldable mutual
   -- the rest of a quoted string: up to a quotation mark that no backslash protects
   pub ends_quoted : List ℕ → Bool
   ends_quoted [] = false
-  ends_quoted (c ∷ cs) = if c == 92 then ends_protected cs else (if c == 34 then is_none cs else ends_quoted cs)
+  ends_quoted (c ∷ cs) = if c == octet_of "\\" then ends_protected cs else (if c == octet_of "\"" then is_none cs else ends_quoted cs)
 
   -- behind a backslash
   pub ends_protected : List ℕ → Bool
   ends_protected [] = false
   ends_protected (c ∷ cs) = ends_quoted cs
 
--- quoted string
+-- quoted string (RFC 5228, sections 2.4.2 and 8.1)
 unfoldable pub is_quoted : List ℕ → Bool
 is_quoted [] = false
-is_quoted (c ∷ cs) = c == 34 && ends_quoted cs
+is_quoted (c ∷ cs) = c == octet_of "\"" && ends_quoted cs
 
 -- spaces and tabs, and then a line end or a hash comment
 unfoldable pub ends_opening : List ℕ → Bool
 ends_opening [] = false
-ends_opening (c ∷ cs) = if is_space c then ends_opening cs else ((c == 35) || is_line_end (c ∷ cs))
+ends_opening (c ∷ cs) = if is_blank c then ends_opening cs else ((c == octet_of "#") || is_line_end (c ∷ cs))
 
 -- `text` in any case
 abbrev pub is_text : ℕ → ℕ → ℕ → ℕ → Bool
-is_text t e x u = (t == 116 || (t == 84)) && ((e == 101 || (e == 69)) && ((x == 120 || (x == 88)) && (u == 116 || (u == 84))))
+is_text t e x u = (t == octet_of "t" || (t == octet_of "T")) && ((e == octet_of "e" || (e == octet_of "E")) && ((x == octet_of "x" || (x == octet_of "X")) && (u == octet_of "t" || (u == octet_of "T"))))
 
 -- the first line of a multi-line string: `text:`, and the rest of the line
 unfoldable pub is_opening : List ℕ → Bool
-is_opening (t ∷ e ∷ x ∷ u ∷ c ∷ cs) = is_text t e x u && ((c == 58) && ends_opening cs)
+is_opening (t ∷ e ∷ x ∷ u ∷ c ∷ cs) = is_text t e x u && ((c == octet_of ":") && ends_opening cs)
 is_opening _ = false
 
 -- lines up to the first that is a dot alone
@@ -69,7 +70,7 @@ unfoldable pub are_multi_line : List (List ℕ) → Bool
 are_multi_line [] = false
 are_multi_line (line ∷ lines) = is_opening line && end_at_dot lines
 
--- multi-line string
+-- multi-line string (RFC 5228, sections 2.4.2 and 8.1)
 unfoldable pub is_multi_line : List ℕ → Bool
 is_multi_line word = are_multi_line (lines_of word)
 
@@ -80,17 +81,17 @@ is_one octet (c ∷ []) = c == octet
 is_one octet (c ∷ d ∷ ds) = false
 
 unfoldable pub spells : TokenKind → List ℕ → Bool
-spells Identifier word = is_identifier word
-spells Tag word = is_tag word
-spells Number word = is_number word
-spells Quoted word = is_quoted word
-spells MultiLine word = is_multi_line word
-spells Semicolon word = is_one 59 word
-spells OpenBrace word = is_one 123 word
-spells CloseBrace word = is_one 125 word
-spells OpenParenthesis word = is_one 40 word
-spells CloseParenthesis word = is_one 41 word
-spells OpenBracket word = is_one 91 word
-spells CloseBracket word = is_one 93 word
-spells Comma word = is_one 44 word
-spells Bad word = false
+spells kinds.Identifier word = is_identifier word
+spells kinds.Tag word = is_tag word
+spells kinds.Number word = is_number word
+spells kinds.Quoted word = is_quoted word
+spells kinds.MultiLine word = is_multi_line word
+spells kinds.Semicolon word = is_one (octet_of ";") word
+spells kinds.OpenBrace word = is_one (octet_of "{") word
+spells kinds.CloseBrace word = is_one (octet_of "}") word
+spells kinds.OpenParenthesis word = is_one (octet_of "(") word
+spells kinds.CloseParenthesis word = is_one (octet_of ")") word
+spells kinds.OpenBracket word = is_one (octet_of "[") word
+spells kinds.CloseBracket word = is_one (octet_of "]") word
+spells kinds.Comma word = is_one (octet_of ",") word
+spells kinds.Bad word = false

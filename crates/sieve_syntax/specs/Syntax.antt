@@ -1,5 +1,6 @@
 -- What a text means: the one tree that writes it, or the line of its first fault.
 use Rattle.std.specs.Prelude.{◌≡◌, ℕ, ◌⊎◌, List, [], ◌∷◌, ◌++◌, length, Result}
+use Rattle.sieve_base.specs.Limits.{test_depth, block_room}
 use Rattle.sieve_syntax.specs.Grammar.{Writes, Begins}
 use Rattle.sieve_syntax.specs.Machine.{start, read}
 use Rattle.sieve_syntax.specs.Scan.{tokens_of}
@@ -7,17 +8,6 @@ use Rattle.sieve_syntax.specs.Token.{Spells, line_at}
 use Rattle.sieve_syntax.specs.Tree.{Node}
 use Rattle.sieve_syntax.specs.Word.{words_of}
 use Rattle.sieve_syntax.specs.declared.token.Token.{Token}
-
--- the most octets of a text
-abbrev pub text_limit : ℕ
-text_limit = 1048576
-
--- how deep tests may go, and how many blocks may stand open at once
-abbrev pub test_depth : ℕ
-test_depth = 32
-
-abbrev pub block_room : ℕ
-block_room = 32
 
 -- The line is that of the first token with which the tokens begin nothing that a tree writes.
 pub record IsFaultAt (depth room : ℕ) (text : List ℕ) (tokens : List Token) (line : ℕ) : Type 0 where

@@ -1,6 +1,7 @@
 -- The tokens of a text (RFC 5228, sections 2 and 8.1): white space and spellings in turn.
 use Rattle.std.specs.Prelude.{◌≡◌, ℕ, ◌+◌, ◌<◌, ◌≤◌, ◌==◌, ◌⊎◌, IsTrue, List, [], ◌∷◌, length, take, drop, count_by, Some, None}
 use Rattle.std.specs.List.{slice_range}
+use Rattle.sieve_base.specs.Octet.{octet_of}
 use Rattle.sieve_syntax.specs.Spelling.{spells}
 use Rattle.sieve_syntax.specs.White.{white_at}
 use Rattle.sieve_syntax.specs.declared.token.Token.{Token}
@@ -9,7 +10,7 @@ use Rattle.sieve_syntax.specs.declared.token.TokenKind.TheVariants.{Bad}
 
 -- the number of LF among octets
 abbrev pub line_feeds : List ℕ → ℕ
-line_feeds octets = count_by (λ octet. octet == 10) octets
+line_feeds octets = count_by (λ octet. octet == octet_of "\n") octets
 
 -- the line of a place: one plus the number of LF before it
 abbrev pub line_at : List ℕ → ℕ → ℕ
@@ -41,7 +42,8 @@ pub record IsInside (text : List ℕ) (token : Token) : Type 0 where
   pub some : token.start < token.end
   pub inside : token.end ≤ length text
 
--- From a place on, the text is white space and longest spellings in turn. Where none begins, a bad token ends the list.
+-- From a place on, the text is white space and longest spellings in turn (RFC 5228, section 8.1). Where none begins, a bad
+-- token ends the list.
 abbrev pub SpellsFrom : List ℕ → ℕ → List Token → Type 0
 SpellsFrom text place [] = White text place (length text)
 SpellsFrom text place (token ∷ tokens) =

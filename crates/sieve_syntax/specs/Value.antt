@@ -1,43 +1,44 @@
 -- What the words of a text stand for (RFC 5228, section 2.4).
 use Rattle.std.specs.Prelude.{ℕ, ◌+◌, ◌-◌, ◌*◌, ◌^◌, ◌==◌, ◌&&◌, ◌||◌, Bool, false, not, nat_lt, if◌then◌else◌, List, [], ◌∷◌, ◌++◌, length, drop, Option, Some, None}
 use Rattle.std.specs.List.{slice_range}
+use Rattle.sieve_base.specs.Octet.{octet_of, is_digit}
 use Rattle.sieve_syntax.specs.Line.{lines_of, is_dot_line}
-use Rattle.sieve_syntax.specs.Octet.{is_digit}
 
--- what a unit stands for: K is 2 ^ 10, M is 2 ^ 20 and G is 2 ^ 30
+-- what a unit stands for (RFC 5228, section 2.4.1): K is 2 ^ 10, M is 2 ^ 20 and G is 2 ^ 30
 abbrev pub unit_of : ℕ → ℕ
-unit_of octet = if octet == 75 || (octet == 107) then 1024 else (if octet == 77 || (octet == 109) then 1048576 else 1073741824)
+unit_of octet = if octet == octet_of "K" || (octet == octet_of "k") then 1024 else (if octet == octet_of "M" || (octet == octet_of "m") then 1048576 else 1073741824)
 
 -- the digits of a number in base 10 behind those that gave n, times its unit
 unfoldable pub number_from : ℕ → List ℕ → ℕ
 number_from n [] = n
-number_from n (c ∷ cs) = if is_digit c then number_from (10 * n + (c - 48)) cs else n * unit_of c
+number_from n (c ∷ cs) = if is_digit c then number_from (10 * n + (c - octet_of "0")) cs else n * unit_of c
 
--- a number, or none past 64 bits
+-- a number (RFC 5228, section 2.4.1), or none past 64 bits
 abbrev pub number_of : List ℕ → Option ℕ
 number_of word = if nat_lt (number_from 0 word) (2 ^ 64) then Some (number_from 0 word) else None
 
 -- an octet, and a CR before an LF that has none
 abbrev pub line_end : Bool → ℕ → List ℕ
-line_end after_cr c = if (c == 10) && not after_cr then 13 ∷ 10 ∷ [] else c ∷ []
+line_end after_cr c = if (c == octet_of "\n") && not after_cr then octet_of "\r" ∷ octet_of "\n" ∷ [] else c ∷ []
 
--- each LF without a CR before it gets one; whether a CR stands before these octets
+-- each LF without a CR before it gets one (RFC 5228, section 2.4.2: a line end in a string is CR and LF); whether a CR
+-- stands before these octets
 unfoldable pub with_cr : Bool → List ℕ → List ℕ
 with_cr after_cr [] = []
-with_cr after_cr (c ∷ cs) = line_end after_cr c ++ with_cr (c == 13) cs
+with_cr after_cr (c ∷ cs) = line_end after_cr c ++ with_cr (c == octet_of "\r") cs
 
 -- whether a backslash protects the octet behind it, which one that is protected itself doesn't
 abbrev pub is_protector : Bool → ℕ → Bool
-is_protector protected c = (c == 92) && not protected
+is_protector protected c = (c == octet_of "\\") && not protected
 
 abbrev pub kept_octet : Bool → ℕ → List ℕ
 kept_octet protected c = if is_protector protected c then [] else c ∷ []
 
 unfoldable mutual
-  -- a backslash and an octet give that octet
+  -- a backslash and an octet give that octet (RFC 5228, section 2.4.2)
   pub unprotected : List ℕ → List ℕ
   unprotected [] = []
-  unprotected (c ∷ cs) = if c == 92 then first_kept cs else c ∷ unprotected cs
+  unprotected (c ∷ cs) = if c == octet_of "\\" then first_kept cs else c ∷ unprotected cs
 
   pub first_kept : List ℕ → List ℕ
   first_kept [] = []
@@ -47,21 +48,21 @@ unfoldable mutual
 abbrev pub between_quotes : List ℕ → List ℕ
 between_quotes word = slice_range word 1 (length word - 1)
 
--- a quoted string
+-- a quoted string (RFC 5228, section 2.4.2)
 unfoldable pub quoted_octets : List ℕ → List ℕ
 quoted_octets word = unprotected (with_cr false (between_quotes word))
 
--- a dot in front of a line that begins with two is removed
+-- a dot in front of a line that begins with two is removed (RFC 5228, section 2.4.2)
 unfoldable pub without_dot : List ℕ → List ℕ
 without_dot [] = []
 without_dot (c ∷ []) = c ∷ []
-without_dot (c ∷ d ∷ ds) = if (c == 46) && (d == 46) then d ∷ ds else c ∷ d ∷ ds
+without_dot (c ∷ d ∷ ds) = if (c == octet_of ".") && (d == octet_of ".") then d ∷ ds else c ∷ d ∷ ds
 
 -- the lines up to the first that is a dot alone, with CR and LF at the end of each
 unfoldable pub dot_lines : List (List ℕ) → List ℕ
 dot_lines [] = []
 dot_lines (line ∷ lines) = if is_dot_line line then [] else with_cr false (without_dot line) ++ dot_lines lines
 
--- a multi-line string: its lines behind the first
+-- a multi-line string: its lines behind the first (RFC 5228, section 2.4.2)
 unfoldable pub multi_line_octets : List ℕ → List ℕ
 multi_line_octets word = dot_lines (drop 1 (lines_of word))

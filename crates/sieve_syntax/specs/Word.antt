@@ -22,7 +22,7 @@ pub data Word : Type 0 where
   comma : Word
   bad : Word
 
--- the word that octets spell
+-- the word that octets spell (RFC 5228, section 2.4)
 unfoldable pub word_at : TokenKind → List ℕ → ℕ → Word
 word_at kinds.Identifier octets line = identifier octets line
 word_at kinds.Tag octets line = tag_word (drop 1 octets) line

@@ -1,7 +1,7 @@
 //! A place in a text, and the next token from there.
 
 ghost use Rattle.std.specs.Prelude.{◌≡◌, ◌+◌, ◌<◌, ◌≤◌, [], length, drop, MatchOption};
-ghost use Rattle.sieve_syntax.specs.Cursor.{GoesTo, IsCursor, IsNext};
+ghost use Rattle.sieve_syntax.specs.view.Cursor.{GoesTo, IsCursor, IsNext};
 ghost use Rattle.sieve_syntax.specs.Scan.{token_at};
 ghost use Rattle.sieve_syntax.specs.Token.{SpellsFrom, line_feeds};
 ghost use Rattle.sieve_syntax.specs.White.{white_at};

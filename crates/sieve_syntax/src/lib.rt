@@ -17,9 +17,6 @@ mod value;
 mod white;
 mod word;
 
-pub use parser::{SyntaxFault, TEXT_LIMIT, parse};
+pub use parser::{SyntaxFault, parse};
 pub use token::{Token, TokenKind, tokens};
 pub use tree::{Argument, Command, Script, Test, Tests, Text};
-
-#[cfg(test)]
-mod tests;

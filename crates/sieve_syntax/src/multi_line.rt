@@ -6,7 +6,7 @@ ghost use Rattle.sieve_syntax.specs.Scan.{dot_length, multi_line_length, opening
 ghost use Rattle.sieve_syntax.specs.Spelling.{is_text};
 
 use crate::line::{is_dot_line, line_length};
-use crate::octet::is_space;
+use crate::octet::is_blank;
 
 /// Whether the octets are `text`, in any case.
 fn is_text(t: u8, e: u8, x: u8, u: u8) -> bool
@@ -39,7 +39,7 @@ fn opening_end(rest: &[u8]) -> Option<usize>
     ensures inside { IfSome result (λ n. n ≤ length rest.now) }
 {
     for (i, octet) in rest.iter().enumerate() {
-        if !is_space(*octet) {
+        if !is_blank(*octet) {
             return match opening_stop(&rest[i..]) {
                 Some(length) => Some(i + length),
                 None => None,

@@ -1,18 +1,19 @@
 //! Classes of octets (RFC 5228, section 8.1).
 
 ghost use Rattle.std.specs.Prelude.{◌≡◌};
-ghost use Rattle.sieve_syntax.specs.Octet.{begins_name, is_blank, is_digit, is_name_octet, is_space, is_unit};
+ghost use Rattle.sieve_base.specs.Octet.{is_digit, is_blank};
+ghost use Rattle.sieve_syntax.specs.Octet.{begins_name, is_white, is_name_octet, is_unit};
 
 /// Whether the octet is a space or a tab.
-pub(crate) fn is_space(octet: u8) -> bool
-    ensures { result ≡ is_space octet }
+pub(crate) fn is_blank(octet: u8) -> bool
+    ensures { result ≡ is_blank octet }
 {
     matches!(octet, b' ' | b'\t')
 }
 
-/// Whether the octet is a space, a tab, a CR or an LF.
-pub(crate) fn is_blank(octet: u8) -> bool
-    ensures { result ≡ is_blank octet }
+/// Whether the octet is one of white space: a space, a tab, a CR or an LF.
+pub(crate) fn is_white(octet: u8) -> bool
+    ensures { result ≡ is_white octet }
 {
     matches!(octet, b' ' | b'\t' | b'\r' | b'\n')
 }

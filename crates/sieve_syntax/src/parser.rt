@@ -1,13 +1,15 @@
 //! The parser: from the octets of a text to its tree.
 
 ghost use Rattle.std.specs.Prelude.{◌≡◌, ◌≤◌, ◌<◌, ◌↔◌, ℕ, List, length, IfOk, IsErrOf};
+ghost use Rattle.sieve_base.specs.Limits.{block_room, test_depth, text_limit};
 ghost use Rattle.sieve_syntax.specs.Machine;
 ghost use Rattle.sieve_syntax.specs.Machine.{whole};
-ghost use Rattle.sieve_syntax.specs.Parsed.{Ends, Goes, Parses};
-ghost use Rattle.sieve_syntax.specs.Reader.{state_value};
-ghost use Rattle.sieve_syntax.specs.Syntax.{IsFaultLine, WritesText, block_room, syntax_of, test_depth, text_limit};
+ghost use Rattle.sieve_syntax.specs.view.Parsed.{Finishes, Goes, Parses};
+ghost use Rattle.sieve_syntax.specs.view.Reader.{state_value};
+ghost use Rattle.sieve_syntax.specs.Syntax.{IsFaultLine, WritesText, syntax_of};
 ghost use Rattle.sieve_syntax.specs.Token.{IsInside, line_at};
-ghost use Rattle.sieve_syntax.specs.Tree.{Node, nodes_of};
+ghost use Rattle.sieve_syntax.specs.Tree.{Node};
+ghost use Rattle.sieve_syntax.specs.view.Tree.{nodes_of};
 ghost use Rattle.sieve_syntax.specs.Word.{word_of};
 ghost use Rattle.sieve_syntax.specs.declared.parser.SyntaxFault.TheVariants.{NoMemory};
 
@@ -17,11 +19,9 @@ use crate::step::{Stop, step};
 use crate::token::{Token, last_line};
 use crate::tree::Script;
 use crate::word::read_word;
+use sieve_base::limits::MAX_TEXT;
 use std::alloc::{AllocError, Global};
 use thiserror::Error;
-
-/// The greatest length of a text, in octets.
-pub const TEXT_LIMIT: usize = 1_048_576;
 
 /// Why a text has no tree. The refusals are numbered from 1 on, in this order.
 #[derive(Clone, Copy, Debug, PartialEq, Eq, Error)]
@@ -30,7 +30,7 @@ pub enum SyntaxFault {
     /// the tokens begin no script.
     #[error("line {line}: not a script")]
     Syntax { line: u64 },
-    /// 2: the text has more octets than [`TEXT_LIMIT`]. This comes before the other two.
+    /// 2: the text has more octets than [`MAX_TEXT`]. This comes before the other two.
     #[error("the text is too large")]
     TooLarge,
     /// 3: memory ran out.
@@ -49,7 +49,7 @@ impl From<AllocError> for SyntaxFault {
 /// The tree of a text: the one script that writes it (RFC 5228, section 8.2). At most 32 blocks stand open at once, and
 /// tests go 32 deep: one directly in a command has depth 1.
 ///
-/// `TooLarge` is the answer exactly where the text has more than [`TEXT_LIMIT`] octets. Else `Syntax` is the answer only
+/// `TooLarge` is the answer exactly where the text has more than [`MAX_TEXT`] octets. Else `Syntax` is the answer only
 /// where no script writes the text. `NoMemory` is the answer where memory runs out. The time that it takes grows with the
 /// length of the text, and the memory with the tree.
 pub fn parse(alloc: Global, text: &[u8]) -> Result<Script, SyntaxFault>
@@ -61,7 +61,7 @@ pub fn parse(alloc: Global, text: &[u8]) -> Result<Script, SyntaxFault>
     // The tree or the line is what `syntax_of` says.
     ensures exact { Parses result (syntax_of text.now) }
 {
-    if text.len() > TEXT_LIMIT {
+    if text.len() > MAX_TEXT {
         return Err(SyntaxFault::TooLarge);
     }
     read_script(alloc, text)
@@ -69,7 +69,7 @@ pub fn parse(alloc: Global, text: &[u8]) -> Result<Script, SyntaxFault>
 
 /// The tree of a text, which is read token by token.
 fn read_script(alloc: Global, text: &[u8]) -> Result<Script, SyntaxFault>
-    requires { length text.now ≤ TEXT_LIMIT }
+    requires { length text.now ≤ text_limit }
     ensures small { IsErrOf result SyntaxFault.TooLarge → ⊥ }
     ensures exact { Parses result (syntax_of text.now) }
 {
@@ -107,8 +107,8 @@ fn read_token(alloc: Global, text: &[u8], token: Token, state: State) -> Result<
 /// The script, where all that was begun is ended.
 #[tactic(auto, unfolding(crate::specs::Machine::whole))]
 fn finish(text: &[u8], state: State) -> Result<Script, SyntaxFault>
-    requires { length text.now ≤ TEXT_LIMIT }
-    ensures { Ends result (whole (state_value state)) (line_at text.now (length text.now)) }
+    requires { length text.now ≤ text_limit }
+    ensures { Finishes result (whole (state_value state)) (line_at text.now (length text.now)) }
 {
     if let State::Between(outer) = state {
         if outer.blocks.is_empty() {

@@ -1,22 +1,18 @@
 //! What each token does to what stands open (RFC 5228, section 8.2).
 
 ghost use Rattle.std.specs.Prelude.{◌≡◌, ◌∷◌, [], if◌then◌else◌, map, length, nat_lt, IfOk};
+ghost use Rattle.sieve_base.specs.Limits.{block_room, test_depth};
 ghost use Rattle.sieve_syntax.specs.Machine;
-ghost use Rattle.sieve_syntax.specs.Machine.{after_command, after_listed, begun, close, close_block, for_list, for_one, step, with_argument};
-ghost use Rattle.sieve_syntax.specs.Reader.{Steps, head_value, levels_value, outer_value, state_value, word_value};
-ghost use Rattle.sieve_syntax.specs.Syntax.{block_room, test_depth};
-ghost use Rattle.sieve_syntax.specs.Tree.{argument_of, test_of, tests_of, text_of};
+ghost use Rattle.sieve_syntax.specs.Machine.{after_command, after_listed, bare_head, close, close_block, for_list, for_one, step, with_argument};
+ghost use Rattle.sieve_syntax.specs.view.Reader.{Advances, head_value, levels_value, outer_value, state_value, word_as};
+ghost use Rattle.sieve_syntax.specs.view.Tree.{argument_of, test_of, tests_of, text_of};
 ghost use Rattle.sieve_syntax.specs.declared.step.Stop.TheVariants.{NoMemory};
 
 use crate::reader::{Head, Level, Open, Outer, State, command_with, finished_test};
 use crate::tree::{Argument, Test, Tests, Text};
 use crate::word::Word;
+use sieve_base::limits::{MAX_OPEN_BLOCKS, MAX_TEST_DEPTH};
 use std::alloc::{AllocError, AllocFailed, Global};
-
-/// How deep tests may go: a test directly in a command has depth 1.
-pub(crate) const TEST_DEPTH: usize = 32;
-/// How many blocks may stand open at once.
-pub(crate) const BLOCK_ROOM: usize = 32;
 
 /// Why a token wasn't taken.
 #[derive(Clone, Copy, Debug, PartialEq, Eq)]
@@ -45,7 +41,7 @@ impl From<AllocError> for Stop {
 /// The state behind a word that stands between commands.
 #[tactic(auto, unfolding(crate::specs::Machine::step))]
 fn between(alloc: Global, outer: Outer, word: Word) -> Result<State, Stop>
-    ensures { Steps result (step test_depth block_room (Machine.between (outer_value outer)) (word_value word)) }
+    ensures { Advances result (step test_depth block_room (Machine.between (outer_value outer)) (word_as word)) }
 {
     match word {
         Word::Identifier { name, line } => Ok(State::Arguments(
@@ -60,7 +56,7 @@ fn between(alloc: Global, outer: Outer, word: Word) -> Result<State, Stop>
 
 /// A command or a test of which only the identifier is read.
 fn make_head(alloc: Global, name: Vec<u8>, line: u64) -> Head
-    ensures { head_value result ≡ begun name.items line }
+    ensures { head_value result ≡ bare_head name.items line }
 {
     Head {
         name,
@@ -72,7 +68,7 @@ fn make_head(alloc: Global, name: Vec<u8>, line: u64) -> Head
 /// The end of the innermost block.
 #[tactic(auto, unfolding(crate::specs::Machine::close_block))]
 fn close_block(outer: Outer) -> Result<State, Stop>
-    ensures { Steps result (close_block (outer_value outer).blocks (outer_value outer).done) }
+    ensures { Advances result (close_block (outer_value outer).blocks (outer_value outer).done) }
 {
     let Outer { blocks, done } = outer;
     let mut blocks = blocks;
@@ -113,7 +109,7 @@ fn in_arguments(
     head: Head,
     word: Word,
 ) -> Result<State, Stop>
-    ensures { Steps result (step test_depth block_room (Machine.in_arguments (outer_value outer) (levels_value levels.items) (head_value head)) (word_value word)) }
+    ensures { Advances result (step test_depth block_room (Machine.in_arguments (outer_value outer) (levels_value levels.items) (head_value head)) (word_as word)) }
 {
     match word {
         Word::String { octets, line } => {
@@ -151,9 +147,9 @@ fn open_test(
     name: Vec<u8>,
     line: u64,
 ) -> Result<State, Stop>
-    ensures { Steps result (if nat_lt (length (levels_value levels.items)) test_depth then Some (Machine.in_arguments (outer_value outer) (for_one (head_value head) ∷ levels_value levels.items) (begun name.items line)) else None) }
+    ensures { Advances result (if nat_lt (length (levels_value levels.items)) test_depth then Some (Machine.in_arguments (outer_value outer) (for_one (head_value head) ∷ levels_value levels.items) (bare_head name.items line)) else None) }
 {
-    if levels.len() >= TEST_DEPTH {
+    if levels.len() >= MAX_TEST_DEPTH {
         return Err(Stop::Fault);
     }
     let mut levels = levels;
@@ -163,9 +159,9 @@ fn open_test(
 
 /// Into a list of tests, where there is depth for one.
 fn open_list(alloc: Global, outer: Outer, levels: Vec<Level>, head: Head) -> Result<State, Stop>
-    ensures { Steps result (if nat_lt (length (levels_value levels.items)) test_depth then Some (Machine.before_test (outer_value outer) (for_list (head_value head) [] ∷ levels_value levels.items)) else None) }
+    ensures { Advances result (if nat_lt (length (levels_value levels.items)) test_depth then Some (Machine.before_test (outer_value outer) (for_list (head_value head) [] ∷ levels_value levels.items)) else None) }
 {
-    if levels.len() >= TEST_DEPTH {
+    if levels.len() >= MAX_TEST_DEPTH {
         return Err(Stop::Fault);
     }
     let mut levels = levels;
@@ -182,7 +178,7 @@ fn before_string(
     items: Vec<Text>,
     word: Word,
 ) -> Result<State, Stop>
-    ensures { Steps result (step test_depth block_room (Machine.before_string (outer_value outer) (levels_value levels.items) (head_value head) (map text_of items.items)) (word_value word)) }
+    ensures { Advances result (step test_depth block_room (Machine.before_string (outer_value outer) (levels_value levels.items) (head_value head) (map text_of items.items)) (word_as word)) }
 {
     match word {
         Word::String { octets, line } => {
@@ -203,7 +199,7 @@ fn after_string(
     items: Vec<Text>,
     word: Word,
 ) -> Result<State, Stop>
-    ensures { Steps result (step test_depth block_room (Machine.after_string (outer_value outer) (levels_value levels.items) (head_value head) (map text_of items.items)) (word_value word)) }
+    ensures { Advances result (step test_depth block_room (Machine.after_string (outer_value outer) (levels_value levels.items) (head_value head) (map text_of items.items)) (word_as word)) }
 {
     match word {
         Word::Comma => Ok(State::BeforeString(outer, levels, head, items)),
@@ -221,7 +217,7 @@ fn after_string(
 /// In a list of tests, where a test has to come.
 #[tactic(auto, unfolding(crate::specs::Machine::step))]
 fn before_test(alloc: Global, outer: Outer, levels: Vec<Level>, word: Word) -> Result<State, Stop>
-    ensures { Steps result (step test_depth block_room (Machine.before_test (outer_value outer) (levels_value levels.items)) (word_value word)) }
+    ensures { Advances result (step test_depth block_room (Machine.before_test (outer_value outer) (levels_value levels.items)) (word_as word)) }
 {
     match word {
         Word::Identifier { name, line } => {
@@ -241,7 +237,7 @@ fn close(
     tests: Tests,
     word: Word,
 ) -> Result<State, Stop>
-    ensures { Steps result (close block_room (outer_value outer) (levels_value levels.items) (head_value head) (tests_of tests) (word_value word)) }
+    ensures { Advances result (close block_room (outer_value outer) (levels_value levels.items) (head_value head) (tests_of tests) (word_as word)) }
 {
     let mut levels = levels;
     match levels.pop() {
@@ -267,7 +263,7 @@ fn close_in_list(
     before: Vec<Test>,
     word: Word,
 ) -> Result<State, Stop>
-    ensures { Steps result (after_listed (outer_value outer) (levels_value levels.items) (head_value owner) (map test_of before.items) (word_value word)) }
+    ensures { Advances result (after_listed (outer_value outer) (levels_value levels.items) (head_value owner) (map test_of before.items) (word_as word)) }
 {
     match word {
         Word::Comma => {
@@ -289,7 +285,7 @@ fn close_command(
     tests: Tests,
     word: Word,
 ) -> Result<State, Stop>
-    ensures { Steps result (after_command block_room (outer_value outer) (head_value head) (tests_of tests) (word_value word)) }
+    ensures { Advances result (after_command block_room (outer_value outer) (head_value head) (tests_of tests) (word_as word)) }
 {
     let Outer { blocks, done } = outer;
     match word {
@@ -299,7 +295,7 @@ fn close_command(
             Ok(State::Between(Outer { blocks, done }))
         }
         Word::OpenBrace => {
-            if blocks.len() >= BLOCK_ROOM {
+            if blocks.len() >= MAX_OPEN_BLOCKS {
                 return Err(Stop::Fault);
             }
             let mut blocks = blocks;
@@ -315,7 +311,7 @@ fn close_command(
 /// The next state.
 #[tactic(auto, unfolding(crate::specs::Machine::step))]
 pub(crate) fn step(alloc: Global, state: State, word: Word) -> Result<State, Stop>
-    ensures { Steps result (step test_depth block_room (state_value state) (word_value word)) }
+    ensures { Advances result (step test_depth block_room (state_value state) (word_as word)) }
 {
     match state {
         State::Between(outer) => between(alloc, outer, word),

@@ -21,7 +21,7 @@ pub struct Command {
 
 /// A test, with its arguments and its own tests (RFC 5228, section 2.7).
 #[derive(Debug, Drop)]
-#[cycle(test)]
+#[cycle(tests)]
 pub struct Test {
     /// The identifier, as it is written. Case doesn't matter to Sieve.
     pub name: Vec<u8>,
@@ -33,7 +33,7 @@ pub struct Test {
 
 /// The tests that stand behind the arguments of a command or a test.
 #[derive(Debug, Drop)]
-#[cycle(test)]
+#[cycle(tests)]
 pub enum Tests {
     None,
     One(Box<Test>),

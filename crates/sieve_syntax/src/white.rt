@@ -4,7 +4,7 @@ ghost use Rattle.std.specs.Prelude.{◌≡◌, ◌<◌, ◌≤◌, length, IfSom
 ghost use Rattle.sieve_syntax.specs.White.{begins_with, bracket_comment, comment_length, white_at};
 
 use crate::line::line_length;
-use crate::octet::is_blank;
+use crate::octet::is_white;
 
 /// Whether a slash begins the octets.
 fn begins_with_slash(rest: &[u8]) -> bool
@@ -54,7 +54,7 @@ pub(crate) fn white_length(rest: &[u8]) -> Option<usize>
     match rest {
         [] => None,
         [first, tail @ ..] => {
-            if is_blank(*first) {
+            if is_white(*first) {
                 Some(1)
             } else if *first == b'#' {
                 Some(line_length(tail) + 1)

@@ -1,7 +1,7 @@
 //! Tokens as the grammar sees them, with what the tree keeps of them.
 
 ghost use Rattle.std.specs.Prelude.{◌≡◌, IfOk};
-ghost use Rattle.sieve_syntax.specs.Reader.{word_value};
+ghost use Rattle.sieve_syntax.specs.view.Reader.{word_as};
 ghost use Rattle.sieve_syntax.specs.Token.{IsInside};
 ghost use Rattle.sieve_syntax.specs.Word.{word_of};
 
@@ -31,7 +31,7 @@ pub(crate) enum Word {
 #[tactic(auto, unfolding(crate::specs::Word::word_at))]
 pub(crate) fn read_word(alloc: Global, text: &[u8], token: Token) -> Result<Word, AllocError>
     requires { IsInside text.now token }
-    ensures { IfOk result (λ word. word_value word ≡ word_of text.now token) }
+    ensures { IfOk result (λ word. word_as word ≡ word_of text.now token) }
 {
     let octets = &text[token.start..token.end];
     let line = token.line;

@@ -3,6 +3,7 @@ use Rattle.std.proofs.Common.{◌≡◌, ◌≢◌, ℕ, ◌+◌, ◌<◌, ◌�
 use Rattle.std.specs.Option.{option_map}
 use Rattle.std.proofs.lemmas.Bool.Decides.{nat_tests}
 use Rattle.std.proofs.lemmas.List.{drop_more, take_more, take_all}
+use Rattle.sieve_base.specs.Limits.{line_limit}
 use Rattle.sievebench.specs.SessionLine.{cut_line, in_front, without_cr, first_line, line_from}
 
 -- a cut with these octets in front of its line
@@ -135,15 +136,15 @@ unfolding first_line
 first_line-last bs none = rw append-nil (ap (line_from bs) none)
 
 -- a line that isn't at its end and has too many octets
-pub first_line-long : (bs more : List ℕ) → cut_line bs ≡ None → (16385 < length bs) ⊎ ((length bs ≡ 16385) × (get_or bs 16384 0 ≢ 13)) → 16384 < length (first_line (bs ++ more)).0
+pub first_line-long : (bs more : List ℕ) → cut_line bs ≡ None → (line_limit + 1 < length bs) ⊎ ((length bs ≡ line_limit + 1) × (get_or bs line_limit 0 ≢ 13)) → line_limit < length (first_line (bs ++ more)).0
 unfolding first_line
 first_line-long bs more none long = rw (cut_line-none bs more none) (by_cut (cut_line more))
   where
-    by_rest : (rest : List ℕ) → (16385 < length bs) ⊎ ((length bs ≡ 16385) × (get_or bs 16384 0 ≢ 13)) → 16384 < length (without_cr (bs ++ rest))
+    by_rest : (rest : List ℕ) → (line_limit + 1 < length bs) ⊎ ((length bs ≡ line_limit + 1) × (get_or bs line_limit 0 ≢ 13)) → line_limit < length (without_cr (bs ++ rest))
     by_rest rest (inl h) = omega (arith, length-without_cr (bs ++ rest), length-append bs rest)
-    by_rest [] (inr h) = rw append-nil (rw (without_cr-kept bs 16384 h.0 h.1) (omega (arith, h.0)))
+    by_rest [] (inr h) = rw append-nil (rw (without_cr-kept bs line_limit h.0 h.1) (omega (arith, h.0)))
     by_rest (b ∷ rest) (inr h) = omega (arith, length-without_cr (bs ++ b ∷ rest), length-append bs (b ∷ rest), h.0)
 
-    by_cut : (r : Option (List ℕ × List ℕ)) → 16384 < length (line_from (bs ++ more) (option_map (behind bs) r)).0
+    by_cut : (r : Option (List ℕ × List ℕ)) → line_limit < length (line_from (bs ++ more) (option_map (behind bs) r)).0
     by_cut None = elim long [ inl h ↦ omega (arith, length-append bs more) | inr h ↦ omega (arith, length-append bs more, h.0) ]
     by_cut (Some cut) = by_rest cut.0 long

@@ -3,15 +3,16 @@ use Rattle.std.proofs.Common.{◌≡◌, ℕ, ◌<◌, ◌≤◌, inl, inr, List
 use Rattle.std.proofs.lemmas.Bool.Decides.{nat_tests}
 use Rattle.std.proofs.KnownBytes.{Appends-nil}
 use Rattle.std.specs.Io.KnownBytes.{Appends, Keeps, prepend_known}
+use Rattle.sieve_base.specs.Limits.{line_limit}
 use Rattle.sievebench.specs.Content.{Content, Edit, put_script, put_message, set_main, rename_script, remove_script, set_envelope, set_mailbox}
-use Rattle.sievebench.specs.Line.{IsLine, IsWithin}
-use Rattle.sievebench.specs.Session.{Request, takes_memory, request_of, request_at, request_by, with_octets, edits, unreadable}
+use Rattle.sievebench.specs.view.Line.{IsLine, IsWithin}
+use Rattle.sievebench.specs.Session.{MatchSessionEnd, Request, takes_memory, request_of, request_at, request_by, with_octets, edits, unreadable}
 use Rattle.sievebench.specs.SessionLine as line
 use Rattle.sievebench.specs.SessionLine.{first_line, command_of_line}
-use Rattle.sievebench.specs.Task.{IsFollowedBy, command_of, edit_by}
+use Rattle.sievebench.specs.view.Task.{IsFollowedBy, command_of, edit_by}
 use Rattle.sievebench.specs.declared.task.Change.{Change}
 use Rattle.sievebench.specs.declared.task.Change.TheVariants as changes
-use Rattle.sievebench.specs.Turn.{StepFrom, EndFrom, TurnsFrom, EndsBy, MatchSessionEnd}
+use Rattle.sievebench.specs.view.Turn.{StepFrom, EndFrom, TurnsFrom, EndsBy}
 use Rattle.sievebench.specs.declared.line.Line.TheVariants.{Over, Whole, TooLong}
 use Rattle.sievebench.specs.declared.server.Turn.{Turn}
 use Rattle.sievebench.specs.declared.server.Turn.TheVariants as turns
@@ -47,19 +48,19 @@ change_turn (changes.Envelope from to) turn old new unread before left after' tu
 change_turn (changes.Mailbox box) turn old new unread before left after' turned = turned
 
 -- a line within the limit
-whole_request : (stream front rest : List ℕ) → 0 < length stream → first_line stream ≡ (front, rest) → length front ≤ 16384 → request_of stream ≡ request_by (command_of_line front) rest
+whole_request : (stream front rest : List ℕ) → 0 < length stream → first_line stream ≡ (front, rest) → length front ≤ line_limit → request_of stream ≡ request_by (command_of_line front) rest
 unfolding request_of
 whole_request [] front rest some is small = absurd (omega arith)
 whole_request (b ∷ bs) front rest some is small =
-    let within : nat_lt 16384 (length front) ≡ false = grind (arith, nat_tests) in
+    let within : nat_lt line_limit (length front) ≡ false = grind (arith, nat_tests) in
     ap request_at is ∙ ap (λ (v : Bool). cond v unreadable (request_by (command_of_line front) rest)) within
 
 -- a line past it
-long_request : (stream : List ℕ) → 0 < length stream → 16384 < length (first_line stream).0 → request_of stream ≡ unreadable
+long_request : (stream : List ℕ) → 0 < length stream → line_limit < length (first_line stream).0 → request_of stream ≡ unreadable
 unfolding request_of
 long_request [] some long = absurd (omega arith)
 long_request (b ∷ bs) some long =
-    let past : nat_lt 16384 (length (first_line (b ∷ bs)).0) ≡ true = grind (arith, nat_tests) in
+    let past : nat_lt line_limit (length (first_line (b ∷ bs)).0) ≡ true = grind (arith, nat_tests) in
     ap (λ (v : Bool). cond v unreadable (request_by (command_of_line (first_line (b ∷ bs)).0) (first_line (b ∷ bs)).1)) past
 
 -- the end

@@ -2,12 +2,13 @@
 use Rattle.std.proofs.Common.{◌≡◌, ℕ, ◌<◌, ◌≤◌, ◌⊎◌, inl, inr, List, length, take, drop, sym, ap, refl, arith, rules, Option, None, Some, Result, Ok, Err, OnOk, OnErr, Bool, true, false, nat_lt, nat_le, ◌||◌, ◌&&◌, is_none, cond, codes, IfSome, length-take}
 use Rattle.std.proofs.lemmas.Bool.Decides.{nat_tests}
 use Rattle.std.specs.Io.KnownBytes.{Appends}
-use Rattle.sievebench.specs.Content.{Content, Edit, after, Refuses, unless, is_long, text_at, message_at, with_script, with_message}
-use Rattle.sievebench.specs.Payload.{Takes, FallsShort}
+use Rattle.sieve_base.specs.Limits.{message_count_limit, message_limit, script_count_limit, text_limit}
+use Rattle.sievebench.specs.Content.{Content, Edit, after, Refuses, unless, is_long, is_long_id, text_at, message_at, with_script, with_message}
+use Rattle.sievebench.specs.view.Payload.{Takes, FallsShort}
 use Rattle.sievebench.specs.Session.{takes_memory, with_octets, edits, reports, truncated, Replies, refusal_line}
 use Rattle.sievebench.specs.Report.{report_text}
-use Rattle.sievebench.specs.Task.{edit_of, limit_of}
-use Rattle.sievebench.specs.Turn.{RefusesIf, StepFrom, EndFrom, reply_line}
+use Rattle.sievebench.specs.view.Task.{edit_of, limit_of}
+use Rattle.sievebench.specs.view.Turn.{RefusesIf, StepFrom, EndFrom, reply_line}
 use Rattle.sievebench.specs.declared.fault.EditFault.{EditFault}
 use Rattle.sievebench.specs.declared.fault.EditFault.TheVariants.{TooLarge, Full, NoMemory}
 use Rattle.sievebench.specs.declared.task.Subject.{Subject}
@@ -48,13 +49,13 @@ second_holds false b holds = holds
 -- too many octets are refused as such
 too_large : (subject : Subject) (old : Content) (octets : List ℕ) → limit_of subject < length octets → after old (edit_of subject octets) ≡ Err TooLarge
 too_large (subjects.Script name) old octets more =
-    let past : nat_lt 1048576 (length octets) ≡ true = grind (arith, nat_tests) in
-    let first : (is_long name.name || nat_lt 1048576 (length octets)) ≡ true = second_holds (is_long name.name) _ past in
-    ap (λ (b : Bool). unless (cond b (Some TooLarge) (cond (is_none (text_at old.scripts name) && nat_le 1024 (length old.scripts)) (Some Full) None)) (record old { scripts = with_script name octets old.scripts })) first
+    let past : nat_lt text_limit (length octets) ≡ true = grind (arith, nat_tests) in
+    let first : (is_long name.name || nat_lt text_limit (length octets)) ≡ true = second_holds (is_long name.name) _ past in
+    ap (λ (b : Bool). unless (cond b (Some TooLarge) (cond (is_none (text_at old.scripts name) && nat_le script_count_limit (length old.scripts)) (Some Full) None)) (record old { scripts = with_script name octets old.scripts })) first
 too_large (subjects.Message id) old octets more =
-    let past : nat_lt 16777216 (length octets) ≡ true = grind (arith, nat_tests) in
-    let first : (is_long id || nat_lt 16777216 (length octets)) ≡ true = second_holds (is_long id) _ past in
-    ap (λ (b : Bool). unless (cond b (Some TooLarge) (cond (is_none (message_at old.messages id) && nat_le 65536 (length old.messages)) (Some Full) None)) (record old { messages = with_message id octets old.messages })) first
+    let past : nat_lt message_limit (length octets) ≡ true = grind (arith, nat_tests) in
+    let first : (is_long_id id || nat_lt message_limit (length octets)) ≡ true = second_holds (is_long_id id) _ past in
+    ap (λ (b : Bool). unless (cond b (Some TooLarge) (cond (is_none (message_at old.messages id) && nat_le message_count_limit (length old.messages)) (Some Full) None)) (record old { messages = with_message id octets old.messages })) first
 
 -- where there are enough octets
 enough : (count : ℕ) (rest : List ℕ) (edit : List ℕ → Edit) → count ≤ length rest → with_octets count rest edit ≡ edits (edit (take count rest)) (drop count rest)

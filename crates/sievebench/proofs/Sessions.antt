@@ -2,8 +2,8 @@
 use Rattle.std.proofs.Common.{ℕ, List, [], ◌++◌, refl, Option, None, Some}
 use Rattle.std.proofs.KnownBytes.{Appends-nil, Appends-trans}
 use Rattle.sievebench.specs.Content.{Content}
-use Rattle.sievebench.specs.Session.{none_yet, one_more, request_of}
-use Rattle.sievebench.specs.Turn.{StepFrom, EndFrom, SoFar, SessionFrom, MatchSessionEnd}
+use Rattle.sievebench.specs.Session.{SessionFrom, MatchSessionEnd, none_yet, one_more, request_of}
+use Rattle.sievebench.specs.view.Turn.{StepFrom, EndFrom, SoFar}
 use Rattle.sievebench.specs.declared.status.SessionEnd.{SessionEnd}
 use Rattle.sievebench.specs.declared.status.SessionEnd.TheVariants.{Done, Syntax, Truncated, Read, Write, NoMemory, TurnLimit}
 

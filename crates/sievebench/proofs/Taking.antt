@@ -3,7 +3,7 @@ use Rattle.std.proofs.Common.{◌≡◌, ℕ, ◌+◌, ◌<◌, ◌≤◌, List,
 use Rattle.std.specs.Io.KnownBytes.{Keeps, IsAtEnd, prepend_known}
 use Rattle.std.proofs.Math.Seq.{take-add}
 use Rattle.std.proofs.lemmas.List.{drop-drop, drop-append-le, take-append-le}
-use Rattle.sievebench.specs.Payload.{Takes, Grows, FallsShort}
+use Rattle.sievebench.specs.view.Payload.{Takes, Grows, FallsShort}
 
 -- nothing is taken in the beginning
 pub takes_nothing : (a kept : Option (List ℕ)) → Grows (Some []) kept [] → Takes 0 a a kept

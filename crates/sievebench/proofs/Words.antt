@@ -2,17 +2,17 @@
 use Rattle.std.proofs.Common.{◌≡◌, ◌≢◌, ℕ, ◌+◌, ◌<◌, ◌≤◌, List, [], ◌∷◌, length, get_or, take, drop, sym, ap, ◌∙◌, refl, arith, filter, length-take, rules, Bool, true, false}
 use Rattle.std.proofs.lemmas.Bool.Decides.{nat_tests}
 use Rattle.std.proofs.lemmas.List.{drop_more}
-use Rattle.sievebench.specs.SessionLine.{pieces_from, piece_length, words_of, grow_first, is_word, is_gap, spot_behind, Spot, outside, inside, escaped}
+use Rattle.sievebench.specs.SessionLine.{pieces_from, piece_length, line_words, grow_first, is_word, is_gap, spot_behind, Spot, outside, inside, escaped}
 
 -- a space in front changes no word
-pub words_of-space : (bs : List ℕ) → words_of (32 ∷ bs) ≡ words_of bs
-unfolding words_of
-words_of-space bs = refl
+pub line_words-space : (bs : List ℕ) → line_words (32 ∷ bs) ≡ line_words bs
+unfolding line_words
+line_words-space bs = refl
 
 -- one space of those in front is passed over
-pub words_of-drop : (line : List ℕ) (i : ℕ) → i < length line → get_or line i 0 ≡ 32 → words_of (drop (i + 1) line) ≡ words_of (drop i line)
-words_of-drop line i within is =
-    sym (ap words_of (drop_more line i 0 within) ∙ ap (λ b. words_of (b ∷ drop (i + 1) line)) is ∙ words_of-space (drop (i + 1) line))
+pub line_words-drop : (line : List ℕ) (i : ℕ) → i < length line → get_or line i 0 ≡ 32 → line_words (drop (i + 1) line) ≡ line_words (drop i line)
+line_words-drop line i within is =
+    sym (ap line_words (drop_more line i 0 within) ∙ ap (λ b. line_words (b ∷ drop (i + 1) line)) is ∙ line_words-space (drop (i + 1) line))
 
 -- the pieces behind the first: those of what is behind a space
 abbrev behind_space : List ℕ → List (List ℕ)
@@ -38,8 +38,8 @@ pieces_from-first spot (b ∷ bs) = by_gap (is_gap spot b) refl (pieces_from-fir
     by_gap false is later = rw is (ap (grow_first b) later)
 
 -- what is behind a piece begins with a space, which changes no word
-behind_piece : (spot : Spot) (line : List ℕ) → filter is_word (behind_space (drop (piece_length spot line) line)) ≡ words_of (drop (piece_length spot line) line)
-unfolding words_of
+behind_piece : (spot : Spot) (line : List ℕ) → filter is_word (behind_space (drop (piece_length spot line) line)) ≡ line_words (drop (piece_length spot line) line)
+unfolding line_words
 behind_piece spot [] = refl
 behind_piece spot (b ∷ bs) = by_gap (is_gap spot b) refl (behind_piece (spot_behind spot b) bs)
   where
@@ -59,9 +59,9 @@ kept [] pieces some = absurd (omega arith)
 kept (b ∷ bs) pieces some = refl
 
 -- the octets before the first such space of a line are its first word
-pub words_of-word : (line : List ℕ) (n : ℕ) → n ≡ piece_length outside line → 0 < n → words_of line ≡ take n line ∷ words_of (drop n line)
-unfolding words_of
-words_of-word line n is some =
+pub line_words-word : (line : List ℕ) (n : ℕ) → n ≡ piece_length outside line → 0 < n → line_words line ≡ take n line ∷ line_words (drop n line)
+unfolding line_words
+line_words-word line n is some =
     let within : n ≤ length line = rw is (piece_length-within outside line) in
     let first : pieces_from outside line ≡ take n line ∷ behind_space (drop n line) = rw is (pieces_from-first outside line) in
     ap (filter is_word) first ∙ (kept (take n line) (behind_space (drop n line)) (omega (arith, within, length-take n line)) ∙ ap (λ words. take n line ∷ words) (rw is (behind_piece outside line)))
@@ -72,7 +72,7 @@ piece_length-some [] some none = absurd (omega arith)
 piece_length-some (b ∷ bs) some none = grind (arith, nat_tests)
 
 -- nothing has no words
-pub words_of-none : (line : List ℕ) → length line ≡ 0 → words_of line ≡ []
-unfolding words_of
-words_of-none [] none = refl
-words_of-none (b ∷ bs) none = absurd (omega arith)
+pub line_words-none : (line : List ℕ) → length line ≡ 0 → line_words line ≡ []
+unfolding line_words
+line_words-none [] none = refl
+line_words-none (b ∷ bs) none = absurd (omega arith)

@@ -1,10 +1,9 @@
 -- How a text that is written in several steps comes about.
-use Rattle.std.proofs.Common.{◌≡◌, ℕ, ◌≤◌, List, [], ◌++◌, sym, ap, ◌∙◌, append_assoc, append-nil, refl, arith, Option, Result, Ok, Err, OnErr, ◌<◌, ◌+◌, length, get_or, drop}
+use Rattle.std.proofs.Common.{◌≡◌, ℕ, List, [], ◌++◌, sym, ap, ◌∙◌, append_assoc, append-nil, refl, Option, Result, Ok, Err, OnErr, ◌<◌, ◌+◌, length, get_or, drop, subst}
 use Rattle.std.specs.List.{flat_map}
 use Rattle.std.proofs.lemmas.List.{drop_more}
-use Rattle.std.proofs.KnownBytes.{Appends-nil, Appends-trans}
-use Rattle.sieve_code.specs.Devices.{HasRisen}
-use Rattle.sieve_code.specs.Writers.{Wrote, WroteFront}
+use Rattle.sieve_base.proofs.Writing.{wrote_nothing, wrote_both, wrote_then_front, wrote_front_of}
+use Rattle.sieve_base.specs.Writers.{Wrote, WroteFront}
 
 -- Between two states of a device all of a text was written, but for what is left.
 pub record Writing {S : Type 0} (contents : S → Option (List ℕ)) (fault_count : S → ℕ) (old new : S) (left all : List ℕ) : Type 0 where
@@ -20,7 +19,7 @@ flat_map-drop f xs i x within is = rw (drop_more xs i x within) (ap (λ y. f y +
 pub begins : {S : Type 0} (contents : S → Option (List ℕ)) (fault_count : S → ℕ) (s : S) (all : List ℕ) → Writing contents fault_count s s all all
 begins contents fault_count s all = record {
   done = [];
-  wrote = record { text_appended = Appends-nil (contents s); faults_kept = omega arith };
+  wrote = wrote_nothing contents fault_count s;
   whole = refl;
 }
 
@@ -29,12 +28,7 @@ pub goes_on : {S : Type 0} (contents : S → Option (List ℕ)) (fault_count : S
     → Writing contents fault_count a b (part ++ left) all → Wrote contents fault_count b c part → Writing contents fault_count a c left all
 goes_on contents fault_count a b c part left all so_far step = record {
   done = so_far.done ++ part;
-  wrote = record {
-    text_appended = Appends-trans _ _ _ _ _ so_far.wrote.text_appended step.text_appended;
-    faults_kept = let one : fault_count a ≤ fault_count b = so_far.wrote.faults_kept in
-        let two : fault_count b ≤ fault_count c = step.faults_kept in
-        omega arith;
-  };
+  wrote = wrote_both contents fault_count a b c so_far.done part so_far.wrote step;
   whole = append_assoc so_far.done part left ∙ so_far.whole;
 }
 
@@ -47,17 +41,10 @@ ends contents fault_count a b left all none so_far =
 -- the next part is written in part
 pub breaks_off : {S : Type 0} (contents : S → Option (List ℕ)) (fault_count : S → ℕ) (a b c : S) (part left all : List ℕ)
     → Writing contents fault_count a b (part ++ left) all → WroteFront contents fault_count b c part → WroteFront contents fault_count a c all
-breaks_off contents fault_count a b c part left all so_far step = record {
-  front = so_far.done ++ step.front;
-  back = step.back ++ left;
-  whole = append_assoc so_far.done step.front (step.back ++ left)
-      ∙ ap (λ l. so_far.done ++ l) (sym (append_assoc step.front step.back left) ∙ ap (λ l. l ++ left) step.whole)
-      ∙ so_far.whole;
-  front_appended = Appends-trans _ _ _ _ _ so_far.wrote.text_appended step.front_appended;
-  fault_counted = let one : fault_count a ≤ fault_count b = so_far.wrote.faults_kept in
-      let two : HasRisen (fault_count b) (fault_count c) = step.fault_counted in
-      omega arith;
-}
+breaks_off contents fault_count a b c part left all so_far step =
+    subst (WroteFront contents fault_count a c) (append_assoc so_far.done part left ∙ so_far.whole)
+    (wrote_front_of contents fault_count a c (so_far.done ++ part) left
+    (wrote_then_front contents fault_count a b c so_far.done part so_far.wrote step))
 
 -- the same, where an error is passed on
 pub stops : {S T E : Type 0} (contents : S → Option (List ℕ)) (fault_count : S → ℕ) (r : Result T E) (a b c : S) (part rest left all : List ℕ)

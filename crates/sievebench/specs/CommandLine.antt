@@ -43,9 +43,9 @@ is_help DisplayVersion = true
 is_help _ = false
 
 -- the fault for an answer of this kind
-abbrev pub Answers : ErrorKind → UsageFault → Type 0
-Answers kind NoMemory = Unit {0}
-Answers kind (Usage help text) = (kind ≢ OutOfMemory) × (help ≡ is_help kind)
+abbrev pub IsFaultFor : ErrorKind → UsageFault → Type 0
+IsFaultFor kind NoMemory = Unit {0}
+IsFaultFor kind (Usage help text) = (kind ≢ OutOfMemory) × (help ≡ is_help kind)
 
 -- the refusal is for one of these mistakes, or is the help that was asked for
 abbrev pub IsRefusalFor : Kinds → UsageFault → Type 0

@@ -4,6 +4,7 @@ use Rattle.std.specs.Map.{lookup, remove_entry}
 use Rattle.std.specs.BTreeMap as tree
 use Rattle.indexmap.specs.IndexMap as ordered
 use lib.Pointwise.{pointwise}
+use Rattle.sieve_base.specs.Limits.{address_limit, id_limit, mailbox_limit, message_count_limit, message_limit, name_limit, script_count_limit, text_limit}
 use Rattle.sieve_run.specs.declared.name.ScriptName.{ScriptName}
 use Rattle.sieve_run.specs.declared.envelope.Envelope.{Envelope}
 use Rattle.sieve_run.specs.Name.{name_cmp}
@@ -62,22 +63,26 @@ abbrev pub with_renamed : ScriptName → Option (List ℕ) → ScriptName → Li
 with_renamed from None to scripts = scripts
 with_renamed from (Some text) to scripts = without_script from (with_script to text scripts)
 
--- names and ids have at most 1,024 octets
+-- whether a script's name has too many octets
 abbrev pub is_long : List ℕ → Bool
-is_long name = nat_lt 1024 (length name)
+is_long name = nat_lt name_limit (length name)
 
--- a script's text has at most 1,048,576 octets, and there are at most 1,024 scripts
+-- whether a message's id has
+abbrev pub is_long_id : List ℕ → Bool
+is_long_id id = nat_lt id_limit (length id)
+
+-- the name and the text have their limits, and a new script must find room among the others
 abbrev pub script_refusal : List (ScriptName × List ℕ) → ScriptName → List ℕ → Option EditFault
 script_refusal scripts name text =
-    if is_long name.name || nat_lt 1048576 (length text) then Some TooLarge
-    else if is_none (text_at scripts name) && nat_le 1024 (length scripts) then Some Full
+    if is_long name.name || nat_lt text_limit (length text) then Some TooLarge
+    else if is_none (text_at scripts name) && nat_le script_count_limit (length scripts) then Some Full
     else None
 
--- a message has at most 16,777,216 octets, and there are at most 65,536 messages
+-- the id and the octets have their limits, and a new message must find room among the others
 abbrev pub message_refusal : List (List ℕ × List ℕ) → List ℕ → List ℕ → Option EditFault
 message_refusal messages id bytes =
-    if is_long id || nat_lt 16777216 (length bytes) then Some TooLarge
-    else if is_none (message_at messages id) && nat_le 65536 (length messages) then Some Full
+    if is_long_id id || nat_lt message_limit (length bytes) then Some TooLarge
+    else if is_none (message_at messages id) && nat_le message_count_limit (length messages) then Some Full
     else None
 
 abbrev pub main_refusal : ScriptName → Option EditFault
@@ -99,17 +104,17 @@ remove_script_refusal scripts name =
 
 abbrev pub remove_message_refusal : List (List ℕ × List ℕ) → List ℕ → Option EditFault
 remove_message_refusal messages id =
-    if is_long id then Some TooLarge
+    if is_long_id id then Some TooLarge
     else if is_none (message_at messages id) then Some NoSuchMessage
     else None
 
--- an address of the envelope has at most 1,024 octets
+-- each address of the envelope has a limit
 abbrev pub envelope_refusal : List ℕ → List ℕ → Option EditFault
-envelope_refusal from to = if nat_lt 1024 (length from) || nat_lt 1024 (length to) then Some TooLarge else None
+envelope_refusal from to = if nat_lt address_limit (length from) || nat_lt address_limit (length to) then Some TooLarge else None
 
--- a mailbox's name has at most 255 octets
+-- a mailbox's name has a limit
 abbrev pub mailbox_refusal : List ℕ → Option EditFault
-mailbox_refusal mailbox = if nat_lt 255 (length mailbox) then Some TooLarge else None
+mailbox_refusal mailbox = if nat_lt mailbox_limit (length mailbox) then Some TooLarge else None
 
 -- the first refusal, or else the content
 abbrev pub unless : Option EditFault → Content → Result Content EditFault

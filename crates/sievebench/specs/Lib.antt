@@ -1,16 +1,7 @@
-pub mod Command
 pub mod CommandLine
 pub mod Content
-pub mod Filled
-pub mod Input
-pub mod Line
-pub mod Payload
 pub mod Report
-pub mod ReportFault
-pub mod Reported
 pub mod Session
 pub mod SessionLine
 pub mod Status
-pub mod Task
-pub mod Turn
-pub mod Word
+pub mod view

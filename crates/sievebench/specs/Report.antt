@@ -1,9 +1,9 @@
 -- The text of a report.
 use Rattle.std.specs.Prelude.{ℕ, Bool, true, false, List, [], ◌++◌, length, map, Option, None, Some, is_some, count_by, codes, decimal}
 use Rattle.std.specs.List.{flat_map}
-use Rattle.sieve_code.specs.declared.place.Place.{Place}
-use Rattle.sieve_code.specs.declared.place.Place.TheVariants.{Personal, Global}
-use Rattle.sieve_code.specs.Writers.{quoted}
+use Rattle.sieve_base.specs.declared.place.Place.{Place}
+use Rattle.sieve_base.specs.declared.place.Place.TheVariants.{Personal, Global}
+use Rattle.sieve_base.specs.Writers.{quoted}
 use Rattle.sieve_check.specs.Judgement.{Judgement, judgement_of, sound, faulty, fault_word}
 use Rattle.sieve_run.specs.declared.name.ScriptName.{ScriptName}
 use Rattle.sieve_run.specs.declared.envelope.Envelope.{Envelope}

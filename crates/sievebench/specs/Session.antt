@@ -1,5 +1,7 @@
 -- A session: the replies to a stream of octets, and what the bench holds in the end.
-use Rattle.std.specs.Prelude.{◌≡◌, ℕ, Bool, true, false, ◌⊎◌, List, [], ◌∷◌, ◌++◌, length, take, drop, Option, None, Some, Result, Ok, Err, nat_lt, if◌then◌else◌, codes}
+use Rattle.std.specs.Prelude.{◌≡◌, ⊤, ℕ, Bool, true, false, ◌⊎◌, List, [], ◌∷◌, ◌++◌, length, take, drop, Option, None, Some, Result, Ok, Err, nat_lt, if◌then◌else◌, codes}
+use Rattle.std.specs.Io.KnownBytes.{Appends}
+use Rattle.sieve_base.specs.Limits.{line_limit}
 use Rattle.sievebench.specs.Content.{Content, Edit, put_script, put_message, set_main, rename_script, remove_script, remove_message, clear_main, set_envelope, set_mailbox, after}
 use Rattle.sievebench.specs.Report.{report_text}
 use Rattle.sievebench.specs.SessionLine.{Command, nothing, script, message, main, no_main, rename, drop_script, drop_message, envelope, mailbox, report, first_line, command_of_line}
@@ -36,9 +38,9 @@ request_by (Some (envelope from to)) rest = edits (set_envelope from to) rest
 request_by (Some (mailbox box)) rest = edits (set_mailbox box) rest
 request_by (Some report) rest = reports rest
 
--- a line has at most 16,384 octets
+-- a line that is too long says nothing that there is
 abbrev pub request_at : List ℕ × List ℕ → Request
-request_at (line, rest) = if nat_lt 16384 (length line) then unreadable else request_by (command_of_line line) rest
+request_at (line, rest) = if nat_lt line_limit (length line) then unreadable else request_by (command_of_line line) rest
 
 unfoldable pub request_of : List ℕ → Request
 request_of [] = over
@@ -101,3 +103,30 @@ pub record SessionText (old : Content) (stream : List ℕ) (text : List ℕ) (en
   pub steps : Steps old stream replies new rest
   pub ends : Ends (request_of rest) end last
   pub whole : text ≡ replies ++ last
+
+-- OVER DEVICES
+
+-- The whole session is carried out, and its text written, where the reader tells which octets it has.
+abbrev pub SessionFrom : SessionEnd → Content → Option (List ℕ) → Option (List ℕ) → Content → Option (List ℕ) → Type 0
+SessionFrom end old None before new after = ⊤
+SessionFrom end old (Some stream) before new after = (text : List ℕ) × SessionText old stream text end new × Appends before after text
+
+-- a fact for the ends that the octets ask for, none for the faults of the devices, and one for want of memory at the start
+abbrev pub MatchSessionEnd : SessionEnd → Type 0 → Type 0 → Type 0
+MatchSessionEnd ends.Done P Q = P
+MatchSessionEnd ends.Syntax P Q = P
+MatchSessionEnd ends.Truncated P Q = P
+MatchSessionEnd ends.Read P Q = ⊤
+MatchSessionEnd ends.Write P Q = ⊤
+MatchSessionEnd ends.NoMemory P Q = Q
+MatchSessionEnd ends.TurnLimit P Q = ⊤
+
+-- a fact at the ends that come with the end of the input
+abbrev pub AtLastEnd : SessionEnd → Type 0 → Type 0
+AtLastEnd ends.Done P = P
+AtLastEnd ends.Syntax P = ⊤
+AtLastEnd ends.Truncated P = P
+AtLastEnd ends.Read P = ⊤
+AtLastEnd ends.Write P = ⊤
+AtLastEnd ends.NoMemory P = ⊤
+AtLastEnd ends.TurnLimit P = ⊤

@@ -3,8 +3,9 @@ use Rattle.std.specs.Prelude.{ℕ, suc, ◌+◌, ◌-◌, ◌*◌, Bool, true, f
 use Rattle.std.specs.List.{list_all}
 use Rattle.std.specs.Option.{option_map, option_and_then}
 use lib.Pointwise.{pointwise}
-use Rattle.sieve_code.specs.declared.place.Place.{Place}
-use Rattle.sieve_code.specs.declared.place.Place.TheVariants.{Personal, Global}
+use Rattle.sieve_base.specs.declared.place.Place.{Place}
+use Rattle.sieve_base.specs.declared.place.Place.TheVariants.{Personal, Global}
+use Rattle.sieve_base.specs.Octet.{octet_of, is_between, is_digit, is_visible}
 
 -- a line with an octet in front of it, and what follows
 abbrev pub in_front : ℕ → List ℕ × List ℕ → List ℕ × List ℕ
@@ -13,12 +14,12 @@ in_front b (line, rest) = (b ∷ line, rest)
 -- the octets before the first LF, and those after it, where there is one
 abbrev pub cut_line : List ℕ → Option (List ℕ × List ℕ)
 cut_line [] = None
-cut_line (b ∷ bs) = if b == 10 then Some ([], bs) else option_map (in_front b) (cut_line bs)
+cut_line (b ∷ bs) = if b == octet_of "\n" then Some ([], bs) else option_map (in_front b) (cut_line bs)
 
 -- the octets, without a CR at their end
 abbrev pub without_cr : List ℕ → List ℕ
 without_cr [] = []
-without_cr (b ∷ []) = if b == 13 then [] else b ∷ []
+without_cr (b ∷ []) = if b == octet_of "\r" then [] else b ∷ []
 without_cr (b ∷ c ∷ bs) = b ∷ without_cr (c ∷ bs)
 
 -- a line and what follows it: a CR before the LF isn't part of it, and the end of the octets ends a line too
@@ -31,7 +32,7 @@ first_line stream = line_from stream (cut_line stream)
 
 -- an octet of a line: a visible one of ASCII, or a space
 abbrev pub is_plain : ℕ → Bool
-is_plain b = nat_le 32 b && nat_le b 126
+is_plain b = is_between (octet_of " ") (octet_of "~") b
 
 -- where an octet of a line stands: outside quotes, inside them, or behind a backslash there
 pub data Spot : Type 0 where
@@ -41,13 +42,13 @@ pub data Spot : Type 0 where
 
 -- where the octet behind an octet stands
 abbrev pub spot_behind : Spot → ℕ → Spot
-spot_behind outside b = if b == 34 then inside else outside
-spot_behind inside b = if b == 34 then outside else if b == 92 then escaped else inside
+spot_behind outside b = if b == octet_of "\"" then inside else outside
+spot_behind inside b = if b == octet_of "\"" then outside else if b == octet_of "\\" then escaped else inside
 spot_behind escaped b = inside
 
 -- whether a space there stands between words
 abbrev pub is_gap : Spot → ℕ → Bool
-is_gap outside b = b == 32
+is_gap outside b = b == octet_of " "
 is_gap inside b = false
 is_gap escaped b = false
 
@@ -70,27 +71,24 @@ is_word [] = false
 is_word (b ∷ bs) = true
 
 -- the words of a line
-unfoldable pub words_of : List ℕ → List (List ℕ)
-words_of line = filter is_word (pieces_from outside line)
+unfoldable pub line_words : List ℕ → List (List ℕ)
+line_words line = filter is_word (pieces_from outside line)
 
 -- an octet of a bare word: a visible one of ASCII, without the quote and the backslash
 abbrev pub is_bare : ℕ → Bool
-is_bare b = nat_le 33 b && nat_le b 126 && not (b == 34) && not (b == 92)
-
-abbrev pub is_digit : ℕ → Bool
-is_digit b = nat_le 48 b && nat_le b 57
+is_bare b = is_visible b && not (b == octet_of "\"") && not (b == octet_of "\\")
 
 -- the value of a hexadecimal digit, in either case
-abbrev pub hex_digit : ℕ → Option ℕ
-hex_digit b =
-    if is_digit b then Some (b - 48)
-    else if nat_le 65 b && nat_le b 70 then Some (b - 55)
-    else if nat_le 97 b && nat_le b 102 then Some (b - 87)
+abbrev pub hex_digit_value : ℕ → Option ℕ
+hex_digit_value b =
+    if is_digit b then Some (b - octet_of "0")
+    else if is_between (octet_of "A") (octet_of "F") b then Some (b - octet_of "A" + 10)
+    else if is_between (octet_of "a") (octet_of "f") b then Some (b - octet_of "a" + 10)
     else None
 
 -- the octet of two hexadecimal digits
 abbrev pub hex_octet : ℕ → ℕ → Option ℕ
-hex_octet high low = option_and_then (λ h. option_map (λ l. 16 * h + l) (hex_digit low)) (hex_digit high)
+hex_octet high low = option_and_then (λ h. option_map (λ l. 16 * h + l) (hex_digit_value low)) (hex_digit_value high)
 
 -- an octet in front of others
 abbrev pub behind : ℕ → Option (List ℕ) → Option (List ℕ)
@@ -102,24 +100,24 @@ nothing_more (b ∷ bs) = None
 
 unfoldable mutual
   -- the octets that a quoted word stands for, behind its first quote: the next one ends it, and nothing may follow
-  pub quoted_octets : List ℕ → Option (List ℕ)
-  quoted_octets [] = None
-  quoted_octets (b ∷ bs) = if b == 34 then nothing_more bs else if b == 92 then escaped_octets bs else behind b (quoted_octets bs)
+  pub quoted_value : List ℕ → Option (List ℕ)
+  quoted_value [] = None
+  quoted_value (b ∷ bs) = if b == octet_of "\"" then nothing_more bs else if b == octet_of "\\" then escaped_value bs else behind b (quoted_value bs)
 
   -- behind a backslash: a quote, a backslash, or x and two hexadecimal digits
-  pub escaped_octets : List ℕ → Option (List ℕ)
-  escaped_octets [] = None
-  escaped_octets (b ∷ bs) = if b == 34 || b == 92 then behind b (quoted_octets bs) else if b == 120 then hex_octets bs else None
+  pub escaped_value : List ℕ → Option (List ℕ)
+  escaped_value [] = None
+  escaped_value (b ∷ bs) = if b == octet_of "\"" || b == octet_of "\\" then behind b (quoted_value bs) else if b == octet_of "x" then hex_octets bs else None
 
   pub hex_octets : List ℕ → Option (List ℕ)
   hex_octets [] = None
   hex_octets (high ∷ []) = None
-  hex_octets (high ∷ low ∷ bs) = option_and_then (λ octet. behind octet (quoted_octets bs)) (hex_octet high low)
+  hex_octets (high ∷ low ∷ bs) = option_and_then (λ octet. behind octet (quoted_value bs)) (hex_octet high low)
 
 -- the octets that a word stands for: a bare word for its own
 unfoldable pub word_value : List ℕ → Option (List ℕ)
 word_value [] = None
-word_value (b ∷ bs) = if b == 34 then quoted_octets bs else if list_all is_bare (b ∷ bs) then Some (b ∷ bs) else None
+word_value (b ∷ bs) = if b == octet_of "\"" then quoted_value bs else if list_all is_bare (b ∷ bs) then Some (b ∷ bs) else None
 
 -- what a line asks for
 pub data Command : Type 0 where
@@ -144,7 +142,7 @@ place_of word = if is_text (codes "personal") word then Some Personal else if is
 -- the value of digits, behind digits of that value
 abbrev pub value_after : ℕ → List ℕ → Option ℕ
 value_after n [] = Some n
-value_after n (b ∷ bs) = if is_digit b then value_after (10 * n + (b - 48)) bs else None
+value_after n (b ∷ bs) = if is_digit b then value_after (10 * n + (b - octet_of "0")) bs else None
 
 -- a count is one to nine digits
 abbrev pub count_of : List ℕ → Option ℕ
@@ -232,4 +230,4 @@ command_of_words (word ∷ words) = command_by word words
 
 -- what a line asks for, if it is one of the lines that there are
 unfoldable pub command_of_line : List ℕ → Option Command
-command_of_line line = if list_all is_plain line then command_of_words (words_of line) else None
+command_of_line line = if list_all is_plain line then command_of_words (line_words line) else None

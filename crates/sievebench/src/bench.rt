@@ -1,22 +1,24 @@
 ghost use Rattle.std.specs.Prelude.{◌≡◌, ⊤, ◌≤◌, IfOk, OnOk, OnErr, IfErr, Ok, length, remove, is_some, IfSome};
-ghost use Rattle.sievebench.specs.Task.{Drops};
-ghost use Rattle.sieve_code.specs.Writers.{Wrote, WroteFront};
+ghost use Rattle.sievebench.specs.view.Task.{Drops};
+ghost use Rattle.sieve_base.specs.Writers.{Wrote, WroteFront};
 ghost use Rattle.sieve_run.specs.Meter.{runs_after};
 ghost use Rattle.sievebench.specs.Report.{report_text};
-ghost use Rattle.sievebench.specs.ReportFault.{MatchReportFault};
-ghost use Rattle.sievebench.specs.Content.{without_message, message_at, Refuses, Answers, new_content, after, put_script, put_message, set_main, rename_script, remove_script, remove_message, clear_main, set_envelope, set_mailbox};
+ghost use Rattle.sievebench.specs.view.ReportFault.{MatchReportFault};
+ghost use Rattle.sievebench.specs.Content.{after, Answers, message_at, new_content, Refuses, without_message};
+ghost use Rattle.sievebench.specs.Content.{put_script, put_message, set_main, rename_script, remove_script, remove_message, clear_main, set_envelope, set_mailbox};
 
 use crate::fault::{EditFault, ReportFault};
 use crate::message::message_of;
 use crate::refusal::{
-    MAX_NAME, refuse_envelope, refuse_mailbox, refuse_main, refuse_message, refuse_remove_message,
+    refuse_envelope, refuse_mailbox, refuse_main, refuse_message, refuse_remove_message,
     refuse_remove_script, refuse_rename, refuse_script,
 };
 use crate::report::{run_all, write_report};
-use crate::script::Scripts;
+use crate::scripts::Scripts;
 use crate::word::Word;
 use indexmap::IndexMap;
-use sieve_code::{Octets, Sink};
+use sieve_base::limits::MAX_ID;
+use sieve_base::{Octets, Sink};
 use sieve_run::{Envelope, Message, Meter, ScriptName};
 use std::alloc::{AllocError, Global};
 use std::collections::BTreeMap;
@@ -210,7 +212,7 @@ impl Bench {
     pub(crate) fn drop_message(&mut self, id: &Word<'_>) -> Result<(), EditFault>
         ensures { Drops id.now result self.old self.new }
     {
-        if id.len() > MAX_NAME {
+        if id.len() > MAX_ID {
             return Err(EditFault::TooLarge);
         }
         match position_of(&self.messages, id) {

@@ -2,7 +2,7 @@
 ghost use Rattle.std.specs.Prelude.{◌≡◌, ◌↔◌, IfOk, IfErr, IfSome, Some, false, true, map, IsTrue, option_map, IsSome, IsOkUnless};
 ghost use Rattle.clap.specs.Words.{app_of, fault_of, kind_of, rows_of, shape_of, subcommand_rows_of};
 ghost use Rattle.clap.specs.declared.builder.command.Command.TheViews.{out-Command};
-ghost use Rattle.sievebench.specs.CommandLine.{the_app, top_app, session_shape, named_job, job_of, Answers, IsRefusalFor};
+ghost use Rattle.sievebench.specs.CommandLine.{the_app, top_app, session_shape, named_job, job_of, IsFaultFor, IsRefusalFor};
 
 use clap::error::ErrorKind;
 use clap::{ArgMatches, Command, Error};
@@ -69,7 +69,7 @@ fn program<'a>(alloc: Global) -> Result<Command<'a>, AllocError>
 // What `clap` answers in place of matches, for the user.
 fn usage_fault(alloc: Global, error: &Error) -> UsageFault
     ensures memory { kind_of error.now ≡ ErrorKind.OutOfMemory → result ≡ UsageFault.NoMemory }
-    ensures usage { Answers (kind_of error.now) result }
+    ensures usage { IsFaultFor (kind_of error.now) result }
 {
     if error.kind() == ErrorKind::OutOfMemory {
         return UsageFault::NoMemory;

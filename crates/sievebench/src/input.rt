@@ -1,9 +1,9 @@
 //! Reads a session's octets in large pieces, and hands them out as lines and counted octets.
 ghost use Rattle.std.specs.Prelude.{◌≡◌, false, ◌<◌, ◌≤◌, ◌+◌, ℕ, [], List, length, take, drop, ◌-◌, slice_range, IfOk, OnErr, MatchResult};
 ghost use Rattle.std.specs.Io.KnownBytes.{Keeps, Consumes, IsAtEnd};
-ghost use Rattle.sieve_code.specs.Devices.{HasRisen};
+ghost use Rattle.sieve_base.specs.Devices.{HasRisen};
 
-use sieve_code::Source;
+use sieve_base::Source;
 use std::alloc::{AllocError, Global};
 use std::io;
 use std::io::ErrorKind;
@@ -27,7 +27,7 @@ pub(crate) struct Input {
 
 impl Model for Input {
     ghost use Rattle.std.specs.Prelude.{◌≡◌, false, ◌≤◌, slice_range, vec_len};
-    ghost use Rattle.sievebench.specs.Input as spec;
+    ghost use Rattle.sievebench.specs.view.Input as spec;
 
     ghost Value = { spec.Input };
 
@@ -88,8 +88,8 @@ fn refill<R: Source>(
 }
 
 impl Input {
-    ghost use Rattle.sievebench.specs.Input.{capacity, unread, fuel, Knows};
-    ghost use Rattle.sievebench.specs.Filled.{MatchFilled};
+    ghost use Rattle.sievebench.specs.view.Input.{capacity, unread, fuel, Knows};
+    ghost use Rattle.sievebench.specs.view.Filled.{MatchFilled};
 
     /// Nothing is read yet, and so many reads may be made.
     pub(crate) fn new(alloc: Global, turns: u64) -> Result<Input, AllocError>

@@ -1,15 +1,14 @@
 //! The lines of a session's input.
 ghost use Rattle.std.specs.Prelude.{◌≡◌, ◌<◌, ◌≤◌, ◌+◌, ℕ, List, [], None, Some, length, take, drop, false, ⊤, MatchOption, IfSome, IsTrue};
 ghost use Rattle.std.specs.Io.KnownBytes.{Keeps, IsAtEnd};
-ghost use Rattle.sieve_code.specs.Devices.{HasRisen};
+ghost use Rattle.sieve_base.specs.Devices.{HasRisen};
+ghost use Rattle.sieve_base.specs.Limits.{line_limit};
 ghost use Rattle.sievebench.specs.SessionLine.{cut_line, without_cr};
-ghost use Rattle.sievebench.specs.Input.{unread, fuel, Knows};
+ghost use Rattle.sievebench.specs.view.Input.{unread, fuel, Knows};
 
 use crate::input::{Filled, Input};
-use sieve_code::Source;
-
-/// The most octets of a line, the CR of its end not counted.
-const MAX_LINE: usize = 16_384;
+use sieve_base::Source;
+use sieve_base::limits::MAX_LINE;
 
 /// Where the first LF is.
 fn find_lf(octets: &[u8]) -> Option<usize>
@@ -53,7 +52,7 @@ pub(crate) enum Line {
 }
 
 impl Line {
-    ghost use Rattle.sievebench.specs.Line.{IsLine, IsWithin, MatchEnd};
+    ghost use Rattle.sievebench.specs.view.Line.{IsLine, IsWithin, MatchEnd};
 
     /// The line that ends at an LF, the first one.
     fn before(pending: &[u8], at: usize) -> Line
@@ -94,7 +93,7 @@ impl Line {
     fn is_too_long(pending: &[u8]) -> bool
         requires { cut_line pending.now ≡ None }
         ensures yes { IsTrue result → (left : List ℕ) → IsLine Line.TooLong pending.now left }
-        ensures no { result ≡ false → length pending.now ≤ 16385 }
+        ensures no { result ≡ false → length pending.now ≤ line_limit + 1 }
         ensures some { IsTrue result → 0 < length pending.now }
     {
         pending.len() > MAX_LINE + 1 || pending.len() == MAX_LINE + 1 && pending[MAX_LINE] != b'\r'

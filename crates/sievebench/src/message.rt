@@ -1,12 +1,13 @@
 ghost use Rattle.std.specs.Prelude.{◌≡◌, ◌≤◌, IfOk, length};
+ghost use Rattle.sieve_base.specs.Limits.{message_limit};
 
-use sieve_code::Octets;
+use sieve_base::Octets;
 use sieve_run::{Message, MessageFault};
 use std::alloc::{AllocError, Global};
 
 /// The message of these octets, which are no more than a message may have.
 pub(crate) fn message_of(alloc: Global, bytes: Octets) -> Result<Message, AllocError>
-    requires { length bytes ≤ 16777216 }
+    requires { length bytes ≤ message_limit }
     ensures { IfOk result (λ message. message ≡ bytes) }
 {
     match Message::new(alloc, bytes.into_vec()) {

@@ -1,12 +1,12 @@
 //! The counted octets of a session's input.
 ghost use Rattle.std.specs.Prelude.{◌≡◌, ◌≤◌, ◌++◌, [], IfSome};
 ghost use Rattle.std.specs.Option.{option_map};
-ghost use Rattle.sieve_code.specs.Devices.{HasRisen};
-ghost use Rattle.sievebench.specs.Input.{unread, fuel, Knows};
-ghost use Rattle.sievebench.specs.Payload.{MatchTaken, Grows, Takes, FallsShort, octets_of};
+ghost use Rattle.sieve_base.specs.Devices.{HasRisen};
+ghost use Rattle.sievebench.specs.view.Input.{unread, fuel, Knows};
+ghost use Rattle.sievebench.specs.view.Payload.{MatchTaken, Grows, Takes, FallsShort, octets_kept};
 
 use crate::input::{Filled, Input};
-use sieve_code::Source;
+use sieve_base::Source;
 use std::alloc::Global;
 
 /// How taking octets went.
@@ -24,7 +24,7 @@ pub(crate) enum Taken {
 
 /// What is kept, with more octets, if memory isn't refused.
 fn with_more(kept: Option<Vec<u8>>, octets: &[u8]) -> Option<Vec<u8>>
-    ensures { Grows (option_map octets_of kept) (option_map octets_of result) octets.now }
+    ensures { Grows (option_map octets_kept kept) (option_map octets_kept result) octets.now }
 {
     let mut kept = kept?;
     match kept.extend_from_slice(octets) {
@@ -57,7 +57,7 @@ pub(crate) fn take_octets<R: Source>(
     ensures known { Knows input.new (R.remaining reader.new) }
     ensures fuel { fuel input.new ≤ fuel input.old }
     ensures taken { MatchTaken result
-        (λ kept. Takes count (unread input.old (R.remaining reader.old)) (unread input.new (R.remaining reader.new)) (option_map octets_of kept))
+        (λ kept. Takes count (unread input.old (R.remaining reader.old)) (unread input.new (R.remaining reader.new)) (option_map octets_kept kept))
         (FallsShort count (unread input.old (R.remaining reader.old)) (R.remaining reader.new))
         (HasRisen (R.fault_count reader.old) (R.fault_count reader.new))
         (input.new.turns ≡ 0) }

@@ -1,33 +1,28 @@
 //! Why an edit is refused, apart from memory.
 ghost use Rattle.std.specs.Prelude.{◌≡◌};
-ghost use Rattle.sievebench.specs.Content.{is_long, script_refusal, message_refusal, main_refusal, rename_refusal, remove_script_refusal, remove_message_refusal, envelope_refusal, mailbox_refusal};
+ghost use Rattle.sievebench.specs.Content.{is_long, is_long_id, script_refusal, message_refusal, main_refusal, rename_refusal, remove_script_refusal, remove_message_refusal, envelope_refusal, mailbox_refusal};
 
 use crate::fault::EditFault;
-use crate::script::Scripts;
+use crate::scripts::Scripts;
 use indexmap::IndexMap;
-use sieve_code::Octets;
+use sieve_base::Octets;
+use sieve_base::limits::{
+    MAX_ADDRESS, MAX_ID, MAX_MAILBOX, MAX_MESSAGE, MAX_MESSAGES, MAX_NAME, MAX_SCRIPTS, MAX_TEXT,
+};
 use sieve_run::{Message, ScriptName};
 
-/// The most octets of a script's text.
-pub(crate) const MAX_TEXT: usize = 1_048_576;
-/// The most octets of a message.
-pub(crate) const MAX_MESSAGE: usize = 16_777_216;
-/// The most octets of a script's name or a message's id.
-pub(crate) const MAX_NAME: usize = 1_024;
-/// The most octets of an address of the envelope.
-const MAX_ADDRESS: usize = 1_024;
-/// The most octets of the mailbox's name.
-const MAX_MAILBOX: usize = 255;
-/// The most scripts.
-const MAX_SCRIPTS: usize = 1_024;
-/// The most messages.
-const MAX_MESSAGES: usize = 65_536;
-
-/// Whether a name or an id is past its limit.
+/// Whether a script's name is past its limit.
 fn is_long(name: &Octets) -> bool
     ensures { result ≡ is_long name.now }
 {
     name.as_slice().len() > MAX_NAME
+}
+
+/// Whether a message's id is past its limit.
+fn is_long_id(id: &Octets) -> bool
+    ensures { result ≡ is_long_id id.now }
+{
+    id.as_slice().len() > MAX_ID
 }
 
 /// Why a script isn't put, apart from memory.
@@ -51,7 +46,7 @@ pub(crate) fn refuse_message(
 ) -> Option<EditFault>
     ensures { result ≡ message_refusal messages.now.entries id.now bytes.now }
 {
-    if is_long(id) || bytes.len() > MAX_MESSAGE {
+    if is_long_id(id) || bytes.len() > MAX_MESSAGE {
         return Some(EditFault::TooLarge);
     }
     if !messages.contains_key(id) && messages.len() >= MAX_MESSAGES {
@@ -110,7 +105,7 @@ pub(crate) fn refuse_remove_message(
 ) -> Option<EditFault>
     ensures { result ≡ remove_message_refusal messages.now.entries id.now }
 {
-    if is_long(id) {
+    if is_long_id(id) {
         Some(EditFault::TooLarge)
     } else if !messages.contains_key(id) {
         Some(EditFault::NoSuchMessage)

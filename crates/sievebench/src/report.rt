@@ -1,18 +1,18 @@
 ghost use Rattle.std.specs.Prelude.{◌≡◌, IfOk, OnOk, OnErr, map, length};
 ghost use Rattle.std.specs.List.{flat_map};
 ghost use Rattle.std.specs.Option.{option_copied};
-ghost use Rattle.sieve_code.specs.Writers.{Wrote, WroteFront};
+ghost use Rattle.sieve_base.specs.Writers.{Wrote, WroteFront};
 ghost use Rattle.sievebench.specs.Report.{action_line, read_line, script_line, verdict_lines, message_lines, error_count, total_line, report_with, verdicts};
 ghost use Rattle.sieve_run.specs.Meter.{runs_after};
-ghost use Rattle.sievebench.specs.Reported.{reported_of};
+ghost use Rattle.sievebench.specs.view.Reported.{reported_of};
 
 use crate::report_lines::{
     write_action, write_envelope, write_error, write_implicit, write_main, write_message,
     write_read, write_script, write_total,
 };
-use crate::script::Scripts;
+use crate::scripts::Scripts;
 use indexmap::IndexMap;
-use sieve_code::{Octets, Sink, WriteFault};
+use sieve_base::{Octets, Sink, WriteFault};
 use sieve_run::{Envelope, Message, Meter, Outcome, ScriptName, run};
 use std::alloc::{AllocError, Global};
 

@@ -1,11 +1,10 @@
 ghost use Rattle.std.specs.Prelude.{◌≡◌, OnOk, OnErr};
 ghost use Rattle.std.specs.Option.{option_copied};
-ghost use Rattle.sieve_code.specs.Writers.{Wrote, WroteFront};
+ghost use Rattle.sieve_base.specs.Writers.{Wrote, WroteFront};
 ghost use Rattle.sievebench.specs.Report.{place_word, main_line, envelope_line, script_line, action_line, implicit_line, error_line, read_line, message_line, total_line};
 
-use crate::script::Script;
-use sieve_code::{Octets, Piece, Place, Sink, WriteFault, write_pieces};
-use sieve_run::{Action, Envelope, Outcome, ScriptName};
+use sieve_base::{Octets, Piece, Place, Sink, WriteFault, write_pieces};
+use sieve_run::{Action, Envelope, Outcome, Script, ScriptName};
 
 /// The word of a place.
 fn place_word(place: Place) -> &'static [u8]

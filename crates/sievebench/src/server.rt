@@ -1,13 +1,13 @@
 //! A session: commands in, replies out.
 ghost use Rattle.std.specs.Prelude.{◌≡◌, true, ◌≤◌, ◌<◌, ℕ, List, Option, OnOk, OnErr, Ok, codes, nat_lt, if◌then◌else◌};
-ghost use Rattle.sieve_code.specs.Writers.{Wrote};
+ghost use Rattle.sieve_base.specs.Writers.{Wrote};
 ghost use Rattle.sievebench.specs.Content.{Content, Edit, after, remove_message, Refuses};
-ghost use Rattle.sievebench.specs.Input.{unread, fuel, Knows};
-ghost use Rattle.sievebench.specs.Session.{with_octets, request_by, request_of, edits, reports, takes_memory};
+ghost use Rattle.sievebench.specs.view.Input.{unread, fuel, Knows};
+ghost use Rattle.sievebench.specs.Session.{SessionFrom, MatchSessionEnd, AtLastEnd, with_octets, request_by, request_of, edits, reports, takes_memory};
 ghost use Rattle.sievebench.specs.SessionLine as line;
 ghost use Rattle.std.specs.Io.KnownBytes.{IsAtEnd};
-ghost use Rattle.sievebench.specs.Task.{Tasks, Drops, edit_by, edit_of};
-ghost use Rattle.sievebench.specs.Turn.{TurnsFrom, RefusesIf, Continues, EndsBy, OnContinues, AtLast, AtLastEnd, MatchSessionEnd, SessionFrom, reply_line};
+ghost use Rattle.sievebench.specs.view.Task.{Tasks, Drops, edit_by, edit_of};
+ghost use Rattle.sievebench.specs.view.Turn.{TurnsFrom, RefusesIf, Continues, EndsBy, OnContinues, AtLast, reply_line};
 
 use crate::bench::Bench;
 use crate::fault::{EditFault, ReportFault};
@@ -16,7 +16,7 @@ use crate::line::Line;
 use crate::payload::{Taken, take_octets};
 use crate::status::SessionEnd;
 use crate::task::{Change, Subject, Task, limit_of, task_of};
-use sieve_code::{Octets, Sink, Source, write_out};
+use sieve_base::{Octets, Sink, Source, write_out};
 use sieve_run::Meter;
 use std::alloc::Global;
 

@@ -2,11 +2,12 @@
 ghost use Rattle.std.specs.Prelude.{◌≡◌, ◌≢◌, ◌<◌, ◌≤◌, ◌∷◌, take, drop, slice_index, None, Some, length, IsTrue, ◌↔◌, MatchOption, []};
 ghost use Rattle.std.specs.List.{list_all};
 ghost use Rattle.std.specs.Option.{option_map};
-ghost use Rattle.sievebench.specs.SessionLine.{is_plain, outside, spot_behind, is_gap, piece_length, words_of, place_of, count_of, last_count, named, last_name, last_value, script_command, message_command, rename_command, envelope_command, name_command, value_command, lone_command, command_by, command_of_line};
-ghost use Rattle.sievebench.specs.Command.{command_as, spot_as};
+ghost use Rattle.sievebench.specs.SessionLine.{is_plain, outside, spot_behind, is_gap, piece_length, line_words};
+ghost use Rattle.sievebench.specs.SessionLine.{place_of, count_of, last_count, named, last_name, last_value, script_command, message_command, rename_command, envelope_command, name_command, value_command, lone_command, command_by, command_of_line};
+ghost use Rattle.sievebench.specs.view.Command.{command_as, spot_as};
 
 use crate::word::Word;
-use sieve_code::Place;
+use sieve_base::Place;
 
 /// What a line asks for.
 #[derive(Debug, Drop)]
@@ -70,7 +71,7 @@ fn is_plain_octet(octet: u8) -> bool
 /// How many spaces a line begins with.
 fn leading_spaces(line: &[u8]) -> usize
     ensures within { result ≤ length line.now }
-    ensures words { words_of (drop result line.now) ≡ words_of line.now }
+    ensures words { line_words (drop result line.now) ≡ line_words line.now }
     ensures stops { slice_index (drop result line.now) 0 ≢ 32 }
 {
     for (i, octet) in line.iter().enumerate() {
@@ -137,7 +138,7 @@ fn word_len(line: &[u8]) -> usize
 
 /// The first word of a line, and what is behind it.
 fn next_word(line: &[u8]) -> Option<(&[u8], &[u8])>
-    ensures { MatchOption result (words_of line.now ≡ []) (λ cut. words_of line.now ≡ cut.0.now ∷ words_of cut.1.now) }
+    ensures { MatchOption result (line_words line.now ≡ []) (λ cut. line_words line.now ≡ cut.0.now ∷ line_words cut.1.now) }
 {
     let (_, line) = line.split_at(leading_spaces(line));
     if line.is_empty() {
@@ -178,14 +179,14 @@ fn count_of(word: &[u8]) -> Option<u64>
 
 /// Whether nothing but spaces is left.
 fn is_over(line: &[u8]) -> bool
-    ensures { IsTrue result ↔ (words_of line.now ≡ []) }
+    ensures { IsTrue result ↔ (line_words line.now ≡ []) }
 {
     next_word(line).is_none()
 }
 
 /// The value of a count that is the last word.
 fn last_count(line: &[u8]) -> Option<u64>
-    ensures { result ≡ last_count (words_of line.now) }
+    ensures { result ≡ last_count (line_words line.now) }
 {
     let (count, line) = next_word(line)?;
     if is_over(line) { count_of(count) } else { None }
@@ -202,7 +203,7 @@ fn named<'a>(place: &[u8], name: &'a [u8]) -> Option<(Place, Word<'a>)>
 
 /// A place and a name that are the last words.
 fn last_name(line: &[u8]) -> Option<(Place, Word<'_>)>
-    ensures { result ≡ last_name (words_of line.now) }
+    ensures { result ≡ last_name (line_words line.now) }
 {
     let (place, line) = next_word(line)?;
     let (name, line) = next_word(line)?;
@@ -215,7 +216,7 @@ fn last_name(line: &[u8]) -> Option<(Place, Word<'_>)>
 
 /// What the last word stands for.
 fn last_value(line: &[u8]) -> Option<Word<'_>>
-    ensures { result ≡ last_value (words_of line.now) }
+    ensures { result ≡ last_value (line_words line.now) }
 {
     let (word, line) = next_word(line)?;
     if is_over(line) { Word::new(word) } else { None }
@@ -223,7 +224,7 @@ fn last_value(line: &[u8]) -> Option<Word<'_>>
 
 /// What `script PLACE NAME N` asks for, behind its first word.
 fn script_command(line: &[u8]) -> Option<Command<'_>>
-    ensures { option_map command_as result ≡ script_command (words_of line.now) }
+    ensures { option_map command_as result ≡ script_command (line_words line.now) }
 {
     let (place, line) = next_word(line)?;
     let (name, line) = next_word(line)?;
@@ -234,7 +235,7 @@ fn script_command(line: &[u8]) -> Option<Command<'_>>
 
 /// What `message ID N` asks for, behind its first word.
 fn message_command(line: &[u8]) -> Option<Command<'_>>
-    ensures { option_map command_as result ≡ message_command (words_of line.now) }
+    ensures { option_map command_as result ≡ message_command (line_words line.now) }
 {
     let (id, line) = next_word(line)?;
     let id = Word::new(id)?;
@@ -244,7 +245,7 @@ fn message_command(line: &[u8]) -> Option<Command<'_>>
 
 /// What `rename PLACE NAME PLACE NAME` asks for, behind its first word.
 fn rename_command(line: &[u8]) -> Option<Command<'_>>
-    ensures { option_map command_as result ≡ rename_command (words_of line.now) }
+    ensures { option_map command_as result ≡ rename_command (line_words line.now) }
 {
     let (place, line) = next_word(line)?;
     let (name, line) = next_word(line)?;
@@ -260,7 +261,7 @@ fn rename_command(line: &[u8]) -> Option<Command<'_>>
 
 /// What `envelope FROM TO` asks for, behind its first word.
 fn envelope_command(line: &[u8]) -> Option<Command<'_>>
-    ensures { option_map command_as result ≡ envelope_command (words_of line.now) }
+    ensures { option_map command_as result ≡ envelope_command (line_words line.now) }
 {
     let (from, line) = next_word(line)?;
     let from = Word::new(from)?;
@@ -270,7 +271,7 @@ fn envelope_command(line: &[u8]) -> Option<Command<'_>>
 
 /// What a line with a place and a name behind its first word asks for.
 fn name_command<'a>(word: &[u8], line: &'a [u8]) -> Option<Command<'a>>
-    ensures { option_map command_as result ≡ name_command word.now (words_of line.now) }
+    ensures { option_map command_as result ≡ name_command word.now (line_words line.now) }
 {
     if word == b"main".as_slice() {
         let (place, name) = last_name(line)?;
@@ -285,7 +286,7 @@ fn name_command<'a>(word: &[u8], line: &'a [u8]) -> Option<Command<'a>>
 
 /// What a line with one word behind its first asks for.
 fn value_command<'a>(word: &[u8], line: &'a [u8]) -> Option<Command<'a>>
-    ensures { option_map command_as result ≡ value_command word.now (words_of line.now) }
+    ensures { option_map command_as result ≡ value_command word.now (line_words line.now) }
 {
     if word == b"drop-message".as_slice() {
         let id = last_value(line)?;
@@ -300,7 +301,7 @@ fn value_command<'a>(word: &[u8], line: &'a [u8]) -> Option<Command<'a>>
 
 /// What a line of one word asks for.
 fn lone_command<'a>(word: &[u8], line: &'a [u8]) -> Option<Command<'a>>
-    ensures { option_map command_as result ≡ lone_command word.now (words_of line.now) }
+    ensures { option_map command_as result ≡ lone_command word.now (line_words line.now) }
 {
     if word == b"no-main".as_slice() {
         if is_over(line) {
@@ -321,7 +322,7 @@ fn lone_command<'a>(word: &[u8], line: &'a [u8]) -> Option<Command<'a>>
 
 /// What a line of some words asks for.
 fn command_by<'a>(word: &[u8], line: &'a [u8]) -> Option<Command<'a>>
-    ensures { option_map command_as result ≡ command_by word.now (words_of line.now) }
+    ensures { option_map command_as result ≡ command_by word.now (line_words line.now) }
 {
     if word == b"script".as_slice() {
         script_command(line)

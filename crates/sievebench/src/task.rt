@@ -2,14 +2,14 @@
 ghost use Rattle.std.specs.Prelude.{◌≡◌, Some, IfOk};
 ghost use Rattle.sievebench.specs.SessionLine as line;
 ghost use Rattle.sievebench.specs.SessionLine.{command_of_line};
-ghost use Rattle.sievebench.specs.Task.{IsTask, Tasks, command_of, change_task, limit_of};
+ghost use Rattle.sievebench.specs.view.Task.{IsTask, Tasks, command_of, change_task, limit_of};
 
 use crate::bench::Bench;
 use crate::fault::EditFault;
-use crate::refusal::{MAX_MESSAGE, MAX_TEXT};
 use crate::session_line::{Command, command_of_line};
 use crate::word::Word;
-use sieve_code::{Octets, Place};
+use sieve_base::limits::{MAX_MESSAGE, MAX_TEXT};
+use sieve_base::{Octets, Place};
 use sieve_run::ScriptName;
 use std::alloc::{AllocError, Global};
 

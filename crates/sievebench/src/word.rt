@@ -1,10 +1,10 @@
 //! The words of a session's lines that may be quoted. Reading them takes no memory, and copying their octets does.
 ghost use Rattle.std.specs.Prelude.{◌≡◌, ◌<◌, ◌≤◌, ℕ, IfOk, Some, None, IfSome, is_some, length, take, drop, [], false, true, IsTrue, ◌↔◌};
 ghost use Rattle.std.specs.List.{list_all};
-ghost use Rattle.sievebench.specs.SessionLine.{is_bare, hex_digit, hex_octet, behind, quoted_octets, escaped_octets, hex_octets, word_value};
-ghost use Rattle.sievebench.specs.Word.{MatchNext};
+ghost use Rattle.sievebench.specs.SessionLine.{is_bare, hex_digit_value, hex_octet, behind, quoted_value, escaped_value, hex_octets, word_value};
+ghost use Rattle.sievebench.specs.view.Word.{MatchNext};
 
-use sieve_code::Octets;
+use sieve_base::Octets;
 use std::alloc::{AllocError, Global};
 use std::marker::Model;
 
@@ -27,8 +27,8 @@ fn are_bare(octets: &[u8]) -> bool
 }
 
 /// The value of a hexadecimal digit, in either case.
-fn hex_digit(octet: u8) -> Option<u8>
-    ensures value { result ≡ hex_digit octet }
+fn hex_digit_value(octet: u8) -> Option<u8>
+    ensures value { result ≡ hex_digit_value octet }
     ensures small { IfSome result (λ value. value < 16) }
 {
     match octet {
@@ -43,8 +43,8 @@ fn hex_digit(octet: u8) -> Option<u8>
 fn hex_octet(high: u8, low: u8) -> Option<u8>
     ensures { result ≡ hex_octet high low }
 {
-    let high = hex_digit(high)?;
-    let low = hex_digit(low)?;
+    let high = hex_digit_value(high)?;
+    let low = hex_digit_value(low)?;
     Some(16 * high + low)
 }
 
@@ -63,7 +63,7 @@ pub(crate) enum Next<'a> {
 #[tactic(auto, unfolding(crate::specs::SessionLine::hex_octets))]
 fn next_hex(rest: &[u8]) -> Next<'_>
     ensures { MatchNext result ⊥
-        (λ octet left. (hex_octets rest.now ≡ behind octet (quoted_octets left)) × (length left < length rest.now))
+        (λ octet left. (hex_octets rest.now ≡ behind octet (quoted_value left)) × (length left < length rest.now))
         (hex_octets rest.now ≡ None) }
 {
     let [high, low, rest @ ..] = rest else {
@@ -76,11 +76,11 @@ fn next_hex(rest: &[u8]) -> Next<'_>
 }
 
 /// What is behind a backslash.
-#[tactic(auto, unfolding(crate::specs::SessionLine::escaped_octets))]
+#[tactic(auto, unfolding(crate::specs::SessionLine::escaped_value))]
 fn next_escaped(rest: &[u8]) -> Next<'_>
     ensures { MatchNext result ⊥
-        (λ octet left. (escaped_octets rest.now ≡ behind octet (quoted_octets left)) × (length left < length rest.now))
-        (escaped_octets rest.now ≡ None) }
+        (λ octet left. (escaped_value rest.now ≡ behind octet (quoted_value left)) × (length left < length rest.now))
+        (escaped_value rest.now ≡ None) }
 {
     let [octet, rest @ ..] = rest else {
         return Next::Wrong;
@@ -96,11 +96,11 @@ fn next_escaped(rest: &[u8]) -> Next<'_>
 }
 
 /// What a quoted word has next, behind its first quote.
-#[tactic(auto, unfolding(crate::specs::SessionLine::quoted_octets))]
+#[tactic(auto, unfolding(crate::specs::SessionLine::quoted_value))]
 fn next_octet(rest: &[u8]) -> Next<'_>
-    ensures { MatchNext result (quoted_octets rest.now ≡ Some [])
-        (λ octet left. (quoted_octets rest.now ≡ behind octet (quoted_octets left)) × (length left < length rest.now))
-        (quoted_octets rest.now ≡ None) }
+    ensures { MatchNext result (quoted_value rest.now ≡ Some [])
+        (λ octet left. (quoted_value rest.now ≡ behind octet (quoted_value left)) × (length left < length rest.now))
+        (quoted_value rest.now ≡ None) }
 {
     let [octet, rest @ ..] = rest else {
         return Next::Wrong;
@@ -120,7 +120,7 @@ fn next_octet(rest: &[u8]) -> Next<'_>
 
 /// Whether the octets behind a quote make a quoted word.
 fn is_quoted(word: &[u8]) -> bool
-    ensures { result ≡ is_some (quoted_octets word.now) }
+    ensures { result ≡ is_some (quoted_value word.now) }
 {
     let mut rest = word;
     loop {
@@ -134,8 +134,8 @@ fn is_quoted(word: &[u8]) -> bool
 
 /// A copy of the octets that a quoted word stands for, behind its first quote.
 fn copied_quoted(alloc: Global, word: &[u8]) -> Result<Vec<u8>, AllocError>
-    requires { is_some (quoted_octets word.now) ≡ true }
-    ensures { IfOk result (λ octets. quoted_octets word.now ≡ Some octets.items) }
+    requires { is_some (quoted_value word.now) ≡ true }
+    ensures { IfOk result (λ octets. quoted_value word.now ≡ Some octets.items) }
 {
     let mut octets = Vec::new(alloc);
     let mut rest = word;
@@ -153,7 +153,7 @@ fn copied_quoted(alloc: Global, word: &[u8]) -> Result<Vec<u8>, AllocError>
 
 /// How many octets a quoted word stands for, behind its first quote.
 fn quoted_len(word: &[u8]) -> usize
-    ensures { IfSome (quoted_octets word.now) (λ octets. length octets ≡ result) }
+    ensures { IfSome (quoted_value word.now) (λ octets. length octets ≡ result) }
 {
     let mut rest = word;
     let mut count = 0;
@@ -166,7 +166,7 @@ fn quoted_len(word: &[u8]) -> usize
 
 /// Whether a quoted word, behind its first quote, stands for these octets.
 fn is_quoted_as(word: &[u8], octets: &[u8]) -> bool
-    ensures { IsTrue result ↔ (quoted_octets word.now ≡ Some octets.now) }
+    ensures { IsTrue result ↔ (quoted_value word.now ≡ Some octets.now) }
 {
     let mut rest = word;
     let mut expected = octets;
@@ -197,11 +197,11 @@ pub(crate) struct Word<'a> {
 impl<'a> Model for Word<'a> {
     ghost use Rattle.std.specs.Prelude.{◌≡◌, ℕ, List, [], is_some, true};
     ghost use Rattle.sievebench.specs.SessionLine.{word_value};
-    ghost use Rattle.sievebench.specs.Word.{octets_of};
+    ghost use Rattle.sievebench.specs.view.Word.{octets_if_any};
 
     ghost Value = { List ℕ };
 
-    ghost view = { λ a. octets_of (word_value a.written.now) };
+    ghost view = { λ a. octets_if_any (word_value a.written.now) };
 
     ghost invariant = { λ a. is_some (word_value a.written.now) ≡ true };
 }

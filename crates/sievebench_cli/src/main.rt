@@ -5,7 +5,7 @@ mod streams;
 #[cfg(test)]
 mod tests;
 
-use sieve_code::Counted;
+use sieve_base::Counted;
 use sievebench::{Bench, End, Job, Meter, SessionEnd, UsageFault, command_of, session, status_of};
 use std::alloc::Global;
 use std::cell::RefCell;

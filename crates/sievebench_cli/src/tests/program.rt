@@ -1,71 +1,255 @@
-//! The words of the command line, the status of each end, what standard error says, and when replies are written out.
+//! What the program writes, on standard error too, and its status.
 
-use crate::streams::{Replies, Requests};
-use crate::{answer_usage, complaint_of, words_of};
-use sievebench::{End, Job, SessionEnd, TestEnd, UsageFault, command_of, status_of};
+use super::machine::{Given, Machine, Written};
+use crate::{answer_usage, complaint_of, run};
+use sievebench::{SessionEnd, UsageFault};
 use std::alloc::Global;
 use std::cell::RefCell;
-use std::env::FillError;
-use std::fmt::Display;
-use std::io;
-use std::io::{BufWriter, ErrorKind, Read, Write};
-use std::rt::Env;
+use std::fmt::Debug;
+use std::process::Abort;
 use std::test::Fail;
 
-// A system whose command line has these words.
-#[derive(Drop)]
-struct Words<'a> {
-    words: &'a [&'a [u8]],
+/// The words that ask for a session.
+const SESSION_WORDS: &[&[u8]] = &[b"sievebench", b"session"];
+
+/// A session, and what it writes.
+const SESSION: &[u8] =
+    b"script personal main 9\ndiscard;\nmessage m1 0\nmain personal main\nreport\n";
+
+const REPLIES: &[u8] =
+    b"ok\nok\nok\nmain personal \"main\"\nenvelope \"\" \"\" mailbox \"INBOX\"\nscript personal \"main\" ok\nmessage \"m1\"\n  discard\n  read personal \"main\"\ntotal 1 messages 0 errors\n";
+
+/// Octets that come at once, and then end.
+fn whole(octets: &[u8]) -> Given<'_> {
+    Given {
+        octets,
+        piece: 65_536,
+        fails: false,
+    }
+}
+
+/// Runs the program with these words, over an input and an output of so much room: its status.
+fn status_with(
     alloc: Global,
+    words: &[&[u8]],
+    input: Given<'_>,
+    room: usize,
+    written: &Written,
+) -> u8 {
+    let machine = Machine {
+        alloc,
+        words,
+        input,
+        room,
+        written,
+    };
+    run(&machine)
 }
 
-impl Env for Words<'_> {
-    fn arg(&self, i: usize, buf: &mut [u8]) -> Result<usize, FillError> {
-        let Some(word) = self.words.get(i) else {
-            return Err(FillError::NotPresent);
-        };
-        if word.len() > buf.len() {
-            return Err(FillError::TooLong);
-        }
-        buf[..word.len()].copy_from_slice(word);
-        Ok(word.len())
-    }
-
-    fn var(&self, _name: &str, _buf: &mut [u8]) -> Result<usize, FillError> {
-        Err(FillError::NotPresent)
-    }
-
-    fn var_at(&self, _i: usize, _buf: &mut [u8]) -> Result<usize, FillError> {
-        Err(FillError::NotPresent)
-    }
+/// Compares what is kept in a cell.
+fn check_kept<T: Debug + PartialEq>(
+    rt: &impl Abort,
+    kept: &RefCell<Vec<T>>,
+    wanted: &[T],
+) -> Result<(), Fail> {
+    assert_eq!(rt; kept.try_borrow()?.as_slice(), wanted);
+    Ok(())
 }
 
-impl Alloc for Words<'_> {
-    type A = Global;
-
-    fn alloc(&self) -> Global {
-        self.alloc
-    }
+/// Runs a session, and compares what it writes and its status.
+fn check_run(
+    rt: &(impl AllocGlobal + Abort),
+    input: Given<'_>,
+    room: usize,
+    status: u8,
+    output: &[u8],
+    errors: &[u8],
+) -> Result<(), Fail> {
+    let written = Written::new(rt.alloc());
+    let answer = status_with(rt.alloc(), SESSION_WORDS, input, room, &written);
+    assert_eq!(rt; answer, status);
+    check_kept(rt, &written.output, output)?;
+    check_kept(rt, &written.errors, errors)
 }
 
 #[test]
-fn a_word_that_is_no_text_is_a_mistake(rt: HostRuntime) -> Result<(), Fail> {
-    let alloc = rt.alloc();
-    let named: [&[u8]; 2] = [b"sievebench", b"session"];
-    let words = words_of(&Words {
-        words: &named,
-        alloc,
-    })?;
-    assert_eq!(rt; words.len(), 2);
-    assert_eq!(rt; words[1].as_str(), "session");
+fn sessions_have_their_statuses(rt: HostRuntime) -> Result<(), Fail> {
+    let rows: [(&[u8], u8, &[u8]); 4] = [
+        (b"", 0, b""),
+        (SESSION, 0, REPLIES),
+        (
+            b"main personal main\nscript personal main 9\ndisc",
+            2,
+            b"ok\nno truncated\n",
+        ),
+        (
+            b"drop-message a\nfrobnicate\nreport\n",
+            2,
+            b"no no-such-message\nno syntax\n",
+        ),
+    ];
+    for (input, status, output) in rows {
+        check_run(&rt, whole(input), 1_000, status, output, b"")?;
+    }
+    Ok(())
+}
 
-    let odd: [&[u8]; 2] = [b"sievebench", b"\xff"];
-    match words_of(&Words { words: &odd, alloc }) {
-        Err(UsageFault::Usage { help, text }) => {
-            assert!(rt; !help);
-            assert!(rt; text.as_str().contains("not UTF-8 text"));
-        }
-        _ => panic!(rt; "a word of no text was taken"),
+#[test]
+fn an_input_that_fails_is_told(rt: HostRuntime) -> Result<(), Fail> {
+    let rows: [(&[u8], &[u8]); 2] = [(b"", b""), (b"message m 0\nreport", b"ok\n")];
+    for (octets, output) in rows {
+        let input = Given {
+            octets,
+            piece: 65_536,
+            fails: true,
+        };
+        check_run(
+            &rt,
+            input,
+            1_000,
+            3,
+            output,
+            b"sievebench: cannot read standard input\n",
+        )?;
+    }
+    Ok(())
+}
+
+#[test]
+fn an_output_that_fails_is_told(rt: HostRuntime) -> Result<(), Fail> {
+    let errors = b"sievebench: cannot write\n";
+    // The first octets are written at the end alone.
+    check_run(&rt, whole(b"report"), 0, 3, b"", errors)?;
+    check_run(&rt, whole(b"frobnicate\n"), 0, 3, b"", errors)?;
+    // More replies than are held.
+    let mut many = Vec::new(rt.alloc());
+    for _line in 0..30_000 {
+        many.extend_from_slice(b"no-main\n")?;
+    }
+    check_run(&rt, whole(many.as_slice()), 0, 3, b"", errors)?;
+    // Room for the first three replies alone.
+    let lines = Given {
+        octets: SESSION,
+        piece: 8,
+        fails: false,
+    };
+    check_run(&rt, lines, 9, 3, b"ok\nok\nok\n", errors)
+}
+
+#[test]
+fn a_session_may_make_many_reads(rt: HostRuntime) -> Result<(), Fail> {
+    let mut octets = Vec::from_slice(rt.alloc(), b"message m 3000\n")?;
+    octets.extend_from_slice(vec![in rt.alloc(); b'x'; 3_000]?.as_slice())?;
+    octets.extend_from_slice(b"no-main\n")?;
+    let input = Given {
+        octets: octets.as_slice(),
+        piece: 1,
+        fails: false,
+    };
+    check_run(&rt, input, 1_000, 0, b"ok\nok\n", b"")
+}
+
+/// Runs a session of three lines that come in such pieces, and compares how much was written before each read, and by
+/// each write.
+fn check_reads(
+    rt: &(impl AllocGlobal + Abort),
+    piece: usize,
+    before_reads: &[usize],
+    writes: &[usize],
+) -> Result<(), Fail> {
+    let written = Written::new(rt.alloc());
+    let input = Given {
+        octets: b"no-main\nno-main\nno-main\n",
+        piece,
+        fails: false,
+    };
+    let status = status_with(rt.alloc(), SESSION_WORDS, input, 1_000, &written);
+    assert_eq!(rt; status, 0);
+    check_kept(rt, &written.before_reads, before_reads)?;
+    check_kept(rt, &written.writes, writes)
+}
+
+/// Replies are written before the next read, those to what one read gave together.
+#[test]
+fn replies_are_written_before_the_next_read(rt: HostRuntime) -> Result<(), Fail> {
+    check_reads(&rt, 8, &[0, 3, 6, 9], &[3, 3, 3])?;
+    check_reads(&rt, 16, &[0, 6, 9], &[6, 3])?;
+    check_reads(&rt, 100, &[0, 9], &[9])
+}
+
+/// Looks for a part of what is kept in a cell.
+fn check_part(rt: &impl Abort, kept: &RefCell<Vec<u8>>, part: &[u8]) -> Result<(), Fail> {
+    let octets = kept.try_borrow()?;
+    assert!(rt; has_part(octets.as_slice(), part), "{part:?}");
+    Ok(())
+}
+
+/// Runs the program with these words, and looks for parts of what it writes.
+fn check_words(
+    rt: &(impl AllocGlobal + Abort),
+    words: &[&[u8]],
+    room: usize,
+    status: u8,
+    output: &[u8],
+    errors: &[u8],
+) -> Result<(), Fail> {
+    let written = Written::new(rt.alloc());
+    let answer = status_with(rt.alloc(), words, whole(b"report\n"), room, &written);
+    assert_eq!(rt; answer, status, "at {words:?}");
+    check_part(rt, &written.output, output)?;
+    check_part(rt, &written.errors, errors)
+}
+
+/// Whether the octets have this part, or, where it is empty, there are none.
+fn has_part(octets: &[u8], part: &[u8]) -> bool {
+    if part.is_empty() {
+        return octets.is_empty();
+    }
+    octets.windows(part.len()).any(|window| window == part)
+}
+
+#[test]
+fn help_is_printed_and_mistakes_are_complained_of(rt: HostRuntime) -> Result<(), Fail> {
+    let rows: [(&[&[u8]], usize, u8, &[u8], &[u8]); 6] = [
+        (
+            &[b"sievebench", b"--help"],
+            1_000,
+            0,
+            b"Usage: sievebench",
+            b"",
+        ),
+        (
+            &[b"x", b"help", b"session"],
+            1_000,
+            0,
+            b"Usage: sievebench session",
+            b"",
+        ),
+        (
+            &[b"sievebench", b"--help"],
+            0,
+            3,
+            b"",
+            b"sievebench: cannot write\n",
+        ),
+        (
+            &[b"sievebench"],
+            1_000,
+            2,
+            b"",
+            b"Usage: sievebench <COMMAND>",
+        ),
+        (
+            &[b"sievebench", b"frobnicate"],
+            1_000,
+            2,
+            b"",
+            b"'frobnicate'",
+        ),
+        (&[b"sievebench", b"\xff"], 1_000, 2, b"", b"not UTF-8 text"),
+    ];
+    for (words, room, status, output, errors) in rows {
+        check_words(&rt, words, room, status, output, errors)?;
     }
     Ok(())
 }
@@ -87,226 +271,15 @@ fn standard_error_says_what_went_wrong(rt: HostRuntime) {
 }
 
 #[test]
-fn each_end_has_its_status(rt: HostRuntime) {
-    let rows = [
-        (End::Session(SessionEnd::Done), 0),
-        (End::Session(SessionEnd::Syntax), 2),
-        (End::Session(SessionEnd::Truncated), 2),
-        (End::Session(SessionEnd::Read), 3),
-        (End::Session(SessionEnd::Write), 3),
-        (End::Session(SessionEnd::NoMemory), 4),
-        (End::Session(SessionEnd::TurnLimit), 3),
-        (End::Test(TestEnd::Clean), 0),
-        (End::Test(TestEnd::Faulty), 1),
-        (End::Test(TestEnd::TooLarge), 2),
-        (End::Test(TestEnd::Full), 2),
-        (End::Test(TestEnd::Write), 3),
-        (End::Test(TestEnd::NoMemory), 4),
-    ];
-    for (end, status) in rows {
-        assert_eq!(rt; status_of(end), status, "at {end:?}");
-    }
-}
-
-#[test]
-fn a_session_is_named(rt: HostRuntime) -> Result<(), Fail> {
-    assert_eq!(rt;
-        command_of(rt.alloc(), &["sievebench", "session"])?,
-        Job::Session
-    );
-    Ok(())
-}
-
-#[test]
-fn mistakes_and_calls_for_help_have_a_text(rt: HostRuntime) {
-    let about = "Runs Sieve scripts against sample messages and prints what would happen";
-    let session = "Reads a session from standard input and writes its replies to standard output";
-    let rows: [(&[&str], bool, &str); 10] = [
-        (&["other"], false, "Usage: sievebench <COMMAND>"),
-        (&[], false, "Usage: sievebench <COMMAND>"),
-        (
-            &["sievebench", "frobnicate"],
-            false,
-            "unrecognized subcommand 'frobnicate'",
-        ),
-        (
-            &["sievebench", "--fast"],
-            false,
-            "unexpected argument '--fast' found",
-        ),
-        (
-            &["sievebench", "session", "now"],
-            false,
-            "unexpected argument 'now' found",
-        ),
-        (&["sievebench", "--help"], true, about),
-        (&["sievebench", "-h"], true, "session"),
-        (&["sievebench", "help"], true, session),
-        (&["sievebench", "session", "--help"], true, session),
-        (
-            &["sievebench", "help", "session"],
-            true,
-            "Usage: sievebench session",
-        ),
-    ];
-    for (words, wanted, part) in rows {
-        match command_of(rt.alloc(), words) {
-            Err(UsageFault::Usage { help, text }) => {
-                assert_eq!(rt; help, wanted, "at {words:?}");
-                assert!(rt; text.as_str().contains(part), "{part:?} in {text:?}");
-            }
-            other => panic!(rt; "at {words:?}: {other:?}"),
-        }
-    }
-}
-
-// Keeps what is printed, or takes nothing on standard output.
-#[derive(Drop)]
-struct Screen {
-    is_closed: bool,
-    output: RefCell<Vec<u8>>,
-    errors: RefCell<Vec<u8>>,
-}
-
-impl Screen {
-    fn new(alloc: Global, is_closed: bool) -> Screen {
-        Screen {
-            is_closed,
-            output: RefCell::new(Vec::new(alloc)),
-            errors: RefCell::new(Vec::new(alloc)),
-        }
-    }
-}
-
-impl Print for Screen {
-    fn print<D: Display + Drop>(&self, value: D) -> io::Result<()> {
-        if self.is_closed {
-            return Err(io::Error::from(ErrorKind::BrokenPipe));
-        }
-        self.output.try_borrow_mut()?.write_fmt(value)
-    }
-
-    fn println<D: Display + Drop>(&self, value: D) -> io::Result<()> {
-        self.print(value)?;
-        self.print("\n")
-    }
-
-    fn write_all(&self, bytes: &[u8]) -> io::Result<()> {
-        self.output.try_borrow_mut()?.write_all(bytes)
-    }
-}
-
-impl Eprint for Screen {
-    fn eprint<D: Display + Drop>(&self, value: D) -> io::Result<()> {
-        self.errors.try_borrow_mut()?.write_fmt(value)
-    }
-
-    fn eprintln<D: Display + Drop>(&self, value: D) -> io::Result<()> {
-        self.eprint(value)?;
-        self.eprint("\n")
-    }
-}
-
-#[test]
-fn help_is_printed_and_mistakes_are_complained_of(rt: HostRuntime) -> Result<(), Fail> {
-    let alloc = rt.alloc();
-    let rows = [
-        (Some(true), false, 0, "text\n", ""),
-        (Some(true), true, 3, "", "sievebench: cannot write\n"),
-        (Some(false), false, 2, "", "text\n"),
-        (Some(false), true, 2, "", "text\n"),
-        (None, false, 4, "", "sievebench: out of memory\n"),
-    ];
-    for (asked, is_closed, status, output, errors) in rows {
-        let screen = Screen::new(alloc, is_closed);
-        let fault = match asked {
-            Some(help) => UsageFault::Usage {
-                help,
-                text: String::from_str(alloc, "text\n")?,
-            },
-            None => UsageFault::NoMemory,
-        };
-        assert_eq!(rt; answer_usage(&screen, fault), status);
-        assert_eq!(rt; screen.output.try_borrow()?.as_slice(), output.as_bytes());
-        assert_eq!(rt; screen.errors.try_borrow()?.as_slice(), errors.as_bytes());
-    }
-    Ok(())
-}
-
-// Keeps the octets that were written, with a bar behind those of each call.
-#[derive(Drop)]
-struct Log<'a> {
-    log: &'a RefCell<Vec<u8>>,
-}
-
-impl Write for Log<'_> {
-    fn write(&mut self, buf: &[u8]) -> io::Result<usize> {
-        let mut log = self.log.try_borrow_mut()?;
-        log.extend_from_slice(buf)?;
-        log.push(b'|')?;
-        Ok(buf.len())
-    }
-
-    fn flush(&mut self) -> io::Result<()> {
-        Ok(())
-    }
-}
-
-// Notes each read in the log, and gives nothing.
-#[derive(Drop)]
-struct Quiet<'a> {
-    log: &'a RefCell<Vec<u8>>,
-}
-
-impl Read for Quiet<'_> {
-    fn read(&mut self, _buf: &mut [u8]) -> io::Result<usize> {
-        self.log.try_borrow_mut()?.extend_from_slice(b"read|")?;
-        Ok(0)
-    }
-}
-
-#[test]
-fn replies_are_written_together_before_the_next_read(rt: HostRuntime) -> Result<(), Fail> {
-    let log = RefCell::new(Vec::new(rt.alloc()));
-    let held = RefCell::new(BufWriter::with_capacity(rt.alloc(), 100, Log { log: &log })?);
-    let mut replies = Replies::new(&held);
-    let mut requests = Requests::new(Quiet { log: &log }, &held);
-    let mut buf = [0u8; 4];
-    assert_eq!(rt; requests.read(&mut buf)?, 0);
-    replies.write_all(b"o")?;
-    replies.write_all(b"k")?;
-    replies.write_all(b"\n")?;
-    assert_eq!(rt; requests.read(&mut buf)?, 0);
-    assert_eq!(rt; requests.read(&mut buf)?, 0);
-    replies.write_all(b"no\n")?;
-    replies.flush()?;
-    let taken = log.try_borrow()?;
-    assert_eq!(rt; taken.as_slice(), b"read|ok\n|read|read|no\n|".as_slice());
-    Ok(())
-}
-
-// Takes nothing.
-#[derive(Drop)]
-struct Closed;
-
-impl Write for Closed {
-    fn write(&mut self, _buf: &[u8]) -> io::Result<usize> {
-        Err(io::Error::from(ErrorKind::BrokenPipe))
-    }
-
-    fn flush(&mut self) -> io::Result<()> {
-        Ok(())
-    }
-}
-
-#[test]
-fn a_fault_of_the_writer_is_told_by_the_writer(rt: HostRuntime) -> Result<(), Fail> {
-    let held = RefCell::new(BufWriter::with_capacity(rt.alloc(), 100, Closed)?);
-    let mut replies = Replies::new(&held);
-    let mut requests = Requests::new(b"request".as_slice(), &held);
-    let mut buf = [0u8; 100];
-    replies.write_all(b"ok\n")?;
-    assert_eq!(rt; requests.read(&mut buf)?, 7);
-    assert!(rt; replies.flush().is_err());
-    Ok(())
+fn want_of_memory_is_told(rt: HostRuntime) -> Result<(), Fail> {
+    let written = Written::new(rt.alloc());
+    let machine = Machine {
+        alloc: rt.alloc(),
+        words: SESSION_WORDS,
+        input: whole(b""),
+        room: 1_000,
+        written: &written,
+    };
+    assert_eq!(rt; answer_usage(&machine, UsageFault::NoMemory), 4);
+    check_kept(&rt, &written.errors, b"sievebench: out of memory\n")
 }

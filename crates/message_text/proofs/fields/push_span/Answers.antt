@@ -1,5 +1,5 @@
 use Rattle.std.proofs.lemmas.List.Elements.{All-push}
-use Rattle.message_text.specs.Spans.{IsSpan}
+use Rattle.message_text.specs.view.Spans.{IsSpan}
 use Rattle.message_text.proofs.fields.push_span.Goals as goal
 
 pub returns-in_ok-push-clause-each : goal.returns-in_ok-push-clause-each

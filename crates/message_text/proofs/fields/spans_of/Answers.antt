@@ -2,7 +2,7 @@ use Rattle.std.proofs.Common.{◌≡◌, ◌++◌, List, [], slice_range, drop, 
 use Rattle.std.specs.Str.Lines.{lines}
 use Rattle.std.proofs.lemmas.List.{drop_all}
 use Rattle.message_text.specs.Fields.{Group, field_groups, is_filled}
-use Rattle.message_text.specs.Spans.{field_here, group_at}
+use Rattle.message_text.specs.view.Spans.{field_here, group_at}
 use Rattle.message_text.proofs.GroupLemmas.{are_spans, field_groups-end, field_groups-first, field_groups-nil, slice-empty, slice-filled}
 use Rattle.message_text.proofs.fields.spans_of.Goals.{else-loop-start-test, then-loop-start-test+then-line-start}
 use Rattle.message_text.proofs.fields.spans_of.Goals as goal

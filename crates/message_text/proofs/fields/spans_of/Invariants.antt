@@ -1,7 +1,7 @@
 use Rattle.std.proofs.Common.{◌≡◌, ◌++◌, ◌-◌, length, drop, map}
 use Rattle.std.specs.List.{All}
 use Rattle.message_text.specs.Fields.{field_groups}
-use Rattle.message_text.specs.Spans.{IsSpan, group_at}
+use Rattle.message_text.specs.view.Spans.{IsSpan, group_at}
 use Rattle.message_text.proofs.fields.spans_of.Given as goal
 
 -- the fields so far and those in what is left are those of the message

@@ -1,9 +1,11 @@
 use Rattle.std.proofs.Common.{◌≡◌, map, drop}
-use Rattle.sieve_syntax.specs.Tree.{node_of, nodes}
-use Rattle.sieve_check.specs.Breach.{nodes_breaches}
-use Rattle.sieve_check.specs.Seen.{place_as}
+use Rattle.sieve_syntax.specs.Tree.{nodes}
+use Rattle.sieve_syntax.specs.view.Tree.{node_of}
+use Rattle.sieve_check.specs.Breach.{breaches_in}
+use Rattle.sieve_check.specs.Element.{nodes_elements}
+use Rattle.sieve_check.specs.view.Context.{context_as}
 use Rattle.sieve_check.proofs.command_rules.+check_commands.Given as goal
 
 -- the breaches of the commands that are left are all that there are
 abbrev pub invariant-check_commands-loop-command : goal.invariant-check_commands-loop-command
-invariant-check_commands-loop-command l = nodes_breaches (place_as l.place) (nodes (map node_of (drop l.command-index l.commands))) ≡ nodes_breaches (place_as l.fn.start) (nodes (map node_of l.commands))
+invariant-check_commands-loop-command l = breaches_in (nodes_elements (context_as l.context) (nodes (map node_of (drop l.command-index l.commands)))) ≡ breaches_in (nodes_elements (context_as l.fn.start) (nodes (map node_of l.commands)))

@@ -1,7 +1,8 @@
-use Rattle.std.proofs.Common.{ap, sym, subst, ◌∙◌, arith}
+use Rattle.std.proofs.Common.{Some, ap, sym, subst, ◌∙◌, arith}
 use Rattle.sieve_check.specs.Script.{all_of, any_of, branch_condition, condition_of, conditions_in, joined}
-use Rattle.sieve_check.specs.Tree.{test_of, tests_of}
-use Rattle.sieve_run.specs.Step.{ComesTo}
+use Rattle.sieve_check.specs.view.Tree.{test_of, tests_of}
+use Rattle.sieve_check.specs.view.Reading.{test_reading_as}
+use Rattle.sieve_run.specs.view.Step.{ComesTo}
 use Rattle.sieve_run.proofs.Deciding.{all_end, all_fails, all_from, all_next, always_true, any_end, any_from, any_next, any_passes, asked_from, comes_along, comes_from, never_false, none_not}
 use Rattle.sieve_run.proofs.Views.{condition-joined, conditions-list, conditions-none, conditions-one, conditions_on-at, conditions_on-end}
 use Rattle.sieve_run.proofs.decision.+decision.Goals as goal
@@ -88,39 +89,45 @@ first_holds-returns-in-len1-up t c =
     let list = c.as_slice.result.now in
     comes_from m _ _ _ (ap branch_condition (conditions-list c.args.tests.now c.in-List.tests list c.in-List.is c.as_slice.ensures.value ∙ conditions_on-at list 0 c.test-item.result c.in-len1-up.len_at_least c.test-item.is)) c.holds-in-len1-up.ensures
 
-pub holds-returns-in-Always : goal.holds-returns-in-Always
-holds-returns-in-Always t c =
+pub holds-returns-in-Some-Always : goal.holds-returns-in-Some-Always
+holds-returns-in-Some-Always t c =
     let m = c.args.delivery.now.message.now in
     let test = c.args.test.now in
-    comes_along m _ _ _ (condition-joined test ∙ sym (ap (λ r. joined r (conditions_in (tests_of test.tests))) c.in-Always.ensures)) (always_true m)
+    comes_along m _ _ _ (condition-joined test ∙ sym (ap (λ r. joined r (conditions_in (tests_of test.tests))) c.in-Some-Always.ensures) ∙ ap (λ r. joined (Some (test_reading_as r)) (conditions_in (tests_of test.tests))) c.in-Some-Always.field-0-is) (always_true m)
 
-pub holds-returns-in-Never : goal.holds-returns-in-Never
-holds-returns-in-Never t c =
+pub holds-returns-in-Some-Never : goal.holds-returns-in-Some-Never
+holds-returns-in-Some-Never t c =
     let m = c.args.delivery.now.message.now in
     let test = c.args.test.now in
-    comes_along m _ _ _ (condition-joined test ∙ sym (ap (λ r. joined r (conditions_in (tests_of test.tests))) c.in-Never.ensures)) (never_false m)
+    comes_along m _ _ _ (condition-joined test ∙ sym (ap (λ r. joined r (conditions_in (tests_of test.tests))) c.in-Some-Never.ensures) ∙ ap (λ r. joined (Some (test_reading_as r)) (conditions_in (tests_of test.tests))) c.in-Some-Never.field-0-is) (never_false m)
 
-pub holds-returns-in-Asks : goal.holds-returns-in-Asks
-holds-returns-in-Asks t c =
+pub holds-returns-in-Some-Asks : goal.holds-returns-in-Some-Asks
+holds-returns-in-Some-Asks t c =
     let m = c.args.delivery.now.message.now in
     let test = c.args.test.now in
-    comes_from m _ _ _ (condition-joined test ∙ sym (ap (λ r. joined r (conditions_in (tests_of test.tests))) c.in-Asks.ensures)) (asked_from m _ _ c.truth_of.ensures)
+    comes_from m _ _ _ (condition-joined test ∙ sym (ap (λ r. joined r (conditions_in (tests_of test.tests))) c.in-Some-Asks.ensures) ∙ ap (λ r. joined (Some (test_reading_as r)) (conditions_in (tests_of test.tests))) c.in-Some-Asks.field-0-is) (asked_from m _ _ c.truth_of.ensures)
 
-pub holds-returns-in-AllOf : goal.holds-returns-in-AllOf
-holds-returns-in-AllOf t c =
+pub holds-returns-in-Some-AllOf : goal.holds-returns-in-Some-AllOf
+holds-returns-in-Some-AllOf t c =
     let m = c.args.delivery.now.message.now in
     let test = c.args.test.now in
-    comes_from m _ _ _ (condition-joined test ∙ sym (ap (λ r. joined r (conditions_in (tests_of test.tests))) c.in-AllOf.ensures)) c.all_hold.ensures
+    comes_from m _ _ _ (condition-joined test ∙ sym (ap (λ r. joined r (conditions_in (tests_of test.tests))) c.in-Some-AllOf.ensures) ∙ ap (λ r. joined (Some (test_reading_as r)) (conditions_in (tests_of test.tests))) c.in-Some-AllOf.field-0-is) c.all_hold.ensures
 
-pub holds-returns-in-AnyOf : goal.holds-returns-in-AnyOf
-holds-returns-in-AnyOf t c =
+pub holds-returns-in-Some-AnyOf : goal.holds-returns-in-Some-AnyOf
+holds-returns-in-Some-AnyOf t c =
     let m = c.args.delivery.now.message.now in
     let test = c.args.test.now in
-    comes_from m _ _ _ (condition-joined test ∙ sym (ap (λ r. joined r (conditions_in (tests_of test.tests))) c.in-AnyOf.ensures)) c.any_holds.ensures
+    comes_from m _ _ _ (condition-joined test ∙ sym (ap (λ r. joined r (conditions_in (tests_of test.tests))) c.in-Some-AnyOf.ensures) ∙ ap (λ r. joined (Some (test_reading_as r)) (conditions_in (tests_of test.tests))) c.in-Some-AnyOf.field-0-is) c.any_holds.ensures
 
-pub holds-returns-in_ok-truth-in-Not : goal.holds-returns-in_ok-truth-in-Not
-holds-returns-in_ok-truth-in-Not t c =
+pub holds-returns-in_ok-truth-in-Some-Not : goal.holds-returns-in_ok-truth-in-Some-Not
+holds-returns-in_ok-truth-in-Some-Not t c =
     let m = c.args.delivery.now.message.now in
     let test = c.args.test.now in
-    comes_along m _ _ _ (condition-joined test ∙ sym (ap (λ r. joined r (conditions_in (tests_of test.tests))) c.in-Not.ensures))
-    (none_not m (conditions_in (tests_of test.tests)) c.in_ok-truth-in-Not.truth c.in_ok-truth-in-Not.ensures)
+    comes_along m _ _ _ (condition-joined test ∙ sym (ap (λ r. joined r (conditions_in (tests_of test.tests))) c.in-Some-Not.ensures) ∙ ap (λ r. joined (Some (test_reading_as r)) (conditions_in (tests_of test.tests))) c.in-Some-Not.field-0-is)
+    (none_not m (conditions_in (tests_of test.tests)) c.in_ok-truth-in-Some-Not.truth c.in_ok-truth-in-Some-Not.ensures)
+
+pub holds-returns-in-None : goal.holds-returns-in-None
+holds-returns-in-None t c =
+    let m = c.args.delivery.now.message.now in
+    let test = c.args.test.now in
+    comes_along m _ _ _ (condition-joined test ∙ sym (ap (λ r. joined r (conditions_in (tests_of test.tests))) c.in-None.ensures)) (never_false m)

@@ -1,6 +1,6 @@
 use Rattle.std.proofs.Common.{Bool, drop}
 use Rattle.sieve_check.specs.Script.{all_of, any_of}
-use Rattle.sieve_run.specs.Step.{ComesTo}
+use Rattle.sieve_run.specs.view.Step.{ComesTo}
 use Rattle.sieve_run.proofs.Views.{conditions_on}
 use Rattle.sieve_run.proofs.decision.+decision.Given as goal
 

@@ -1,6 +1,6 @@
 use Rattle.std.proofs.Common.{◌≡◌, ◌++◌, drop, map}
-use Rattle.sieve_check.specs.Tree.{part_of}
-use Rattle.sieve_check.specs.Script.{text_value}
+use Rattle.sieve_check.specs.view.Tree.{part_of}
+use Rattle.sieve_check.specs.Reading.{text_value}
 use Rattle.sieve_run.proofs.matching.expanded_text.Given as goal
 
 -- the octets so far, with those of the parts that are left

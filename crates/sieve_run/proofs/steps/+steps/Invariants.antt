@@ -1,9 +1,9 @@
 use Rattle.std.proofs.Common.{◌≡◌, drop, map}
 use Rattle.sieve_check.specs.Script.{script_of}
-use Rattle.sieve_check.specs.Tree.{node_of}
+use Rattle.sieve_check.specs.view.Tree.{node_of}
 use Rattle.sieve_run.specs.Run.{act_of, answer_of, exec}
-use Rattle.sieve_run.specs.State.{state_of}
-use Rattle.sieve_run.specs.Step.{doing_rest}
+use Rattle.sieve_run.specs.view.State.{state_of}
+use Rattle.sieve_run.specs.view.Step.{doing_rest}
 use Rattle.sieve_run.proofs.Stepping.{chain_on}
 use Rattle.sieve_run.proofs.steps.+steps.Given as goal
 

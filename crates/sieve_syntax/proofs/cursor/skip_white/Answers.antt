@@ -1,6 +1,6 @@
 use Rattle.std.proofs.Common.{sym, ◌∙◌, subst, arith}
 use Rattle.std.proofs.lemmas.List.{take_rest}
-use Rattle.sieve_syntax.specs.Cursor.{GoesTo}
+use Rattle.sieve_syntax.specs.view.Cursor.{GoesTo}
 use Rattle.sieve_syntax.proofs.Finding.{goes_white}
 use Rattle.sieve_syntax.proofs.cursor.skip_white.Goals as goal
 

@@ -1,5 +1,5 @@
 use Rattle.std.proofs.Common.{◌-◌, ◌≤◌, length}
-use Rattle.sieve_syntax.specs.Cursor.{GoesTo, IsCursor}
+use Rattle.sieve_syntax.specs.view.Cursor.{GoesTo, IsCursor}
 use Rattle.sieve_syntax.proofs.cursor.skip_white.Given as goal
 
 abbrev pub invariant-loop-length : goal.invariant-loop-length

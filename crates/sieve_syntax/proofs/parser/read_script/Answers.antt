@@ -1,7 +1,7 @@
 use Rattle.std.proofs.Common.{sym, subst, arith, refl, []}
 use Rattle.sieve_syntax.specs.Machine.{between}
-use Rattle.sieve_syntax.specs.Reader.{opens_value, state_value}
-use Rattle.sieve_syntax.specs.Tree.{node_of}
+use Rattle.sieve_syntax.specs.view.Reader.{opens_value, state_value}
+use Rattle.sieve_syntax.specs.view.Tree.{node_of}
 use Rattle.std.proofs.Common.{map}
 use Rattle.sieve_syntax.proofs.Running.{Means, start_means, next_means, stop_means, end_means}
 use Rattle.sieve_syntax.proofs.parser.read_script.Goals as goal

@@ -1,6 +1,6 @@
 use Rattle.std.proofs.Common.{◌-◌, length}
-use Rattle.sieve_syntax.specs.Cursor.{IsCursor}
-use Rattle.sieve_syntax.specs.Reader.{state_value}
+use Rattle.sieve_syntax.specs.view.Cursor.{IsCursor}
+use Rattle.sieve_syntax.specs.view.Reader.{state_value}
 use Rattle.sieve_syntax.proofs.Running.{Means}
 use Rattle.sieve_syntax.proofs.parser.read_script.Given as goal
 

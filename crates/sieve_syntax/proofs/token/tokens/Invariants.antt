@@ -1,5 +1,5 @@
 use Rattle.std.proofs.Common.{◌-◌, length}
-use Rattle.sieve_syntax.specs.Cursor.{IsCursor}
+use Rattle.sieve_syntax.specs.view.Cursor.{IsCursor}
 use Rattle.sieve_syntax.proofs.Finding.{GoesOn}
 use Rattle.sieve_syntax.proofs.token.tokens.Given as goal
 

@@ -6,7 +6,7 @@ use Rattle.clap.specs.declared.parser.matches.ArgMatches.{ArgMatches}
 use Rattle.sievebench.specs.declared.command_line.Job.TheVariants as job
 use Rattle.clap.specs.declared.error.kind.ErrorKind.TheVariants.{OutOfMemory}
 use Rattle.clap.proofs.OnLiterals.{clap_on_literals}
-use Rattle.sievebench.specs.CommandLine.{Answers, IsRefusalFor, job_of, named_job, session_shape, the_app, top_app, where_taken}
+use Rattle.sievebench.specs.CommandLine.{IsFaultFor, IsRefusalFor, job_of, named_job, session_shape, the_app, top_app, where_taken}
 use Rattle.sievebench.specs.declared.command_line.Job.{Job}
 use Rattle.sievebench.specs.declared.command_line.UsageFault.{UsageFault}
 use Rattle.sievebench.specs.declared.command_line.UsageFault.TheVariants.{Usage, NoMemory}
@@ -32,7 +32,7 @@ only_memory [] e none (inl memory) = memory
 only_memory [] e none (inr among) = absurd among
 only_memory (kind ∷ kinds) e none has = absurd (cc)
 
-refusal : (kinds : Kinds) (e : Error) (fault : UsageFault) → HasKind kinds e → Answers (kind_of e) fault → IsRefusalFor kinds fault
+refusal : (kinds : Kinds) (e : Error) (fault : UsageFault) → HasKind kinds e → IsFaultFor (kind_of e) fault → IsRefusalFor kinds fault
 refusal kinds e NoMemory has answers = tt
 refusal kinds e (Usage help text) (inl memory) answers = absurd (answers.0 memory)
 refusal kinds e (Usage help text) (inr among) answers = (kind_of e, among, answers.1)

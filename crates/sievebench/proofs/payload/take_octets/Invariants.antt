@@ -1,14 +1,14 @@
 use Rattle.std.proofs.Common.{◌≤◌, ◌-◌}
 use Rattle.std.specs.Option.{option_map}
-use Rattle.sievebench.specs.Input.{unread, fuel, Knows}
-use Rattle.sievebench.specs.Payload.{Takes, octets_of}
+use Rattle.sievebench.specs.view.Input.{unread, fuel, Knows}
+use Rattle.sievebench.specs.view.Payload.{Takes, octets_kept}
 use Rattle.sievebench.proofs.payload.take_octets.Given as goal
 
 -- all but those that are left are taken
 abbrev pub invariant-loop-left : goal.invariant-loop-left
 invariant-loop-left g l =
     (l.left ≤ l.count)
-    × Takes (l.count - l.left) (unread l.fn.input (g.R.Source.remaining l.fn.reader)) (unread l.input (g.R.Source.remaining l.reader)) (option_map octets_of l.kept)
+    × Takes (l.count - l.left) (unread l.fn.input (g.R.Source.remaining l.fn.reader)) (unread l.input (g.R.Source.remaining l.reader)) (option_map octets_kept l.kept)
     × (fuel l.input ≤ fuel l.fn.input)
     × Knows l.input (g.R.Source.remaining l.reader)
     × (g.R.Faults.fault_count l.fn.reader ≤ g.R.Faults.fault_count l.reader)

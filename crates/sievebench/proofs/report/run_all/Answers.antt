@@ -5,7 +5,7 @@ use Rattle.sieve_run.specs.Meter.{next_run, runs_after}
 use Rattle.sieve_run.specs.Run.{outcome_of}
 use Rattle.sievebench.specs.Content.{text_at}
 use Rattle.sievebench.specs.Report.{verdicts}
-use Rattle.sievebench.specs.Reported.{reported_of}
+use Rattle.sievebench.specs.view.Reported.{reported_of}
 use Rattle.std.proofs.lemmas.List.{map-append}
 use Rattle.sievebench.proofs.report.run_all.Goals as goal
 

@@ -4,7 +4,7 @@ use Rattle.sieve_run.specs.Library.{lookup_of}
 use Rattle.sieve_run.specs.Meter.{runs_after}
 use Rattle.sieve_run.specs.Run.{outcome_of}
 use Rattle.sievebench.specs.Content.{text_at}
-use Rattle.sievebench.specs.Reported.{reported_of}
+use Rattle.sievebench.specs.view.Reported.{reported_of}
 use Rattle.sievebench.proofs.report.run_all.Given as goal
 
 -- the verdicts so far, and those on the messages that are left, are those on all, and so it is with the runs

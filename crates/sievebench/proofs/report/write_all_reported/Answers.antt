@@ -2,7 +2,7 @@ use Rattle.std.proofs.Common.{◌≡◌, ◌<◌, ◌+◌, ◌++◌, List, ℕ, 
 use Rattle.std.proofs.lemmas.List.{drop_more}
 use Rattle.std.specs.List.{flat_map}
 use Rattle.sievebench.specs.Report.{message_lines}
-use Rattle.sievebench.specs.Reported.{reported_of}
+use Rattle.sievebench.specs.view.Reported.{reported_of}
 use Rattle.sievebench.proofs.Writing.{goes_on, stops}
 use Rattle.sievebench.proofs.report.write_all_reported.Goals as goal
 

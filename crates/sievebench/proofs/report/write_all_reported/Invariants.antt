@@ -1,7 +1,7 @@
 use Rattle.std.proofs.Common.{drop, map}
 use Rattle.std.specs.List.{flat_map}
 use Rattle.sievebench.specs.Report.{message_lines}
-use Rattle.sievebench.specs.Reported.{reported_of}
+use Rattle.sievebench.specs.view.Reported.{reported_of}
 use Rattle.sievebench.proofs.Writing.{Writing}
 use Rattle.sievebench.proofs.report.write_all_reported.Given as goal
 

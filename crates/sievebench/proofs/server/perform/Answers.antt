@@ -1,6 +1,6 @@
 use Rattle.std.proofs.Common.{◌≡◌, Some}
 use Rattle.sievebench.specs.SessionLine as line
-use Rattle.sievebench.specs.Task.{IsFollowedBy, Tasks, command_of}
+use Rattle.sievebench.specs.view.Task.{IsFollowedBy, Tasks, command_of}
 use Rattle.sievebench.specs.declared.task.Task.TheVariants as tasks
 use Rattle.sievebench.proofs.Requests.{forgotten, change_turn}
 use Rattle.sievebench.proofs.server.perform.Goals as goal

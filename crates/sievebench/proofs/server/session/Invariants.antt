@@ -1,5 +1,5 @@
-use Rattle.sievebench.specs.Input.{unread, fuel, Knows}
-use Rattle.sievebench.specs.Turn.{SoFar}
+use Rattle.sievebench.specs.view.Input.{unread, fuel, Knows}
+use Rattle.sievebench.specs.view.Turn.{SoFar}
 use Rattle.sievebench.proofs.server.session.Given as goal
 
 -- the commands so far are carried out

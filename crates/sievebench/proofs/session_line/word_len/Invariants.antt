@@ -1,6 +1,6 @@
 use Rattle.std.proofs.Common.{◌≡◌, ◌+◌, drop}
 use Rattle.sievebench.specs.SessionLine.{piece_length, outside}
-use Rattle.sievebench.specs.Command.{spot_as}
+use Rattle.sievebench.specs.view.Command.{spot_as}
 use Rattle.sievebench.proofs.session_line.word_len.Given as goal
 
 -- the octets so far, and those of what is left before the first such space

@@ -1,10 +1,10 @@
 use Rattle.std.proofs.Common.{◌≡◌, length, is_some}
-use Rattle.sievebench.specs.SessionLine.{quoted_octets}
+use Rattle.sievebench.specs.SessionLine.{quoted_value}
 use Rattle.sievebench.proofs.word.is_quoted.Given as goal
 
 -- what is left makes a word where the whole does
 abbrev pub invariant-loop-left : goal.invariant-loop-left
-invariant-loop-left l = is_some (quoted_octets l.word) ≡ is_some (quoted_octets l.rest)
+invariant-loop-left l = is_some (quoted_value l.word) ≡ is_some (quoted_value l.rest)
 
 abbrev pub decreases-loop-left : goal.decreases-loop-left
 decreases-loop-left l = length l.rest

@@ -1,5 +1,5 @@
 use Rattle.std.proofs.Common.{◌≡◌, List, ℕ, Option, ap, ◌∙◌, subst}
-use Rattle.sieve_code.specs.Writers.{WroteFront}
+use Rattle.sieve_base.specs.Writers.{WroteFront}
 use Rattle.sieve_run.specs.declared.name.ScriptName.{ScriptName}
 use Rattle.sieve_run.specs.Verdict.{Verdict}
 use Rattle.sievebench.specs.Content.{Content}

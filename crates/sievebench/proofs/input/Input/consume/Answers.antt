@@ -1,5 +1,5 @@
 use Rattle.std.proofs.Common.{◌≡◌, ◌+◌, ◌-◌, ◌≤◌, length, drop, take, ap, ◌∙◌, arith, length-take}
-use Rattle.sievebench.specs.Input.{Input}
+use Rattle.sievebench.specs.view.Input.{Input}
 use Rattle.sievebench.proofs.Ranges.{range-later}
 use Rattle.sievebench.proofs.input.Input.consume.Goals as goal
 

@@ -1,7 +1,7 @@
 use Rattle.std.proofs.Common.{◌≡◌, false, ◌+◌, ◌<◌, ◌≤◌}
 use Rattle.std.specs.Io.KnownBytes.{Keeps}
-use Rattle.sieve_code.specs.Devices.{HasRisen}
-use Rattle.sievebench.specs.Input.{unread}
+use Rattle.sieve_base.specs.Devices.{HasRisen}
+use Rattle.sievebench.specs.view.Input.{unread}
 use Rattle.sievebench.proofs.input.Input.fill.Given as goal
 
 -- nothing was read, and each try has counted a fault

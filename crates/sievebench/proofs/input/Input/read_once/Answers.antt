@@ -2,7 +2,7 @@ use Rattle.std.proofs.Common.{◌≡◌, ◌+◌, ◌-◌, List, ℕ, length, ta
 use Rattle.std.proofs.lemmas.Grind.{common_steps}
 use Rattle.std.proofs.lemmas.List.{with_items_is}
 use Rattle.std.specs.List.{slice_range}
-use Rattle.sievebench.specs.Input.{Input}
+use Rattle.sievebench.specs.view.Input.{Input}
 use Rattle.sievebench.proofs.Unread.{unread-read}
 use Rattle.sievebench.proofs.input.Input.read_once.Goals as goal
 

@@ -1,5 +1,5 @@
 use Rattle.std.specs.Bool.{⊤}
-use Rattle.sievebench.specs.Line.{MatchEnd}
+use Rattle.sievebench.specs.view.Line.{MatchEnd}
 use Rattle.sievebench.specs.declared.line.Line.{Line}
 use Rattle.sievebench.specs.declared.line.Line.TheVariants.{Over, Whole, TooLong, Failed, Spent}
 use Rattle.sievebench.proofs.line.Line.next.Goals as goal

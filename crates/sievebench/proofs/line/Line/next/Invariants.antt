@@ -1,6 +1,6 @@
 use Rattle.std.proofs.Common.{◌≤◌}
 use Rattle.std.specs.Io.KnownBytes.{Keeps}
-use Rattle.sievebench.specs.Input.{unread, fuel, Knows}
+use Rattle.sievebench.specs.view.Input.{unread, fuel, Knows}
 use Rattle.sievebench.proofs.line.Line.next.Given as goal
 
 -- what was read is not used yet

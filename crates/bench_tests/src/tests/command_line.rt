@@ -1,0 +1,78 @@
+//! The words of the command line, and the status of each end.
+
+use sievebench::{End, Job, SessionEnd, TestEnd, UsageFault, command_of, status_of};
+use std::test::Fail;
+
+#[test]
+fn each_end_has_its_status(rt: HostRuntime) {
+    let rows = [
+        (End::Session(SessionEnd::Done), 0),
+        (End::Session(SessionEnd::Syntax), 2),
+        (End::Session(SessionEnd::Truncated), 2),
+        (End::Session(SessionEnd::Read), 3),
+        (End::Session(SessionEnd::Write), 3),
+        (End::Session(SessionEnd::NoMemory), 4),
+        (End::Session(SessionEnd::TurnLimit), 3),
+        (End::Test(TestEnd::Clean), 0),
+        (End::Test(TestEnd::Faulty), 1),
+        (End::Test(TestEnd::TooLarge), 2),
+        (End::Test(TestEnd::Full), 2),
+        (End::Test(TestEnd::Write), 3),
+        (End::Test(TestEnd::NoMemory), 4),
+    ];
+    for (end, status) in rows {
+        assert_eq!(rt; status_of(end), status, "at {end:?}");
+    }
+}
+
+#[test]
+fn a_session_is_named(rt: HostRuntime) -> Result<(), Fail> {
+    assert_eq!(rt;
+        command_of(rt.alloc(), &["sievebench", "session"])?,
+        Job::Session
+    );
+    Ok(())
+}
+
+#[test]
+fn mistakes_and_calls_for_help_have_a_text(rt: HostRuntime) {
+    let about = "Runs Sieve scripts against sample messages and prints what would happen";
+    let session = "Reads a session from standard input and writes its replies to standard output";
+    let rows: [(&[&str], bool, &str); 10] = [
+        (&["other"], false, "Usage: sievebench <COMMAND>"),
+        (&[], false, "Usage: sievebench <COMMAND>"),
+        (
+            &["sievebench", "frobnicate"],
+            false,
+            "unrecognized subcommand 'frobnicate'",
+        ),
+        (
+            &["sievebench", "--fast"],
+            false,
+            "unexpected argument '--fast' found",
+        ),
+        (
+            &["sievebench", "session", "now"],
+            false,
+            "unexpected argument 'now' found",
+        ),
+        (&["sievebench", "--help"], true, about),
+        (&["sievebench", "-h"], true, "session"),
+        (&["sievebench", "help"], true, session),
+        (&["sievebench", "session", "--help"], true, session),
+        (
+            &["sievebench", "help", "session"],
+            true,
+            "Usage: sievebench session",
+        ),
+    ];
+    for (words, wanted, part) in rows {
+        match command_of(rt.alloc(), words) {
+            Err(UsageFault::Usage { help, text }) => {
+                assert_eq!(rt; help, wanted, "at {words:?}");
+                assert!(rt; text.as_str().contains(part), "{part:?} in {text:?}");
+            }
+            other => panic!(rt; "at {words:?}: {other:?}"),
+        }
+    }
+}

@@ -1,0 +1,12 @@
+//! Rows for each library's public calls. What is expected was written by hand from the standards.
+
+mod comparators;
+mod faults;
+mod judging;
+mod limits;
+mod messages;
+mod print;
+mod runs;
+mod scripts;
+mod spellings;
+mod writers;

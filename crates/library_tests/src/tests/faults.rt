@@ -1,0 +1,100 @@
+//! The numbers of refusals, rules and errors, and what refusals print.
+//!
+//! A refusal with fields has no number of its own: its variants are listed in the order of their numbers.
+
+use message_text::MessageFault;
+use sieve_base::WriteFault;
+use sieve_check::{CheckFault, JudgeFault, Rule};
+use sieve_run::ErrorKind;
+use sieve_syntax::SyntaxFault;
+use std::fmt::Display;
+use std::process::Abort;
+use std::test::Fail;
+
+#[test]
+fn rules_have_their_numbers_and_words(rt: HostRuntime) {
+    let rows: [(Rule, u8, &[u8]); 16] = [
+        (Rule::RequirePlace, 1, b"require-place"),
+        (Rule::UnknownCapability, 2, b"unknown-capability"),
+        (Rule::UnknownCommand, 3, b"unknown-command"),
+        (Rule::NotRequired, 4, b"not-required"),
+        (Rule::ElsePlace, 5, b"else-place"),
+        (Rule::BadTag, 6, b"bad-tag"),
+        (Rule::BadArguments, 7, b"bad-arguments"),
+        (Rule::UnknownComparator, 8, b"unknown-comparator"),
+        (Rule::BadVariableName, 9, b"bad-variable-name"),
+        (Rule::GlobalAfterSet, 10, b"global-after-set"),
+        (Rule::BadNamespace, 11, b"bad-namespace"),
+        (Rule::MatchIndex, 12, b"match-index"),
+        (Rule::NumberTooLarge, 13, b"number-too-large"),
+        (Rule::BadEnvelopePart, 14, b"bad-envelope-part"),
+        (Rule::NotAddressHeader, 15, b"not-address-header"),
+        (Rule::TooManyVariables, 16, b"too-many-variables"),
+    ];
+    for (rule, number, word) in rows {
+        assert_eq!(rt; rule as u8, number, "at {rule:?}");
+        assert_eq!(rt; rule.word(), word);
+    }
+}
+
+#[test]
+fn errors_have_their_numbers_and_words(rt: HostRuntime) {
+    let rows: [(ErrorKind, u8, &[u8]); 9] = [
+        (ErrorKind::MissingScript, 1, b"missing-script"),
+        (ErrorKind::InvalidScript, 2, b"invalid-script"),
+        (ErrorKind::RecursiveInclude, 3, b"recursive-include"),
+        (ErrorKind::IncludeDepth, 4, b"include-depth"),
+        (ErrorKind::IncludeCount, 5, b"include-count"),
+        (ErrorKind::BadAddress, 6, b"bad-address"),
+        (ErrorKind::TooManyActions, 7, b"too-many-actions"),
+        (ErrorKind::TooManyGlobals, 8, b"too-many-globals"),
+        (ErrorKind::BadMailbox, 9, b"bad-mailbox"),
+    ];
+    for (kind, number, word) in rows {
+        assert_eq!(rt; kind as u8, number, "at {kind:?}");
+        assert_eq!(rt; kind.word(), word);
+    }
+}
+
+#[test]
+fn refusals_have_their_numbers(rt: HostRuntime) {
+    for (fault, number) in [(MessageFault::TooLarge, 1), (MessageFault::NoMemory, 2)] {
+        assert_eq!(rt; fault as u8, number, "at {fault:?}");
+    }
+    for (fault, number) in [(JudgeFault::TooLarge, 1), (JudgeFault::NoMemory, 2)] {
+        assert_eq!(rt; fault as u8, number, "at {fault:?}");
+    }
+}
+
+/// Prints a refusal, and compares.
+fn check_printed(
+    rt: &(impl AllocGlobal + Abort),
+    fault: impl Display + Drop,
+    text: &str,
+) -> Result<(), Fail> {
+    let printed = format!(in rt.alloc(); "{fault}")?;
+    assert_eq!(rt; printed.as_str(), text);
+    Ok(())
+}
+
+#[test]
+fn refusals_print_their_texts(rt: HostRuntime) -> Result<(), Fail> {
+    check_printed(&rt, WriteFault, "the writer failed")?;
+    check_printed(&rt, MessageFault::TooLarge, "the message is too large")?;
+    check_printed(&rt, MessageFault::NoMemory, "out of memory")?;
+    check_printed(&rt, SyntaxFault::Syntax { line: 7 }, "line 7: not a script")?;
+    check_printed(&rt, SyntaxFault::TooLarge, "the text is too large")?;
+    check_printed(&rt, SyntaxFault::NoMemory, "out of memory")?;
+    check_printed(&rt, JudgeFault::TooLarge, "the text is too large")?;
+    check_printed(&rt, JudgeFault::NoMemory, "out of memory")
+}
+
+#[test]
+fn a_breach_is_printed_with_its_line(rt: HostRuntime) -> Result<(), Fail> {
+    let breach = CheckFault::Breach {
+        line: 18_446_744_073_709_551_615,
+        rule: Rule::BadTag,
+    };
+    check_printed(&rt, breach, "line 18446744073709551615: a rule is broken")?;
+    check_printed(&rt, CheckFault::NoMemory, "out of memory")
+}

@@ -1,0 +1,25 @@
+-- Folded texts compared octet by octet.
+use Rattle.std.proofs.Common.{◌≡◌, ℕ, ◌&&◌, ◌||◌, ◌==◌, List, [], ◌∷◌, map, length, take, refl, ap, ◌∙◌}
+use Rattle.std.proofs.lemmas.List.{length-map, take-map}
+use Rattle.match_text.specs.Comparator.{is_part, octet, same}
+
+module _ (fold : ℕ → ℕ) where
+  -- they are equal where the texts are after folding
+  pub folded_same : (a b : List ℕ) → same octet (map fold a) (map fold b) ≡ same fold a b
+  folded_same [] [] = refl
+  folded_same [] (y ∷ b) = refl
+  folded_same (x ∷ a) [] = refl
+  folded_same (x ∷ a) (y ∷ b) = ap (λ rest. (fold x == fold y) && rest) (folded_same a b)
+
+  front_same : (xs key : List ℕ) → same octet (take (length (map fold key)) (map fold xs)) (map fold key) ≡ same fold (take (length key) xs) key
+  front_same xs key =
+      ap (λ n. same octet (take n (map fold xs)) (map fold key)) (length-map key fold)
+      ∙ ap (λ l. same octet l (map fold key)) (take-map fold (length key) xs)
+      ∙ folded_same (take (length key) xs) key
+
+  -- and one is part of the other where the texts are
+  pub folded_part : (value key : List ℕ) → is_part octet (map fold value) (map fold key) ≡ is_part fold value key
+  folded_part [] key = folded_same [] key
+  folded_part (x ∷ rest) key =
+      ap (λ b. b || is_part octet (map fold rest) (map fold key)) (front_same (x ∷ rest) key)
+      ∙ ap (λ b. same fold (take (length key) (x ∷ rest)) key || b) (folded_part rest key)

@@ -1,0 +1,89 @@
+-- How what was written in one step after another joins.
+use Rattle.std.proofs.Common.{◌≡◌, ℕ, ◌≤◌, List, [], ◌∷◌, ◌++◌, sym, ap, ◌∙◌, subst, append_assoc, append-nil, arith, Option, Result, Ok, Err, OnErr, take, drop, length, get_or, ◌<◌, ◌+◌, take-append-drop}
+use Rattle.std.specs.List.{flat_map}
+use Rattle.std.proofs.lemmas.Grind.{flat_map-append}
+use Rattle.std.proofs.lemmas.List.{take_more}
+use Rattle.std.proofs.KnownBytes.{Appends-nil, Appends-trans}
+use Rattle.sieve_base.specs.Devices.{HasRisen}
+use Rattle.sieve_base.specs.Writers.{Wrote, WroteFront}
+
+-- the front of what is left goes to what is done
+pub front_moves : (all done rest after : List ℕ) (n : ℕ) → after ≡ drop n rest → done ++ rest ≡ all → (done ++ take n rest) ++ after ≡ all
+front_moves all done rest after n cut split =
+    append_assoc done (take n rest) after ∙ ap (λ l. done ++ (take n rest ++ l)) cut ∙ ap (λ l. done ++ l) (take-append-drop n rest) ∙ split
+
+-- nothing was written
+pub wrote_nothing : {S : Type 0} (contents : S → Option (List ℕ)) (fault_count : S → ℕ) (s : S) → Wrote contents fault_count s s []
+wrote_nothing contents fault_count s = record { text_appended = Appends-nil (contents s); faults_kept = omega arith }
+
+-- one text was written, and then another
+pub wrote_both : {S : Type 0} (contents : S → Option (List ℕ)) (fault_count : S → ℕ) (a b c : S) (s t : List ℕ)
+    → Wrote contents fault_count a b s → Wrote contents fault_count b c t → Wrote contents fault_count a c (s ++ t)
+wrote_both contents fault_count a b c s t first second = record {
+  text_appended = Appends-trans _ _ _ _ _ first.text_appended second.text_appended;
+  faults_kept = let one : fault_count a ≤ fault_count b = first.faults_kept in
+      let two : fault_count b ≤ fault_count c = second.faults_kept in
+      omega arith;
+}
+
+-- one text was written, and then a front of another
+pub wrote_then_front : {S : Type 0} (contents : S → Option (List ℕ)) (fault_count : S → ℕ) (a b c : S) (s t : List ℕ)
+    → Wrote contents fault_count a b s → WroteFront contents fault_count b c t → WroteFront contents fault_count a c (s ++ t)
+wrote_then_front contents fault_count a b c s t first second = record {
+  front = s ++ second.front;
+  back = second.back;
+  whole = append_assoc s second.front second.back ∙ ap (λ l. s ++ l) second.whole;
+  front_appended = Appends-trans _ _ _ _ _ first.text_appended second.front_appended;
+  fault_counted = let one : fault_count a ≤ fault_count b = first.faults_kept in
+      let two : HasRisen (fault_count b) (fault_count c) = second.fault_counted in
+      omega arith;
+}
+
+-- two texts were written, and then a front of a third
+pub wrote_two_then_front : {S : Type 0} (contents : S → Option (List ℕ)) (fault_count : S → ℕ) (a b c d : S) (s t u : List ℕ)
+    → Wrote contents fault_count a b s → Wrote contents fault_count b c t → WroteFront contents fault_count c d u
+    → WroteFront contents fault_count a d ((s ++ t) ++ u)
+wrote_two_then_front contents fault_count a b c d s t u first second third =
+    wrote_then_front contents fault_count a c d (s ++ t) u (wrote_both contents fault_count a b c s t first second) third
+
+-- a front of a text is a front of a longer one
+pub wrote_front_of : {S : Type 0} (contents : S → Option (List ℕ)) (fault_count : S → ℕ) (a b : S) (s t : List ℕ)
+    → WroteFront contents fault_count a b s → WroteFront contents fault_count a b (s ++ t)
+wrote_front_of contents fault_count a b s t first = record {
+  front = first.front;
+  back = first.back ++ t;
+  whole = sym (append_assoc first.front first.back t) ∙ ap (λ l. l ++ t) first.whole;
+  front_appended = first.front_appended;
+  fault_counted = first.fault_counted;
+}
+
+-- what holds at an error holds on an error
+pub on_err_from : {T E P : Type 0} (r : Result T E) → P → OnErr r P
+on_err_from (Ok x) p = tt
+on_err_from (Err e) p = p
+
+-- a front of some items' texts is a front of all their texts
+pub wrote_front_of_items : {S X : Type 0} (contents : S → Option (List ℕ)) (fault_count : S → ℕ) (a b : S) (f : X → List ℕ) (xs : List X) (n : ℕ)
+    → WroteFront contents fault_count a b (flat_map f (take n xs)) → WroteFront contents fault_count a b (flat_map f xs)
+wrote_front_of_items contents fault_count a b f xs n front =
+    subst (λ u. WroteFront contents fault_count a b (flat_map f u)) (take-append-drop n xs)
+    (subst (WroteFront contents fault_count a b) (sym (flat_map-append f (take n xs) (drop n xs)))
+    (wrote_front_of contents fault_count a b _ (flat_map f (drop n xs)) front))
+
+-- the texts of the items before one were written, and then a front of that one's
+pub wrote_items_then_front : {S X : Type 0} (contents : S → Option (List ℕ)) (fault_count : S → ℕ) (a b c : S) (f : X → List ℕ) (xs : List X) (i : ℕ) (d : X)
+    → i < length xs → Wrote contents fault_count a b (flat_map f (take i xs)) → WroteFront contents fault_count b c (f (get_or xs i d))
+    → WroteFront contents fault_count a c (flat_map f xs)
+wrote_items_then_front contents fault_count a b c f xs i d within first second =
+    let joined : flat_map f (take (i + 1) xs) ≡ flat_map f (take i xs) ++ f (get_or xs i d) =
+    ap (flat_map f) (take_more xs i d within) ∙ flat_map-append f (take i xs) (get_or xs i d ∷ [])
+    ∙ ap (λ l. flat_map f (take i xs) ++ l) (append-nil (f (get_or xs i d))) in
+    wrote_front_of_items contents fault_count a c f xs (i + 1)
+    (subst (WroteFront contents fault_count a c) (sym joined) (wrote_then_front contents fault_count a b c _ _ first second))
+
+-- For `using(..)` on a function that writes up to three texts, one after another, and gives up at the first fault.
+-- Each text is a call of a definition that does not unfold there: one that computes to single octets hides where the texts join.
+pub ruleset writing = (wrote_nothing, wrote_both, wrote_then_front, wrote_two_then_front, wrote_front_of, on_err_from)
+
+-- For `using(..)` on a function that writes the text of each item of a slice.
+pub ruleset writing_items = (wrote_nothing, wrote_both, wrote_front_of_items, wrote_items_then_front, on_err_from)

@@ -1,0 +1,10 @@
+-- Each turn so far was interrupted, so nothing is written yet.
+use Rattle.std.proofs.Common.{[]}
+use Rattle.sieve_base.specs.Writers.{Wrote}
+use Rattle.sieve_base.proofs.writers.write_front.Given as goal
+
+abbrev pub invariant-tries : goal.invariant-tries
+invariant-tries g l = Wrote g.W.Sink.contents g.W.Faults.fault_count l.initial.writer l.writer []
+
+abbrev pub decreases-tries : goal.decreases-tries
+decreases-tries g l = l.retries

@@ -1,0 +1,5 @@
+pub mod Devices
+pub mod Limits
+pub mod Octet
+pub mod Writers
+pub mod view

@@ -1,0 +1,54 @@
+-- The limits of the project, each once. What is past one of them is refused.
+use Rattle.std.specs.Prelude.{ℕ}
+
+-- SCRIPTS
+
+-- the most octets of a script's text: 2 ^ 20
+abbrev pub text_limit : ℕ
+text_limit = 1048576
+
+-- the most octets of a script's name
+abbrev pub name_limit : ℕ
+name_limit = 1024
+
+-- the most scripts of a bench
+abbrev pub script_count_limit : ℕ
+script_count_limit = 1024
+
+-- how deep tests may go: a test directly in a command has depth 1 (RFC 5228, section 2.10.7, asks for 15 at least)
+abbrev pub test_depth : ℕ
+test_depth = 32
+
+-- how many blocks may stand open at once (RFC 5228, section 2.10.7, asks for 15 at least)
+abbrev pub block_room : ℕ
+block_room = 32
+
+-- MESSAGES
+
+-- the most octets of a message: 2 ^ 24
+abbrev pub message_limit : ℕ
+message_limit = 16777216
+
+-- the most octets of a message's id
+abbrev pub id_limit : ℕ
+id_limit = 1024
+
+-- the most messages of a bench
+abbrev pub message_count_limit : ℕ
+message_count_limit = 65536
+
+-- DELIVERY
+
+-- the most octets of an address of the envelope
+abbrev pub address_limit : ℕ
+address_limit = 1024
+
+-- the most octets of the name of the mailbox that mail is kept in
+abbrev pub mailbox_limit : ℕ
+mailbox_limit = 255
+
+-- SESSIONS
+
+-- the most octets of a session's line, without the line end
+abbrev pub line_limit : ℕ
+line_limit = 16384

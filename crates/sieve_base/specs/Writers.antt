@@ -1,0 +1,46 @@
+-- What is written: octets, their quoted form, and pieces of text.
+use Rattle.std.specs.Prelude.{◌≡◌, ℕ, ◌+◌, ◌-◌, ◌/◌, ◌%◌, ◌≤◌, ◌==◌, ◌||◌, nat_lt, if◌then◌else◌, List, [], ◌∷◌, ◌++◌, Option, codes, decimal}
+use Rattle.std.specs.List.{flat_map}
+use Rattle.std.specs.Io.KnownBytes.{Appends}
+use Rattle.sieve_base.specs.Devices.{HasRisen}
+use Rattle.sieve_base.specs.declared.writers.Piece.{Piece}
+use Rattle.sieve_base.specs.declared.writers.Piece.TheVariants.{Raw, Quoted, Number}
+use Rattle.sieve_base.specs.Octet.{octet_of}
+
+-- a digit of base 16, in lower case
+abbrev pub hex_digit : ℕ → ℕ
+hex_digit n = if nat_lt n 10 then octet_of "0" + n else octet_of "a" + (n - 10)
+
+-- how an octet stands between quotes: `"` and `\` behind a `\`, an octet that isn't a visible character of ASCII or a space as \x and two digits
+abbrev pub octet_spelling : ℕ → List ℕ
+octet_spelling octet =
+    if octet == octet_of "\"" || octet == octet_of "\\" then octet_of "\\" ∷ octet ∷ []
+    else if nat_lt octet (octet_of " ") || nat_lt (octet_of "~") octet then octet_of "\\" ∷ octet_of "x" ∷ hex_digit (octet / 16) ∷ hex_digit (octet % 16) ∷ []
+    else octet ∷ []
+
+-- the quoted form of octets
+unfoldable pub quoted : List ℕ → List ℕ
+quoted octets = codes "\"" ++ flat_map octet_spelling octets ++ codes "\""
+
+-- what a piece prints
+abbrev pub piece_text : Piece → List ℕ
+piece_text (Raw octets) = octets.now
+piece_text (Quoted octets) = quoted octets.now
+piece_text (Number n) = decimal n
+
+-- what pieces print, in order
+abbrev pub pieces_text : List Piece → List ℕ
+pieces_text pieces = flat_map piece_text pieces
+
+-- Between two states of a device, this text was written.
+pub record Wrote {S : Type 0} (contents : S → Option (List ℕ)) (fault_count : S → ℕ) (old new : S) (text : List ℕ) : Type 0 where
+  pub text_appended : Appends (contents old) (contents new) text
+  pub faults_kept : fault_count old ≤ fault_count new
+
+-- Between two states of a device, some front of this text was written, and a fault was counted.
+pub record WroteFront {S : Type 0} (contents : S → Option (List ℕ)) (fault_count : S → ℕ) (old new : S) (text : List ℕ) : Type 0 where
+  pub front : List ℕ
+  pub back : List ℕ
+  pub whole : front ++ back ≡ text
+  pub front_appended : Appends (contents old) (contents new) front
+  pub fault_counted : HasRisen (fault_count old) (fault_count new)

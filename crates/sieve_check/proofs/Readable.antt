@@ -1,0 +1,134 @@
+-- Of a tree without a breach each command and each test is read as something: nothing of it vanishes.
+use Rattle.std.proofs.Common.{◌≡◌, Bool, true, false, not, ◌&&◌, List, [], ◌++◌, Option, None, Some, refl, sym, ap, subst}
+use Rattle.sieve_syntax.specs.Tree as syntax
+use Rattle.sieve_check.specs.Breach.{breaches_in, breaches_of, command_breaks}
+use Rattle.sieve_check.specs.Context.{Context, behind, behind_kind, continues_if, inside, script_start}
+use Rattle.sieve_check.specs.Element.{block_elements, command_arguments, node_elements, nodes_elements, test_arguments, test_elements, test_list_elements, tests_elements, the_command, the_test}
+use Rattle.sieve_check.specs.Parted.{command_labels, parted, parted_block, parted_labelled, parted_node, parted_nodes, parted_test, parted_test_list, parted_tests}
+use Rattle.sieve_check.specs.Readable.{IsReadable, ReadsBlock, ReadsNode, ReadsNodes, ReadsTest, ReadsTestList, ReadsTests, Stands, command_takes, may_go_on}
+use Rattle.sieve_check.specs.Reading.{command_reading, command_reading_by}
+use Rattle.sieve_check.specs.Table.{command_of, command_row, test_of}
+use Rattle.sieve_check.specs.Tree.{Nodes, end_nodes, more_nodes, no_block, block, items, nodes}
+use Rattle.sieve_check.specs.Use.{block_fits, has_block, tests_fit}
+use Rattle.sieve_check.specs.declared.rule.Rule.{Rule}
+use Rattle.sieve_check.specs.declared.rule.Rule.TheVariants.{BadArguments, BadTag, ElsePlace, UnknownCommand}
+use Rattle.sieve_check.specs.declared.table.CommandKind.{CommandKind}
+use Rattle.sieve_check.specs.declared.table.CommandKind.TheVariants as command
+use Rattle.sieve_check.proofs.Asked.{none_fit, one_fits, test_is_read}
+use Rattle.sieve_check.proofs.Filled.{as_parted, takes}
+use Rattle.sieve_check.proofs.Roles.{never_both, not_both}
+use Rattle.sieve_check.proofs.Unbroken.{keeps, none_in_both, none_in_front}
+
+-- WHERE A COMMAND STANDS
+
+module _ (context : Context) where
+  block_there : (ending : syntax.Block) → block_fits true (has_block ending) ≡ true → (ns : Nodes) × (parted_block context ending ≡ block ns)
+  block_there syntax.no_block fit = absurd (not_both fit)
+  block_there (syntax.block ns) fit = (parted_nodes (inside context) ns, refl)
+
+  none_there : (ending : syntax.Block) → block_fits false (has_block ending) ≡ true → parted_block context ending ≡ no_block
+  none_there syntax.no_block fit = refl
+  none_there (syntax.block ns) fit = absurd (not_both fit)
+
+  not_false : (b : Bool) → not b ≡ false → b ≡ true
+  not_false true e = refl
+  not_false false e = absurd (never_both e)
+
+  -- with the tests and the block that its row says, and behind an `if` where it goes on with one
+  stands : (k : CommandKind) (ts : syntax.Tests) (ending : syntax.Block) → tests_fit (command_row k).tests ts ≡ true → block_fits (command_row k).has_block (has_block ending) ≡ true → (continues_if k && not context.follows_if) ≡ false
+      → Stands context.follows_if (command_reading_by (Some k)) (parted_tests context ts) (parted_block context ending)
+  stands command.Require ts ending fit ends place = (none_fit context ts fit, none_there ending ends)
+  stands command.If ts ending fit ends place =
+      let t = one_fits context ts fit in
+      let b = block_there ending ends in
+      (t.0, b.0, t.1, b.1)
+  stands command.Elsif ts ending fit ends place =
+      let t = one_fits context ts fit in
+      let b = block_there ending ends in
+      (not_false context.follows_if place, t.0, b.0, t.1, b.1)
+  stands command.Else ts ending fit ends place =
+      let b = block_there ending ends in
+      (not_false context.follows_if place, b.0, none_fit context ts fit, b.1)
+  stands command.Keep ts ending fit ends place = (none_fit context ts fit, none_there ending ends)
+  stands command.Discard ts ending fit ends place = (none_fit context ts fit, none_there ending ends)
+  stands command.Stop ts ending fit ends place = (none_fit context ts fit, none_there ending ends)
+
+  -- a command of some kind or none that breaks no rule is of a kind, takes its arguments, and stands where it may
+  command_is_read : (k : Option CommandKind) (args : List syntax.Argument) (ts : syntax.Tests) (ending : syntax.Block) → ((rule : Rule) → command_breaks context k args ts ending rule ≡ false) → breaches_in (command_arguments context k args ts ending) ≡ []
+      → (command_takes k (parted_labelled context (command_labels k args) args) ≡ true) × Stands context.follows_if (command_reading_by k) (parted_tests context ts) (parted_block context ending)
+  command_is_read None args ts ending keeps none = absurd (never_both (keeps UnknownCommand))
+  command_is_read (Some k) args ts ending keeps none =
+      let says = as_parted context (command_row k) args ts (has_block ending) (keeps BadTag) (keeps BadArguments) none in
+      (takes (command_row k) _ ts (has_block ending) says, stands k ts ending says.tests says.block (keeps ElsePlace))
+
+  -- a branch may go on exactly behind one that may go on
+  kind_goes_on : (k : Option CommandKind) → (behind_kind context k).follows_if ≡ may_go_on (command_reading_by k)
+  kind_goes_on None = refl
+  kind_goes_on (Some command.Require) = refl
+  kind_goes_on (Some command.If) = refl
+  kind_goes_on (Some command.Elsif) = refl
+  kind_goes_on (Some command.Else) = refl
+  kind_goes_on (Some command.Keep) = refl
+  kind_goes_on (Some command.Discard) = refl
+  kind_goes_on (Some command.Stop) = refl
+
+  goes_on : (n : syntax.Node) → (behind context n).follows_if ≡ may_go_on (command_reading (parted_node context n))
+  goes_on (syntax.node name line args ts ending) = kind_goes_on (command_of name)
+
+-- TESTS
+
+mutual
+  unfolding ReadsTest ReadsTests ReadsTestList test_elements tests_elements test_list_elements
+
+  test_reads : (t : syntax.Test) (context : Context) → breaches_in (test_elements context t) ≡ [] → ReadsTest (parted_test context t)
+  test_reads (syntax.test name line args ts) context none =
+      let parts = none_in_front (the_test context name line args ts) (test_arguments context (test_of name) args ts ++ tests_elements context ts) none in
+      let rest = none_in_both (test_arguments context (test_of name) args ts) (tests_elements context ts) parts.1 in
+      let read = test_is_read context (test_of name) args ts (keeps (the_test context name line args ts) parts.0) rest.0 in
+      (read.0, read.1, tests_read ts context rest.1)
+
+  tests_read : (ts : syntax.Tests) (context : Context) → breaches_in (tests_elements context ts) ≡ [] → ReadsTests (parted_tests context ts)
+  tests_read syntax.no_tests context none = tt
+  tests_read (syntax.one_test t) context none = test_reads t context none
+  tests_read (syntax.test_list ts) context none = test_list_reads ts context none
+
+  test_list_reads : (ts : syntax.TestList) (context : Context) → breaches_in (test_list_elements context ts) ≡ [] → ReadsTestList (parted_test_list context ts)
+  test_list_reads syntax.end_tests context none = tt
+  test_list_reads (syntax.more_tests t ts) context none =
+      let parts = none_in_both (test_elements context t) (test_list_elements context ts) none in
+      (test_reads t context parts.0, test_list_reads ts context parts.1)
+
+-- COMMANDS
+
+mutual
+  unfolding ReadsNode ReadsBlock ReadsNodes node_elements block_elements nodes_elements
+
+  node_reads : (n : syntax.Node) (context : Context) → breaches_in (node_elements context n) ≡ [] → ReadsNode context.follows_if (parted_node context n)
+  node_reads (syntax.node name line args ts ending) context none =
+      let inside_it = tests_elements context ts ++ block_elements context ending in
+      let parts = none_in_front (the_command context name line args ts ending) (command_arguments context (command_of name) args ts ending ++ inside_it) none in
+      let rest = none_in_both (command_arguments context (command_of name) args ts ending) inside_it parts.1 in
+      let inner = none_in_both (tests_elements context ts) (block_elements context ending) rest.1 in
+      let read = command_is_read context (command_of name) args ts ending (keeps (the_command context name line args ts ending) parts.0) rest.0 in
+      (read.0, read.1, tests_read ts context inner.0, block_reads ending context inner.1)
+
+  block_reads : (b : syntax.Block) (context : Context) → breaches_in (block_elements context b) ≡ [] → ReadsBlock (parted_block context b)
+  block_reads syntax.no_block context none = tt
+  block_reads (syntax.block ns) context none = nodes_read ns (inside context) none
+
+  nodes_read : (ns : syntax.Nodes) (context : Context) → breaches_in (nodes_elements context ns) ≡ [] → ReadsNodes context.follows_if (parted_nodes context ns)
+  nodes_read syntax.end_nodes context none = tt
+  nodes_read (syntax.more_nodes n ns) context none =
+      let parts = none_in_both (node_elements context n) (nodes_elements (behind context n) ns) none in
+      (node_reads n context parts.0, subst (λ b. ReadsNodes b (parted_nodes (behind context n) ns)) (goes_on context n) (nodes_read ns (behind context n) parts.1))
+
+-- THE TREE
+
+as_items : (ns : Nodes) → nodes (items ns) ≡ ns
+as_items end_nodes = refl
+as_items (more_nodes n ns) = ap (λ l. more_nodes n l) (as_items ns)
+
+pub is_readable : (tree : List syntax.Node) → breaches_of tree ≡ [] → IsReadable (parted tree)
+is_readable tree none = subst (λ ns. ReadsNodes false ns) (sym (as_items (parted_nodes script_start (syntax.nodes tree)))) (nodes_read (syntax.nodes tree) script_start none)
+
+pub ruleset readable = (is_readable)

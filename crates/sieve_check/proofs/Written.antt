@@ -1,0 +1,139 @@
+-- The elements of a tree are written, one by one and in order, by the identifiers, strings and numbers that the tree writes.
+use Rattle.std.proofs.Common.{◌≡◌, ℕ, Bool, true, false, cond, List, [], ◌∷◌, ◌++◌, map, drop, Option, None, Some, refl, sym, ap, ◌∙◌, append_assoc, append-nil}
+use Rattle.std.proofs.lemmas.List.{map-append}
+use Rattle.std.proofs.lemmas.List.Elements.{filter-append}
+use Rattle.std.specs.List.{filter}
+use Rattle.sieve_syntax.specs.Grammar.{Writes, written_argument, written_arguments, written_block, written_more, written_node, written_nodes, written_test, written_test_list, written_test_rest, written_tests, written_texts}
+use Rattle.sieve_syntax.specs.Tree.{Node, node, Nodes, end_nodes, more_nodes, nodes, Block, no_block, block, Test, test, Tests, no_tests, one_test, test_list, TestList, end_tests, more_tests, Text, Argument, strings, number, tag}
+use Rattle.sieve_syntax.specs.Word.{Word, close_bracket, identifier, string_word, word_of, words_of}
+use Rattle.sieve_syntax.specs.declared.token.Token.{Token}
+use Rattle.sieve_check.specs.Context.{Context, behind, inside, script_start}
+use Rattle.sieve_check.specs.Element.{Element, argument_elements, block_elements, command_arguments, elements_of, judged_labels, labelled_elements, node_elements, nodes_elements, test_arguments, test_elements, test_list_elements, tests_elements, text_elements}
+use Rattle.sieve_check.specs.Order.{writes_element, written_by}
+use Rattle.sieve_check.specs.Role.{first_role}
+use Rattle.sieve_check.specs.Shape.{shapes_of}
+use Rattle.sieve_check.specs.Table.{command_of, command_row, test_of, test_row}
+use Rattle.sieve_check.specs.Use.{has_block, is_well_used}
+use Rattle.sieve_check.specs.declared.label.Label.{Label}
+use Rattle.sieve_check.specs.declared.row.Role.{Role}
+use Rattle.sieve_check.specs.declared.table.CommandKind.{CommandKind}
+use Rattle.sieve_check.specs.declared.table.TestKind.{TestKind}
+
+-- these elements are written by those among these words that write elements
+abbrev AreWritten : List Element → List Word → Type 0
+AreWritten elements words = map written_by elements ≡ filter writes_element words
+
+in_turn : (xs ys : List Element) (v w : List Word) → AreWritten xs v → AreWritten ys w → AreWritten (xs ++ ys) (v ++ w)
+in_turn xs ys v w first second =
+    map-append written_by xs ys
+    ∙ ap (λ l. l ++ map written_by ys) first
+    ∙ ap (λ l. filter writes_element v ++ l) second
+    ∙ sym (filter-append writes_element v w)
+
+-- with a word behind that writes none
+before_close : (xs : List Element) (v w : List Word) → filter writes_element w ≡ [] → AreWritten xs v → AreWritten xs (v ++ w)
+before_close xs v w none same =
+    same
+    ∙ sym (append-nil (filter writes_element v))
+    ∙ ap (λ l. filter writes_element v ++ l) (sym none)
+    ∙ sym (filter-append writes_element v w)
+
+-- ARGUMENTS
+
+module _ (context : Context) where
+  more_texts : (role : Option Role) (ts : List Text) → AreWritten (text_elements context role ts) (written_more ts)
+  more_texts role [] = refl
+  more_texts role (t ∷ ts) = ap (λ l. string_word t.octets t.line ∷ l) (more_texts role ts)
+
+  texts : (role : Option Role) (ts : List Text) → AreWritten (text_elements context role ts) (written_texts ts)
+  texts role [] = refl
+  texts role (t ∷ ts) = ap (λ l. string_word t.octets t.line ∷ l) (more_texts role ts)
+
+  argument : (role : Option Role) (a : Argument) → AreWritten (argument_elements context role a) (written_argument a)
+  argument role (strings items true) = before_close (text_elements context role items) (written_texts items) (close_bracket ∷ []) refl (texts role items)
+  argument role (strings items false) = texts role items
+  argument role (number value line) = refl
+  argument role (tag name line) = refl
+
+  -- whatever their labels are
+  arguments : (labels : List Label) (args : List Argument) → AreWritten (labelled_elements context labels args) (written_arguments args)
+  arguments labels [] = refl
+  arguments labels (a ∷ args) =
+      in_turn (argument_elements context (first_role labels) a) (labelled_elements context (drop 1 labels) args) (written_argument a) (written_arguments args)
+      (argument (first_role labels) a) (arguments (drop 1 labels) args)
+
+  of_test : (k : Option TestKind) (args : List Argument) (ts : Tests) → AreWritten (test_arguments context k args ts) (written_arguments args)
+  of_test None args ts = arguments [] args
+  of_test (Some k) args ts = let row = test_row k in arguments (judged_labels (is_well_used row (shapes_of row.tags args) ts false) row args) args
+
+  of_command : (k : Option CommandKind) (args : List Argument) (ts : Tests) (ending : Block) → AreWritten (command_arguments context k args ts ending) (written_arguments args)
+  of_command None args ts ending = arguments [] args
+  of_command (Some k) args ts ending = let row = command_row k in arguments (judged_labels (is_well_used row (shapes_of row.tags args) ts (has_block ending)) row args) args
+
+-- TESTS
+
+mutual
+  unfolding test_elements tests_elements test_list_elements written_test written_tests written_test_list written_test_rest
+
+  test_written : (t : Test) (context : Context) → AreWritten (test_elements context t) (written_test t)
+  test_written (test name line args ts) context =
+      ap (λ l. identifier name line ∷ l)
+      (in_turn (test_arguments context (test_of name) args ts) (tests_elements context ts) (written_arguments args) (written_tests ts)
+      (of_test context (test_of name) args ts) (tests_written ts context))
+
+  tests_written : (ts : Tests) (context : Context) → AreWritten (tests_elements context ts) (written_tests ts)
+  tests_written no_tests context = refl
+  tests_written (one_test t) context = test_written t context
+  tests_written (test_list ts) context = list_written ts context
+
+  list_written : (ts : TestList) (context : Context) → AreWritten (test_list_elements context ts) (written_test_list ts)
+  list_written end_tests context = refl
+  list_written (more_tests t ts) context =
+      in_turn (test_elements context t) (test_list_elements context ts) (written_test t) (written_test_rest ts) (test_written t context) (rest_written ts context)
+
+  rest_written : (ts : TestList) (context : Context) → AreWritten (test_list_elements context ts) (written_test_rest ts)
+  rest_written end_tests context = refl
+  rest_written (more_tests t ts) context =
+      in_turn (test_elements context t) (test_list_elements context ts) (written_test t) (written_test_rest ts) (test_written t context) (rest_written ts context)
+
+-- COMMANDS
+
+mutual
+  unfolding node_elements block_elements nodes_elements written_node written_block written_nodes
+
+  node_written : (n : Node) (context : Context) → AreWritten (node_elements context n) (written_node n)
+  node_written (node name line args ts ending) context =
+      let args_written = written_arguments args in
+      ap (λ l. identifier name line ∷ l)
+      (in_turn (command_arguments context (command_of name) args ts ending) (tests_elements context ts ++ block_elements context ending) args_written (written_tests ts ++ written_block ending)
+      (of_command context (command_of name) args ts ending)
+      (in_turn (tests_elements context ts) (block_elements context ending) (written_tests ts) (written_block ending) (tests_written ts context) (block_is_written ending context))
+      ∙ ap (filter writes_element) (sym (append_assoc args_written (written_tests ts) (written_block ending))))
+
+  block_is_written : (b : Block) (context : Context) → AreWritten (block_elements context b) (written_block b)
+  block_is_written no_block context = refl
+  block_is_written (block ns) context = before_close (nodes_elements (inside context) ns) (written_nodes ns) _ refl (nodes_written ns (inside context))
+
+  nodes_written : (ns : Nodes) (context : Context) → AreWritten (nodes_elements context ns) (written_nodes ns)
+  nodes_written end_nodes context = refl
+  nodes_written (more_nodes n ns) context =
+      in_turn (node_elements context n) (nodes_elements (behind context n) ns) (written_node n) (written_nodes ns) (node_written n context) (nodes_written ns (behind context n))
+
+-- THE TOKENS
+
+filtered : {X : Type 0} (view : X → Word) (xs : List X) → filter writes_element (map view xs) ≡ map view (filter (λ x. writes_element (view x)) xs)
+filtered view [] = refl
+filtered view (x ∷ xs) = by_first (writes_element (view x)) (filtered view xs)
+  where
+    by_first : (b : Bool) → filter writes_element (map view xs) ≡ map view (filter (λ x. writes_element (view x)) xs)
+        → cond b (view x ∷ filter writes_element (map view xs)) (filter writes_element (map view xs)) ≡ map view (cond b (x ∷ filter (λ x. writes_element (view x)) xs) (filter (λ x. writes_element (view x)) xs))
+    by_first true same = ap (λ l. view x ∷ l) same
+    by_first false same = same
+
+-- the elements of a tree are written by those of its tokens that write elements
+pub elements_written : (tree : List Node) (text : List ℕ) (tokens : List Token) (depth room : ℕ) → Writes depth room tree (words_of text tokens)
+    → map written_by (elements_of tree) ≡ map (word_of text) (filter (λ token. writes_element (word_of text token)) tokens)
+elements_written tree text tokens depth room writes =
+    nodes_written (nodes tree) script_start
+    ∙ ap (filter writes_element) (sym writes.1)
+    ∙ filtered (word_of text) tokens

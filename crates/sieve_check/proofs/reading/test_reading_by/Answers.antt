@@ -1,0 +1,27 @@
+use Rattle.std.proofs.Common.{Some, ◌∙◌, ap, map, sym}
+use Rattle.std.specs.Option.{option_map}
+use Rattle.sieve_check.specs.Reading.{exists_by, header_by, labels_in, reads_ask, size_by, test_reading_by}
+use Rattle.sieve_check.specs.Table.{test_row}
+use Rattle.sieve_check.specs.view.Tree.{argument_of}
+use Rattle.sieve_check.proofs.reading.test_reading_by.Goals as goal
+
+pub returns-in-Header : goal.returns-in-Header
+returns-in-Header c =
+    let args = map argument_of c.args.args.now in
+    c.asking.ensures
+    ∙ ap (option_map reads_ask) (c.header_ask.ensures ∙ ap (λ r. header_by (labels_in r args) args) (c.row.ensures ∙ ap test_row c.in-Header.is))
+    ∙ sym (ap (λ kind. test_reading_by (Some kind) args) c.in-Header.is)
+
+pub returns-in-Exists : goal.returns-in-Exists
+returns-in-Exists c =
+    let args = map argument_of c.args.args.now in
+    c.asking-in-Exists.ensures
+    ∙ ap (option_map reads_ask) (c.exists_ask.ensures ∙ ap (λ r. exists_by (labels_in r args) args) (c.row-in-Exists.ensures ∙ ap test_row c.in-Exists.is))
+    ∙ sym (ap (λ kind. test_reading_by (Some kind) args) c.in-Exists.is)
+
+pub returns-in-Size : goal.returns-in-Size
+returns-in-Size c =
+    let args = map argument_of c.args.args.now in
+    c.asking-in-Size.ensures
+    ∙ ap (option_map reads_ask) (c.size_ask.ensures ∙ ap (λ r. size_by (labels_in r args) args) (c.row-in-Size.ensures ∙ ap test_row c.in-Size.is))
+    ∙ sym (ap (λ kind. test_reading_by (Some kind) args) c.in-Size.is)

@@ -1,0 +1,90 @@
+-- The elements of a script, of which rules speak: its commands, tests, strings and numbers, in the order in which its text
+-- writes them, each with what stands before it.
+use Rattle.std.specs.Prelude.{ℕ, Bool, true, false, List, [], ◌∷◌, ◌++◌, Option, Some, None, drop}
+use Rattle.sieve_syntax.specs.Tree.{Node, node, Nodes, end_nodes, more_nodes, nodes, Block, no_block, block, Test, test, Tests, no_tests, one_test, test_list, TestList, end_tests, more_tests, Text, Argument, strings, number, tag}
+use Rattle.sieve_check.specs.Context.{Context, script_start, inside, behind}
+use Rattle.sieve_check.specs.Role.{first_role}
+use Rattle.sieve_check.specs.Shape.{row_labels, shapes_of}
+use Rattle.sieve_check.specs.Table.{Row, command_of, test_of, command_row, test_row}
+use Rattle.sieve_check.specs.Use.{is_well_used, has_block}
+use Rattle.sieve_check.specs.declared.label.Label.{Label}
+use Rattle.sieve_check.specs.declared.row.Role.{Role}
+use Rattle.sieve_check.specs.declared.table.CommandKind.{CommandKind}
+use Rattle.sieve_check.specs.declared.table.TestKind.{TestKind}
+
+-- a command, a test, a string in its role, or a number. A string has no role where its argument isn't what some slot or tag
+-- takes, or where its command or test isn't used as its row says, so that the string isn't judged.
+pub data Element : Type 0 where
+  the_command : (context : Context) (name : List ℕ) (line : ℕ) (args : List Argument) (ts : Tests) (ending : Block) → Element
+  the_test : (context : Context) (name : List ℕ) (line : ℕ) (args : List Argument) (ts : Tests) → Element
+  the_text : (context : Context) (role : Option Role) (text : Text) → Element
+  the_number : (value : Option ℕ) (line : ℕ) → Element
+
+-- ARGUMENTS
+
+abbrev pub text_elements : Context → Option Role → List Text → List Element
+text_elements context role [] = []
+text_elements context role (t ∷ ts) = the_text context role t ∷ text_elements context role ts
+
+abbrev pub argument_elements : Context → Option Role → Argument → List Element
+argument_elements context role (strings items bracketed) = text_elements context role items
+argument_elements context role (number value line) = the_number value line ∷ []
+argument_elements context role (tag name line) = []
+
+-- arguments, each by its label
+abbrev pub labelled_elements : Context → List Label → List Argument → List Element
+labelled_elements context labels [] = []
+labelled_elements context labels (a ∷ args) = argument_elements context (first_role labels) a ++ labelled_elements context (drop 1 labels) args
+
+-- the labels by which the arguments of a row are judged: strings are judged only where all is as the row says
+abbrev pub judged_labels : Bool → Row → List Argument → List Label
+judged_labels true row args = row_labels row args
+judged_labels false row args = []
+
+-- the arguments of a command or test of a row
+abbrev pub row_elements : Context → Row → List Argument → Tests → (ends_by_block : Bool) → List Element
+row_elements context row args ts ends_by_block = labelled_elements context (judged_labels (is_well_used row (shapes_of row.tags args) ts ends_by_block) row args) args
+
+abbrev pub test_arguments : Context → Option TestKind → List Argument → Tests → List Element
+test_arguments context None args ts = labelled_elements context [] args
+test_arguments context (Some kind) args ts = row_elements context (test_row kind) args ts false
+
+abbrev pub command_arguments : Context → Option CommandKind → List Argument → Tests → Block → List Element
+command_arguments context None args ts ending = labelled_elements context [] args
+command_arguments context (Some kind) args ts ending = row_elements context (command_row kind) args ts (has_block ending)
+
+-- TESTS
+
+unfoldable mutual
+  -- a test, its arguments, and its tests
+  pub test_elements : Context → Test → List Element
+  test_elements context (test name line args ts) = the_test context name line args ts ∷ test_arguments context (test_of name) args ts ++ tests_elements context ts
+
+  pub tests_elements : Context → Tests → List Element
+  tests_elements context no_tests = []
+  tests_elements context (one_test t) = test_elements context t
+  tests_elements context (test_list ts) = test_list_elements context ts
+
+  pub test_list_elements : Context → TestList → List Element
+  test_list_elements context end_tests = []
+  test_list_elements context (more_tests t ts) = test_elements context t ++ test_list_elements context ts
+
+-- COMMANDS
+
+unfoldable mutual
+  -- a command, its arguments, its tests, and its block
+  pub node_elements : Context → Node → List Element
+  node_elements context (node name line args ts ending) =
+      the_command context name line args ts ending ∷ command_arguments context (command_of name) args ts ending ++ (tests_elements context ts ++ block_elements context ending)
+
+  pub block_elements : Context → Block → List Element
+  block_elements context no_block = []
+  block_elements context (block ns) = nodes_elements (inside context) ns
+
+  pub nodes_elements : Context → Nodes → List Element
+  nodes_elements context end_nodes = []
+  nodes_elements context (more_nodes n ns) = node_elements context n ++ nodes_elements (behind context n) ns
+
+-- the elements of a script, in the order of its text
+abbrev pub elements_of : List Node → List Element
+elements_of tree = nodes_elements script_start (nodes tree)

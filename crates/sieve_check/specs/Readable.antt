@@ -1,0 +1,133 @@
+-- A tree of which each command and each test is read as something: it has a row, its arguments are what the row says, and it
+-- stands where it may. Nothing of such a tree vanishes from the abstract script.
+use Rattle.std.specs.Prelude.{◌≡◌, ℕ, Bool, true, false, not, ◌&&◌, List, [], ◌∷◌, ◌++◌, map, Option, Some, None}
+use Rattle.sieve_check.specs.Label.{labels_of, is_filled}
+use Rattle.sieve_check.specs.Reading as reading
+use Rattle.sieve_check.specs.Reading.{TestReading, reads_always, reads_never, reads_ask, reads_all, reads_any, reads_not, CommandReading, Leaf, part_shape, test_reading, command_reading}
+use Rattle.sieve_check.specs.Script.{Commands, no_commands, stops, acts, chooses, Condition, branch_condition, conditions_in, script_of}
+use Rattle.sieve_check.specs.Table.{Row, command_of, test_of, command_row, test_row}
+use Rattle.sieve_check.specs.Tree.{Argument, Test, test, Tests, no_tests, one_test, test_list, TestList, end_tests, more_tests, Node, node, Block, no_block, block, Nodes, end_nodes, more_nodes, nodes}
+use Rattle.sieve_check.specs.Use.{has_bad_tag, lacks_own, lacks_kind}
+use Rattle.sieve_check.specs.declared.label.Shape.{Shape}
+use Rattle.sieve_check.specs.declared.table.CommandKind.{CommandKind}
+use Rattle.sieve_check.specs.declared.table.TestKind.{TestKind}
+
+-- the tests that a test of such a reading has in it: a list, one, or none (RFC 5228, sections 5.2, 5.3 and 5.8)
+abbrev pub Joins : Option TestReading → Tests → Type 0
+Joins None ts = ⊥
+Joins (Some reads_always) ts = ts ≡ no_tests
+Joins (Some reads_never) ts = ts ≡ no_tests
+Joins (Some (reads_ask ask)) ts = ts ≡ no_tests
+Joins (Some reads_all) ts = (list : TestList) × (ts ≡ test_list list)
+Joins (Some reads_any) ts = (list : TestList) × (ts ≡ test_list list)
+Joins (Some reads_not) ts = (t : Test) × (ts ≡ one_test t)
+
+-- the arguments are what the row says: the tags are its own, of each kind one at most, and stand before the positional
+-- arguments; these are there and no others; each tag has its own argument; and the kind that is needed is there
+abbrev pub are_in_order : Row → List Shape → Bool
+are_in_order row shapes = not (has_bad_tag (labels_of row shapes)) && (is_filled row shapes && (not (lacks_own (labels_of row shapes)) && not (lacks_kind row.one_of (labels_of row shapes))))
+
+abbrev pub row_takes : Row → List Argument → Bool
+row_takes row args = are_in_order row (map (part_shape row.tags) args)
+
+-- there is such a test, and such a command, and it takes these arguments
+abbrev pub test_takes : Option TestKind → List Argument → Bool
+test_takes None args = false
+test_takes (Some kind) args = row_takes (test_row kind) args
+
+abbrev pub command_takes : Option CommandKind → List Argument → Bool
+command_takes None args = false
+command_takes (Some kind) args = row_takes (command_row kind) args
+
+unfoldable mutual
+  pub ReadsTest : Test → Type 0
+  ReadsTest (test name line args ts) = (test_takes (test_of name) args ≡ true) × Joins (test_reading (test name line args ts)) ts × ReadsTests ts
+
+  pub ReadsTests : Tests → Type 0
+  ReadsTests no_tests = Unit {0}
+  ReadsTests (one_test t) = ReadsTest t
+  ReadsTests (test_list ts) = ReadsTestList ts
+
+  pub ReadsTestList : TestList → Type 0
+  ReadsTestList end_tests = Unit {0}
+  ReadsTestList (more_tests t ts) = ReadsTest t × ReadsTestList ts
+
+-- A command of such a reading stands where it may, and has the test and the block that it needs and no others: a branch has
+-- one test, but for the last, and each has a block; a branch that goes on with an `if` stands behind one (RFC 5228, section
+-- 3.1).
+abbrev pub Stands : (follows_if : Bool) → Option CommandReading → Tests → Block → Type 0
+Stands follows_if None ts ending = ⊥
+Stands follows_if (Some reading.opens) ts ending = (t : Test) × (ns : Nodes) × (ts ≡ one_test t) × (ending ≡ block ns)
+Stands follows_if (Some reading.continues) ts ending = (follows_if ≡ true) × (t : Test) × (ns : Nodes) × (ts ≡ one_test t) × (ending ≡ block ns)
+Stands follows_if (Some reading.otherwise) ts ending = (follows_if ≡ true) × (ns : Nodes) × (ts ≡ no_tests) × (ending ≡ block ns)
+Stands follows_if (Some reading.stops) ts ending = (ts ≡ no_tests) × (ending ≡ no_block)
+Stands follows_if (Some reading.nothing) ts ending = (ts ≡ no_tests) × (ending ≡ no_block)
+Stands follows_if (Some (reading.acts leaf)) ts ending = (ts ≡ no_tests) × (ending ≡ no_block)
+
+-- whether a branch may go on behind it
+abbrev pub may_go_on : Option CommandReading → Bool
+may_go_on None = false
+may_go_on (Some reading.opens) = true
+may_go_on (Some reading.continues) = true
+may_go_on (Some reading.otherwise) = false
+may_go_on (Some reading.stops) = false
+may_go_on (Some reading.nothing) = false
+may_go_on (Some (reading.acts leaf)) = false
+
+unfoldable mutual
+  pub ReadsNode : (follows_if : Bool) → Node → Type 0
+  ReadsNode follows_if (node name line args ts ending) = (command_takes (command_of name) args ≡ true) × Stands follows_if (command_reading (node name line args ts ending)) ts ending × ReadsTests ts × ReadsBlock ending
+
+  pub ReadsBlock : Block → Type 0
+  ReadsBlock no_block = Unit {0}
+  ReadsBlock (block ns) = ReadsNodes false ns
+
+  pub ReadsNodes : (follows_if : Bool) → Nodes → Type 0
+  ReadsNodes follows_if end_nodes = Unit {0}
+  ReadsNodes follows_if (more_nodes n ns) = ReadsNode follows_if n × ReadsNodes (may_go_on (command_reading n)) ns
+
+-- each command and test of the tree is read as something
+abbrev pub IsReadable : List Node → Type 0
+IsReadable tree = ReadsNodes false (nodes tree)
+
+-- WHAT A SCRIPT DOES, IN THE ORDER OF ITS TEXT
+
+-- a command that stops, one that acts, with its line, or a choice by a condition
+pub data Mark : Type 0 where
+  stop_mark : Mark
+  act_mark : (leaf : Leaf) (line : ℕ) → Mark
+  choice_mark : (condition : Condition) → Mark
+
+-- those of an abstract script: a choice, then those of its block, then those of the other branches
+unfoldable pub marks : Commands → List Mark
+marks no_commands = []
+marks (stops rest) = stop_mark ∷ marks rest
+marks (acts leaf line rest) = act_mark leaf line ∷ marks rest
+marks (chooses condition then_block otherwise rest) = choice_mark condition ∷ marks then_block ++ (marks otherwise ++ marks rest)
+
+-- what a command is of itself
+abbrev pub own_marks : Option CommandReading → ℕ → Condition → List Mark
+own_marks None line condition = []
+own_marks (Some reading.opens) line condition = choice_mark condition ∷ []
+own_marks (Some reading.continues) line condition = choice_mark condition ∷ []
+own_marks (Some reading.otherwise) line condition = []
+own_marks (Some reading.stops) line condition = stop_mark ∷ []
+own_marks (Some reading.nothing) line condition = []
+own_marks (Some (reading.acts leaf)) line condition = act_mark leaf line ∷ []
+
+unfoldable mutual
+  -- those of a tree: each command's own, and then those of its block
+  pub node_marks : Node → List Mark
+  node_marks (node name line args ts ending) = own_marks (command_reading (node name line args ts ending)) line (branch_condition (conditions_in ts)) ++ block_marks ending
+
+  pub block_marks : Block → List Mark
+  block_marks no_block = []
+  block_marks (block ns) = nodes_marks ns
+
+  pub nodes_marks : Nodes → List Mark
+  nodes_marks end_nodes = []
+  nodes_marks (more_nodes n ns) = node_marks n ++ nodes_marks ns
+
+-- the abstract script of a tree does what the tree's commands say, each once and in the order of the text
+abbrev pub DoesAll : List Node → Type 0
+DoesAll tree = marks (script_of tree) ≡ nodes_marks (nodes tree)

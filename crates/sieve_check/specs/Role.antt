@@ -1,0 +1,45 @@
+-- What an argument is for, by its label.
+use Rattle.std.specs.Prelude.{ℕ, Bool, false, List, [], ◌∷◌, Option, Some, None, nat_eq}
+use Rattle.sieve_check.specs.declared.label.Label.{Label}
+use Rattle.sieve_check.specs.declared.label.Label.TheVariants.{Tagged, OtherTag, Own, InSlot, Unfit}
+use Rattle.sieve_check.specs.declared.row.Role.{Role}
+use Rattle.sieve_check.specs.declared.row.Role.TheVariants as role
+
+-- the roles, each told by a number
+abbrev pub role_number : Role → ℕ
+role_number role.Capabilities = 0
+role_number role.ComparatorName = 1
+role_number role.FieldNames = 2
+role_number role.AddressFields = 3
+role_number role.EnvelopeParts = 4
+role_number role.Keys = 5
+role_number role.Limit = 6
+role_number role.Mailbox = 7
+role_number role.Address = 8
+role_number role.Flags = 9
+role_number role.NameToSet = 10
+role_number role.NamesToRead = 11
+role_number role.NamesToDeclare = 12
+role_number role.ScriptName = 13
+role_number role.Text = 14
+
+abbrev pub same_role : Role → Role → Bool
+same_role a b = nat_eq (role_number a) (role_number b)
+
+-- whether it is that role
+abbrev pub has_role : Role → Option Role → Bool
+has_role wanted None = false
+has_role wanted (Some role) = same_role wanted role
+
+-- the role of an argument
+abbrev pub role_of : Label → Option Role
+role_of (Tagged taken) = None
+role_of OtherTag = None
+role_of (Own slot) = Some slot.role
+role_of (InSlot slot) = Some slot.role
+role_of Unfit = None
+
+-- the role of the first of some arguments; without a label it has none
+abbrev pub first_role : List Label → Option Role
+first_role [] = None
+first_role (label ∷ labels) = role_of label

@@ -1,0 +1,148 @@
+-- Whether a command or a test is used as its row says (RFC 5228, sections 2.5, 2.6, 2.8 and 2.9).
+use Rattle.std.specs.Prelude.{ℕ, Bool, true, false, not, ◌||◌, ◌&&◌, List, [], ◌∷◌, Option, Some, None, is_some, nat_eq, if◌then◌else◌}
+use Rattle.std.specs.List.{list_any}
+use Rattle.sieve_syntax.specs.Tree.{Tests, no_tests, one_test, test_list, Block, no_block, block}
+use Rattle.sieve_check.specs.Label.{labels_of, is_filled}
+use Rattle.sieve_check.specs.Table.{Row, tag_row}
+use Rattle.sieve_check.specs.declared.label.Label.{Label}
+use Rattle.sieve_check.specs.declared.label.Label.TheVariants.{Tagged, OtherTag, Own, InSlot, Unfit}
+use Rattle.sieve_check.specs.declared.label.Shape.{Shape}
+use Rattle.sieve_check.specs.declared.row.Inner.{Inner}
+use Rattle.sieve_check.specs.declared.row.Inner.TheVariants as inner
+use Rattle.sieve_check.specs.declared.row.TagKind.{TagKind}
+use Rattle.sieve_check.specs.declared.row.TagKind.TheVariants as kind
+
+-- TAGS
+
+-- a tag that isn't taken
+abbrev pub is_other_tag : Label → Bool
+is_other_tag (Tagged taken) = false
+is_other_tag OtherTag = true
+is_other_tag (Own slot) = false
+is_other_tag (InSlot slot) = false
+is_other_tag Unfit = false
+
+abbrev pub is_tag : Label → Bool
+is_tag (Tagged taken) = true
+is_tag OtherTag = true
+is_tag (Own slot) = false
+is_tag (InSlot slot) = false
+is_tag Unfit = false
+
+abbrev pub is_positional : Label → Bool
+is_positional (Tagged taken) = false
+is_positional OtherTag = false
+is_positional (Own slot) = false
+is_positional (InSlot slot) = true
+is_positional Unfit = true
+
+-- a tag stands behind a positional argument, and so behind the first of these
+abbrev pub has_late_tag : List Label → Bool
+has_late_tag [] = false
+has_late_tag (label ∷ labels) = if is_positional label then list_any is_tag labels else has_late_tag labels
+
+-- the kinds, each told by a number
+abbrev pub kind_number : TagKind → ℕ
+kind_number kind.Comparator = 0
+kind_number kind.MatchType = 1
+kind_number kind.AddressPart = 2
+kind_number kind.Bound = 3
+kind_number kind.Flags = 4
+kind_number kind.Location = 5
+kind_number kind.Once = 6
+kind_number kind.Optional = 7
+kind_number kind.Case = 8
+kind_number kind.FirstLetter = 9
+kind_number kind.QuoteWildcard = 10
+kind_number kind.Length = 11
+
+abbrev pub same_kind : TagKind → TagKind → Bool
+same_kind a b = nat_eq (kind_number a) (kind_number b)
+
+-- a tag of that kind
+abbrev pub is_of_kind : TagKind → Label → Bool
+is_of_kind k (Tagged taken) = same_kind k (tag_row taken).kind
+is_of_kind k OtherTag = false
+is_of_kind k (Own slot) = false
+is_of_kind k (InSlot slot) = false
+is_of_kind k Unfit = false
+
+-- a tag of the kind of the first stands behind it
+abbrev pub is_repeated : Label → List Label → Bool
+is_repeated (Tagged taken) labels = list_any (is_of_kind (tag_row taken).kind) labels
+is_repeated OtherTag labels = false
+is_repeated (Own slot) labels = false
+is_repeated (InSlot slot) labels = false
+is_repeated Unfit labels = false
+
+-- two tags of one kind
+abbrev pub has_repeated : List Label → Bool
+has_repeated [] = false
+has_repeated (label ∷ labels) = is_repeated label labels || has_repeated labels
+
+-- a tag that isn't taken, two of one kind, or one behind a positional argument
+abbrev pub has_bad_tag : List Label → Bool
+has_bad_tag labels = list_any is_other_tag labels || (has_repeated labels || has_late_tag labels)
+
+-- ARGUMENTS
+
+-- a tag that takes an argument itself
+abbrev pub awaits : Label → Bool
+awaits (Tagged taken) = is_some (tag_row taken).takes
+awaits OtherTag = false
+awaits (Own slot) = false
+awaits (InSlot slot) = false
+awaits Unfit = false
+
+abbrev pub begins_own : List Label → Bool
+begins_own [] = false
+begins_own (Tagged taken ∷ labels) = false
+begins_own (OtherTag ∷ labels) = false
+begins_own (Own slot ∷ labels) = true
+begins_own (InSlot slot ∷ labels) = false
+begins_own (Unfit ∷ labels) = false
+
+-- a tag lacks the argument that it takes itself
+abbrev pub lacks_own : List Label → Bool
+lacks_own [] = false
+lacks_own (label ∷ labels) = (awaits label && not (begins_own labels)) || lacks_own labels
+
+-- no tag of the kind that has to be there is there
+abbrev pub lacks_kind : Option TagKind → List Label → Bool
+lacks_kind None labels = false
+lacks_kind (Some k) labels = not (list_any (is_of_kind k) labels)
+
+abbrev pub tests_fit : Inner → Tests → Bool
+tests_fit inner.None no_tests = true
+tests_fit inner.None (one_test t) = false
+tests_fit inner.None (test_list ts) = false
+tests_fit inner.One no_tests = false
+tests_fit inner.One (one_test t) = true
+tests_fit inner.One (test_list ts) = false
+tests_fit inner.List no_tests = false
+tests_fit inner.List (one_test t) = false
+tests_fit inner.List (test_list ts) = true
+
+-- whether it ends by a block
+abbrev pub has_block : Block → Bool
+has_block no_block = false
+has_block (block ns) = true
+
+-- whether a block stands exactly where one is taken
+abbrev pub block_fits : (taken is_there : Bool) → Bool
+block_fits true true = true
+block_fits true false = false
+block_fits false true = false
+block_fits false false = true
+
+-- arguments, tests or a block that aren't what is taken, a tag without its own argument, or none of a kind that is needed
+abbrev pub are_bad : (filled : Bool) → Row → List Label → Tests → (ends_by_block : Bool) → Bool
+are_bad filled row labels ts ends_by_block =
+    (not filled || (not (tests_fit row.tests ts) || not (block_fits row.has_block ends_by_block))) || (lacks_own labels || lacks_kind row.one_of labels)
+
+abbrev pub has_bad_arguments : Row → List Shape → Tests → (ends_by_block : Bool) → Bool
+has_bad_arguments row shapes ts ends_by_block = are_bad (is_filled row shapes) row (labels_of row shapes) ts ends_by_block
+
+-- whether all is as the row says
+abbrev pub is_well_used : Row → List Shape → Tests → (ends_by_block : Bool) → Bool
+is_well_used row shapes ts ends_by_block = not (has_bad_tag (labels_of row shapes)) && not (has_bad_arguments row shapes ts ends_by_block)

@@ -1,0 +1,10 @@
+pub mod Checked
+pub mod Context
+pub mod Expected
+pub mod Finds
+pub mod Head
+pub mod Judged
+pub mod Reading
+pub mod Row
+pub mod Tree
+pub mod Use

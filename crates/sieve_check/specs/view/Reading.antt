@@ -1,0 +1,44 @@
+-- The program's readings of commands and tests.
+use Rattle.std.specs.Prelude.{List, map}
+use Rattle.sieve_check.specs.Reading as reading
+use Rattle.sieve_check.specs.Tree.{Part}
+use Rattle.sieve_check.specs.view.Tree.{text_of}
+use Rattle.sieve_check.specs.declared.reading.Ask.{Ask}
+use Rattle.sieve_check.specs.declared.reading.Ask.TheVariants.{Header, Exists, Over, Under}
+use Rattle.sieve_check.specs.declared.reading.CommandReading.{CommandReading}
+use Rattle.sieve_check.specs.declared.reading.CommandReading.TheVariants.{Opens, Continues, Otherwise, Stops, Nothing, Acts}
+use Rattle.sieve_check.specs.declared.reading.Leaf.{Leaf}
+use Rattle.sieve_check.specs.declared.reading.Leaf.TheVariants.{Keep, Discard}
+use Rattle.sieve_check.specs.declared.reading.TestReading.{TestReading}
+use Rattle.sieve_check.specs.declared.reading.TestReading.TheVariants.{Always, Never, Asks, AllOf, AnyOf, Not}
+use Rattle.sieve_check.specs.declared.tree.Text.{Text}
+
+-- strings, each as its parts
+abbrev pub texts_as : List Text → List (List Part)
+texts_as texts = map (λ t. t.parts) (map text_of texts)
+
+abbrev pub ask_as : Ask → reading.Ask
+ask_as (Header match_type collation names keys) = reading.header_ask match_type collation (texts_as names.now) (texts_as keys.now)
+ask_as (Exists names) = reading.exists_ask (texts_as names.now)
+ask_as (Over limit) = reading.over_ask limit
+ask_as (Under limit) = reading.under_ask limit
+
+abbrev pub test_reading_as : TestReading → reading.TestReading
+test_reading_as Always = reading.reads_always
+test_reading_as Never = reading.reads_never
+test_reading_as (Asks ask) = reading.reads_ask (ask_as ask)
+test_reading_as AllOf = reading.reads_all
+test_reading_as AnyOf = reading.reads_any
+test_reading_as Not = reading.reads_not
+
+abbrev pub leaf_as : Leaf → reading.Leaf
+leaf_as Keep = reading.keep_leaf
+leaf_as Discard = reading.discard_leaf
+
+abbrev pub command_reading_as : CommandReading → reading.CommandReading
+command_reading_as Opens = reading.opens
+command_reading_as Continues = reading.continues
+command_reading_as Otherwise = reading.otherwise
+command_reading_as Stops = reading.stops
+command_reading_as Nothing = reading.nothing
+command_reading_as (Acts leaf) = reading.acts (leaf_as leaf)

@@ -1,0 +1,58 @@
+//! The capabilities that a script can require.
+ghost use Rattle.std.specs.Prelude.{◌≡◌};
+ghost use Rattle.sieve_check.specs.Capability.{capability_name, is_capability, is_name_of};
+
+/// What a command, a test, a tag or an argument may need (RFC 5228, section 2.10.5).
+#[derive(Clone, Copy, Debug, PartialEq, Eq)]
+pub(crate) enum Capability {
+    /// `fileinto` (RFC 5228, section 4.1).
+    Fileinto,
+    /// `envelope` (RFC 5228, section 5.4).
+    Envelope,
+    /// Variables (RFC 5229).
+    Variables,
+    /// Flags (RFC 5232).
+    Imap4flags,
+    /// Included scripts (RFC 6609).
+    Include,
+    /// The comparator `i;octet` (RFC 5228, section 2.7.3).
+    OctetComparator,
+    /// The comparator `i;ascii-casemap` (RFC 5228, section 2.7.3).
+    CasemapComparator,
+}
+
+/// The capabilities that there are.
+const CAPABILITIES: [Capability; 2] = [Capability::OctetComparator, Capability::CasemapComparator];
+
+impl Capability {
+    /// The string that names it in a `require`.
+    fn name(self) -> &'static [u8]
+        ensures { result.now ≡ capability_name self }
+    {
+        match self {
+            Capability::Fileinto => b"fileinto",
+            Capability::Envelope => b"envelope",
+            Capability::Variables => b"variables",
+            Capability::Imap4flags => b"imap4flags",
+            Capability::Include => b"include",
+            Capability::OctetComparator => b"comparator-i;octet",
+            Capability::CasemapComparator => b"comparator-i;ascii-casemap",
+        }
+    }
+}
+
+/// Whether a string names it, octet for octet.
+fn is_name_of(name: &[u8], capability: Capability) -> bool
+    ensures { result ≡ is_name_of name.now capability }
+{
+    capability.name() == name
+}
+
+/// Whether a string names a capability that there is.
+pub(crate) fn is_capability(name: &[u8]) -> bool
+    ensures { result ≡ is_capability name.now }
+{
+    CAPABILITIES
+        .iter()
+        .any(|capability| is_name_of(name, *capability))
+}

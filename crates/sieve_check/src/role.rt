@@ -1,0 +1,54 @@
+//! What an argument is for, by its label.
+ghost use Rattle.std.specs.Prelude.{◌≡◌, ◌↔◌, IsTrue, drop};
+ghost use Rattle.sieve_check.specs.Role.{first_role, has_role, role_of, same_role};
+
+use crate::label::Label;
+use crate::row::Role;
+
+/// Whether two roles are one.
+fn same_role(a: Role, b: Role) -> bool
+    ensures same { result ≡ same_role a b }
+    ensures exact { IsTrue result ↔ (a ≡ b) }
+{
+    a == b
+}
+
+/// Whether it is that role.
+pub(crate) fn has_role(wanted: Role, role: Option<Role>) -> bool
+    ensures { result ≡ has_role wanted role }
+{
+    match role {
+        Some(role) => same_role(wanted, role),
+        None => false,
+    }
+}
+
+/// The role of an argument.
+pub(crate) fn role_of(label: Label) -> Option<Role>
+    ensures { result ≡ role_of label }
+{
+    match label {
+        Label::Own(slot) | Label::InSlot(slot) => Some(slot.role),
+        Label::Tagged(_) | Label::OtherTag | Label::Unfit => None,
+    }
+}
+
+/// The role of the first of some arguments.
+pub(crate) fn first_role(labels: &[Label]) -> Option<Role>
+    ensures { result ≡ first_role labels.now }
+{
+    match labels {
+        [first, ..] => role_of(*first),
+        [] => None,
+    }
+}
+
+/// The labels behind the first.
+pub(crate) fn behind_first(labels: &[Label]) -> &[Label]
+    ensures { result.now ≡ drop 1 labels.now }
+{
+    match labels {
+        [_, rest @ ..] => rest,
+        [] => labels,
+    }
+}

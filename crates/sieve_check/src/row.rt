@@ -1,0 +1,145 @@
+//! What a row of the table says.
+ghost use Rattle.std.specs.Prelude.{◌≡◌, None};
+ghost use Rattle.sieve_check.specs.Table.{slot};
+
+use crate::capability::Capability;
+use crate::table::Tag;
+
+/// How an argument is written.
+#[derive(Clone, Copy, Debug, PartialEq, Eq)]
+pub(crate) enum Form {
+    /// One string without brackets.
+    One,
+    /// A list of strings, or one string.
+    List,
+    /// A number.
+    Number,
+}
+
+/// What an argument is for. By this its strings are judged and read.
+#[derive(Clone, Copy, Debug, PartialEq, Eq)]
+pub(crate) enum Role {
+    /// Capabilities (RFC 5228, section 3.2).
+    Capabilities,
+    /// A comparator (RFC 5228, section 2.7.3).
+    ComparatorName,
+    /// Names of header fields (RFC 5228, section 2.4.2.2).
+    FieldNames,
+    /// Names of header fields that hold addresses (RFC 5228, section 5.1).
+    AddressFields,
+    /// Parts of an envelope (RFC 5228, section 5.4).
+    EnvelopeParts,
+    /// What values are compared with (RFC 5228, section 2.7.1).
+    Keys,
+    /// A size in octets (RFC 5228, section 5.9).
+    Limit,
+    /// A mailbox (RFC 5228, section 4.1).
+    Mailbox,
+    /// An address (RFC 5228, section 4.2).
+    Address,
+    /// Flags (RFC 5232, section 2).
+    Flags,
+    /// The variable that is set (RFC 5229, section 4).
+    NameToSet,
+    /// The variables that are read (RFC 5232, section 4).
+    NamesToRead,
+    /// The variables that are declared global, without a dot (RFC 6609, section 3.4.1).
+    NamesToDeclare,
+    /// A script (RFC 6609, section 3.2).
+    ScriptName,
+    /// Any other text.
+    Text,
+}
+
+/// An argument that is taken.
+#[derive(Clone, Copy, Debug, PartialEq, Eq)]
+pub(crate) struct Slot {
+    pub(crate) form: Form,
+    pub(crate) role: Role,
+    /// What has to be required where it is given.
+    pub(crate) needs: Option<Capability>,
+}
+
+impl Slot {
+    /// One for which nothing need be required.
+    pub(crate) const fn new(form: Form, role: Role) -> Slot
+        ensures { result ≡ slot form role }
+    {
+        Slot {
+            form,
+            role,
+            needs: None,
+        }
+    }
+}
+
+/// The kinds of tags. Two of one kind don't stand together.
+#[derive(Clone, Copy, Debug, PartialEq, Eq)]
+pub(crate) enum TagKind {
+    /// The comparator (RFC 5228, section 2.7.3).
+    Comparator,
+    /// The match types (RFC 5228, section 2.7.1).
+    MatchType,
+    /// The parts of an address (RFC 5228, section 2.7.4).
+    AddressPart,
+    /// `:over` and `:under` (RFC 5228, section 5.9).
+    Bound,
+    /// Flags (RFC 5232, section 5).
+    Flags,
+    /// `:personal` and `:global` (RFC 6609, section 3.2).
+    Location,
+    /// `:once` (RFC 6609, section 3.2).
+    Once,
+    /// `:optional` (RFC 6609, section 3.2).
+    Optional,
+    /// The modifiers of precedence 40 (RFC 5229, section 4.1).
+    Case,
+    /// The modifiers of precedence 30 (RFC 5229, section 4.1).
+    FirstLetter,
+    /// The modifier of precedence 20 (RFC 5229, section 4.1).
+    QuoteWildcard,
+    /// The modifier of precedence 10 (RFC 5229, section 4.1).
+    Length,
+}
+
+/// What is said of a tag.
+#[derive(Clone, Copy, Debug)]
+pub(crate) struct TagRow {
+    /// Its identifier without the colon, in lower case.
+    pub(crate) name: &'static [u8],
+    pub(crate) kind: TagKind,
+    /// The argument that it takes itself, directly behind it.
+    pub(crate) takes: Option<Slot>,
+    /// What has to be required where it is given.
+    pub(crate) needs: Option<Capability>,
+}
+
+/// Which tests a command or a test takes.
+#[derive(Clone, Copy, Debug, PartialEq, Eq)]
+pub(crate) enum Inner {
+    None,
+    /// One, without parentheses.
+    One,
+    /// A list in parentheses.
+    List,
+}
+
+/// What a command or a test takes (RFC 5228, section 2.6).
+#[derive(Clone, Copy, Debug)]
+pub(crate) struct Row {
+    /// Its identifier, in lower case.
+    pub(crate) name: &'static [u8],
+    /// Its tags, which may stand in any order.
+    pub(crate) tags: &'static [Tag],
+    /// The kind of which exactly one tag is there.
+    pub(crate) one_of: Option<TagKind>,
+    /// A positional argument that may stand before the others.
+    pub(crate) front: Option<Slot>,
+    /// The positional arguments in order.
+    pub(crate) slots: &'static [Slot],
+    pub(crate) tests: Inner,
+    /// Whether it ends by a block, and not by a semicolon.
+    pub(crate) has_block: bool,
+    /// What has to be required for it.
+    pub(crate) needs: &'static [Capability],
+}

@@ -1,0 +1,200 @@
+//! Whether a command or a test is used as its row says (RFC 5228, sections 2.5, 2.6, 2.8 and 2.9).
+ghost use Rattle.std.specs.Prelude.{◌≡◌, ◌↔◌, IsTrue, map};
+ghost use Rattle.std.specs.List.{list_any};
+ghost use Rattle.sieve_syntax.specs.view.Tree.{argument_of, tests_of};
+ghost use Rattle.sieve_check.specs.Label.{is_filled};
+ghost use Rattle.sieve_check.specs.Shape.{shapes_of};
+ghost use Rattle.sieve_check.specs.Use.{are_bad, awaits, begins_own, has_bad_tag, has_late_tag, has_repeated, is_of_kind, is_other_tag, is_positional, is_repeated, is_tag, lacks_kind, lacks_own, same_kind, tests_fit};
+ghost use Rattle.sieve_check.specs.view.Row.{row_as};
+
+use crate::label::Label;
+use crate::row::{Inner, Row, TagKind};
+use crate::shape::row_is_filled;
+use sieve_syntax::{Argument, Tests};
+
+/// Whether it is a tag that isn't taken.
+fn is_other_tag(label: Label) -> bool
+    ensures { result ≡ is_other_tag label }
+{
+    match label {
+        Label::OtherTag => true,
+        Label::Tagged(_) | Label::Own(_) | Label::InSlot(_) | Label::Unfit => false,
+    }
+}
+
+/// Whether it is a tag.
+fn is_tag(label: Label) -> bool
+    ensures { result ≡ is_tag label }
+{
+    match label {
+        Label::Tagged(_) | Label::OtherTag => true,
+        Label::Own(_) | Label::InSlot(_) | Label::Unfit => false,
+    }
+}
+
+/// Whether it is a positional argument.
+fn is_positional(label: Label) -> bool
+    ensures { result ≡ is_positional label }
+{
+    match label {
+        Label::InSlot(_) | Label::Unfit => true,
+        Label::Tagged(_) | Label::OtherTag | Label::Own(_) => false,
+    }
+}
+
+/// Whether a tag is among them.
+fn has_tag(labels: &[Label]) -> bool
+    ensures { result ≡ list_any is_tag labels.now }
+{
+    labels.iter().any(|label| is_tag(*label))
+}
+
+/// Whether a tag that isn't taken is among them.
+fn has_other_tag(labels: &[Label]) -> bool
+    ensures { result ≡ list_any is_other_tag labels.now }
+{
+    labels.iter().any(|label| is_other_tag(*label))
+}
+
+/// Whether a tag stands behind a positional argument.
+fn has_late_tag(labels: &[Label]) -> bool
+    ensures { result ≡ has_late_tag labels.now }
+{
+    let mut left = labels;
+    while let [first, rest @ ..] = left {
+        if is_positional(*first) {
+            return has_tag(rest);
+        }
+        left = rest;
+    }
+    false
+}
+
+/// Whether two kinds of tags are one.
+fn same_kind(a: TagKind, b: TagKind) -> bool
+    ensures same { result ≡ same_kind a b }
+    ensures exact { IsTrue result ↔ (a ≡ b) }
+{
+    a == b
+}
+
+/// Whether it is a tag of that kind.
+fn is_of_kind(kind: TagKind, label: Label) -> bool
+    ensures { result ≡ is_of_kind kind label }
+{
+    match label {
+        Label::Tagged(tag) => same_kind(kind, tag.row().kind),
+        Label::OtherTag | Label::Own(_) | Label::InSlot(_) | Label::Unfit => false,
+    }
+}
+
+/// Whether a tag of that kind is among them.
+fn has_kind(kind: TagKind, labels: &[Label]) -> bool
+    ensures { result ≡ list_any (is_of_kind kind) labels.now }
+{
+    labels.iter().any(|label| is_of_kind(kind, *label))
+}
+
+/// Whether a tag of the kind of the first stands behind it.
+fn is_repeated(first: Label, behind: &[Label]) -> bool
+    ensures { result ≡ is_repeated first behind.now }
+{
+    match first {
+        Label::Tagged(tag) => has_kind(tag.row().kind, behind),
+        Label::OtherTag | Label::Own(_) | Label::InSlot(_) | Label::Unfit => false,
+    }
+}
+
+/// Whether two tags are of one kind.
+fn has_repeated(labels: &[Label]) -> bool
+    ensures { result ≡ has_repeated labels.now }
+{
+    let mut left = labels;
+    while let [first, rest @ ..] = left {
+        if is_repeated(*first, rest) {
+            return true;
+        }
+        left = rest;
+    }
+    false
+}
+
+/// Whether there is a tag that isn't taken, two of one kind, or one behind a positional argument.
+pub(crate) fn has_bad_tag(labels: &[Label]) -> bool
+    ensures { result ≡ has_bad_tag labels.now }
+{
+    has_other_tag(labels) || has_repeated(labels) || has_late_tag(labels)
+}
+
+/// Whether it is a tag that takes an argument itself.
+fn awaits(label: Label) -> bool
+    ensures { result ≡ awaits label }
+{
+    match label {
+        Label::Tagged(tag) => tag.row().takes.is_some(),
+        Label::OtherTag | Label::Own(_) | Label::InSlot(_) | Label::Unfit => false,
+    }
+}
+
+/// Whether the argument that a tag takes itself comes first.
+fn begins_own(labels: &[Label]) -> bool
+    ensures { result ≡ begins_own labels.now }
+{
+    match labels {
+        [Label::Own(_), ..] => true,
+        _ => false,
+    }
+}
+
+/// Whether a tag lacks the argument that it takes itself.
+fn lacks_own(labels: &[Label]) -> bool
+    ensures { result ≡ lacks_own labels.now }
+{
+    let mut left = labels;
+    while let [first, rest @ ..] = left {
+        if awaits(*first) && !begins_own(rest) {
+            return true;
+        }
+        left = rest;
+    }
+    false
+}
+
+/// Whether no tag of the kind that has to be there is there.
+fn lacks_kind(kind: Option<TagKind>, labels: &[Label]) -> bool
+    ensures { result ≡ lacks_kind kind labels.now }
+{
+    match kind {
+        Some(kind) => !has_kind(kind, labels),
+        None => false,
+    }
+}
+
+/// Whether the tests are those.
+fn tests_fit(inner: Inner, tests: &Tests) -> bool
+    ensures { result ≡ tests_fit inner (tests_of tests.now) }
+{
+    match (inner, tests) {
+        (Inner::None, Tests::None) => true,
+        (Inner::One, Tests::One(_)) => true,
+        (Inner::List, Tests::List(_)) => true,
+        _ => false,
+    }
+}
+
+/// Whether arguments of these labels, tests or the end aren't what is taken, a tag lacks its own argument, or none is there
+/// of a kind that is needed.
+pub(crate) fn has_bad_arguments(
+    row: &Row,
+    args: &[Argument],
+    labels: &[Label],
+    tests: &Tests,
+    ends_by_block: bool,
+) -> bool
+    ensures { result ≡ are_bad (is_filled (row_as row.now) (shapes_of row.now.tags.now (map argument_of args.now))) (row_as row.now) labels.now (tests_of tests.now) ends_by_block }
+{
+    if !row_is_filled(row, args) || !tests_fit(row.tests, tests) || row.has_block != ends_by_block {
+        return true;
+    }
+    lacks_own(labels) || lacks_kind(row.one_of, labels)
+}

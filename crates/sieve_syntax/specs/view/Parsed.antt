@@ -1,0 +1,31 @@
+-- What the parser returned, against what the text means.
+use Rattle.std.specs.Prelude.{◌≡◌, ℕ, List, Option, Some, None, Result, Ok, Err}
+use Rattle.sieve_syntax.specs.Machine.{State}
+use Rattle.sieve_syntax.specs.view.Reader.{state_value}
+use Rattle.sieve_syntax.specs.Tree.{Node}
+use Rattle.sieve_syntax.specs.view.Tree.{nodes_of}
+use Rattle.sieve_syntax.specs.declared.parser.SyntaxFault.{SyntaxFault}
+use Rattle.sieve_syntax.specs.declared.parser.SyntaxFault.TheVariants.{Syntax, TooLarge, NoMemory}
+use Rattle.sieve_syntax.specs.declared.tree.Script as scripts
+use Rattle.sieve_syntax.specs.declared.reader.State as states
+
+-- the tree is what the text means, or the line of the fault is
+abbrev pub Parses : Result scripts.Script SyntaxFault → Result (List Node) ℕ → Type 0
+Parses (Ok script) meaning = meaning ≡ Ok (nodes_of script)
+Parses (Err (Syntax line)) meaning = meaning ≡ Err line
+Parses (Err TooLarge) meaning = Unit {0}
+Parses (Err NoMemory) meaning = Unit {0}
+
+-- the state is the next one, or there is none and the line is the token's
+abbrev pub Goes : Result states.State SyntaxFault → Option State → ℕ → Type 0
+Goes (Ok s) next line = next ≡ Some (state_value s)
+Goes (Err (Syntax at)) next line = (next ≡ None) × (at ≡ line)
+Goes (Err TooLarge) next line = ⊥
+Goes (Err NoMemory) next line = Unit {0}
+
+-- the script is the whole tree, or there is none and the line is that of the end
+abbrev pub Finishes : Result scripts.Script SyntaxFault → Option (List Node) → ℕ → Type 0
+Finishes (Ok script) tree line = tree ≡ Some (nodes_of script)
+Finishes (Err (Syntax at)) tree line = (tree ≡ None) × (at ≡ line)
+Finishes (Err TooLarge) tree line = ⊥
+Finishes (Err NoMemory) tree line = ⊥

@@ -1,0 +1,73 @@
+-- The view of the program's reader as a state of the machine.
+use Rattle.std.specs.Prelude.{◌≡◌, List, Option, Some, None, Result, Ok, Err, map, reverse}
+use Rattle.std.specs.declared.vec.Vec.{Vec}
+use Rattle.std.specs.declared.alloc.Global.{Global}
+use Rattle.sieve_syntax.specs.Tree.{Block, no_block, block, nodes}
+use Rattle.sieve_syntax.specs.view.Tree.{node_of, test_of, tests_of, text_of, argument_of}
+use Rattle.sieve_syntax.specs.Word.{Word, identifier, tag_word, number_word, string_word, semicolon, open_brace, close_brace, open_parenthesis, close_parenthesis, open_bracket, close_bracket, comma, bad}
+use Rattle.sieve_syntax.specs.Machine.{Head, Level, for_one, for_list, Open, Outer, State, between, in_arguments, before_string, after_string, before_test, after_tests}
+use Rattle.sieve_syntax.specs.declared.tree.Command as commands
+use Rattle.sieve_syntax.specs.declared.word.Word as words
+use Rattle.sieve_syntax.specs.declared.word.Word.TheVariants as word_variants
+use Rattle.sieve_syntax.specs.declared.reader.Head as heads
+use Rattle.sieve_syntax.specs.declared.reader.Level as levels
+use Rattle.sieve_syntax.specs.declared.reader.Level.TheVariants as level_variants
+use Rattle.sieve_syntax.specs.declared.reader.Open as opens
+use Rattle.sieve_syntax.specs.declared.reader.Outer as outers
+use Rattle.sieve_syntax.specs.declared.reader.State as states
+use Rattle.sieve_syntax.specs.declared.reader.State.TheVariants as state_variants
+use Rattle.sieve_syntax.specs.declared.step.Stop as stops
+use Rattle.sieve_syntax.specs.declared.step.Stop.TheVariants as stop_variants
+
+abbrev pub word_as : words.Word → Word
+word_as (word_variants.Identifier name line) = identifier name.items line
+word_as (word_variants.Tag name line) = tag_word name.items line
+word_as (word_variants.Number value line) = number_word value line
+word_as (word_variants.String octets line) = string_word octets.items line
+word_as word_variants.Semicolon = semicolon
+word_as word_variants.OpenBrace = open_brace
+word_as word_variants.CloseBrace = close_brace
+word_as word_variants.OpenParenthesis = open_parenthesis
+word_as word_variants.CloseParenthesis = close_parenthesis
+word_as word_variants.OpenBracket = open_bracket
+word_as word_variants.CloseBracket = close_bracket
+word_as word_variants.Comma = comma
+word_as word_variants.Bad = bad
+
+abbrev pub block_of : Option (Vec commands.Command Global) → Block
+block_of None = no_block
+block_of (Some v) = block (nodes (map node_of v.items))
+
+abbrev pub head_value : heads.Head → Head
+head_value h = record { name = h.name.items; line = h.line; args = map argument_of h.args.items }
+
+abbrev pub level_value : levels.Level → Level
+level_value (level_variants.One h) = for_one (head_value h)
+level_value (level_variants.List h before) = for_list (head_value h) (map test_of before.items)
+
+abbrev pub open_value : opens.Open → Open
+open_value b = record { done = map node_of b.done.items; head = head_value b.head; tests = tests_of b.tests }
+
+-- the newest first
+abbrev pub levels_value : List levels.Level → List Level
+levels_value ls = map level_value (reverse ls)
+
+abbrev pub opens_value : List opens.Open → List Open
+opens_value bs = map open_value (reverse bs)
+
+abbrev pub outer_value : outers.Outer → Outer
+outer_value o = record { blocks = opens_value o.blocks.items; done = map node_of o.done.items }
+
+abbrev pub state_value : states.State → State
+state_value (state_variants.Between o) = between (outer_value o)
+state_value (state_variants.Arguments o ls h) = in_arguments (outer_value o) (levels_value ls.items) (head_value h)
+state_value (state_variants.BeforeString o ls h items) = before_string (outer_value o) (levels_value ls.items) (head_value h) (map text_of items.items)
+state_value (state_variants.AfterString o ls h items) = after_string (outer_value o) (levels_value ls.items) (head_value h) (map text_of items.items)
+state_value (state_variants.BeforeTest o ls) = before_test (outer_value o) (levels_value ls.items)
+state_value (state_variants.AfterTests o ls h ts) = after_tests (outer_value o) (levels_value ls.items) (head_value h) (tests_of ts)
+
+-- what a step returned is the machine's next state, or a fault where there is none, unless memory ran out
+abbrev pub Advances : Result states.State stops.Stop → Option State → Type 0
+Advances (Ok s) next = next ≡ Some (state_value s)
+Advances (Err stop_variants.Fault) next = next ≡ None
+Advances (Err stop_variants.NoMemory) next = Unit {0}

@@ -1,0 +1,164 @@
+//! A system whose words, input, output and standard error are made.
+
+use std::alloc::{Allocator, Global};
+use std::cell::RefCell;
+use std::env::FillError;
+use std::fmt::Display;
+use std::io;
+use std::io::{BufRead, ErrorKind, Lines, Read, Write};
+use std::rt::Env;
+
+/// What a program wrote: on standard output, on standard error, how much on standard output before
+/// each read, and how much by each write there.
+#[derive(Drop)]
+pub struct Written {
+    pub output: RefCell<Vec<u8>>,
+    pub errors: RefCell<Vec<u8>>,
+    pub before_reads: RefCell<Vec<usize>>,
+    pub writes: RefCell<Vec<usize>>,
+}
+
+impl Written {
+    pub fn new(alloc: Global) -> Written {
+        Written {
+            output: RefCell::new(Vec::new(alloc)),
+            errors: RefCell::new(Vec::new(alloc)),
+            before_reads: RefCell::new(Vec::new(alloc)),
+            writes: RefCell::new(Vec::new(alloc)),
+        }
+    }
+}
+
+/// Octets that are given in pieces, and then end or fail.
+#[derive(Clone, Copy)]
+pub struct Given<'a> {
+    pub octets: &'a [u8],
+    /// How many octets a read gives at most.
+    pub piece: usize,
+    pub fails: bool,
+}
+
+/// A system with these words, this input, and an output of so much room.
+#[derive(Drop)]
+pub struct Machine<'a> {
+    pub alloc: Global,
+    pub words: &'a [&'a [u8]],
+    pub input: Given<'a>,
+    pub room: usize,
+    pub written: &'a Written,
+}
+
+impl Env for Machine<'_> {
+    fn arg(&self, i: usize, buf: &mut [u8]) -> Result<usize, FillError> {
+        let Some(word) = self.words.get(i) else {
+            return Err(FillError::NotPresent);
+        };
+        if word.len() > buf.len() {
+            return Err(FillError::TooLong);
+        }
+        buf[..word.len()].copy_from_slice(word);
+        Ok(word.len())
+    }
+
+    fn var(&self, _name: &str, _buf: &mut [u8]) -> Result<usize, FillError> {
+        Err(FillError::NotPresent)
+    }
+
+    fn var_at(&self, _i: usize, _buf: &mut [u8]) -> Result<usize, FillError> {
+        Err(FillError::NotPresent)
+    }
+}
+
+impl Alloc for Machine<'_> {
+    type A = Global;
+
+    fn alloc(&self) -> Global {
+        self.alloc
+    }
+}
+
+impl Print for Machine<'_> {
+    fn print<D: Display + Drop>(&self, value: D) -> io::Result<()> {
+        if self.room == 0 {
+            return Err(io::Error::from(ErrorKind::BrokenPipe));
+        }
+        self.written.output.try_borrow_mut()?.write_fmt(value)
+    }
+
+    fn println<D: Display + Drop>(&self, value: D) -> io::Result<()> {
+        self.print(value)?;
+        self.print("\n")
+    }
+
+    fn write_all(&self, bytes: &[u8]) -> io::Result<()> {
+        let mut output = self.written.output.try_borrow_mut()?;
+        if output.len().saturating_add(bytes.len()) > self.room {
+            return Err(io::Error::from(ErrorKind::BrokenPipe));
+        }
+        self.written.writes.try_borrow_mut()?.push(bytes.len())?;
+        output.write_all(bytes)
+    }
+}
+
+impl Eprint for Machine<'_> {
+    fn eprint<D: Display + Drop>(&self, value: D) -> io::Result<()> {
+        self.written.errors.try_borrow_mut()?.write_fmt(value)
+    }
+
+    fn eprintln<D: Display + Drop>(&self, value: D) -> io::Result<()> {
+        self.eprint(value)?;
+        self.eprint("\n")
+    }
+}
+
+/// The made input, from where it was read to on.
+#[derive(Drop)]
+pub struct Reader<'a> {
+    input: Given<'a>,
+    written: &'a Written,
+}
+
+impl Read for Reader<'_> {
+    fn read(&mut self, buf: &mut [u8]) -> io::Result<usize> {
+        let taken = self.written.output.try_borrow()?.len();
+        self.written.before_reads.try_borrow_mut()?.push(taken)?;
+        let octets = self.input.octets;
+        if octets.is_empty() && self.input.fails {
+            return Err(io::Error::from(ErrorKind::ConnectionReset));
+        }
+        let len = octets.len().min(self.input.piece).min(buf.len());
+        buf[..len].copy_from_slice(&octets[..len]);
+        self.input.octets = &octets[len..];
+        Ok(len)
+    }
+}
+
+impl BufRead for Reader<'_> {
+    fn fill_buf(&mut self) -> io::Result<&[u8]> {
+        Ok(self.input.octets)
+    }
+
+    fn consume(&mut self, amount: usize) {
+        let octets = self.input.octets;
+        self.input.octets = &octets[amount.min(octets.len())..];
+    }
+}
+
+impl<'a> Input for Machine<'a> {
+    type Reader = Reader<'a>;
+
+    fn read_line<A: Allocator + Clone>(&self, _buf: &mut String<A>) -> io::Result<usize> {
+        Err(io::Error::from(ErrorKind::Unsupported))
+    }
+
+    fn lines<A: Allocator>(&self, alloc: A) -> Lines<Reader<'a>, A> {
+        self.reader().lines(alloc)
+    }
+
+    fn reader(&self) -> Reader<'a> {
+        Reader {
+            input: self.input,
+            written: self.written,
+        }
+    }
+}
