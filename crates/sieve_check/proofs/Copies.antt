@@ -4,7 +4,7 @@ use Rattle.sieve_syntax.specs.Tree as syntax
 use Rattle.sieve_syntax.specs.view.Tree as seen
 use Rattle.sieve_check.specs.Parted.{command_labels, parted_block, parted_labelled, parted_node, parted_nodes, parted_test, parted_test_list, parted_tests}
 use Rattle.sieve_check.specs.Context.{Context, inside}
-use Rattle.sieve_check.specs.Table.{command_of}
+use Rattle.sieve_check.specs.Table.{command_named}
 use Rattle.std.specs.declared.vec.Vec.{Vec}
 use Rattle.std.specs.declared.alloc.Global.{Global}
 use Rattle.sieve_syntax.specs.declared.tree.Command as syntax_commands
@@ -63,7 +63,7 @@ list_copied context copies ts xs whole is same e =
 
 -- the arguments of a command of that name
 abbrev pub parted_args : Context → List ℕ → List syntax.Argument → List Argument
-parted_args context name args = parted_labelled context (command_labels (command_of name) args) args
+parted_args context name args = parted_labelled context (command_labels (command_named name) args) args
 
 -- copies of a command's parts make the copy of the command
 pub command_copied : (context within : Context) (name : Vec ℕ Global) (args : Vec arguments.Argument Global) (ts : test_variants.the_data) (copies : Vec commands.Command Global) (whole : syntax_commands.Command) (inner : Vec syntax_commands.Command Global) (xs : List syntax_commands.Command) → let o = syntax_command_views.out-Command whole in

@@ -32,32 +32,32 @@ Answer = Result (Unit {0}) CheckFault
 -- TESTS
 
 -- a test that there isn't
-pub test_unknown : (t : one_tests.Test) (context : Context) (name : List ℕ) (line : ℕ) → None ≡ table.test_of name → name ≡ (one_tests.out-Test t).name.items → line ≡ (one_tests.out-Test t).line → IsFirst (breaches_in (test_head context t)) (faults.Breach line UnknownCommand)
+pub test_unknown : (t : one_tests.Test) (context : Context) (name : List ℕ) (line : ℕ) → None ≡ table.test_named name → name ≡ (one_tests.out-Test t).name.items → line ≡ (one_tests.out-Test t).line → IsFirst (breaches_in (test_head context t)) (faults.Breach line UnknownCommand)
 unfolding breaches_at
 test_unknown t context name line is n l =
     let o = one_tests.out-Test t in
     let args = map argument_of o.args.items in
     let ts = tests_of o.tests in
-    let known : None ≡ table.test_of o.name.items = is ∙ ap table.test_of n in
+    let known : None ≡ table.test_named o.name.items = is ∙ ap table.test_named n in
     let here : IsFirst (breaches_at (the_test context o.name.items o.line args ts)) (faults.Breach o.line UnknownCommand) = subst (λ k. IsFirst (breaches_by (test_breaks k args ts) o.line all_rules) (faults.Breach o.line UnknownCommand)) known refl in
-    first_stops (the_test context o.name.items o.line args ts) (test_arguments context (table.test_of o.name.items) args ts) (faults.Breach line UnknownCommand)
+    first_stops (the_test context o.name.items o.line args ts) (test_arguments context (table.test_named o.name.items) args ts) (faults.Breach line UnknownCommand)
     (subst (λ x. IsFirst (breaches_at (the_test context o.name.items o.line args ts)) (faults.Breach x UnknownCommand)) (sym l) here)
 
 -- a test that there is
 pub test_known : (t : one_tests.Test) (context : Context) (kind : TestKind) (row : Row) (name : List ℕ) (line : ℕ) (xs : List arguments.Argument) (r : Answer) → let o = one_tests.out-Test t in
-    Some kind ≡ table.test_of name → name ≡ o.name.items → line ≡ o.line → row ≡ test_row kind → xs ≡ o.args.items → Finds (row_found context line row (map argument_of xs) (tests_of o.tests) false) r → FindsIn (test_head context t) r
+    Some kind ≡ table.test_named name → name ≡ o.name.items → line ≡ o.line → row ≡ test_row kind → xs ≡ o.args.items → Finds (row_found context line row (map argument_of xs) (tests_of o.tests) false) r → FindsIn (test_head context t) r
 unfolding breaches_at
 test_known t context kind row name line xs r is n l same a found =
     let o = one_tests.out-Test t in
     let args = map argument_of o.args.items in
     let ts = tests_of o.tests in
-    let known : Some kind ≡ table.test_of o.name.items = is ∙ ap table.test_of n in
+    let known : Some kind ≡ table.test_named o.name.items = is ∙ ap table.test_named n in
     subst (λ bs. Finds bs r)
     (ap (λ x. row_found context x row (map argument_of xs) ts false) l
     ∙ ap (λ x. row_found context o.line x (map argument_of xs) ts false) same
     ∙ ap (λ x. row_found context o.line (test_row kind) (map argument_of x) ts false) a
     ∙ ap (λ k. breaches_by (test_breaks k args ts) o.line all_rules ++ breaches_in (test_arguments context k args ts)) known
-    ∙ sym (cons_in (the_test context o.name.items o.line args ts) (test_arguments context (table.test_of o.name.items) args ts)))
+    ∙ sym (cons_in (the_test context o.name.items o.line args ts) (test_arguments context (table.test_named o.name.items) args ts)))
     found
 
 test_at : (t : one_tests.Test) (context : Context) → test_elements context (test_of t) ≡ test_head context t ++ tests_elements context (tests_of (one_tests.out-Test t).tests)
@@ -136,37 +136,37 @@ module _ (context : Context) (kind : CommandKind) (c : commands.Command) where
       found
 
 -- a command that there isn't
-pub command_unknown : (c : commands.Command) (context : Context) (name : List ℕ) (line : ℕ) → None ≡ table.command_of name → name ≡ (commands.out-Command c).name.items → line ≡ (commands.out-Command c).line → IsFirst (breaches_in (command_head context c)) (faults.Breach line UnknownCommand)
+pub command_unknown : (c : commands.Command) (context : Context) (name : List ℕ) (line : ℕ) → None ≡ table.command_named name → name ≡ (commands.out-Command c).name.items → line ≡ (commands.out-Command c).line → IsFirst (breaches_in (command_head context c)) (faults.Breach line UnknownCommand)
 unfolding breaches_at
 command_unknown c context name line is n l =
     let o = commands.out-Command c in
     let args = map argument_of o.args.items in
     let ts = tests_of o.tests in
     let ending = block_as o.block in
-    let known : None ≡ table.command_of o.name.items = is ∙ ap table.command_of n in
+    let known : None ≡ table.command_named o.name.items = is ∙ ap table.command_named n in
     let here : IsFirst (breaches_at (the_command context o.name.items o.line args ts ending)) (faults.Breach o.line UnknownCommand) = subst (λ k. IsFirst (breaches_by (command_breaks context k args ts ending) o.line all_rules) (faults.Breach o.line UnknownCommand)) known refl in
-    first_stops (the_command context o.name.items o.line args ts ending) (command_arguments context (table.command_of o.name.items) args ts ending) (faults.Breach line UnknownCommand)
+    first_stops (the_command context o.name.items o.line args ts ending) (command_arguments context (table.command_named o.name.items) args ts ending) (faults.Breach line UnknownCommand)
     (subst (λ x. IsFirst (breaches_at (the_command context o.name.items o.line args ts ending)) (faults.Breach x UnknownCommand)) (sym l) here)
 
-head_by : (c : commands.Command) (context : Context) (kind : CommandKind) (name : List ℕ) → Some kind ≡ table.command_of name → name ≡ (commands.out-Command c).name.items → kind_found context kind c ≡ breaches_in (command_head context c)
+head_by : (c : commands.Command) (context : Context) (kind : CommandKind) (name : List ℕ) → Some kind ≡ table.command_named name → name ≡ (commands.out-Command c).name.items → kind_found context kind c ≡ breaches_in (command_head context c)
 unfolding breaches_at
 head_by c context kind name is n =
     let o = commands.out-Command c in
     let args = map argument_of o.args.items in
     let ts = tests_of o.tests in
     let ending = block_as o.block in
-    ap (λ k. breaches_by (command_breaks context k args ts ending) o.line all_rules ++ breaches_in (command_arguments context k args ts ending)) (is ∙ ap table.command_of n)
-    ∙ sym (cons_in (the_command context o.name.items o.line args ts ending) (command_arguments context (table.command_of o.name.items) args ts ending))
+    ap (λ k. breaches_by (command_breaks context k args ts ending) o.line all_rules ++ breaches_in (command_arguments context k args ts ending)) (is ∙ ap table.command_named n)
+    ∙ sym (cons_in (the_command context o.name.items o.line args ts ending) (command_arguments context (table.command_named o.name.items) args ts ending))
 
 -- a command that there is
-pub command_stops : (c : commands.Command) (context : Context) (kind : CommandKind) (name : List ℕ) (fault : CheckFault) → Some kind ≡ table.command_of name → name ≡ (commands.out-Command c).name.items → IsFirst (kind_found context kind c) fault → IsFirst (breaches_in (command_head context c)) fault
+pub command_stops : (c : commands.Command) (context : Context) (kind : CommandKind) (name : List ℕ) (fault : CheckFault) → Some kind ≡ table.command_named name → name ≡ (commands.out-Command c).name.items → IsFirst (kind_found context kind c) fault → IsFirst (breaches_in (command_head context c)) fault
 command_stops c context kind name fault is n h = subst (λ bs. IsFirst bs fault) (head_by c context kind name is n) h
 
-pub command_passes : (c : commands.Command) (context : Context) (kind : CommandKind) (name : List ℕ) → Some kind ≡ table.command_of name → name ≡ (commands.out-Command c).name.items → kind_found context kind c ≡ [] → breaches_in (command_head context c) ≡ []
+pub command_passes : (c : commands.Command) (context : Context) (kind : CommandKind) (name : List ℕ) → Some kind ≡ table.command_named name → name ≡ (commands.out-Command c).name.items → kind_found context kind c ≡ [] → breaches_in (command_head context c) ≡ []
 command_passes c context kind name is n none = sym (head_by c context kind name is n) ∙ none
 
-pub command_moves : (c : commands.Command) (context next : Context) (kind : CommandKind) (name : List ℕ) → Some kind ≡ table.command_of name → name ≡ (commands.out-Command c).name.items → next ≡ behind_kind context (Some kind) → next ≡ behind_kind context (table.command_of (commands.out-Command c).name.items)
-command_moves c context next kind name is n goes = goes ∙ ap (behind_kind context) (is ∙ ap table.command_of n)
+pub command_moves : (c : commands.Command) (context next : Context) (kind : CommandKind) (name : List ℕ) → Some kind ≡ table.command_named name → name ≡ (commands.out-Command c).name.items → next ≡ behind_kind context (Some kind) → next ≡ behind_kind context (table.command_named (commands.out-Command c).name.items)
+command_moves c context next kind name is n goes = goes ∙ ap (behind_kind context) (is ∙ ap table.command_named n)
 
 command_at : (c : commands.Command) (context : Context) → let o = commands.out-Command c in node_elements context (node_of c) ≡ command_head context c ++ (tests_elements context (tests_of o.tests) ++ block_elements context (block_as o.block))
 unfolding node_elements
@@ -208,7 +208,7 @@ block_ends c context within inner xs none fine is same start h =
     ∙ sym (ap (λ l. breaches_in (nodes_elements within (nodes (map node_of l)))) same)
     ∙ h
 
-pub whole_moves : (c : commands.Command) (context next : Context) → next ≡ behind_kind context (table.command_of (commands.out-Command c).name.items) → next ≡ behind context (node_of c)
+pub whole_moves : (c : commands.Command) (context next : Context) → next ≡ behind_kind context (table.command_named (commands.out-Command c).name.items) → next ≡ behind context (node_of c)
 whole_moves c context next goes = goes ∙ sym (ap (behind context) (seen_command c))
 
 -- commands from one of them on

@@ -9,7 +9,7 @@ use Rattle.sieve_check.specs.Parted.{parted}
 use Rattle.sieve_check.specs.Readable.{IsReadable, ReadsBlock, ReadsNode, ReadsNodes, act_mark, block_marks, choice_mark, marks, node_marks, nodes_marks, stop_mark}
 use Rattle.sieve_check.specs.Reading.{discard_leaf, keep_leaf}
 use Rattle.sieve_check.specs.Script.{always, block_commands, chain_of, condition_of, conditions_in, never, node_before, script_of}
-use Rattle.sieve_check.specs.Table.{command_of, test_of}
+use Rattle.sieve_check.specs.Table.{command_named, test_named}
 use Rattle.sieve_check.specs.Tree.{nodes}
 use Rattle.sieve_check.proofs.Readable.{is_readable}
 use Rattle.sieve_check.proofs.Roles.{not_both}
@@ -29,16 +29,16 @@ abbrev branches : List syntax.Node
 branches = branch (codes "if") 1 (codes "true") (plain (codes "keep") 1) ∷ branch (codes "elsif") 2 (codes "false") (plain (codes "stop") 2) ∷ last 3 (plain (codes "discard") 3) ∷ plain (codes "keep") 4 ∷ []
 
 marks_row : marks (script_of (parted branches)) ≡ choice_mark always ∷ act_mark keep_leaf 1 ∷ choice_mark never ∷ stop_mark ∷ act_mark discard_leaf 3 ∷ act_mark keep_leaf 4 ∷ []
-unfolding marks chain_of node_before block_commands condition_of conditions_in command_of test_of
+unfolding marks chain_of node_before block_commands condition_of conditions_in command_named test_named
 marks_row = refl
 
 tree_marks_row : nodes_marks (nodes (parted branches)) ≡ choice_mark always ∷ act_mark keep_leaf 1 ∷ choice_mark never ∷ stop_mark ∷ act_mark discard_leaf 3 ∷ act_mark keep_leaf 4 ∷ []
-unfolding nodes_marks node_marks block_marks condition_of conditions_in command_of test_of
+unfolding nodes_marks node_marks block_marks condition_of conditions_in command_named test_named
 tree_marks_row = refl
 
 -- it breaks no rule, so it is readable
 faultless_row : breaches_of branches ≡ []
-unfolding breaches_in breaches_at nodes_elements node_elements block_elements tests_elements test_elements command_of test_of
+unfolding breaches_in breaches_at nodes_elements node_elements block_elements tests_elements test_elements command_named test_named
 faultless_row = refl
 
 readable_row : IsReadable (parted branches)
@@ -46,12 +46,12 @@ readable_row = is_readable branches faultless_row
 
 -- elsif true { keep; }
 astray_row : IsReadable (parted (branch (codes "elsif") 1 (codes "true") (plain (codes "keep") 1) ∷ [])) → ⊥
-unfolding ReadsNode ReadsBlock ReadsNodes command_of
+unfolding ReadsNode ReadsBlock ReadsNodes command_named
 astray_row reads = not_both reads.0.1.0
 
 -- if size :over 5 { keep; } require "a";
 order_row : map written_by (elements_of (syntax.node (codes "if") 1 [] (syntax.one_test (syntax.test (codes "size") 1 (syntax.tag (codes "over") 1 ∷ syntax.number (Some 5) 1 ∷ []) syntax.no_tests)) (syntax.block (syntax.nodes (plain (codes "keep") 2 ∷ [])))
     ∷ syntax.node (codes "require") 3 (syntax.strings (record { octets = codes "a"; line = 3 } ∷ []) false ∷ []) syntax.no_tests syntax.no_block ∷ []))
     ≡ identifier (codes "if") 1 ∷ identifier (codes "size") 1 ∷ number_word (Some 5) 1 ∷ identifier (codes "keep") 2 ∷ identifier (codes "require") 3 ∷ string_word (codes "a") 3 ∷ []
-unfolding nodes_elements node_elements block_elements tests_elements test_elements command_of test_of
+unfolding nodes_elements node_elements block_elements tests_elements test_elements command_named test_named
 order_row = refl

@@ -1,30 +1,30 @@
 -- The names of the table.
 use Rattle.std.proofs.Common.{◌≡◌, Some, refl}
-use Rattle.sieve_check.specs.Table.{command_of, command_row, test_of, test_row}
+use Rattle.sieve_check.specs.Table.{command_named, command_row, test_named, test_row}
 use Rattle.sieve_check.specs.declared.table.CommandKind.{CommandKind}
 use Rattle.sieve_check.specs.declared.table.CommandKind.TheVariants as command
 use Rattle.sieve_check.specs.declared.table.TestKind.{TestKind}
 use Rattle.sieve_check.specs.declared.table.TestKind.TheVariants as test
 
-pub command_named : (kind : CommandKind) → command_of (command_row kind).name ≡ Some kind
-unfolding command_of
-command_named command.Require = refl
-command_named command.If = refl
-command_named command.Elsif = refl
-command_named command.Else = refl
-command_named command.Keep = refl
-command_named command.Discard = refl
-command_named command.Stop = refl
+pub command_found : (kind : CommandKind) → command_named (command_row kind).name ≡ Some kind
+unfolding command_named
+command_found command.Require = refl
+command_found command.If = refl
+command_found command.Elsif = refl
+command_found command.Else = refl
+command_found command.Keep = refl
+command_found command.Discard = refl
+command_found command.Stop = refl
 
-pub test_named : (kind : TestKind) → test_of (test_row kind).name ≡ Some kind
-unfolding test_of
-test_named test.Header = refl
-test_named test.Exists = refl
-test_named test.Size = refl
-test_named test.AllOf = refl
-test_named test.AnyOf = refl
-test_named test.Not = refl
-test_named test.True = refl
-test_named test.False = refl
+pub test_found : (kind : TestKind) → test_named (test_row kind).name ≡ Some kind
+unfolding test_named
+test_found test.Header = refl
+test_found test.Exists = refl
+test_found test.Size = refl
+test_found test.AllOf = refl
+test_found test.AnyOf = refl
+test_found test.Not = refl
+test_found test.True = refl
+test_found test.False = refl
 
-pub ruleset names = (command_named, test_named)
+pub ruleset names = (command_found, test_found)

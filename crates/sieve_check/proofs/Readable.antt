@@ -7,7 +7,7 @@ use Rattle.sieve_check.specs.Element.{block_elements, command_arguments, node_el
 use Rattle.sieve_check.specs.Parted.{command_labels, parted, parted_block, parted_labelled, parted_node, parted_nodes, parted_test, parted_test_list, parted_tests}
 use Rattle.sieve_check.specs.Readable.{IsReadable, ReadsBlock, ReadsNode, ReadsNodes, ReadsTest, ReadsTestList, ReadsTests, Stands, command_takes, may_go_on}
 use Rattle.sieve_check.specs.Reading.{command_reading, command_reading_by}
-use Rattle.sieve_check.specs.Table.{command_of, command_row, test_of}
+use Rattle.sieve_check.specs.Table.{command_named, command_row, test_named}
 use Rattle.sieve_check.specs.Tree.{Nodes, end_nodes, more_nodes, no_block, block, items, nodes}
 use Rattle.sieve_check.specs.Use.{block_fits, has_block, tests_fit}
 use Rattle.sieve_check.specs.declared.rule.Rule.{Rule}
@@ -73,7 +73,7 @@ module _ (context : Context) where
   kind_goes_on (Some command.Stop) = refl
 
   goes_on : (n : syntax.Node) → (behind context n).follows_if ≡ may_go_on (command_reading (parted_node context n))
-  goes_on (syntax.node name line args ts ending) = kind_goes_on (command_of name)
+  goes_on (syntax.node name line args ts ending) = kind_goes_on (command_named name)
 
 -- TESTS
 
@@ -82,9 +82,9 @@ mutual
 
   test_reads : (t : syntax.Test) (context : Context) → breaches_in (test_elements context t) ≡ [] → ReadsTest (parted_test context t)
   test_reads (syntax.test name line args ts) context none =
-      let parts = none_in_front (the_test context name line args ts) (test_arguments context (test_of name) args ts ++ tests_elements context ts) none in
-      let rest = none_in_both (test_arguments context (test_of name) args ts) (tests_elements context ts) parts.1 in
-      let read = test_is_read context (test_of name) args ts (keeps (the_test context name line args ts) parts.0) rest.0 in
+      let parts = none_in_front (the_test context name line args ts) (test_arguments context (test_named name) args ts ++ tests_elements context ts) none in
+      let rest = none_in_both (test_arguments context (test_named name) args ts) (tests_elements context ts) parts.1 in
+      let read = test_is_read context (test_named name) args ts (keeps (the_test context name line args ts) parts.0) rest.0 in
       (read.0, read.1, tests_read ts context rest.1)
 
   tests_read : (ts : syntax.Tests) (context : Context) → breaches_in (tests_elements context ts) ≡ [] → ReadsTests (parted_tests context ts)
@@ -106,10 +106,10 @@ mutual
   node_reads : (n : syntax.Node) (context : Context) → breaches_in (node_elements context n) ≡ [] → ReadsNode context.follows_if (parted_node context n)
   node_reads (syntax.node name line args ts ending) context none =
       let inside_it = tests_elements context ts ++ block_elements context ending in
-      let parts = none_in_front (the_command context name line args ts ending) (command_arguments context (command_of name) args ts ending ++ inside_it) none in
-      let rest = none_in_both (command_arguments context (command_of name) args ts ending) inside_it parts.1 in
+      let parts = none_in_front (the_command context name line args ts ending) (command_arguments context (command_named name) args ts ending ++ inside_it) none in
+      let rest = none_in_both (command_arguments context (command_named name) args ts ending) inside_it parts.1 in
       let inner = none_in_both (tests_elements context ts) (block_elements context ending) rest.1 in
-      let read = command_is_read context (command_of name) args ts ending (keeps (the_command context name line args ts ending) parts.0) rest.0 in
+      let read = command_is_read context (command_named name) args ts ending (keeps (the_command context name line args ts ending) parts.0) rest.0 in
       (read.0, read.1, tests_read ts context inner.0, block_reads ending context inner.1)
 
   block_reads : (b : syntax.Block) (context : Context) → breaches_in (block_elements context b) ≡ [] → ReadsBlock (parted_block context b)

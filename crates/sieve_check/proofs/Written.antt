@@ -12,7 +12,7 @@ use Rattle.sieve_check.specs.Element.{Element, argument_elements, block_elements
 use Rattle.sieve_check.specs.Order.{writes_element, written_by}
 use Rattle.sieve_check.specs.Role.{first_role}
 use Rattle.sieve_check.specs.Shape.{shapes_of}
-use Rattle.sieve_check.specs.Table.{command_of, command_row, test_of, test_row}
+use Rattle.sieve_check.specs.Table.{command_named, command_row, test_named, test_row}
 use Rattle.sieve_check.specs.Use.{has_block, is_well_used}
 use Rattle.sieve_check.specs.declared.label.Label.{Label}
 use Rattle.sieve_check.specs.declared.row.Role.{Role}
@@ -78,8 +78,8 @@ mutual
   test_written : (t : Test) (context : Context) → AreWritten (test_elements context t) (written_test t)
   test_written (test name line args ts) context =
       ap (λ l. identifier name line ∷ l)
-      (in_turn (test_arguments context (test_of name) args ts) (tests_elements context ts) (written_arguments args) (written_tests ts)
-      (of_test context (test_of name) args ts) (tests_written ts context))
+      (in_turn (test_arguments context (test_named name) args ts) (tests_elements context ts) (written_arguments args) (written_tests ts)
+      (of_test context (test_named name) args ts) (tests_written ts context))
 
   tests_written : (ts : Tests) (context : Context) → AreWritten (tests_elements context ts) (written_tests ts)
   tests_written no_tests context = refl
@@ -105,8 +105,8 @@ mutual
   node_written (node name line args ts ending) context =
       let args_written = written_arguments args in
       ap (λ l. identifier name line ∷ l)
-      (in_turn (command_arguments context (command_of name) args ts ending) (tests_elements context ts ++ block_elements context ending) args_written (written_tests ts ++ written_block ending)
-      (of_command context (command_of name) args ts ending)
+      (in_turn (command_arguments context (command_named name) args ts ending) (tests_elements context ts ++ block_elements context ending) args_written (written_tests ts ++ written_block ending)
+      (of_command context (command_named name) args ts ending)
       (in_turn (tests_elements context ts) (block_elements context ending) (written_tests ts) (written_block ending) (tests_written ts context) (block_is_written ending context))
       ∙ ap (filter writes_element) (sym (append_assoc args_written (written_tests ts) (written_block ending))))
 

@@ -8,7 +8,7 @@ use Rattle.sieve_check.specs.Context.{Context, is_require, continues_if}
 use Rattle.sieve_check.specs.Element.{Element, the_command, the_test, the_text, the_number, elements_of}
 use Rattle.sieve_check.specs.Role.{has_role}
 use Rattle.sieve_check.specs.Shape.{row_labels, shapes_of}
-use Rattle.sieve_check.specs.Table.{Row, command_of, test_of, command_row, test_row}
+use Rattle.sieve_check.specs.Table.{Row, command_named, test_named, command_row, test_row}
 use Rattle.sieve_check.specs.Use.{has_bad_tag, has_bad_arguments, has_block}
 use Rattle.sieve_check.specs.declared.row.Role.{Role}
 use Rattle.sieve_check.specs.declared.row.Role.TheVariants.{Capabilities, ComparatorName}
@@ -64,8 +64,8 @@ number_breaks value NumberTooLarge = is_none value
 number_breaks value rule = false
 
 abbrev pub breaks : Element → Rule → Bool
-breaks (the_command context name line args ts ending) rule = command_breaks context (command_of name) args ts ending rule
-breaks (the_test context name line args ts) rule = test_breaks (test_of name) args ts rule
+breaks (the_command context name line args ts ending) rule = command_breaks context (command_named name) args ts ending rule
+breaks (the_test context name line args ts) rule = test_breaks (test_named name) args ts rule
 breaks (the_text context role text) rule = text_breaks context role text.octets rule
 breaks (the_number value line) rule = number_breaks value rule
 

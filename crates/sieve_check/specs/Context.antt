@@ -1,7 +1,7 @@
 -- What stands before a command in its text, as far as rules ask.
 use Rattle.std.specs.Prelude.{Bool, true, false, ◌&&◌, Option, Some, None}
 use Rattle.sieve_syntax.specs.Tree.{Node, node}
-use Rattle.sieve_check.specs.Table.{command_of}
+use Rattle.sieve_check.specs.Table.{command_named}
 use Rattle.sieve_check.specs.declared.table.CommandKind.{CommandKind}
 use Rattle.sieve_check.specs.declared.table.CommandKind.TheVariants.{Require, If, Elsif, Else, Keep, Discard, Stop}
 
@@ -55,4 +55,4 @@ inside context = record context { leads = false; follows_if = false }
 
 -- behind a whole command
 abbrev pub behind : Context → Node → Context
-behind context (node name line args ts ending) = behind_kind context (command_of name)
+behind context (node name line args ts ending) = behind_kind context (command_named name)

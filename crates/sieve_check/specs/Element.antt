@@ -5,7 +5,7 @@ use Rattle.sieve_syntax.specs.Tree.{Node, node, Nodes, end_nodes, more_nodes, no
 use Rattle.sieve_check.specs.Context.{Context, script_start, inside, behind}
 use Rattle.sieve_check.specs.Role.{first_role}
 use Rattle.sieve_check.specs.Shape.{row_labels, shapes_of}
-use Rattle.sieve_check.specs.Table.{Row, command_of, test_of, command_row, test_row}
+use Rattle.sieve_check.specs.Table.{Row, command_named, test_named, command_row, test_row}
 use Rattle.sieve_check.specs.Use.{is_well_used, has_block}
 use Rattle.sieve_check.specs.declared.label.Label.{Label}
 use Rattle.sieve_check.specs.declared.row.Role.{Role}
@@ -58,7 +58,7 @@ command_arguments context (Some kind) args ts ending = row_elements context (com
 unfoldable mutual
   -- a test, its arguments, and its tests
   pub test_elements : Context → Test → List Element
-  test_elements context (test name line args ts) = the_test context name line args ts ∷ test_arguments context (test_of name) args ts ++ tests_elements context ts
+  test_elements context (test name line args ts) = the_test context name line args ts ∷ test_arguments context (test_named name) args ts ++ tests_elements context ts
 
   pub tests_elements : Context → Tests → List Element
   tests_elements context no_tests = []
@@ -75,7 +75,7 @@ unfoldable mutual
   -- a command, its arguments, its tests, and its block
   pub node_elements : Context → Node → List Element
   node_elements context (node name line args ts ending) =
-      the_command context name line args ts ending ∷ command_arguments context (command_of name) args ts ending ++ (tests_elements context ts ++ block_elements context ending)
+      the_command context name line args ts ending ∷ command_arguments context (command_named name) args ts ending ++ (tests_elements context ts ++ block_elements context ending)
 
   pub block_elements : Context → Block → List Element
   block_elements context no_block = []

@@ -5,7 +5,7 @@ use Rattle.sieve_syntax.specs.Tree as syntax
 use Rattle.sieve_check.specs.Context.{Context, script_start, inside, behind}
 use Rattle.sieve_check.specs.Role.{first_role}
 use Rattle.sieve_check.specs.Shape.{row_labels}
-use Rattle.sieve_check.specs.Table.{command_of, test_of, command_row, test_row}
+use Rattle.sieve_check.specs.Table.{command_named, test_named, command_row, test_row}
 use Rattle.sieve_check.specs.Tree.{Part, literal, Text, Argument, strings, number, tag, Test, test, Tests, no_tests, one_test, test_list, TestList, end_tests, more_tests, Node, node, Block, no_block, block, Nodes, end_nodes, more_nodes, items}
 use Rattle.sieve_check.specs.declared.label.Label.{Label}
 use Rattle.sieve_check.specs.declared.row.Role.{Role}
@@ -40,7 +40,7 @@ command_labels (Some kind) args = row_labels (command_row kind) args
 
 abbrev mutual
   pub parted_test : Context → syntax.Test → Test
-  parted_test context (syntax.test name line args ts) = test name line (parted_labelled context (test_labels (test_of name) args) args) (parted_tests context ts)
+  parted_test context (syntax.test name line args ts) = test name line (parted_labelled context (test_labels (test_named name) args) args) (parted_tests context ts)
 
   pub parted_tests : Context → syntax.Tests → Tests
   parted_tests context syntax.no_tests = no_tests
@@ -53,7 +53,7 @@ abbrev mutual
 
 abbrev mutual
   pub parted_node : Context → syntax.Node → Node
-  parted_node context (syntax.node name line args ts ending) = node name line (parted_labelled context (command_labels (command_of name) args) args) (parted_tests context ts) (parted_block context ending)
+  parted_node context (syntax.node name line args ts ending) = node name line (parted_labelled context (command_labels (command_named name) args) args) (parted_tests context ts) (parted_block context ending)
 
   pub parted_block : Context → syntax.Block → Block
   parted_block context syntax.no_block = no_block

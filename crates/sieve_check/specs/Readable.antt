@@ -5,7 +5,7 @@ use Rattle.sieve_check.specs.Label.{labels_of, is_filled}
 use Rattle.sieve_check.specs.Reading as reading
 use Rattle.sieve_check.specs.Reading.{TestReading, reads_always, reads_never, reads_ask, reads_all, reads_any, reads_not, CommandReading, Leaf, part_shape, test_reading, command_reading}
 use Rattle.sieve_check.specs.Script.{Commands, no_commands, stops, acts, chooses, Condition, branch_condition, conditions_in, script_of}
-use Rattle.sieve_check.specs.Table.{Row, command_of, test_of, command_row, test_row}
+use Rattle.sieve_check.specs.Table.{Row, command_named, test_named, command_row, test_row}
 use Rattle.sieve_check.specs.Tree.{Argument, Test, test, Tests, no_tests, one_test, test_list, TestList, end_tests, more_tests, Node, node, Block, no_block, block, Nodes, end_nodes, more_nodes, nodes}
 use Rattle.sieve_check.specs.Use.{has_bad_tag, lacks_own, lacks_kind}
 use Rattle.sieve_check.specs.declared.label.Shape.{Shape}
@@ -41,7 +41,7 @@ command_takes (Some kind) args = row_takes (command_row kind) args
 
 unfoldable mutual
   pub ReadsTest : Test → Type 0
-  ReadsTest (test name line args ts) = (test_takes (test_of name) args ≡ true) × Joins (test_reading (test name line args ts)) ts × ReadsTests ts
+  ReadsTest (test name line args ts) = (test_takes (test_named name) args ≡ true) × Joins (test_reading (test name line args ts)) ts × ReadsTests ts
 
   pub ReadsTests : Tests → Type 0
   ReadsTests no_tests = Unit {0}
@@ -76,7 +76,7 @@ may_go_on (Some (reading.acts leaf)) = false
 
 unfoldable mutual
   pub ReadsNode : (follows_if : Bool) → Node → Type 0
-  ReadsNode follows_if (node name line args ts ending) = (command_takes (command_of name) args ≡ true) × Stands follows_if (command_reading (node name line args ts ending)) ts ending × ReadsTests ts × ReadsBlock ending
+  ReadsNode follows_if (node name line args ts ending) = (command_takes (command_named name) args ≡ true) × Stands follows_if (command_reading (node name line args ts ending)) ts ending × ReadsTests ts × ReadsBlock ending
 
   pub ReadsBlock : Block → Type 0
   ReadsBlock no_block = Unit {0}

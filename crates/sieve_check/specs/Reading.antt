@@ -9,7 +9,7 @@ use Rattle.match_text.specs.declared.comparators.Collation.TheVariants.{Octet, C
 use Rattle.sieve_check.specs.Label.{labels_of}
 use Rattle.sieve_check.specs.Role.{has_role, first_role}
 use Rattle.sieve_check.specs.Shape.{texts_shape}
-use Rattle.sieve_check.specs.Table.{Row, command_of, test_of, tag_of, test_row}
+use Rattle.sieve_check.specs.Table.{Row, command_named, test_named, tag_named, test_row}
 use Rattle.sieve_check.specs.Tree.{Part, literal, Argument, strings, number, tag, Test, test, Node, node}
 use Rattle.sieve_check.specs.declared.label.Label.{Label}
 use Rattle.sieve_check.specs.declared.label.Label.TheVariants.{Tagged, OtherTag, Own, InSlot, Unfit}
@@ -44,7 +44,7 @@ pub data Leaf : Type 0 where
 abbrev pub part_shape : List Tag → Argument → Shape
 part_shape tags (strings items bracketed) = texts_shape (length items) bracketed
 part_shape tags (number value line) = shape.Number
-part_shape tags (tag name line) = shape.Tag (tag_of tags name)
+part_shape tags (tag name line) = shape.Tag (tag_named tags name)
 
 abbrev pub labels_in : Row → List Argument → List Label
 labels_in row args = labels_of row (map (part_shape row.tags) args)
@@ -158,7 +158,7 @@ test_reading_by (Some kind.True) args = Some reads_always
 test_reading_by (Some kind.False) args = Some reads_never
 
 abbrev pub test_reading : Test → Option TestReading
-test_reading (test name line args ts) = test_reading_by (test_of name) args
+test_reading (test name line args ts) = test_reading_by (test_named name) args
 
 -- COMMANDS
 
@@ -184,7 +184,7 @@ command_reading_by (Some command.Stop) = Some stops
 
 -- the kind of a command
 abbrev pub kind_of : Node → Option CommandKind
-kind_of (node name line args ts ending) = command_of name
+kind_of (node name line args ts ending) = command_named name
 
 abbrev pub command_reading : Node → Option CommandReading
 command_reading n = command_reading_by (kind_of n)

@@ -1,4 +1,4 @@
--- The words of the rules, as a report prints them.
+-- The words of the rules, as a report prints them, and their numbers.
 use Rattle.std.specs.Prelude.{ℕ, List, codes}
 use Rattle.sieve_check.specs.declared.rule.Rule.{Rule}
 use Rattle.sieve_check.specs.declared.rule.Rule.TheVariants.{RequirePlace, UnknownCapability, UnknownCommand, NotRequired, ElsePlace, BadTag, BadArguments, UnknownComparator, BadVariableName, GlobalAfterSet, BadNamespace, MatchIndex, NumberTooLarge, BadEnvelopePart, NotAddressHeader, TooManyVariables}
@@ -20,3 +20,22 @@ rule_word NumberTooLarge = codes "number-too-large"
 rule_word BadEnvelopePart = codes "bad-envelope-part"
 rule_word NotAddressHeader = codes "not-address-header"
 rule_word TooManyVariables = codes "too-many-variables"
+
+-- a rule's number: of two that are broken at one place, the one with the lesser number is reported
+abbrev pub rule_number : Rule → ℕ
+rule_number RequirePlace = 1
+rule_number UnknownCapability = 2
+rule_number UnknownCommand = 3
+rule_number NotRequired = 4
+rule_number ElsePlace = 5
+rule_number BadTag = 6
+rule_number BadArguments = 7
+rule_number UnknownComparator = 8
+rule_number BadVariableName = 9
+rule_number GlobalAfterSet = 10
+rule_number BadNamespace = 11
+rule_number MatchIndex = 12
+rule_number NumberTooLarge = 13
+rule_number BadEnvelopePart = 14
+rule_number NotAddressHeader = 15
+rule_number TooManyVariables = 16

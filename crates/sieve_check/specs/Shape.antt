@@ -2,7 +2,7 @@
 use Rattle.std.specs.Prelude.{ℕ, Bool, not, ◌&&◌, List, map, length, nat_eq, if◌then◌else◌}
 use Rattle.sieve_syntax.specs.Tree.{Argument, strings, number, tag}
 use Rattle.sieve_check.specs.Label.{labels_of}
-use Rattle.sieve_check.specs.Table.{Row, tag_of}
+use Rattle.sieve_check.specs.Table.{Row, tag_named}
 use Rattle.sieve_check.specs.declared.label.Label.{Label}
 use Rattle.sieve_check.specs.declared.label.Shape.{Shape}
 use Rattle.sieve_check.specs.declared.label.Shape.TheVariants as shape
@@ -15,7 +15,7 @@ texts_shape count bracketed = if nat_eq count 1 && not bracketed then shape.Text
 abbrev pub shape_of : List Tag → Argument → Shape
 shape_of tags (strings items bracketed) = texts_shape (length items) bracketed
 shape_of tags (number value line) = shape.Number
-shape_of tags (tag name line) = shape.Tag (tag_of tags name)
+shape_of tags (tag name line) = shape.Tag (tag_named tags name)
 
 abbrev pub shapes_of : List Tag → List Argument → List Shape
 shapes_of tags args = map (shape_of tags) args

@@ -121,13 +121,13 @@ abbrev pub tests : List TestKind
 tests = test.Header ∷ test.Exists ∷ test.Size ∷ test.AllOf ∷ test.AnyOf ∷ test.Not ∷ test.True ∷ test.False ∷ []
 
 -- the command of that name
-unfoldable pub command_of : List ℕ → Option CommandKind
-command_of written = find (λ kind. is_named (command_row kind).name written) commands
+unfoldable pub command_named : List ℕ → Option CommandKind
+command_named written = find (λ kind. is_named (command_row kind).name written) commands
 
 -- the test of that name
-unfoldable pub test_of : List ℕ → Option TestKind
-test_of written = find (λ kind. is_named (test_row kind).name written) tests
+unfoldable pub test_named : List ℕ → Option TestKind
+test_named written = find (λ kind. is_named (test_row kind).name written) tests
 
 -- the tag of that name among some
-abbrev pub tag_of : List Tag → List ℕ → Option Tag
-tag_of tags written = find (λ tag. is_named (tag_row tag).name written) tags
+abbrev pub tag_named : List Tag → List ℕ → Option Tag
+tag_named tags written = find (λ tag. is_named (tag_row tag).name written) tags

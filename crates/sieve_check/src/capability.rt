@@ -3,7 +3,7 @@ ghost use Rattle.std.specs.Prelude.{◌≡◌};
 ghost use Rattle.sieve_check.specs.Capability.{capability_name, is_capability, is_name_of};
 
 /// What a command, a test, a tag or an argument may need (RFC 5228, section 2.10.5).
-#[derive(Clone, Copy, Debug, PartialEq, Eq)]
+#[derive(Clone, Copy)]
 pub(crate) enum Capability {
     /// `fileinto` (RFC 5228, section 4.1).
     Fileinto,

@@ -5,7 +5,7 @@ ghost use Rattle.sieve_syntax.specs.view.Tree.{node_of};
 ghost use Rattle.sieve_syntax.specs.declared.tree.Command.{out-Command};
 ghost use Rattle.sieve_check.specs.Context.{behind, behind_kind, continues_if, is_require};
 ghost use Rattle.sieve_check.specs.Element.{node_elements, nodes_elements};
-ghost use Rattle.sieve_check.specs.Table.{command_of};
+ghost use Rattle.sieve_check.specs.Table.{command_named};
 ghost use Rattle.sieve_check.specs.view.Context.{context_as};
 ghost use Rattle.sieve_check.specs.view.Finds.{Finds, FindsIn};
 ghost use Rattle.sieve_check.specs.view.Head.{command_head, kind_found};
@@ -13,7 +13,7 @@ ghost use Rattle.sieve_check.specs.view.Head.{command_head, kind_found};
 use crate::arguments::check_use;
 use crate::context::{Context, continues_if, is_require};
 use crate::rule::Rule;
-use crate::table::{CommandKind, command_of};
+use crate::table::{CommandKind, command_named};
 use crate::test_rules::check_tests;
 use crate::validator::CheckFault;
 use sieve_syntax::Command;
@@ -72,9 +72,9 @@ fn check_command_head(
     command: &Command,
 ) -> Result<Context, CheckFault>
     ensures found { FindsIn (command_head (context_as context) command.now) result }
-    ensures goes { IfOk result (λ next. context_as next ≡ behind_kind (context_as context) (command_of (out-Command command.now).name.items)) }
+    ensures goes { IfOk result (λ next. context_as next ≡ behind_kind (context_as context) (command_named (out-Command command.now).name.items)) }
 {
-    match command_of(&command.name) {
+    match command_named(&command.name) {
         None => Err(CheckFault::Breach {
             line: command.line,
             rule: Rule::UnknownCommand,

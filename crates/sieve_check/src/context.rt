@@ -6,7 +6,7 @@ ghost use Rattle.sieve_check.specs.view.Context.{context_as};
 use crate::table::CommandKind;
 
 /// What stands before a command.
-#[derive(Clone, Copy, Debug)]
+#[derive(Clone, Copy)]
 pub(crate) struct Context {
     /// Only requires stand before it in the script (RFC 5228, section 3.2).
     pub(crate) leads: bool,

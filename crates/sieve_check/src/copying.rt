@@ -14,7 +14,7 @@ use crate::label::Label;
 use crate::role::{behind_first, first_role};
 use crate::row::Role;
 use crate::shape::row_labels;
-use crate::table::{command_of, test_of};
+use crate::table::{command_named, test_named};
 use crate::tree::{Argument, Command, Part, Test, Tests, Text};
 use std::alloc::{AllocError, Global};
 
@@ -112,9 +112,9 @@ fn test_labels(
     name: &[u8],
     args: &[sieve_syntax::Argument],
 ) -> Result<Vec<Label>, AllocError>
-    ensures { IfOk result (λ labels. labels.items ≡ test_labels (table.test_of name.now) (map seen.argument_of args.now)) }
+    ensures { IfOk result (λ labels. labels.items ≡ test_labels (table.test_named name.now) (map seen.argument_of args.now)) }
 {
-    match test_of(name) {
+    match test_named(name) {
         None => Ok(Vec::new(alloc)),
         Some(kind) => row_labels(alloc, &kind.row(), args),
     }
@@ -126,9 +126,9 @@ fn command_labels(
     name: &[u8],
     args: &[sieve_syntax::Argument],
 ) -> Result<Vec<Label>, AllocError>
-    ensures { IfOk result (λ labels. labels.items ≡ command_labels (table.command_of name.now) (map seen.argument_of args.now)) }
+    ensures { IfOk result (λ labels. labels.items ≡ command_labels (table.command_named name.now) (map seen.argument_of args.now)) }
 {
-    match command_of(name) {
+    match command_named(name) {
         None => Ok(Vec::new(alloc)),
         Some(kind) => row_labels(alloc, &kind.row(), args),
     }
@@ -141,7 +141,7 @@ fn test_arguments(
     name: &[u8],
     args: &[sieve_syntax::Argument],
 ) -> Result<Vec<Argument>, AllocError>
-    ensures { IfOk result (λ copies. map argument_of copies.items ≡ parted_labelled (context_as context) (test_labels (table.test_of name.now) (map seen.argument_of args.now)) (map seen.argument_of args.now)) }
+    ensures { IfOk result (λ copies. map argument_of copies.items ≡ parted_labelled (context_as context) (test_labels (table.test_named name.now) (map seen.argument_of args.now)) (map seen.argument_of args.now)) }
 {
     let labels = test_labels(alloc, name, args)?;
     parted_labelled(alloc, context, &labels, args)
@@ -154,7 +154,7 @@ fn command_arguments(
     name: &[u8],
     args: &[sieve_syntax::Argument],
 ) -> Result<Vec<Argument>, AllocError>
-    ensures { IfOk result (λ copies. map argument_of copies.items ≡ parted_labelled (context_as context) (command_labels (table.command_of name.now) (map seen.argument_of args.now)) (map seen.argument_of args.now)) }
+    ensures { IfOk result (λ copies. map argument_of copies.items ≡ parted_labelled (context_as context) (command_labels (table.command_named name.now) (map seen.argument_of args.now)) (map seen.argument_of args.now)) }
 {
     let labels = command_labels(alloc, name, args)?;
     parted_labelled(alloc, context, &labels, args)
@@ -223,7 +223,7 @@ fn parted_test_list(
 fn behind(context: Context, command: &sieve_syntax::Command) -> Context
     ensures { context_as result ≡ behind (context_as context) (seen.node_of command.now) }
 {
-    context.behind_kind(command_of(&command.name))
+    context.behind_kind(command_named(&command.name))
 }
 
 /// A command with its strings in parts.

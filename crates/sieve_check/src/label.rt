@@ -5,11 +5,11 @@ ghost use Rattle.sieve_check.specs.view.Expected.{expected_as, in_front, own_slo
 ghost use Rattle.sieve_check.specs.view.Row.{row_as};
 
 use crate::row::{Form, Row, Slot};
-use crate::table::{Tag, tag_of};
+use crate::table::{Tag, tag_named};
 use std::alloc::{AllocError, Global};
 
 /// What an argument looks like, where some tags are taken.
-#[derive(Clone, Copy, Debug, PartialEq, Eq)]
+#[derive(Clone, Copy)]
 pub(crate) enum Shape {
     /// A tag: which of those that are taken, or another.
     Tag(Option<Tag>),
@@ -22,7 +22,7 @@ pub(crate) enum Shape {
 }
 
 /// What an argument is.
-#[derive(Clone, Copy, Debug, PartialEq, Eq)]
+#[derive(Clone, Copy)]
 pub(crate) enum Label {
     /// A tag that is taken.
     Tagged(Tag),
@@ -37,7 +37,7 @@ pub(crate) enum Label {
 }
 
 /// What is expected at an argument.
-#[derive(Clone, Copy, Debug)]
+#[derive(Clone, Copy)]
 pub(crate) struct Expected<'a> {
     /// What the tag before it takes itself.
     awaited: Option<Slot>,

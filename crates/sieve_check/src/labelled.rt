@@ -11,7 +11,7 @@ use crate::label::{Expected, Label, Shape, Shaped, expected_of};
 use crate::role::{has_role, role_of};
 use crate::row::{Role, Row};
 use crate::shape::texts_shape;
-use crate::table::{Tag, tag_of};
+use crate::table::{Tag, tag_named};
 use crate::tree::Argument;
 
 impl Shaped for Argument {
@@ -21,7 +21,7 @@ impl Shaped for Argument {
         match self {
             Argument::Strings { items, bracketed } => texts_shape(items.len(), *bracketed),
             Argument::Number { .. } => Shape::Number,
-            Argument::Tag { name, .. } => Shape::Tag(tag_of(tags, name)),
+            Argument::Tag { name, .. } => Shape::Tag(tag_named(tags, name)),
         }
     }
 }
@@ -54,7 +54,7 @@ fn same_tag(a: Tag, b: Tag) -> bool
     ensures same { result ≡ nat_eq (tag_number a) (tag_number b) }
     ensures exact { IsTrue result ↔ (a ≡ b) }
 {
-    a == b
+    a as u8 == b as u8
 }
 
 /// Whether it is this tag.

@@ -1,5 +1,5 @@
 //! Laws over the definitions. Each of these functions does nothing: its contract is the law.
-ghost use Rattle.std.specs.Prelude.{◌≡◌, ℕ, false, All, List, [], None, Some};
+ghost use Rattle.std.specs.Prelude.{◌≡◌, ◌-◌, ℕ, false, length, slice_get, All, List, [], None, Some};
 ghost use Rattle.std.specs.List.{flat_map};
 ghost use Rattle.sieve_base.specs.Limits.{test_depth, block_room};
 ghost use Rattle.sieve_syntax.specs.Grammar.{Writes};
@@ -7,12 +7,13 @@ ghost use Rattle.sieve_syntax.specs.Token.{Spells};
 ghost use Rattle.sieve_syntax.specs.Tree.{Node};
 ghost use Rattle.sieve_syntax.specs.Word.{words_of};
 ghost use Rattle.sieve_syntax.specs.declared.token.Token.{Token};
-ghost use Rattle.sieve_check.specs.Breach.{Breach, breaches_at, breaches_of, breaks, first_breach, IsLeastBreach};
+ghost use Rattle.sieve_check.specs.Breach.{Breach, all_rules, breaches_at, breaches_of, breaks, first_breach, IsLeastBreach};
 ghost use Rattle.sieve_check.specs.Element.{elements_of};
 ghost use Rattle.sieve_check.specs.Order.{IsInTextOrder};
 ghost use Rattle.sieve_check.specs.Parted.{parted};
 ghost use Rattle.sieve_check.specs.Readable.{IsReadable, DoesAll};
-ghost use Rattle.sieve_check.specs.Table.{command_of, command_row, test_of, test_row};
+ghost use Rattle.sieve_check.specs.Rule.{rule_number};
+ghost use Rattle.sieve_check.specs.Table.{command_named, command_row, test_named, test_row};
 ghost use Rattle.sieve_check.specs.Tree as checked;
 ghost use Rattle.sieve_check.specs.declared.rule.Rule.{Rule};
 ghost use Rattle.sieve_check.specs.declared.table.CommandKind.{CommandKind};
@@ -26,11 +27,18 @@ pub fn first_breach_is_least()
     ensures least { (tree : List Node) (breach : Breach) → first_breach tree ≡ Some breach → IsLeastBreach tree breach }
 {}
 
+/// The rules are tried in the order of their numbers: the rule of number n is the n-th of them, and there is no other.
+#[tactic(auto, using(crate::proofs::Numbers::rule_at))]
+pub fn rules_go_by_their_numbers()
+    ensures order { (rule : Rule) → slice_get all_rules (rule_number rule - 1) ≡ Some rule }
+    ensures all { length all_rules ≡ 16 }
+{}
+
 /// Each command and each test is found by the name of its row.
 #[tactic(auto, using(crate::proofs::Names::names))]
 pub fn names_are_found()
-    ensures commands { (kind : CommandKind) → command_of (command_row kind).name ≡ Some kind }
-    ensures tests { (kind : TestKind) → test_of (test_row kind).name ≡ Some kind }
+    ensures commands { (kind : CommandKind) → command_named (command_row kind).name ≡ Some kind }
+    ensures tests { (kind : TestKind) → test_named (test_row kind).name ≡ Some kind }
 {}
 
 /// The abstract script of a readable tree has each command's choice, stop or act once, in the order of the text. So nothing of

@@ -10,7 +10,7 @@ ghost use Rattle.sieve_check.specs.view.Tree.{argument_of, node_of, part_of, tes
 
 use crate::labelled::{argument_in, has_tag};
 use crate::row::{Role, Row};
-use crate::table::{CommandKind, Tag, TestKind, command_of, test_of};
+use crate::table::{CommandKind, Tag, TestKind, command_named, test_named};
 use crate::tree::{Argument, Command, Part, Test, Text};
 use match_text::Collation;
 
@@ -267,7 +267,7 @@ impl Test {
     pub fn reading(&self) -> Option<TestReading<'_>>
         ensures { option_map test_reading_as result ≡ test_reading (test_of self.now) }
     {
-        match test_of(&self.name) {
+        match test_named(&self.name) {
             Some(kind) => test_reading_by(kind, &self.args),
             None => None,
         }
@@ -294,7 +294,7 @@ impl Command {
     pub fn kind(&self) -> Option<CommandKind>
         ensures { result ≡ kind_of (node_of self.now) }
     {
-        command_of(&self.name)
+        command_named(&self.name)
     }
 
     /// What the command is, apart from its test and its block. Each command of a checked script is read as something. Takes

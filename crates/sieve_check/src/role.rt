@@ -10,7 +10,7 @@ fn same_role(a: Role, b: Role) -> bool
     ensures same { result ≡ same_role a b }
     ensures exact { IsTrue result ↔ (a ≡ b) }
 {
-    a == b
+    a as u8 == b as u8
 }
 
 /// Whether it is that role.

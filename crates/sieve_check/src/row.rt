@@ -6,7 +6,7 @@ use crate::capability::Capability;
 use crate::table::Tag;
 
 /// How an argument is written.
-#[derive(Clone, Copy, Debug, PartialEq, Eq)]
+#[derive(Clone, Copy)]
 pub(crate) enum Form {
     /// One string without brackets.
     One,
@@ -17,7 +17,7 @@ pub(crate) enum Form {
 }
 
 /// What an argument is for. By this its strings are judged and read.
-#[derive(Clone, Copy, Debug, PartialEq, Eq)]
+#[derive(Clone, Copy)]
 pub(crate) enum Role {
     /// Capabilities (RFC 5228, section 3.2).
     Capabilities,
@@ -52,7 +52,7 @@ pub(crate) enum Role {
 }
 
 /// An argument that is taken.
-#[derive(Clone, Copy, Debug, PartialEq, Eq)]
+#[derive(Clone, Copy)]
 pub(crate) struct Slot {
     pub(crate) form: Form,
     pub(crate) role: Role,
@@ -74,7 +74,7 @@ impl Slot {
 }
 
 /// The kinds of tags. Two of one kind don't stand together.
-#[derive(Clone, Copy, Debug, PartialEq, Eq)]
+#[derive(Clone, Copy)]
 pub(crate) enum TagKind {
     /// The comparator (RFC 5228, section 2.7.3).
     Comparator,
@@ -103,7 +103,7 @@ pub(crate) enum TagKind {
 }
 
 /// What is said of a tag.
-#[derive(Clone, Copy, Debug)]
+#[derive(Clone, Copy)]
 pub(crate) struct TagRow {
     /// Its identifier without the colon, in lower case.
     pub(crate) name: &'static [u8],
@@ -115,7 +115,7 @@ pub(crate) struct TagRow {
 }
 
 /// Which tests a command or a test takes.
-#[derive(Clone, Copy, Debug, PartialEq, Eq)]
+#[derive(Clone, Copy)]
 pub(crate) enum Inner {
     None,
     /// One, without parentheses.
@@ -125,7 +125,7 @@ pub(crate) enum Inner {
 }
 
 /// What a command or a test takes (RFC 5228, section 2.6).
-#[derive(Clone, Copy, Debug)]
+#[derive(Clone, Copy)]
 pub(crate) struct Row {
     /// Its identifier, in lower case.
     pub(crate) name: &'static [u8],

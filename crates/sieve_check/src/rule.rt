@@ -1,5 +1,5 @@
 ghost use Rattle.std.specs.Prelude.{◌≡◌};
-ghost use Rattle.sieve_check.specs.Rule.{rule_word};
+ghost use Rattle.sieve_check.specs.Rule.{rule_number, rule_word};
 
 /// A rule that a script without a syntax fault can break. The numbers are in the order in which the rules are
 /// reported where two are broken at one place.
@@ -40,6 +40,13 @@ pub enum Rule {
 }
 
 impl Rule {
+    /// The rule's number, from 1 to 16.
+    pub fn number(self) -> u8
+        ensures { result ≡ rule_number self }
+    {
+        self as u8
+    }
+
     /// The word by which a report names the rule.
     pub fn word(self) -> &'static [u8]
         ensures { result.now ≡ rule_word self }

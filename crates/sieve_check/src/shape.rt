@@ -7,7 +7,7 @@ ghost use Rattle.sieve_check.specs.view.Row.{row_as};
 
 use crate::label::{Label, Shape, Shaped, is_filled, labels_of};
 use crate::row::Row;
-use crate::table::{Tag, tag_of};
+use crate::table::{Tag, tag_named};
 use sieve_syntax::Argument;
 use std::alloc::{AllocError, Global};
 
@@ -29,7 +29,7 @@ impl Shaped for Argument {
         match self {
             Argument::Strings { items, bracketed } => texts_shape(items.len(), *bracketed),
             Argument::Number { .. } => Shape::Number,
-            Argument::Tag { name, .. } => Shape::Tag(tag_of(tags, name)),
+            Argument::Tag { name, .. } => Shape::Tag(tag_named(tags, name)),
         }
     }
 }

@@ -1,6 +1,6 @@
 //! The table: a row for each command, test and tag that there is.
 ghost use Rattle.std.specs.Prelude.{◌≡◌, find};
-ghost use Rattle.sieve_check.specs.Table.{bare_tag, command_of, command_row, is_named, tag_of, tag_row, test_of, test_row};
+ghost use Rattle.sieve_check.specs.Table.{bare_tag, command_named, command_row, is_named, tag_named, tag_row, test_named, test_row};
 ghost use Rattle.sieve_check.specs.view.Row.{row_as, tag_row_as};
 
 use crate::row::{Form, Inner, Role, Row, Slot, TagKind, TagRow};
@@ -46,7 +46,7 @@ pub enum TestKind {
 }
 
 /// A tag that there is.
-#[derive(Clone, Copy, Debug, PartialEq, Eq)]
+#[derive(Clone, Copy)]
 pub(crate) enum Tag {
     /// `:comparator`, which takes the string behind it (RFC 5228, section 2.7.3).
     Comparator,
@@ -270,8 +270,8 @@ fn find_test(kinds: &[TestKind], written: &[u8]) -> Option<TestKind>
 }
 
 /// The tag of that name among some.
-pub(crate) fn tag_of(tags: &[Tag], written: &[u8]) -> Option<Tag>
-    ensures { result ≡ tag_of tags.now written.now }
+pub(crate) fn tag_named(tags: &[Tag], written: &[u8]) -> Option<Tag>
+    ensures { result ≡ tag_named tags.now written.now }
 {
     tags.iter()
         .copied()
@@ -279,17 +279,17 @@ pub(crate) fn tag_of(tags: &[Tag], written: &[u8]) -> Option<Tag>
 }
 
 /// The command of that name.
-#[tactic(auto, unfolding(crate::specs::Table::command_of))]
-pub(crate) fn command_of(written: &[u8]) -> Option<CommandKind>
-    ensures { result ≡ command_of written.now }
+#[tactic(auto, unfolding(crate::specs::Table::command_named))]
+pub(crate) fn command_named(written: &[u8]) -> Option<CommandKind>
+    ensures { result ≡ command_named written.now }
 {
     find_command(&COMMANDS, written)
 }
 
 /// The test of that name.
-#[tactic(auto, unfolding(crate::specs::Table::test_of))]
-pub(crate) fn test_of(written: &[u8]) -> Option<TestKind>
-    ensures { result ≡ test_of written.now }
+#[tactic(auto, unfolding(crate::specs::Table::test_named))]
+pub(crate) fn test_named(written: &[u8]) -> Option<TestKind>
+    ensures { result ≡ test_named written.now }
 {
     find_test(&TESTS, written)
 }

@@ -10,7 +10,7 @@ ghost use Rattle.sieve_check.specs.view.Head.{test_head};
 use crate::arguments::check_use;
 use crate::context::Context;
 use crate::rule::Rule;
-use crate::table::test_of;
+use crate::table::test_named;
 use crate::validator::CheckFault;
 use sieve_syntax::{Test, Tests};
 use std::alloc::Global;
@@ -21,7 +21,7 @@ fn check_test_head(alloc: Global, context: Context, test: &Test) -> Result<(), C
     ensures { FindsIn (test_head (context_as context) test.now) result }
 {
     let line = test.line;
-    match test_of(&test.name) {
+    match test_named(&test.name) {
         None => Err(CheckFault::Breach {
             line,
             rule: Rule::UnknownCommand,

@@ -75,7 +75,7 @@ fn same_kind(a: TagKind, b: TagKind) -> bool
     ensures same { result ≡ same_kind a b }
     ensures exact { IsTrue result ↔ (a ≡ b) }
 {
-    a == b
+    a as u8 == b as u8
 }
 
 /// Whether it is a tag of that kind.

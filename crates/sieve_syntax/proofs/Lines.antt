@@ -7,7 +7,7 @@ use Rattle.std.proofs.lemmas.Bool.{eqb-true, cases_lt}
 use Rattle.std.proofs.lemmas.List.{length-take-le, length-drop, take-take, drop-take, take_all, take-append-drop}
 use Rattle.sieve_syntax.specs.Line.{line_length, on_first, lines_of, is_line_end, is_dot_line}
 use Rattle.sieve_syntax.specs.Octet.{begins_name}
-use Rattle.sieve_syntax.specs.Spelling.{is_none, is_text, is_opening, end_at_dot, are_multi_line, is_multi_line}
+use Rattle.sieve_syntax.specs.Spelling.{is_none, spells_text, is_opening, end_at_dot, are_multi_line, is_multi_line}
 use Rattle.sieve_syntax.specs.Scan.{dot_length, multi_line_length}
 use Rattle.sieve_syntax.proofs.Cases.{by_cases, and_left, and_right}
 use Rattle.sieve_syntax.proofs.Scanning.{IsEnd}
@@ -299,12 +299,12 @@ pub record IsTextColon (xs : List ℕ) : Type 0 where
 opening_parts : (line : List ℕ) → is_opening line ≡ true → IsTextColon line
 unfolding is_opening
 opening_parts (t ∷ e ∷ x ∷ u ∷ c ∷ cs) h =
-    let word = and_left (is_text t e x u) _ h in
+    let word = and_left (spells_text t e x u) _ h in
     let first = and_left (t == 116 || (t == 84)) _ word in
     let three = and_right (t == 116 || (t == 84)) _ word in
     let second = and_left (e == 101 || (e == 69)) _ three in
     let two = and_right (e == 101 || (e == 69)) _ three in
-    let colon = and_left (c == 58) _ (and_right (is_text t e x u) _ h) in
+    let colon = and_left (c == 58) _ (and_right (spells_text t e x u) _ h) in
     record {
       t = t;
       e = e;

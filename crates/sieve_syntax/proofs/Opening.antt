@@ -7,7 +7,7 @@ use Rattle.std.proofs.lemmas.List.{length-take, length-take-le}
 use Rattle.sieve_base.specs.Octet.{is_blank}
 use Rattle.sieve_syntax.specs.Line.{line_length, lines_of, is_line_end}
 use Rattle.sieve_syntax.specs.Scan.{shifted, dot_length, opening_stop, opening_end, opening_length, multi_line_length}
-use Rattle.sieve_syntax.specs.Spelling.{is_text, ends_opening, is_opening}
+use Rattle.sieve_syntax.specs.Spelling.{spells_text, ends_opening, is_opening}
 use Rattle.sieve_syntax.specs.White.{begins_with}
 use Rattle.sieve_syntax.proofs.Cases.{by_cases, and_left, and_right}
 use Rattle.sieve_syntax.proofs.Lines.{line_bound, line_some, lines_some, lines_none}
@@ -101,14 +101,14 @@ end_is (c ∷ cs) =
     refl
 
 -- no front of these is the first line of a multi-line string
-no_opening : (t e x u c : ℕ) (cs : List ℕ) (n : ℕ) → (is_text t e x u && (c == 58)) ≡ false → is_opening (take n (t ∷ e ∷ x ∷ u ∷ c ∷ cs)) ≡ false
+no_opening : (t e x u c : ℕ) (cs : List ℕ) (n : ℕ) → (spells_text t e x u && (c == 58)) ≡ false → is_opening (take n (t ∷ e ∷ x ∷ u ∷ c ∷ cs)) ≡ false
 unfolding is_opening
 no_opening t e x u c cs zero h = refl
 no_opening t e x u c cs (suc zero) h = refl
 no_opening t e x u c cs (suc (suc zero)) h = refl
 no_opening t e x u c cs (suc (suc (suc zero))) h = refl
 no_opening t e x u c cs (suc (suc (suc (suc zero)))) h = refl
-no_opening t e x u c cs (suc (suc (suc (suc (suc n))))) h = nothing (is_text t e x u) (c == 58) (ends_opening (take n cs)) h
+no_opening t e x u c cs (suc (suc (suc (suc (suc n))))) h = nothing (spells_text t e x u) (c == 58) (ends_opening (take n cs)) h
   where
     nothing : (a b d : Bool) → (a && b) ≡ false → (a && (b && d)) ≡ false
     nothing true b d g = ap (λ y. y && d) g
@@ -132,7 +132,7 @@ either_plain c a b p q e =
     (λ x f g. ap (λ y. y == 10) (eqb-true c a f) ∙ p) (λ x f g. ap (λ y. y == 10) (eqb-true c b g) ∙ q) refl e
 
 -- behind `text:` the first line goes on
-text_line : (t e x u c : ℕ) (cs : List ℕ) → is_text t e x u ≡ true → (c == 58) ≡ true → line_length (t ∷ e ∷ x ∷ u ∷ c ∷ cs) ≡ suc (suc (suc (suc (suc (line_length cs)))))
+text_line : (t e x u c : ℕ) (cs : List ℕ) → spells_text t e x u ≡ true → (c == 58) ≡ true → line_length (t ∷ e ∷ x ∷ u ∷ c ∷ cs) ≡ suc (suc (suc (suc (suc (line_length cs)))))
 text_line t e x u c cs word colon =
     let three = and_right (t == 116 || (t == 84)) _ word in
     let two = and_right (e == 101 || (e == 69)) _ three in
@@ -145,12 +145,12 @@ text_line t e x u c cs word colon =
 pub opening_is : (xs : List ℕ) → opening_length xs ≡ given (is_opening (take (line_length xs) xs)) (line_length xs)
 unfolding opening_length is_opening
 opening_is (t ∷ e ∷ x ∷ u ∷ c ∷ cs) =
-    by_cases (is_text t e x u && (c == 58))
-    (λ b. (is_text t e x u && (c == 58)) ≡ b → (if b then option_map (λ n. 5 + n) (opening_end cs) else None) ≡ given (is_opening (take (line_length (t ∷ e ∷ x ∷ u ∷ c ∷ cs)) (t ∷ e ∷ x ∷ u ∷ c ∷ cs))) (line_length (t ∷ e ∷ x ∷ u ∷ c ∷ cs)))
+    by_cases (spells_text t e x u && (c == 58))
+    (λ b. (spells_text t e x u && (c == 58)) ≡ b → (if b then option_map (λ n. 5 + n) (opening_end cs) else None) ≡ given (is_opening (take (line_length (t ∷ e ∷ x ∷ u ∷ c ∷ cs)) (t ∷ e ∷ x ∷ u ∷ c ∷ cs))) (line_length (t ∷ e ∷ x ∷ u ∷ c ∷ cs)))
     (λ q p.
-    let word = and_left (is_text t e x u) _ p in
-    let colon = and_right (is_text t e x u) _ p in
-    let whole : (is_text t e x u && ((c == 58) && ends_opening (take (line_length cs) cs))) ≡ ends_opening (take (line_length cs) cs) =
+    let word = and_left (spells_text t e x u) _ p in
+    let colon = and_right (spells_text t e x u) _ p in
+    let whole : (spells_text t e x u && ((c == 58) && ends_opening (take (line_length cs) cs))) ≡ ends_opening (take (line_length cs) cs) =
     ap (λ b. b && ((c == 58) && ends_opening (take (line_length cs) cs))) word ∙ ap (λ b. b && ends_opening (take (line_length cs) cs)) colon in
     ap (option_map (λ n. 5 + n)) (end_is cs)
     ∙ five (ends_opening (take (line_length cs) cs)) (line_length cs)

@@ -4,7 +4,7 @@ use Rattle.std.proofs.Common.{zero, suc}
 use Rattle.sieve_base.specs.Octet.{octet_of, is_digit, is_blank}
 use Rattle.sieve_syntax.specs.Line.{line_length, lines_of, is_dot_line}
 use Rattle.sieve_syntax.specs.Octet.{begins_name, is_name_octet, is_unit}
-use Rattle.sieve_syntax.specs.Spelling.{is_opening, is_text}
+use Rattle.sieve_syntax.specs.Spelling.{is_opening, spells_text}
 use Rattle.sieve_syntax.specs.Token.{line_at}
 use Rattle.sieve_syntax.specs.White.{begins_with, white_at}
 use Rattle.sieve_syntax.specs.declared.token.Token.{Token}
@@ -57,7 +57,7 @@ opening_end (c ∷ cs) = if is_blank c then option_map suc (opening_end cs) else
 
 -- how many octets the first line of a multi-line string has that begins a text
 unfoldable pub opening_length : List ℕ → Option ℕ
-opening_length (t ∷ e ∷ x ∷ u ∷ c ∷ cs) = if is_text t e x u && (c == octet_of ":") then option_map (λ n. 5 + n) (opening_end cs) else None
+opening_length (t ∷ e ∷ x ∷ u ∷ c ∷ cs) = if spells_text t e x u && (c == octet_of ":") then option_map (λ n. 5 + n) (opening_end cs) else None
 opening_length _ = None
 
 -- how many octets of a multi-line string begin lines

@@ -53,12 +53,12 @@ ends_opening [] = false
 ends_opening (c ∷ cs) = if is_blank c then ends_opening cs else ((c == octet_of "#") || is_line_end (c ∷ cs))
 
 -- `text` in any case
-abbrev pub is_text : ℕ → ℕ → ℕ → ℕ → Bool
-is_text t e x u = (t == octet_of "t" || (t == octet_of "T")) && ((e == octet_of "e" || (e == octet_of "E")) && ((x == octet_of "x" || (x == octet_of "X")) && (u == octet_of "t" || (u == octet_of "T"))))
+abbrev pub spells_text : ℕ → ℕ → ℕ → ℕ → Bool
+spells_text t e x u = (t == octet_of "t" || (t == octet_of "T")) && ((e == octet_of "e" || (e == octet_of "E")) && ((x == octet_of "x" || (x == octet_of "X")) && (u == octet_of "t" || (u == octet_of "T"))))
 
 -- the first line of a multi-line string: `text:`, and the rest of the line
 unfoldable pub is_opening : List ℕ → Bool
-is_opening (t ∷ e ∷ x ∷ u ∷ c ∷ cs) = is_text t e x u && ((c == octet_of ":") && ends_opening cs)
+is_opening (t ∷ e ∷ x ∷ u ∷ c ∷ cs) = spells_text t e x u && ((c == octet_of ":") && ends_opening cs)
 is_opening _ = false
 
 -- lines up to the first that is a dot alone

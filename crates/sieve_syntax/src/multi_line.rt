@@ -3,14 +3,14 @@
 ghost use Rattle.std.specs.Prelude.{◌≡◌, ◌≤◌, drop, length, IfSome};
 ghost use Rattle.sieve_syntax.specs.Line.{lines_of};
 ghost use Rattle.sieve_syntax.specs.Scan.{dot_length, multi_line_length, opening_end, opening_length, opening_stop, shifted};
-ghost use Rattle.sieve_syntax.specs.Spelling.{is_text};
+ghost use Rattle.sieve_syntax.specs.Spelling.{spells_text};
 
 use crate::line::{is_dot_line, line_length};
 use crate::octet::is_blank;
 
 /// Whether the octets are `text`, in any case.
-fn is_text(t: u8, e: u8, x: u8, u: u8) -> bool
-    ensures { result ≡ is_text t e x u }
+fn spells_text(t: u8, e: u8, x: u8, u: u8) -> bool
+    ensures { result ≡ spells_text t e x u }
 {
     matches!(t, b't' | b'T')
         && matches!(e, b'e' | b'E')
@@ -58,7 +58,7 @@ fn opening_length(rest: &[u8]) -> Option<usize>
 {
     match rest {
         [t, e, x, u, colon, tail @ ..] => {
-            if is_text(*t, *e, *x, *u) && *colon == b':' {
+            if spells_text(*t, *e, *x, *u) && *colon == b':' {
                 match opening_end(tail) {
                     Some(length) => Some(length + 5),
                     None => None,

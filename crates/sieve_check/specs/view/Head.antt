@@ -9,7 +9,7 @@ use Rattle.sieve_syntax.specs.declared.tree.Test as one_tests
 use Rattle.sieve_check.specs.Breach.{Breach, all_rules, breaches_by, breaches_in, command_breaks}
 use Rattle.sieve_check.specs.Context.{Context}
 use Rattle.sieve_check.specs.Element.{Element, the_command, the_test, command_arguments, test_arguments}
-use Rattle.sieve_check.specs.Table.{command_of, test_of}
+use Rattle.sieve_check.specs.Table.{command_named, test_named}
 use Rattle.sieve_check.specs.declared.table.CommandKind.{CommandKind}
 
 abbrev pub block_as : Option (Vec commands.Command Global) → Block
@@ -18,11 +18,11 @@ block_as (Some inner) = block (nodes (map node_of inner.items))
 
 -- a test and its arguments
 abbrev pub test_head : Context → one_tests.Test → List Element
-test_head context t = let o = one_tests.out-Test t in the_test context o.name.items o.line (map argument_of o.args.items) (tests_of o.tests) ∷ test_arguments context (test_of o.name.items) (map argument_of o.args.items) (tests_of o.tests)
+test_head context t = let o = one_tests.out-Test t in the_test context o.name.items o.line (map argument_of o.args.items) (tests_of o.tests) ∷ test_arguments context (test_named o.name.items) (map argument_of o.args.items) (tests_of o.tests)
 
 -- a command and its arguments
 abbrev pub command_head : Context → commands.Command → List Element
-command_head context c = let o = commands.out-Command c in the_command context o.name.items o.line (map argument_of o.args.items) (tests_of o.tests) (block_as o.block) ∷ command_arguments context (command_of o.name.items) (map argument_of o.args.items) (tests_of o.tests) (block_as o.block)
+command_head context c = let o = commands.out-Command c in the_command context o.name.items o.line (map argument_of o.args.items) (tests_of o.tests) (block_as o.block) ∷ command_arguments context (command_named o.name.items) (map argument_of o.args.items) (tests_of o.tests) (block_as o.block)
 
 -- the rules that a command of a kind breaks itself, and then those of its arguments
 abbrev pub kind_found : Context → CommandKind → commands.Command → List Breach
