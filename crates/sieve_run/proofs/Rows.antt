@@ -5,7 +5,7 @@ use Rattle.match_text.specs.declared.comparators.Collation.TheVariants.{Octet, C
 use Rattle.message_text.specs.Fields.{fields_of, field_groups}
 use Rattle.sieve_check.specs.Reading.{Ask, header_ask, exists_ask, over_ask, under_ask, keep_leaf, discard_leaf}
 use Rattle.sieve_check.specs.Script.{Condition, always, never, asks, negated, both, either, Commands, no_commands, stops, acts, chooses, chain_of, node_before, block_commands, conditions_in}
-use Rattle.sieve_check.specs.Table.{command_of}
+use Rattle.sieve_check.specs.Table.{command_named}
 use Rattle.sieve_check.specs.Tree.{Part, literal, node, no_tests, no_block}
 use Rattle.sieve_check.specs.declared.reading.MatchType.{MatchType}
 use Rattle.sieve_check.specs.declared.reading.MatchType.TheVariants.{Is, Contains}
@@ -227,5 +227,5 @@ empty_script_row message = refl
 -- discard; discard; keep;
 present_row : (message : List ℕ) → outcome_of (λ name. present (node (codes "discard") 1 [] no_tests no_block ∷ node (codes "DISCARD") 2 [] no_tests no_block ∷ node (codes "keep") 3 [] no_tests no_block ∷ [])) (Some main) envelope message
     ≡ record { actions = Discard ∷ inbox ∷ []; implicit = false; error = None; reads = (main, true) ∷ [] }
-unfolding outcome_of exec chain_of node_before block_commands conditions_in command_of
+unfolding outcome_of exec chain_of node_before block_commands conditions_in command_named
 present_row message = refl

@@ -3,7 +3,11 @@
 ghost use Rattle.std.specs.Prelude.{◌≡◌, ℕ, List};
 ghost use Rattle.sieve_check.specs.Reading.{Ask, Leaf};
 ghost use Rattle.sieve_check.specs.Script.{Commands, Condition, stops};
+ghost use Rattle.sieve_run.specs.Name.{name_cmp, name_eq};
 ghost use Rattle.sieve_run.specs.Run.{Answer, Ending, RunState, answer_of, decide, exec};
+ghost use Rattle.sieve_run.specs.declared.name.ScriptName as names;
+
+use crate::name::ScriptName;
 
 /// Commands behind a `stop` change nothing, whatever they are, whatever tests ask and whatever commands that act do
 /// (RFC 5228, section 3.3).
@@ -17,4 +21,11 @@ pub fn stop_ends_the_commands()
 #[tactic(auto, using(crate::proofs::Unchanged::decide_keeps))]
 pub fn tests_change_nothing()
     ensures state { (message : List ℕ) (condition : Condition) (state : RunState) → (decide (answer_of message) condition state).state ≡ state }
+{}
+
+/// The names of scripts are in the order of their stores, and within a store in the order of their octets. Two are equal where
+/// their stores and their octets are.
+pub fn names_have_their_order()
+    ensures order { (a b : names.ScriptName) → ⟦<ScriptName as Ord>⟧.cmp a b ≡ name_cmp a b }
+    ensures equality { (a b : names.ScriptName) → ⟦<ScriptName as PartialEq>⟧.eq a b ≡ name_eq a b }
 {}
