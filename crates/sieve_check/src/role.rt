@@ -1,5 +1,5 @@
 //! What an argument is for, by its label.
-ghost use Rattle.std.specs.Prelude.{◌≡◌, ◌↔◌, IsTrue, drop};
+ghost use Rattle.std.specs.Prelude.{◌≡◌, drop};
 ghost use Rattle.sieve_check.specs.Role.{first_role, has_role, role_of, same_role};
 
 use crate::label::Label;
@@ -7,8 +7,7 @@ use crate::row::Role;
 
 /// Whether two roles are one.
 fn same_role(a: Role, b: Role) -> bool
-    ensures same { result ≡ same_role a b }
-    ensures exact { IsTrue result ↔ (a ≡ b) }
+    ensures { result ≡ same_role a b }
 {
     a as u8 == b as u8
 }

@@ -1,5 +1,5 @@
 //! Whether a command or a test is used as its row says (RFC 5228, sections 2.5, 2.6, 2.8 and 2.9).
-ghost use Rattle.std.specs.Prelude.{◌≡◌, ◌↔◌, IsTrue, map};
+ghost use Rattle.std.specs.Prelude.{◌≡◌, map};
 ghost use Rattle.std.specs.List.{list_any};
 ghost use Rattle.sieve_syntax.specs.view.Tree.{argument_of, tests_of};
 ghost use Rattle.sieve_check.specs.Label.{is_filled};
@@ -72,8 +72,7 @@ fn has_late_tag(labels: &[Label]) -> bool
 
 /// Whether two kinds of tags are one.
 fn same_kind(a: TagKind, b: TagKind) -> bool
-    ensures same { result ≡ same_kind a b }
-    ensures exact { IsTrue result ↔ (a ≡ b) }
+    ensures { result ≡ same_kind a b }
 {
     a as u8 == b as u8
 }

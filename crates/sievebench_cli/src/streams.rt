@@ -7,12 +7,12 @@ use std::io::{BufWriter, Read, Write};
 
 /// Takes replies into a buffer that it shares.
 #[derive(Drop)]
-pub struct Replies<'a, W: Write + Drop> {
+pub(crate) struct Replies<'a, W: Write + Drop> {
     held: &'a RefCell<BufWriter<W>>,
 }
 
 impl<'a, W: Write + Drop> Replies<'a, W> {
-    pub fn new(held: &'a RefCell<BufWriter<W>>) -> Replies<'a, W> {
+    pub(crate) fn new(held: &'a RefCell<BufWriter<W>>) -> Replies<'a, W> {
         Replies { held }
     }
 }
@@ -30,13 +30,13 @@ impl<W: Write + Drop> Write for Replies<'_, W> {
 /// Gives requests. Before each read the replies that are held are written out, so that whoever
 /// waits for them before the next request gets them.
 #[derive(Drop)]
-pub struct Requests<'a, R, W: Write + Drop> {
+pub(crate) struct Requests<'a, R, W: Write + Drop> {
     input: R,
     held: &'a RefCell<BufWriter<W>>,
 }
 
 impl<'a, R: Read, W: Write + Drop> Requests<'a, R, W> {
-    pub fn new(input: R, held: &'a RefCell<BufWriter<W>>) -> Requests<'a, R, W> {
+    pub(crate) fn new(input: R, held: &'a RefCell<BufWriter<W>>) -> Requests<'a, R, W> {
         Requests { input, held }
     }
 }

@@ -11,7 +11,7 @@ use std::rt::Env;
 /// What a program wrote: on standard output, on standard error, how much on standard output before
 /// each read, and how much by each write there.
 #[derive(Drop)]
-pub struct Written {
+pub(crate) struct Written {
     pub output: RefCell<Vec<u8>>,
     pub errors: RefCell<Vec<u8>>,
     pub before_reads: RefCell<Vec<usize>>,
@@ -19,7 +19,7 @@ pub struct Written {
 }
 
 impl Written {
-    pub fn new(alloc: Global) -> Written {
+    pub(crate) fn new(alloc: Global) -> Written {
         Written {
             output: RefCell::new(Vec::new(alloc)),
             errors: RefCell::new(Vec::new(alloc)),
@@ -31,7 +31,7 @@ impl Written {
 
 /// Octets that are given in pieces, and then end or fail.
 #[derive(Clone, Copy)]
-pub struct Given<'a> {
+pub(crate) struct Given<'a> {
     pub octets: &'a [u8],
     /// How many octets a read gives at most.
     pub piece: usize,
@@ -40,7 +40,7 @@ pub struct Given<'a> {
 
 /// A system with these words, this input, and an output of so much room.
 #[derive(Drop)]
-pub struct Machine<'a> {
+pub(crate) struct Machine<'a> {
     pub alloc: Global,
     pub words: &'a [&'a [u8]],
     pub input: Given<'a>,
@@ -113,7 +113,7 @@ impl Eprint for Machine<'_> {
 
 /// The made input, from where it was read to on.
 #[derive(Drop)]
-pub struct Reader<'a> {
+pub(crate) struct Reader<'a> {
     input: Given<'a>,
     written: &'a Written,
 }
