@@ -1,4 +1,3 @@
-mod Named
 pub mod Count
 pub mod Lines
 pub mod Messages

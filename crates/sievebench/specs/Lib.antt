@@ -1,4 +1,3 @@
-pub mod CommandLine
 pub mod Content
 pub mod Report
 pub mod Session

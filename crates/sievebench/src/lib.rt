@@ -3,7 +3,6 @@
 #![tactic(auto)]
 
 mod bench;
-mod command_line;
 mod fault;
 mod input;
 mod line;

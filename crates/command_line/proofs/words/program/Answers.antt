@@ -2,8 +2,8 @@
 use Rattle.std.proofs.Common.{ap₂, ◌∙◌}
 use Rattle.std.proofs.lemmas.Result.{IfOk-weaker}
 use Rattle.clap.specs.Simple.{with_subcommand}
-use Rattle.sievebench.specs.CommandLine.{the_app}
-use Rattle.sievebench.proofs.command_line.program.Goals as goal
+use Rattle.command_line.specs.CommandLine.{the_app}
+use Rattle.command_line.proofs.words.program.Goals as goal
 
 pub returns : goal.returns
 unfolding the_app

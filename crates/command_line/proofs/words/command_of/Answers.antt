@@ -3,15 +3,15 @@ use Rattle.std.proofs.Common.{◌≡◌, ◌∙◌, true, List, [], ◌∷◌, m
 use Rattle.clap.specs.Words.{App, HasKind, HasMatchesOf, Row, Kinds, Text, fault_of, is_simple, is_simple_and_free, kind_of, subcommand_of, subcommand_rows_of}
 use Rattle.clap.specs.declared.error.Error.{Error}
 use Rattle.clap.specs.declared.parser.matches.ArgMatches.{ArgMatches}
-use Rattle.sievebench.specs.declared.command_line.Job.TheVariants as job
+use Rattle.command_line.specs.declared.words.Job.TheVariants as job
 use Rattle.clap.specs.declared.error.kind.ErrorKind.TheVariants.{OutOfMemory}
 use Rattle.clap.proofs.OnLiterals.{clap_on_literals}
-use Rattle.sievebench.specs.CommandLine.{IsFaultFor, IsRefusalFor, job_of, named_job, session_shape, the_app, top_app, where_taken}
-use Rattle.sievebench.specs.declared.command_line.Job.{Job}
-use Rattle.sievebench.specs.declared.command_line.UsageFault.{UsageFault}
-use Rattle.sievebench.specs.declared.command_line.UsageFault.TheVariants.{Usage, NoMemory}
-use Rattle.sievebench.proofs.Named.{always_named}
-use Rattle.sievebench.proofs.command_line.command_of.Goals as goal
+use Rattle.command_line.specs.CommandLine.{IsFaultFor, IsRefusalFor, job_of, named_job, session_shape, the_app, top_app, where_taken}
+use Rattle.command_line.specs.declared.words.Job.{Job}
+use Rattle.command_line.specs.declared.words.UsageFault.{UsageFault}
+use Rattle.command_line.specs.declared.words.UsageFault.TheVariants.{Usage, NoMemory}
+use Rattle.command_line.proofs.Named.{always_named}
+use Rattle.command_line.proofs.words.command_of.Goals as goal
 
 simple : is_simple the_app ≡ true
 unfolding the_app top_app session_shape clap_on_literals

@@ -2,8 +2,8 @@
 use Rattle.std.proofs.Common.{ap, ◌∙◌, true}
 use Rattle.std.proofs.lemmas.Result.{IfOk-weaker}
 use Rattle.clap.specs.Simple.{Shape, app_of_fields, on_top}
-use Rattle.sievebench.specs.CommandLine.{top_app}
-use Rattle.sievebench.proofs.command_line.top_command.Goals as goal
+use Rattle.command_line.specs.CommandLine.{top_app}
+use Rattle.command_line.proofs.words.top_command.Goals as goal
 
 pub returns : goal.returns
 unfolding top_app

@@ -11,8 +11,8 @@ use Rattle.clap.specs.Simple.{argument_words, built, entered, label_of, names_of
 use Rattle.clap.specs.Faults.{built_fault, check_fault, defaults_fault, entered_fault, settle_fault}
 use Rattle.clap.specs.Facts.{explicit_source}
 use Rattle.clap.specs.Takes.{is_given}
-use Rattle.sievebench.specs.CommandLine.{job_of, session_shape, the_app, top_app}
-use Rattle.sievebench.specs.declared.command_line.Job.TheVariants as job
+use Rattle.command_line.specs.CommandLine.{job_of, session_shape, the_app, top_app}
+use Rattle.command_line.specs.declared.words.Job.TheVariants as job
 use Rattle.clap.specs.Lexer.{long_of}
 use Rattle.clap.specs.declared.error.kind.ErrorKind.{ErrorKind}
 use Rattle.clap.specs.Faults.{other_fault, step_fault, turn_fault, walk_fault, word_fault}

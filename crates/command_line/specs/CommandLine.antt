@@ -5,10 +5,10 @@ use Rattle.clap.specs.Words.{App, IsAmong, Kinds, Row, Shape, Text, fault_of, ne
 use Rattle.clap.specs.Simple.{new_shape, on_top}
 use Rattle.clap.specs.declared.error.kind.ErrorKind.{ErrorKind}
 use Rattle.clap.specs.declared.error.kind.ErrorKind.TheVariants.{DisplayHelp, DisplayVersion, OutOfMemory}
-use Rattle.sievebench.specs.declared.command_line.Job.{Job}
-use Rattle.sievebench.specs.declared.command_line.Job.TheVariants as job
-use Rattle.sievebench.specs.declared.command_line.UsageFault.{UsageFault}
-use Rattle.sievebench.specs.declared.command_line.UsageFault.TheVariants.{Usage, NoMemory}
+use Rattle.command_line.specs.declared.words.Job.{Job}
+use Rattle.command_line.specs.declared.words.Job.TheVariants as job
+use Rattle.command_line.specs.declared.words.UsageFault.{UsageFault}
+use Rattle.command_line.specs.declared.words.UsageFault.TheVariants.{Usage, NoMemory}
 
 -- `session`, which takes no arguments
 unfoldable pub session_shape : Shape

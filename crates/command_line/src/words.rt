@@ -2,7 +2,7 @@
 ghost use Rattle.std.specs.Prelude.{◌≡◌, ◌↔◌, IfOk, IfErr, IfSome, Some, false, true, map, IsTrue, option_map, IsSome, IsOkUnless};
 ghost use Rattle.clap.specs.Words.{app_of, fault_of, kind_of, rows_of, shape_of, subcommand_rows_of};
 ghost use Rattle.clap.specs.declared.builder.command.Command.TheViews.{out-Command};
-ghost use Rattle.sievebench.specs.CommandLine.{the_app, top_app, session_shape, named_job, job_of, IsFaultFor, IsRefusalFor};
+ghost use Rattle.command_line.specs.CommandLine.{the_app, top_app, session_shape, named_job, job_of, IsFaultFor, IsRefusalFor};
 
 use clap::error::ErrorKind;
 use clap::{ArgMatches, Command, Error};
@@ -29,7 +29,7 @@ pub enum UsageFault {
 }
 
 impl From<AllocError> for UsageFault {
-    ghost use Rattle.sievebench.specs.declared.command_line.UsageFault.TheVariants.{NoMemory};
+    ghost use Rattle.command_line.specs.declared.words.UsageFault.TheVariants.{NoMemory};
 
     ghost from_gives = { λ _ e. e ≡ NoMemory };
 
