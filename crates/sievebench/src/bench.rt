@@ -15,8 +15,8 @@ use crate::refusal::{
 };
 use crate::report::{run_all, write_report};
 use crate::scripts::Scripts;
-use crate::word::Word;
 use indexmap::IndexMap;
+use session_text::Word;
 use sieve_base::limits::MAX_ID;
 use sieve_base::{Octets, Sink};
 use sieve_run::{Envelope, Message, Meter, ScriptName};
