@@ -133,7 +133,8 @@ pub data Command : Type 0 where
   mailbox : (box : List ℕ) → Command
   report : Command
 
-abbrev pub is_text : List ℕ → List ℕ → Bool
+-- whether a word is this text
+unfoldable pub is_text : List ℕ → List ℕ → Bool
 is_text text word = pointwise nat_eq word text
 
 abbrev pub place_of : List ℕ → Option Place
@@ -189,11 +190,17 @@ abbrev pub envelope_command : List (List ℕ) → Option Command
 envelope_command [] = None
 envelope_command (from ∷ words) = option_and_then (λ f. option_map (λ t. envelope f t) (last_value words)) (word_value from)
 
+abbrev pub main_command : List (List ℕ) → Option Command
+main_command words = option_map (λ n. main n.0 n.1) (last_name words)
+
+abbrev pub drop_script_command : List (List ℕ) → Option Command
+drop_script_command words = option_map (λ n. drop_script n.0 n.1) (last_name words)
+
 -- a command of a place and a name
 abbrev pub name_command : List ℕ → List (List ℕ) → Option Command
 name_command word words =
-    if is_text (codes "main") word then option_map (λ n. main n.0 n.1) (last_name words)
-    else if is_text (codes "drop-script") word then option_map (λ n. drop_script n.0 n.1) (last_name words)
+    if is_text (codes "main") word then main_command words
+    else if is_text (codes "drop-script") word then drop_script_command words
     else None
 
 -- a command of one word, or one of those

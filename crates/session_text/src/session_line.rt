@@ -3,7 +3,7 @@ ghost use Rattle.std.specs.Prelude.{◌≡◌, ◌≢◌, ◌<◌, ◌≤◌, �
 ghost use Rattle.std.specs.List.{list_all};
 ghost use Rattle.std.specs.Option.{option_map};
 ghost use Rattle.session_text.specs.SessionLine.{is_plain, outside, spot_behind, is_gap, piece_length, line_words};
-ghost use Rattle.session_text.specs.SessionLine.{place_of, count_of, last_count, named, last_name, last_value, script_command, message_command, rename_command, envelope_command, name_command, value_command, lone_command, command_by, command_of_line};
+ghost use Rattle.session_text.specs.SessionLine.{is_text, place_of, count_of, last_count, named, last_name, last_value, script_command, message_command, rename_command, envelope_command, main_command, drop_script_command, name_command, value_command, lone_command, command_by, command_of_line};
 ghost use Rattle.session_text.specs.view.Command.{command_as, spot_as};
 
 use crate::word::Word;
@@ -147,13 +147,21 @@ fn next_word(line: &[u8]) -> Option<(&[u8], &[u8])>
     Some(line.split_at(word_len(line)))
 }
 
+/// Whether a word is this text.
+#[tactic(auto, unfolding(crate::specs::SessionLine::is_text))]
+fn is_text(word: &[u8], text: &[u8]) -> bool
+    ensures { result ≡ is_text text.now word.now }
+{
+    word == text
+}
+
 /// The place of that name.
 fn place_of(word: &[u8]) -> Option<Place>
     ensures { result ≡ place_of word.now }
 {
-    if word == b"personal".as_slice() {
+    if is_text(word, b"personal") {
         Some(Place::Personal)
-    } else if word == b"global".as_slice() {
+    } else if is_text(word, b"global") {
         Some(Place::Global)
     } else {
         None
@@ -269,16 +277,30 @@ fn envelope_command(line: &[u8]) -> Option<Command<'_>>
     Some(Command::Envelope { from, to })
 }
 
+/// What `main PLACE NAME` asks for, behind its first word.
+fn main_command(line: &[u8]) -> Option<Command<'_>>
+    ensures { option_map command_as result ≡ main_command (line_words line.now) }
+{
+    let (place, name) = last_name(line)?;
+    Some(Command::Main { place, name })
+}
+
+/// What `drop-script PLACE NAME` asks for, behind its first word.
+fn drop_script_command(line: &[u8]) -> Option<Command<'_>>
+    ensures { option_map command_as result ≡ drop_script_command (line_words line.now) }
+{
+    let (place, name) = last_name(line)?;
+    Some(Command::DropScript { place, name })
+}
+
 /// What a line with a place and a name behind its first word asks for.
 fn name_command<'a>(word: &[u8], line: &'a [u8]) -> Option<Command<'a>>
     ensures { option_map command_as result ≡ name_command word.now (line_words line.now) }
 {
-    if word == b"main".as_slice() {
-        let (place, name) = last_name(line)?;
-        Some(Command::Main { place, name })
-    } else if word == b"drop-script".as_slice() {
-        let (place, name) = last_name(line)?;
-        Some(Command::DropScript { place, name })
+    if is_text(word, b"main") {
+        main_command(line)
+    } else if is_text(word, b"drop-script") {
+        drop_script_command(line)
     } else {
         None
     }
@@ -288,10 +310,10 @@ fn name_command<'a>(word: &[u8], line: &'a [u8]) -> Option<Command<'a>>
 fn value_command<'a>(word: &[u8], line: &'a [u8]) -> Option<Command<'a>>
     ensures { option_map command_as result ≡ value_command word.now (line_words line.now) }
 {
-    if word == b"drop-message".as_slice() {
+    if is_text(word, b"drop-message") {
         let id = last_value(line)?;
         Some(Command::DropMessage { id })
-    } else if word == b"mailbox".as_slice() {
+    } else if is_text(word, b"mailbox") {
         let mailbox = last_value(line)?;
         Some(Command::Mailbox { mailbox })
     } else {
@@ -303,13 +325,13 @@ fn value_command<'a>(word: &[u8], line: &'a [u8]) -> Option<Command<'a>>
 fn lone_command<'a>(word: &[u8], line: &'a [u8]) -> Option<Command<'a>>
     ensures { option_map command_as result ≡ lone_command word.now (line_words line.now) }
 {
-    if word == b"no-main".as_slice() {
+    if is_text(word, b"no-main") {
         if is_over(line) {
             Some(Command::NoMain)
         } else {
             None
         }
-    } else if word == b"report".as_slice() {
+    } else if is_text(word, b"report") {
         if is_over(line) {
             Some(Command::Report)
         } else {
@@ -324,13 +346,13 @@ fn lone_command<'a>(word: &[u8], line: &'a [u8]) -> Option<Command<'a>>
 fn command_by<'a>(word: &[u8], line: &'a [u8]) -> Option<Command<'a>>
     ensures { option_map command_as result ≡ command_by word.now (line_words line.now) }
 {
-    if word == b"script".as_slice() {
+    if is_text(word, b"script") {
         script_command(line)
-    } else if word == b"message".as_slice() {
+    } else if is_text(word, b"message") {
         message_command(line)
-    } else if word == b"rename".as_slice() {
+    } else if is_text(word, b"rename") {
         rename_command(line)
-    } else if word == b"envelope".as_slice() {
+    } else if is_text(word, b"envelope") {
         envelope_command(line)
     } else {
         lone_command(word, line)
