@@ -256,4 +256,16 @@ impl<'a> Word<'a> {
             bare => bare == octets,
         }
     }
+
+    /// The octets that it stands for, as they stand in the line, unless some of them are written otherwise: then there is none
+    /// such. Takes no memory.
+    pub fn as_written(&self) -> Option<&'a [u8]>
+        ensures { IfSome result (λ octets. octets.now ≡ self.now) }
+    {
+        let octets = match self.written {
+            [b'"', inner @ .., _] => inner,
+            bare => bare,
+        };
+        if self.is(octets) { Some(octets) } else { None }
+    }
 }

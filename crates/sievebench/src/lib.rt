@@ -10,6 +10,7 @@ mod report;
 mod report_lines;
 mod scripts;
 mod server;
+mod sought;
 mod status;
 mod task;
 
