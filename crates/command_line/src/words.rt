@@ -94,6 +94,7 @@ fn job_in(matches: &ArgMatches<'_>) -> Option<Job>
 }
 
 /// What the words ask for. The first word is the program's name, as in `std::env::args`.
+/// `Usage` is for a mistake in the words, or for the help that they ask for; `NoMemory` is for want of memory.
 pub fn command_of<'a, S: AsStr>(alloc: Global, words: &'a [S]) -> Result<Job, UsageFault>
     // The job is the one that the words name.
     ensures ok { IfOk result (λ job. named_job (map S.text words.entry.now) ≡ Some job) }
