@@ -5,15 +5,15 @@ use Rattle.std.proofs.KnownBytes.{Appends-nil}
 use Rattle.std.specs.Io.KnownBytes.{Appends, Keeps, prepend_known}
 use Rattle.sieve_base.specs.Limits.{line_limit}
 use Rattle.sievebench.specs.Content.{Content, Edit, put_script, put_message, set_main, rename_script, remove_script, set_envelope, set_mailbox}
-use Rattle.sievebench.specs.view.Line.{IsLine, IsWithin}
+use Rattle.session_text.specs.view.Line.{IsLine, IsWithin}
 use Rattle.sievebench.specs.Session.{MatchSessionEnd, Request, takes_memory, request_of, request_at, request_by, with_octets, edits, unreadable}
-use Rattle.sievebench.specs.SessionLine as line
-use Rattle.sievebench.specs.SessionLine.{first_line, command_of_line}
+use Rattle.session_text.specs.SessionLine as line
+use Rattle.session_text.specs.SessionLine.{first_line, command_of_line}
 use Rattle.sievebench.specs.view.Task.{IsFollowedBy, command_of, edit_by}
 use Rattle.sievebench.specs.declared.task.Change.{Change}
 use Rattle.sievebench.specs.declared.task.Change.TheVariants as changes
 use Rattle.sievebench.specs.view.Turn.{StepFrom, EndFrom, TurnsFrom, EndsBy}
-use Rattle.sievebench.specs.declared.line.Line.TheVariants.{Over, Whole, TooLong}
+use Rattle.session_text.specs.declared.line.Line.TheVariants.{Over, Whole, TooLong}
 use Rattle.sievebench.specs.declared.server.Turn.{Turn}
 use Rattle.sievebench.specs.declared.server.Turn.TheVariants as turns
 use Rattle.sievebench.specs.declared.status.SessionEnd.{SessionEnd}

@@ -4,7 +4,7 @@ use Rattle.std.proofs.lemmas.Bool.Decides.{nat_tests}
 use Rattle.std.specs.Io.KnownBytes.{Appends}
 use Rattle.sieve_base.specs.Limits.{message_count_limit, message_limit, script_count_limit, text_limit}
 use Rattle.sievebench.specs.Content.{Content, Edit, after, Refuses, unless, is_long, is_long_id, text_at, message_at, with_script, with_message}
-use Rattle.sievebench.specs.view.Payload.{Takes, FallsShort}
+use Rattle.session_text.specs.view.Payload.{Takes, FallsShort}
 use Rattle.sievebench.specs.Session.{takes_memory, with_octets, edits, reports, truncated, Replies, refusal_line}
 use Rattle.sievebench.specs.Report.{report_text}
 use Rattle.sievebench.specs.view.Task.{edit_of, limit_of}

@@ -32,6 +32,11 @@ goes_on contents fault_count a b c part left all so_far step = record {
   whole = append_assoc so_far.done part left ∙ so_far.whole;
 }
 
+-- the same, where what is left begins with it
+pub goes_on_from : {S : Type 0} (contents : S → Option (List ℕ)) (fault_count : S → ℕ) (a b c : S) (part rest left all : List ℕ)
+    → Writing contents fault_count a b left all → left ≡ part ++ rest → Wrote contents fault_count b c part → Writing contents fault_count a c rest all
+goes_on_from contents fault_count a b c part rest left all so_far cut step = goes_on contents fault_count a b c part rest all (rw (← cut) so_far) step
+
 -- nothing is left
 pub ends : {S : Type 0} (contents : S → Option (List ℕ)) (fault_count : S → ℕ) (a b : S) (left all : List ℕ)
     → left ≡ [] → Writing contents fault_count a b left all → Wrote contents fault_count a b all

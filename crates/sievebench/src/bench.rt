@@ -15,8 +15,9 @@ use crate::refusal::{
 };
 use crate::report::{run_all, write_report};
 use crate::scripts::Scripts;
-use crate::word::Word;
+use crate::sought::Sought;
 use indexmap::IndexMap;
+use session_text::Word;
 use sieve_base::limits::MAX_ID;
 use sieve_base::{Octets, Sink};
 use sieve_run::{Envelope, Message, Meter, ScriptName};
@@ -208,8 +209,22 @@ impl Bench {
         Ok(())
     }
 
-    /// Removes the message of a word of a session, for which no memory is taken either. All ids are looked at.
-    pub(crate) fn drop_message(&mut self, id: &Word<'_>) -> Result<(), EditFault>
+    /// Removes the message of an id. Takes no memory.
+    fn drop_sought(&mut self, sought: Sought<'_>) -> Result<(), EditFault>
+        ensures { Drops sought.entry.octets.now result self.old self.new }
+    {
+        if sought.octets.len() > MAX_ID {
+            return Err(EditFault::TooLarge);
+        }
+        if !self.messages.contains_key(sought) {
+            return Err(EditFault::NoSuchMessage);
+        }
+        self.messages.shift_remove(sought);
+        Ok(())
+    }
+
+    /// Removes the message of a word, looking at all ids. Takes no memory.
+    fn drop_word(&mut self, id: &Word<'_>) -> Result<(), EditFault>
         ensures { Drops id.now result self.old self.new }
     {
         if id.len() > MAX_ID {
@@ -221,6 +236,17 @@ impl Bench {
                 Ok(())
             }
             None => Err(EditFault::NoSuchMessage),
+        }
+    }
+
+    /// Removes the message of a word of a session, for which no memory is taken either. A word that stands for other octets than
+    /// are written is compared with all ids.
+    pub(crate) fn drop_message(&mut self, id: &Word<'_>) -> Result<(), EditFault>
+        ensures { Drops id.now result self.old self.new }
+    {
+        match id.as_written() {
+            Some(octets) => self.drop_sought(Sought { octets }),
+            None => self.drop_word(id),
         }
     }
 

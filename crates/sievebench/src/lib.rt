@@ -3,21 +3,16 @@
 #![tactic(auto)]
 
 mod bench;
-mod command_line;
 mod fault;
-mod input;
-mod line;
 mod message;
-mod payload;
 mod refusal;
 mod report;
 mod report_lines;
 mod scripts;
 mod server;
-mod session_line;
+mod sought;
 mod status;
 mod task;
-mod word;
 
 pub use bench::Bench;
 pub use command_line::{Job, UsageFault, command_of};

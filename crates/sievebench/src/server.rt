@@ -2,26 +2,24 @@
 ghost use Rattle.std.specs.Prelude.{◌≡◌, true, ◌≤◌, ◌<◌, ℕ, List, Option, OnOk, OnErr, Ok, codes, nat_lt, if◌then◌else◌};
 ghost use Rattle.sieve_base.specs.Writers.{Wrote};
 ghost use Rattle.sievebench.specs.Content.{Content, Edit, after, remove_message, Refuses};
-ghost use Rattle.sievebench.specs.view.Input.{unread, fuel, Knows};
+ghost use Rattle.session_text.specs.view.Input.{unread, fuel, Knows};
 ghost use Rattle.sievebench.specs.Session.{SessionFrom, MatchSessionEnd, AtLastEnd, with_octets, request_by, request_of, edits, reports, takes_memory};
-ghost use Rattle.sievebench.specs.SessionLine as line;
+ghost use Rattle.session_text.specs.SessionLine as line;
 ghost use Rattle.std.specs.Io.KnownBytes.{IsAtEnd};
 ghost use Rattle.sievebench.specs.view.Task.{Tasks, Drops, edit_by, edit_of};
 ghost use Rattle.sievebench.specs.view.Turn.{TurnsFrom, RefusesIf, Continues, EndsBy, OnContinues, AtLast, reply_line};
 
 use crate::bench::Bench;
 use crate::fault::{EditFault, ReportFault};
-use crate::input::Input;
-use crate::line::Line;
-use crate::payload::{Taken, take_octets};
 use crate::status::SessionEnd;
 use crate::task::{Change, Subject, Task, limit_of, task_of};
+use session_text::{Input, Line, Taken, take_octets};
 use sieve_base::{Octets, Sink, Source, write_out};
 use sieve_run::Meter;
 use std::alloc::Global;
 
 /// How a command went.
-#[derive(Debug, Drop)]
+#[derive(Drop)]
 pub(crate) enum Turn {
     /// The next command follows.
     Continues,

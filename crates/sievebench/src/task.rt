@@ -1,27 +1,26 @@
 //! What the lines of a session ask for, with copies of their words.
 ghost use Rattle.std.specs.Prelude.{◌≡◌, Some, IfOk};
-ghost use Rattle.sievebench.specs.SessionLine as line;
-ghost use Rattle.sievebench.specs.SessionLine.{command_of_line};
+ghost use Rattle.session_text.specs.SessionLine as line;
+ghost use Rattle.session_text.specs.SessionLine.{command_of_line};
 ghost use Rattle.sievebench.specs.view.Task.{IsTask, Tasks, command_of, change_task, limit_of};
 
 use crate::bench::Bench;
 use crate::fault::EditFault;
-use crate::session_line::{Command, command_of_line};
-use crate::word::Word;
+use session_text::{Command, Word, command_of_line};
 use sieve_base::limits::{MAX_MESSAGE, MAX_TEXT};
 use sieve_base::{Octets, Place};
 use sieve_run::ScriptName;
 use std::alloc::{AllocError, Global};
 
 /// What octets are put at: a script's name or a message's id.
-#[derive(Debug, Drop)]
+#[derive(Drop)]
 pub(crate) enum Subject {
     Script(ScriptName),
     Message(Octets),
 }
 
 /// An edit that no octets follow.
-#[derive(Debug, Drop)]
+#[derive(Drop)]
 pub(crate) enum Change {
     Main { name: ScriptName },
     NoMain,
@@ -32,7 +31,7 @@ pub(crate) enum Change {
 }
 
 /// What a line asks for, with copies of its words.
-#[derive(Debug, Drop)]
+#[derive(Drop)]
 pub(crate) enum Task {
     Idle,
     /// To put the octets that follow.

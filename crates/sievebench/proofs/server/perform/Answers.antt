@@ -1,5 +1,5 @@
 use Rattle.std.proofs.Common.{◌≡◌, Some}
-use Rattle.sievebench.specs.SessionLine as line
+use Rattle.session_text.specs.SessionLine as line
 use Rattle.sievebench.specs.view.Task.{IsFollowedBy, Tasks, command_of}
 use Rattle.sievebench.specs.declared.task.Task.TheVariants as tasks
 use Rattle.sievebench.proofs.Requests.{forgotten, change_turn}

@@ -1,8 +1,8 @@
 use Rattle.std.proofs.Common.{◌≡◌, ◌∙◌, ap, take}
 use Rattle.sievebench.specs.Session.{request_of, request_by}
-use Rattle.sievebench.specs.SessionLine.{command_of_line}
+use Rattle.session_text.specs.SessionLine.{command_of_line}
 use Rattle.sievebench.specs.declared.status.SessionEnd.TheVariants.{Syntax}
-use Rattle.sievebench.specs.view.Input.{unread}
+use Rattle.session_text.specs.view.Input.{unread}
 use Rattle.sievebench.proofs.Requests.{over_end, long_end, whole_moves, turns_moved, ends_by-weaker}
 use Rattle.sievebench.proofs.server.serve.Goals as goal
 

@@ -1,4 +1,4 @@
-use Rattle.sievebench.specs.view.Input.{unread, fuel, Knows}
+use Rattle.session_text.specs.view.Input.{unread, fuel, Knows}
 use Rattle.sievebench.specs.view.Turn.{SoFar}
 use Rattle.sievebench.proofs.server.session.Given as goal
 

@@ -1,0 +1,88 @@
+-- What `clap` says of the program's command, read at the program that the definition names.
+use Rattle.std.proofs.Common.{◌≡◌, ◌∙◌, true, List, [], ◌∷◌, map, Option, Some, None, IsSome, refl, sym, ap, subst, inl, inr}
+use Rattle.clap.specs.Words.{App, HasKind, HasMatchesOf, Row, Kinds, Text, fault_of, is_simple, is_simple_and_free, kind_of, subcommand_of, subcommand_rows_of}
+use Rattle.clap.specs.declared.error.Error.{Error}
+use Rattle.clap.specs.declared.parser.matches.ArgMatches.{ArgMatches}
+use Rattle.command_line.specs.declared.words.Job.TheVariants as job
+use Rattle.clap.specs.declared.error.kind.ErrorKind.TheVariants.{OutOfMemory}
+use Rattle.clap.proofs.OnLiterals.{clap_on_literals}
+use Rattle.command_line.specs.CommandLine.{IsFaultFor, IsRefusalFor, job_of, named_job, session_shape, the_app, top_app, where_taken}
+use Rattle.command_line.specs.declared.words.Job.{Job}
+use Rattle.command_line.specs.declared.words.UsageFault.{UsageFault}
+use Rattle.command_line.specs.declared.words.UsageFault.TheVariants.{Usage, NoMemory}
+use Rattle.command_line.proofs.Named.{always_named}
+use Rattle.command_line.proofs.words.command_of.Goals as goal
+
+simple : is_simple the_app ≡ true
+unfolding the_app top_app session_shape clap_on_literals
+simple = refl
+
+simple_and_free : is_simple_and_free the_app ≡ true
+unfolding the_app top_app session_shape clap_on_literals
+simple_and_free = refl
+
+-- words that name a job have no fault
+none_where_named : (kinds : Kinds) (job : Option Job) → IsSome (where_taken kinds job) → kinds ≡ []
+none_where_named [] job named = refl
+none_where_named (kind ∷ kinds) job named = absurd (cc)
+
+-- with no other kind, memory ran out
+only_memory : (kinds : Kinds) (e : Error) → kinds ≡ [] → HasKind kinds e → kind_of e ≡ OutOfMemory
+only_memory [] e none (inl memory) = memory
+only_memory [] e none (inr among) = absurd among
+only_memory (kind ∷ kinds) e none has = absurd (cc)
+
+refusal : (kinds : Kinds) (e : Error) (fault : UsageFault) → HasKind kinds e → IsFaultFor (kind_of e) fault → IsRefusalFor kinds fault
+refusal kinds e NoMemory has answers = tt
+refusal kinds e (Usage help text) (inl memory) answers = absurd (answers.0 memory)
+refusal kinds e (Usage help text) (inr among) answers = (kind_of e, among, answers.1)
+
+named_none : (words : List Text) → IsSome (named_job words) → fault_of the_app words ≡ []
+unfolding named_job
+named_none words named = none_where_named (fault_of the_app words) _ named
+
+named_from : (words : List Text) (met : Option (Text × List Row)) (job : Job) → fault_of the_app words ≡ [] → met ≡ subcommand_of the_app words
+    → Some job ≡ job_of met → named_job words ≡ Some job
+unfolding named_job
+named_from words met job none is_met is_job =
+    ap (λ kinds. where_taken kinds (job_of (subcommand_of the_app words))) none ∙ ap job_of (sym is_met) ∙ sym is_job
+
+-- what is said of an app, at the program
+kind_at : (a : App) (words : List Text) (e : Error) → a ≡ the_app → (is_simple_and_free a ≡ true → HasKind (fault_of a words) e)
+    → HasKind (fault_of the_app words) e
+kind_at a words e is_program has =
+    let P : App → Type 0 = λ b. HasKind (fault_of b words) e in
+    subst P is_program (has (ap is_simple_and_free is_program ∙ simple_and_free))
+
+none_at : (a : App) (words : List Text) → a ≡ the_app → (is_simple_and_free a ≡ true → fault_of a words ≡ []) → fault_of the_app words ≡ []
+none_at a words is_program none =
+    let P : App → Type 0 = λ b. fault_of b words ≡ [] in
+    subst P is_program (none (ap is_simple_and_free is_program ∙ simple_and_free))
+
+met_at : (a : App) (words : List Text) (m : ArgMatches) → a ≡ the_app → HasMatchesOf a words m → subcommand_rows_of m ≡ subcommand_of the_app words
+met_at a words m is_program has =
+    (has (ap is_simple is_program ∙ simple)).1 ∙ ap (λ (b : App). subcommand_of b words) is_program
+
+pub returns-in-Err-clause-named : goal.returns-in-Err-clause-named
+returns-in-Err-clause-named g c = λ named. c.usage_fault.ensures.memory
+    (only_memory _ c.in-Err.error (named_none _ named) (kind_at _ _ c.in-Err.error c.in_ok-program.ensures c.in-Err.ensures.kinds))
+
+pub returns-in-Err-clause-refused : goal.returns-in-Err-clause-refused
+returns-in-Err-clause-refused g c =
+    refusal _ c.in-Err.error _ (kind_at _ _ c.in-Err.error c.in_ok-program.ensures c.in-Err.ensures.kinds) c.usage_fault.ensures.usage
+
+pub unreachable-requires : goal.unreachable-requires
+unreachable-requires g c =
+    let words = map g.S.AsStr.text c.args.words.now in
+    let is_program = c.in_ok-program.ensures in
+    let is_met : subcommand_rows_of c.in-Ok.matches ≡ subcommand_of the_app words = met_at _ words _ is_program c.in-Ok.ensures.matches in
+    let is_named = always_named words (none_at _ words is_program c.in-Ok.ensures.kinds) in
+    let bad : None ≡ Some job.Session = c.in-None.ensures ∙ ap job_of is_met ∙ is_named in
+    absurd (cc)
+
+pub returns-clause-ok : goal.returns-clause-ok
+returns-clause-ok g c =
+    let words = map g.S.AsStr.text c.args.words.now in
+    let is_program = c.in_ok-program.ensures in
+    named_from words (subcommand_rows_of c.in-Ok.matches) c.in-Some.job (none_at _ words is_program c.in-Ok.ensures.kinds)
+    (met_at _ words _ is_program c.in-Ok.ensures.matches) c.in-Some.ensures

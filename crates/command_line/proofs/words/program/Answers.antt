@@ -1,0 +1,12 @@
+-- The program with its subcommand is the one that the definition names.
+use Rattle.std.proofs.Common.{ap₂, ◌∙◌}
+use Rattle.std.proofs.lemmas.Result.{IfOk-weaker}
+use Rattle.clap.specs.Simple.{with_subcommand}
+use Rattle.command_line.specs.CommandLine.{the_app}
+use Rattle.command_line.proofs.words.program.Goals as goal
+
+pub returns : goal.returns
+unfolding the_app
+returns c = IfOk-weaker c.subcommand.result _ _
+    (λ r added. added.shape c.session_command.ensures.local ∙ ap₂ with_subcommand c.in_ok-top_command.ensures c.session_command.ensures.shape)
+    c.subcommand.ensures

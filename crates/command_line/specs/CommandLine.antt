@@ -1,0 +1,53 @@
+-- What the words of a command line ask for.
+use Rattle.std.specs.Prelude.{◌≡◌, ◌≢◌, Bool, true, false, List, [], ◌∷◌, Option, Some, None, codes, if◌then◌else◌}
+use Rattle.std.specs.Str.{bytes_eq}
+use Rattle.clap.specs.Words.{App, IsAmong, Kinds, Row, Shape, Text, fault_of, new_app, subcommand_of, with_subcommand}
+use Rattle.clap.specs.Simple.{new_shape, on_top}
+use Rattle.clap.specs.declared.error.kind.ErrorKind.{ErrorKind}
+use Rattle.clap.specs.declared.error.kind.ErrorKind.TheVariants.{DisplayHelp, DisplayVersion, OutOfMemory}
+use Rattle.command_line.specs.declared.words.Job.{Job}
+use Rattle.command_line.specs.declared.words.Job.TheVariants as job
+use Rattle.command_line.specs.declared.words.UsageFault.{UsageFault}
+use Rattle.command_line.specs.declared.words.UsageFault.TheVariants.{Usage, NoMemory}
+
+-- `session`, which takes no arguments
+unfoldable pub session_shape : Shape
+session_shape = new_shape (codes "session")
+
+-- the program, which wants a subcommand
+unfoldable pub top_app : App
+top_app = on_top (λ s. record s { subcommand_required = true; arg_required_else_help = true }) (new_app (codes "sievebench"))
+
+-- the program and its subcommands
+unfoldable pub the_app : App
+the_app = with_subcommand top_app session_shape
+
+-- the job of a subcommand with its matches
+abbrev pub job_of : Option (Text × List Row) → Option Job
+job_of None = None
+job_of (Some (name, rows)) = if bytes_eq name (codes "session") then Some job.Session else None
+
+-- a job that is named counts where nothing is wrong
+abbrev pub where_taken : Kinds → Option Job → Option Job
+where_taken [] job = job
+where_taken (fault ∷ faults) job = None
+
+-- the job that the words name, where the program takes them; the first word is the program's name
+unfoldable pub named_job : List Text → Option Job
+named_job words = where_taken (fault_of the_app words) (job_of (subcommand_of the_app words))
+
+-- whether an answer of this kind is what was asked for, and no mistake
+abbrev pub is_help : ErrorKind → Bool
+is_help DisplayHelp = true
+is_help DisplayVersion = true
+is_help _ = false
+
+-- the fault for an answer of this kind
+abbrev pub IsFaultFor : ErrorKind → UsageFault → Type 0
+IsFaultFor kind NoMemory = Unit {0}
+IsFaultFor kind (Usage help text) = (kind ≢ OutOfMemory) × (help ≡ is_help kind)
+
+-- the refusal is for one of these mistakes, or is the help that was asked for
+abbrev pub IsRefusalFor : Kinds → UsageFault → Type 0
+IsRefusalFor kinds NoMemory = Unit {0}
+IsRefusalFor kinds (Usage help text) = (kind : ErrorKind) × IsAmong kind kinds × (help ≡ is_help kind)

@@ -1,0 +1,6 @@
+pub mod Count
+pub mod Lines
+pub mod Ranges
+pub mod Taking
+pub mod Unread
+pub mod Words

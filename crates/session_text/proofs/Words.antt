@@ -1,0 +1,78 @@
+-- How a line falls into words.
+use Rattle.std.proofs.Common.{◌≡◌, ◌≢◌, ℕ, ◌+◌, ◌<◌, ◌≤◌, List, [], ◌∷◌, length, get_or, take, drop, sym, ap, ◌∙◌, refl, arith, filter, length-take, rules, Bool, true, false}
+use Rattle.std.proofs.lemmas.Bool.Decides.{nat_tests}
+use Rattle.std.proofs.lemmas.List.{drop_more}
+use Rattle.session_text.specs.SessionLine.{pieces_from, piece_length, line_words, grow_first, is_word, is_gap, spot_behind, Spot, outside, inside, escaped}
+
+-- a space in front changes no word
+pub line_words-space : (bs : List ℕ) → line_words (32 ∷ bs) ≡ line_words bs
+unfolding line_words
+line_words-space bs = refl
+
+-- one space of those in front is passed over
+pub line_words-drop : (line : List ℕ) (i : ℕ) → i < length line → get_or line i 0 ≡ 32 → line_words (drop (i + 1) line) ≡ line_words (drop i line)
+line_words-drop line i within is =
+    sym (ap line_words (drop_more line i 0 within) ∙ ap (λ b. line_words (b ∷ drop (i + 1) line)) is ∙ line_words-space (drop (i + 1) line))
+
+-- the pieces behind the first: those of what is behind a space
+abbrev behind_space : List ℕ → List (List ℕ)
+behind_space [] = []
+behind_space (b ∷ bs) = pieces_from outside bs
+
+-- a piece lies in the line
+pub piece_length-within : (spot : Spot) (line : List ℕ) → piece_length spot line ≤ length line
+piece_length-within spot [] = omega arith
+piece_length-within spot (b ∷ bs) = by_gap (is_gap spot b) refl (piece_length-within (spot_behind spot b) bs)
+  where
+    by_gap : (gap : Bool) → is_gap spot b ≡ gap → piece_length (spot_behind spot b) bs ≤ length bs → piece_length spot (b ∷ bs) ≤ length (b ∷ bs)
+    by_gap true is later = rw is (omega arith)
+    by_gap false is later = rw is (omega (arith, later))
+
+-- the first piece, and those behind it
+pieces_from-first : (spot : Spot) (line : List ℕ) → pieces_from spot line ≡ take (piece_length spot line) line ∷ behind_space (drop (piece_length spot line) line)
+pieces_from-first spot [] = refl
+pieces_from-first spot (b ∷ bs) = by_gap (is_gap spot b) refl (pieces_from-first (spot_behind spot b) bs)
+  where
+    by_gap : (gap : Bool) → is_gap spot b ≡ gap → pieces_from (spot_behind spot b) bs ≡ take (piece_length (spot_behind spot b) bs) bs ∷ behind_space (drop (piece_length (spot_behind spot b) bs) bs) → pieces_from spot (b ∷ bs) ≡ take (piece_length spot (b ∷ bs)) (b ∷ bs) ∷ behind_space (drop (piece_length spot (b ∷ bs)) (b ∷ bs))
+    by_gap true is later = rw is refl
+    by_gap false is later = rw is (ap (grow_first b) later)
+
+-- what is behind a piece begins with a space, which changes no word
+behind_piece : (spot : Spot) (line : List ℕ) → filter is_word (behind_space (drop (piece_length spot line) line)) ≡ line_words (drop (piece_length spot line) line)
+unfolding line_words
+behind_piece spot [] = refl
+behind_piece spot (b ∷ bs) = by_gap (is_gap spot b) refl (behind_piece (spot_behind spot b) bs)
+  where
+    at_gap : (spot : Spot) → is_gap spot b ≡ true → filter is_word (pieces_from outside bs) ≡ filter is_word (pieces_from outside (b ∷ bs))
+    at_gap outside is = rw is refl
+    at_gap inside is = absurd (search rules)
+    at_gap escaped is = absurd (search rules)
+
+    by_gap : (gap : Bool) → is_gap spot b ≡ gap → filter is_word (behind_space (drop (piece_length (spot_behind spot b) bs) bs)) ≡ filter is_word (pieces_from outside (drop (piece_length (spot_behind spot b) bs) bs))
+        → filter is_word (behind_space (drop (piece_length spot (b ∷ bs)) (b ∷ bs))) ≡ filter is_word (pieces_from outside (drop (piece_length spot (b ∷ bs)) (b ∷ bs)))
+    by_gap true is later = rw is (at_gap spot is)
+    by_gap false is later = rw is later
+
+-- a piece of some octets is a word
+kept : (word : List ℕ) (pieces : List (List ℕ)) → 0 < length word → filter is_word (word ∷ pieces) ≡ word ∷ filter is_word pieces
+kept [] pieces some = absurd (omega arith)
+kept (b ∷ bs) pieces some = refl
+
+-- the octets before the first such space of a line are its first word
+pub line_words-word : (line : List ℕ) (n : ℕ) → n ≡ piece_length outside line → 0 < n → line_words line ≡ take n line ∷ line_words (drop n line)
+unfolding line_words
+line_words-word line n is some =
+    let within : n ≤ length line = rw is (piece_length-within outside line) in
+    let first : pieces_from outside line ≡ take n line ∷ behind_space (drop n line) = rw is (pieces_from-first outside line) in
+    ap (filter is_word) first ∙ (kept (take n line) (behind_space (drop n line)) (omega (arith, within, length-take n line)) ∙ ap (λ words. take n line ∷ words) (rw is (behind_piece outside line)))
+
+-- a line that begins with no space begins with a word
+pub piece_length-some : (line : List ℕ) → 0 < length line → get_or line 0 0 ≢ 32 → 0 < piece_length outside line
+piece_length-some [] some none = absurd (omega arith)
+piece_length-some (b ∷ bs) some none = grind (arith, nat_tests)
+
+-- nothing has no words
+pub line_words-none : (line : List ℕ) → length line ≡ 0 → line_words line ≡ []
+unfolding line_words
+line_words-none [] none = refl
+line_words-none (b ∷ bs) none = absurd (omega arith)

@@ -1,0 +1,15 @@
+use Rattle.std.proofs.Common.{◌≡◌, false, ◌+◌, ◌<◌, ◌≤◌}
+use Rattle.std.specs.Io.KnownBytes.{Keeps}
+use Rattle.sieve_base.specs.Devices.{HasRisen}
+use Rattle.session_text.specs.view.Input.{unread}
+use Rattle.session_text.proofs.input.Input.fill.Given as goal
+
+-- nothing was read, and each try has counted a fault
+abbrev pub invariant-loop-retry : goal.invariant-loop-retry
+invariant-loop-retry g l =
+    (l.self.pending ≡ l.fn.self.pending)
+    × (l.self.ended ≡ false)
+    × Keeps (unread l.fn.self (g.R.Source.remaining l.fn.reader)) (unread l.self (g.R.Source.remaining l.reader))
+    × (l.self.turns + l._retry ≡ l.fn.self.turns)
+    × (g.R.Faults.fault_count l.fn.reader ≤ g.R.Faults.fault_count l.reader)
+    × (0 < l._retry → HasRisen (g.R.Faults.fault_count l.fn.reader) (g.R.Faults.fault_count l.reader))

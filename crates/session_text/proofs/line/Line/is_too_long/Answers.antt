@@ -1,0 +1,11 @@
+use Rattle.std.proofs.Common.{◌≢◌, inl, inr, get_or, rules}
+use Rattle.session_text.proofs.Lines.{first_line-long}
+use Rattle.session_text.proofs.line.Line.is_too_long.Goals as goal
+
+pub returns-then-pending-clause-yes : goal.returns-then-pending-clause-yes
+returns-then-pending-clause-yes c = λ _ left. first_line-long c.args.pending.now left c.requires (inl c.if-pending.true)
+
+pub returns-then-pending-2-clause-yes : goal.returns-then-pending-2-clause-yes
+returns-then-pending-2-clause-yes c = λ yes left.
+    let other : get_or c.args.pending.now 16384 0 ≢ 13 = search rules in
+    first_line-long c.args.pending.now left c.requires (inr (c.if-pending-2.true, other))

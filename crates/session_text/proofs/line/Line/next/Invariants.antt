@@ -1,0 +1,15 @@
+use Rattle.std.proofs.Common.{◌≤◌}
+use Rattle.std.specs.Io.KnownBytes.{Keeps}
+use Rattle.session_text.specs.view.Input.{unread, fuel, Knows}
+use Rattle.session_text.proofs.line.Line.next.Given as goal
+
+-- what was read is not used yet
+abbrev pub invariant-loop-at : goal.invariant-loop-at
+invariant-loop-at g l =
+    Keeps (unread l.fn.input (g.R.Source.remaining l.fn.reader)) (unread l.input (g.R.Source.remaining l.reader))
+    × (fuel l.input ≤ fuel l.fn.input)
+    × (g.R.Faults.fault_count l.fn.reader ≤ g.R.Faults.fault_count l.reader)
+    × Knows l.input (g.R.Source.remaining l.reader)
+
+abbrev pub decreases-loop-at : goal.decreases-loop-at
+decreases-loop-at g l = fuel l.input

@@ -1,0 +1,17 @@
+use Rattle.std.proofs.Common.{◌≤◌, ◌-◌}
+use Rattle.std.specs.Option.{option_map}
+use Rattle.session_text.specs.view.Input.{unread, fuel, Knows}
+use Rattle.session_text.specs.view.Payload.{Takes, octets_kept}
+use Rattle.session_text.proofs.payload.take_octets.Given as goal
+
+-- all but those that are left are taken
+abbrev pub invariant-loop-left : goal.invariant-loop-left
+invariant-loop-left g l =
+    (l.left ≤ l.count)
+    × Takes (l.count - l.left) (unread l.fn.input (g.R.Source.remaining l.fn.reader)) (unread l.input (g.R.Source.remaining l.reader)) (option_map octets_kept l.kept)
+    × (fuel l.input ≤ fuel l.fn.input)
+    × Knows l.input (g.R.Source.remaining l.reader)
+    × (g.R.Faults.fault_count l.fn.reader ≤ g.R.Faults.fault_count l.reader)
+
+abbrev pub decreases-loop-left : goal.decreases-loop-left
+decreases-loop-left g l = l.left

@@ -1,0 +1,2 @@
+pub mod SessionLine
+pub mod view

@@ -1,0 +1,240 @@
+-- The lines of a session: where they end, and what they say.
+use Rattle.std.specs.Prelude.{ℕ, suc, ◌+◌, ◌-◌, ◌*◌, Bool, true, false, ◌&&◌, ◌||◌, ◌==◌, not, nat_le, if◌then◌else◌, List, [], ◌∷◌, length, filter, Option, None, Some, codes, nat_eq}
+use Rattle.std.specs.List.{list_all}
+use Rattle.std.specs.Option.{option_map, option_and_then}
+use lib.Pointwise.{pointwise}
+use Rattle.sieve_base.specs.declared.place.Place.{Place}
+use Rattle.sieve_base.specs.declared.place.Place.TheVariants.{Personal, Global}
+use Rattle.sieve_base.specs.Octet.{octet_of, is_between, is_digit, is_visible}
+
+-- a line with an octet in front of it, and what follows
+abbrev pub in_front : ℕ → List ℕ × List ℕ → List ℕ × List ℕ
+in_front b (line, rest) = (b ∷ line, rest)
+
+-- the octets before the first LF, and those after it, where there is one
+abbrev pub cut_line : List ℕ → Option (List ℕ × List ℕ)
+cut_line [] = None
+cut_line (b ∷ bs) = if b == octet_of "\n" then Some ([], bs) else option_map (in_front b) (cut_line bs)
+
+-- the octets, without a CR at their end
+abbrev pub without_cr : List ℕ → List ℕ
+without_cr [] = []
+without_cr (b ∷ []) = if b == octet_of "\r" then [] else b ∷ []
+without_cr (b ∷ c ∷ bs) = b ∷ without_cr (c ∷ bs)
+
+-- a line and what follows it: a CR before the LF isn't part of it, and the end of the octets ends a line too
+abbrev pub line_from : List ℕ → Option (List ℕ × List ℕ) → List ℕ × List ℕ
+line_from stream None = (stream, [])
+line_from stream (Some cut) = (without_cr cut.0, cut.1)
+
+unfoldable pub first_line : List ℕ → List ℕ × List ℕ
+first_line stream = line_from stream (cut_line stream)
+
+-- an octet of a line: a visible one of ASCII, or a space
+abbrev pub is_plain : ℕ → Bool
+is_plain b = is_between (octet_of " ") (octet_of "~") b
+
+-- where an octet of a line stands: outside quotes, inside them, or behind a backslash there
+pub data Spot : Type 0 where
+  outside : Spot
+  inside : Spot
+  escaped : Spot
+
+-- where the octet behind an octet stands
+abbrev pub spot_behind : Spot → ℕ → Spot
+spot_behind outside b = if b == octet_of "\"" then inside else outside
+spot_behind inside b = if b == octet_of "\"" then outside else if b == octet_of "\\" then escaped else inside
+spot_behind escaped b = inside
+
+-- whether a space there stands between words
+abbrev pub is_gap : Spot → ℕ → Bool
+is_gap outside b = b == octet_of " "
+is_gap inside b = false
+is_gap escaped b = false
+
+abbrev pub grow_first : ℕ → List (List ℕ) → List (List ℕ)
+grow_first b [] = (b ∷ []) ∷ []
+grow_first b (piece ∷ pieces) = (b ∷ piece) ∷ pieces
+
+-- the pieces between the spaces that no quotes hold
+abbrev pub pieces_from : Spot → List ℕ → List (List ℕ)
+pieces_from spot [] = [] ∷ []
+pieces_from spot (b ∷ bs) = if is_gap spot b then [] ∷ pieces_from outside bs else grow_first b (pieces_from (spot_behind spot b) bs)
+
+-- how many octets stand before the first such space
+abbrev pub piece_length : Spot → List ℕ → ℕ
+piece_length spot [] = 0
+piece_length spot (b ∷ bs) = if is_gap spot b then 0 else suc (piece_length (spot_behind spot b) bs)
+
+abbrev pub is_word : List ℕ → Bool
+is_word [] = false
+is_word (b ∷ bs) = true
+
+-- the words of a line
+unfoldable pub line_words : List ℕ → List (List ℕ)
+line_words line = filter is_word (pieces_from outside line)
+
+-- an octet of a bare word: a visible one of ASCII, without the quote and the backslash
+abbrev pub is_bare : ℕ → Bool
+is_bare b = is_visible b && not (b == octet_of "\"") && not (b == octet_of "\\")
+
+-- the value of a hexadecimal digit, in either case
+abbrev pub hex_digit_value : ℕ → Option ℕ
+hex_digit_value b =
+    if is_digit b then Some (b - octet_of "0")
+    else if is_between (octet_of "A") (octet_of "F") b then Some (b - octet_of "A" + 10)
+    else if is_between (octet_of "a") (octet_of "f") b then Some (b - octet_of "a" + 10)
+    else None
+
+-- the octet of two hexadecimal digits
+abbrev pub hex_octet : ℕ → ℕ → Option ℕ
+hex_octet high low = option_and_then (λ h. option_map (λ l. 16 * h + l) (hex_digit_value low)) (hex_digit_value high)
+
+-- an octet in front of others
+abbrev pub behind : ℕ → Option (List ℕ) → Option (List ℕ)
+behind b rest = option_map (λ bs. b ∷ bs) rest
+
+abbrev pub nothing_more : List ℕ → Option (List ℕ)
+nothing_more [] = Some []
+nothing_more (b ∷ bs) = None
+
+unfoldable mutual
+  -- the octets that a quoted word stands for, behind its first quote: the next one ends it, and nothing may follow
+  pub quoted_value : List ℕ → Option (List ℕ)
+  quoted_value [] = None
+  quoted_value (b ∷ bs) = if b == octet_of "\"" then nothing_more bs else if b == octet_of "\\" then escaped_value bs else behind b (quoted_value bs)
+
+  -- behind a backslash: a quote, a backslash, or x and two hexadecimal digits
+  pub escaped_value : List ℕ → Option (List ℕ)
+  escaped_value [] = None
+  escaped_value (b ∷ bs) = if b == octet_of "\"" || b == octet_of "\\" then behind b (quoted_value bs) else if b == octet_of "x" then hex_octets bs else None
+
+  pub hex_octets : List ℕ → Option (List ℕ)
+  hex_octets [] = None
+  hex_octets (high ∷ []) = None
+  hex_octets (high ∷ low ∷ bs) = option_and_then (λ octet. behind octet (quoted_value bs)) (hex_octet high low)
+
+-- the octets that a word stands for: a bare word for its own
+unfoldable pub word_value : List ℕ → Option (List ℕ)
+word_value [] = None
+word_value (b ∷ bs) = if b == octet_of "\"" then quoted_value bs else if list_all is_bare (b ∷ bs) then Some (b ∷ bs) else None
+
+-- what a line asks for
+pub data Command : Type 0 where
+  nothing : Command
+  script : (place : Place) (name : List ℕ) (count : ℕ) → Command
+  message : (id : List ℕ) (count : ℕ) → Command
+  main : (place : Place) (name : List ℕ) → Command
+  no_main : Command
+  rename : (place : Place) (name : List ℕ) (new_place : Place) (new_name : List ℕ) → Command
+  drop_script : (place : Place) (name : List ℕ) → Command
+  drop_message : (id : List ℕ) → Command
+  envelope : (from to : List ℕ) → Command
+  mailbox : (box : List ℕ) → Command
+  report : Command
+
+-- whether a word is this text
+unfoldable pub is_text : List ℕ → List ℕ → Bool
+is_text text word = pointwise nat_eq word text
+
+abbrev pub place_of : List ℕ → Option Place
+place_of word = if is_text (codes "personal") word then Some Personal else if is_text (codes "global") word then Some Global else None
+
+-- the value of digits, behind digits of that value
+abbrev pub value_after : ℕ → List ℕ → Option ℕ
+value_after n [] = Some n
+value_after n (b ∷ bs) = if is_digit b then value_after (10 * n + (b - octet_of "0")) bs else None
+
+-- a count is one to nine digits
+abbrev pub count_of : List ℕ → Option ℕ
+count_of word = if nat_le 1 (length word) && nat_le (length word) 9 then value_after 0 word else None
+
+-- a count that is the last word
+abbrev pub last_count : List (List ℕ) → Option ℕ
+last_count [] = None
+last_count (count ∷ []) = count_of count
+last_count (count ∷ more ∷ rest) = None
+
+-- a place and a name
+abbrev pub named : List ℕ → List ℕ → Option (Place × List ℕ)
+named place name = option_and_then (λ p. option_map (λ n. (p, n)) (word_value name)) (place_of place)
+
+-- a place and a name that are the last words
+abbrev pub last_name : List (List ℕ) → Option (Place × List ℕ)
+last_name [] = None
+last_name (place ∷ []) = None
+last_name (place ∷ name ∷ []) = named place name
+last_name (place ∷ name ∷ more ∷ rest) = None
+
+-- what the last word stands for
+abbrev pub last_value : List (List ℕ) → Option (List ℕ)
+last_value [] = None
+last_value (word ∷ []) = word_value word
+last_value (word ∷ more ∷ rest) = None
+
+abbrev pub script_command : List (List ℕ) → Option Command
+script_command [] = None
+script_command (place ∷ []) = None
+script_command (place ∷ name ∷ words) = option_and_then (λ n. option_map (λ count. script n.0 n.1 count) (last_count words)) (named place name)
+
+abbrev pub message_command : List (List ℕ) → Option Command
+message_command [] = None
+message_command (id ∷ words) = option_and_then (λ i. option_map (λ count. message i count) (last_count words)) (word_value id)
+
+abbrev pub rename_command : List (List ℕ) → Option Command
+rename_command [] = None
+rename_command (place ∷ []) = None
+rename_command (place ∷ name ∷ words) = option_and_then (λ from. option_map (λ to. rename from.0 from.1 to.0 to.1) (last_name words)) (named place name)
+
+abbrev pub envelope_command : List (List ℕ) → Option Command
+envelope_command [] = None
+envelope_command (from ∷ words) = option_and_then (λ f. option_map (λ t. envelope f t) (last_value words)) (word_value from)
+
+abbrev pub main_command : List (List ℕ) → Option Command
+main_command words = option_map (λ n. main n.0 n.1) (last_name words)
+
+abbrev pub drop_script_command : List (List ℕ) → Option Command
+drop_script_command words = option_map (λ n. drop_script n.0 n.1) (last_name words)
+
+-- a command of a place and a name
+abbrev pub name_command : List ℕ → List (List ℕ) → Option Command
+name_command word words =
+    if is_text (codes "main") word then main_command words
+    else if is_text (codes "drop-script") word then drop_script_command words
+    else None
+
+-- a command of one word, or one of those
+abbrev pub value_command : List ℕ → List (List ℕ) → Option Command
+value_command word words =
+    if is_text (codes "drop-message") word then option_map (λ id. drop_message id) (last_value words)
+    else if is_text (codes "mailbox") word then option_map (λ box. mailbox box) (last_value words)
+    else name_command word words
+
+abbrev pub alone : Command → List (List ℕ) → Option Command
+alone command [] = Some command
+alone command (more ∷ rest) = None
+
+-- a command of no words, or one of those
+abbrev pub lone_command : List ℕ → List (List ℕ) → Option Command
+lone_command word words =
+    if is_text (codes "no-main") word then alone no_main words
+    else if is_text (codes "report") word then alone report words
+    else value_command word words
+
+-- the command of a first word, and the words behind it
+abbrev pub command_by : List ℕ → List (List ℕ) → Option Command
+command_by word words =
+    if is_text (codes "script") word then script_command words
+    else if is_text (codes "message") word then message_command words
+    else if is_text (codes "rename") word then rename_command words
+    else if is_text (codes "envelope") word then envelope_command words
+    else lone_command word words
+
+-- the command of some words
+abbrev pub command_of_words : List (List ℕ) → Option Command
+command_of_words [] = Some nothing
+command_of_words (word ∷ words) = command_by word words
+
+-- what a line asks for, if it is one of the lines that there are
+unfoldable pub command_of_line : List ℕ → Option Command
+command_of_line line = if list_all is_plain line then command_of_words (line_words line) else None

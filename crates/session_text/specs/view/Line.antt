@@ -1,0 +1,30 @@
+-- What the program says of the next line.
+use Rattle.std.specs.Prelude.{◌≡◌, ⊤, ℕ, ◌<◌, ◌≤◌, List, [], ◌++◌, length, take, drop}
+use Rattle.sieve_base.specs.Limits.{line_limit}
+use Rattle.session_text.specs.SessionLine.{first_line}
+use Rattle.session_text.specs.declared.line.Line.{Line}
+use Rattle.session_text.specs.declared.line.Line.TheVariants.{Over, Whole, TooLong, Failed, Spent}
+
+-- that it is so, of the octets that are read and not used, and those that are left in the input
+abbrev pub IsLine : Line → List ℕ → List ℕ → Type 0
+IsLine Over pending left = pending ++ left ≡ []
+IsLine (Whole len skip) pending left = first_line (pending ++ left) ≡ (take len pending, drop skip pending ++ left)
+IsLine TooLong pending left = line_limit < length (first_line (pending ++ left)).0
+IsLine Failed pending left = ⊤
+IsLine Spent pending left = ⊤
+
+-- that the line lies in the octets that are read, and is within the limit
+abbrev pub IsWithin : Line → List ℕ → Type 0
+IsWithin Over pending = ⊤
+IsWithin (Whole len skip) pending = (len ≤ line_limit) × (len ≤ length pending) × (0 < skip) × (skip ≤ length pending)
+IsWithin TooLong pending = 0 < length pending
+IsWithin Failed pending = ⊤
+IsWithin Spent pending = ⊤
+
+-- a fact for the end, and one for each fault
+abbrev pub MatchEnd : Line → Type 0 → Type 0 → Type 0 → Type 0
+MatchEnd Over P Q R = P
+MatchEnd (Whole len skip) P Q R = ⊤
+MatchEnd TooLong P Q R = ⊤
+MatchEnd Failed P Q R = Q
+MatchEnd Spent P Q R = R

@@ -1,0 +1,15 @@
+//! The octets of a session: what is read of the input and not used yet, its lines and their words, what a line asks
+//! for, and the counted octets that follow it.
+#![tactic(auto)]
+
+mod input;
+mod line;
+mod payload;
+mod session_line;
+mod word;
+
+pub use input::Input;
+pub use line::Line;
+pub use payload::{Taken, take_octets};
+pub use session_line::{Command, command_of_line};
+pub use word::Word;

@@ -1,0 +1,131 @@
+//! The lines of a session's input.
+ghost use Rattle.std.specs.Prelude.{◌≡◌, ◌<◌, ◌≤◌, ◌+◌, ℕ, List, [], None, Some, length, take, drop, false, ⊤, MatchOption, IfSome, IsTrue};
+ghost use Rattle.std.specs.Io.KnownBytes.{Keeps, IsAtEnd};
+ghost use Rattle.sieve_base.specs.Devices.{HasRisen};
+ghost use Rattle.sieve_base.specs.Limits.{line_limit};
+ghost use Rattle.session_text.specs.SessionLine.{cut_line, without_cr};
+ghost use Rattle.session_text.specs.view.Input.{unread, fuel, Knows};
+
+use crate::input::{Filled, Input};
+use sieve_base::Source;
+use sieve_base::limits::MAX_LINE;
+
+/// Where the first LF is.
+fn find_lf(octets: &[u8]) -> Option<usize>
+    ensures { MatchOption result (cut_line octets.now ≡ None)
+        (λ at. (at < length octets.now) × (cut_line octets.now ≡ Some (take at octets.now, drop (at + 1) octets.now))) }
+{
+    for (i, octet) in octets.iter().enumerate() {
+        if *octet == b'\n' {
+            return Some(i);
+        }
+    }
+    None
+}
+
+/// How many octets of those before a place are left without a CR at their end.
+fn len_without_cr(octets: &[u8], end: usize) -> usize
+    requires { end ≤ length octets.now }
+    ensures within { result ≤ end }
+    ensures line { without_cr (take end octets.now) ≡ take result octets.now }
+{
+    if end > 0 && octets[end - 1] == b'\r' {
+        end - 1
+    } else {
+        end
+    }
+}
+
+/// What the input has next.
+#[derive(Drop)]
+pub enum Line {
+    /// Nothing: it is at its end.
+    Over,
+    /// A line: the first `len` octets that are read and not used yet. It ends, with its CR and LF, within the first
+    /// `skip` of them.
+    Whole { len: usize, skip: usize },
+    /// A line of more than 16,384 octets.
+    TooLong,
+    /// The input can't be read.
+    Failed,
+    /// No more reads may be made.
+    Spent,
+}
+
+impl Line {
+    ghost use Rattle.session_text.specs.view.Line.{IsLine, IsWithin, MatchEnd};
+
+    /// The line that ends at an LF, the first one.
+    fn before(pending: &[u8], at: usize) -> Line
+        requires within { at < length pending.now }
+        requires first { cut_line pending.now ≡ Some (take at pending.now, drop (at + 1) pending.now) }
+        ensures line { (left : List ℕ) → IsLine result pending.now left }
+        ensures within { IsWithin result pending.now }
+        ensures kind { MatchEnd result ⊥ ⊥ ⊥ }
+    {
+        let len = len_without_cr(pending, at);
+        if len > MAX_LINE {
+            Line::TooLong
+        } else {
+            Line::Whole { len, skip: at + 1 }
+        }
+    }
+
+    /// The line that the end of the input ends.
+    fn last(pending: &[u8]) -> Line
+        requires { cut_line pending.now ≡ None }
+        ensures line { IsLine result pending.now [] }
+        ensures within { IsWithin result pending.now }
+        ensures kind { MatchEnd result ⊤ ⊥ ⊥ }
+    {
+        if pending.is_empty() {
+            Line::Over
+        } else if pending.len() > MAX_LINE {
+            Line::TooLong
+        } else {
+            Line::Whole {
+                len: pending.len(),
+                skip: pending.len(),
+            }
+        }
+    }
+
+    /// Whether a line without its LF is too long already, whatever follows: a last CR may belong to its end.
+    fn is_too_long(pending: &[u8]) -> bool
+        requires { cut_line pending.now ≡ None }
+        ensures yes { IsTrue result → (left : List ℕ) → IsLine Line.TooLong pending.now left }
+        ensures no { result ≡ false → length pending.now ≤ line_limit + 1 }
+        ensures some { IsTrue result → 0 < length pending.now }
+    {
+        pending.len() > MAX_LINE + 1 || pending.len() == MAX_LINE + 1 && pending[MAX_LINE] != b'\r'
+    }
+
+    /// The next line of the input, which reads as much as it takes to find its end, and uses nothing. An LF ends a
+    /// line, and so does the end of the input; a CR before the LF is no part of the line. A line that is too long is
+    /// told as soon as that is known, whether its end has been read or not.
+    pub fn next<R: Source>(input: &mut Input, reader: &mut R) -> Line
+        requires known { Knows input.old (R.remaining reader.old) }
+        ensures known { Knows input.new (R.remaining reader.new) }
+        ensures keeps { Keeps (unread input.old (R.remaining reader.old)) (unread input.new (R.remaining reader.new)) }
+        ensures fuel { fuel input.new ≤ fuel input.old }
+        ensures line { IfSome (R.remaining reader.new) (IsLine result input.new.pending) }
+        ensures within { IsWithin result input.new.pending }
+        ensures end { MatchEnd result (IsAtEnd (R.remaining reader.new)) (HasRisen (R.fault_count reader.old) (R.fault_count reader.new)) (input.new.turns ≡ 0) }
+    {
+        loop {
+            let pending = input.pending();
+            if let Some(at) = find_lf(pending) {
+                return Line::before(pending, at);
+            }
+            if Line::is_too_long(pending) {
+                return Line::TooLong;
+            }
+            match input.fill(reader) {
+                Filled::More => {}
+                Filled::Ended => return Line::last(input.pending()),
+                Filled::Failed => return Line::Failed,
+                Filled::Spent => return Line::Spent,
+            }
+        }
+    }
+}

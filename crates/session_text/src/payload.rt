@@ -1,0 +1,83 @@
+//! The counted octets of a session's input.
+ghost use Rattle.std.specs.Prelude.{◌≡◌, ◌≤◌, ◌++◌, [], IfSome};
+ghost use Rattle.std.specs.Option.{option_map};
+ghost use Rattle.sieve_base.specs.Devices.{HasRisen};
+ghost use Rattle.session_text.specs.view.Input.{unread, fuel, Knows};
+ghost use Rattle.session_text.specs.view.Payload.{MatchTaken, Grows, Takes, FallsShort, octets_kept};
+
+use crate::input::{Filled, Input};
+use sieve_base::Source;
+use std::alloc::Global;
+
+/// How taking octets went.
+#[derive(Drop)]
+pub enum Taken {
+    /// All of them came. They are kept where that was asked for and memory wasn't refused.
+    Whole { kept: Option<Vec<u8>> },
+    /// The input ended before.
+    Truncated,
+    /// The input can't be read.
+    Failed,
+    /// No more reads may be made.
+    Spent,
+}
+
+/// What is kept, with more octets, if memory isn't refused.
+fn with_more(kept: Option<Vec<u8>>, octets: &[u8]) -> Option<Vec<u8>>
+    ensures { Grows (option_map octets_kept kept) (option_map octets_kept result) octets.now }
+{
+    let mut kept = kept?;
+    match kept.extend_from_slice(octets) {
+        Ok(()) => Some(kept),
+        Err(_) => None,
+    }
+}
+
+/// The vector that octets are kept in, where they are, if memory isn't refused.
+fn room_for(alloc: Global, count: usize, keep: bool) -> Option<Vec<u8>>
+    ensures { IfSome result (λ kept. kept.items ≡ []) }
+{
+    if keep {
+        Vec::with_capacity(alloc, count).ok()
+    } else {
+        None
+    }
+}
+
+/// Uses the next `count` octets of the input, and keeps a copy of them where `keep` is true. Where memory is refused for
+/// the copy, the octets are used all the same, and none are kept.
+#[tactic(auto, using(crate::proofs::Taking::taking))]
+pub fn take_octets<R: Source>(
+    alloc: Global,
+    input: &mut Input,
+    reader: &mut R,
+    count: usize,
+    keep: bool,
+) -> Taken
+    requires known { Knows input.old (R.remaining reader.old) }
+    ensures known { Knows input.new (R.remaining reader.new) }
+    ensures fuel { fuel input.new ≤ fuel input.old }
+    ensures taken { MatchTaken result
+        (λ kept. Takes count (unread input.old (R.remaining reader.old)) (unread input.new (R.remaining reader.new)) (option_map octets_kept kept))
+        (FallsShort count (unread input.old (R.remaining reader.old)) (R.remaining reader.new))
+        (HasRisen (R.fault_count reader.old) (R.fault_count reader.new))
+        (input.new.turns ≡ 0) }
+{
+    let mut kept = room_for(alloc, count, keep);
+    let mut left = count;
+    while left > 0 {
+        match input.refresh(reader) {
+            Filled::More => {}
+            Filled::Ended => return Taken::Truncated,
+            Filled::Failed => return Taken::Failed,
+            Filled::Spent => return Taken::Spent,
+        }
+        let pending = input.pending();
+        let part = pending.len().min(left);
+        let (front, _) = pending.split_at(part);
+        kept = with_more(kept, front);
+        input.consume(part);
+        left -= part;
+    }
+    Taken::Whole { kept }
+}

@@ -1,0 +1,383 @@
+//! The lines of a session: what their words ask for. None of it takes memory.
+ghost use Rattle.std.specs.Prelude.{◌≡◌, ◌≢◌, ◌<◌, ◌≤◌, ◌∷◌, take, drop, slice_index, None, Some, length, IsTrue, ◌↔◌, MatchOption, []};
+ghost use Rattle.std.specs.List.{list_all};
+ghost use Rattle.std.specs.Option.{option_map};
+ghost use Rattle.session_text.specs.SessionLine.{is_plain, outside, spot_behind, is_gap, piece_length, line_words};
+ghost use Rattle.session_text.specs.SessionLine.{is_text, place_of, count_of, last_count, named, last_name, last_value, script_command, message_command, rename_command, envelope_command, main_command, drop_script_command, name_command, value_command, lone_command, command_by, command_of_line};
+ghost use Rattle.session_text.specs.view.Command.{command_as, spot_as};
+
+use crate::word::Word;
+use sieve_base::Place;
+
+/// What a line asks for. The words are those of the line, and no copies.
+#[derive(Drop)]
+pub enum Command<'a> {
+    /// The line has no words.
+    Nothing,
+    /// To put a script, whose text is the next `count` octets.
+    Script {
+        place: Place,
+        name: Word<'a>,
+        count: u64,
+    },
+    /// To put a message, which is the next `count` octets.
+    Message {
+        id: Word<'a>,
+        count: u64,
+    },
+    /// To make a script main.
+    Main {
+        place: Place,
+        name: Word<'a>,
+    },
+    /// To leave no script main.
+    NoMain,
+    /// To rename a script.
+    Rename {
+        place: Place,
+        name: Word<'a>,
+        new_place: Place,
+        new_name: Word<'a>,
+    },
+    /// To remove a script.
+    DropScript {
+        place: Place,
+        name: Word<'a>,
+    },
+    /// To remove a message.
+    DropMessage {
+        id: Word<'a>,
+    },
+    /// To set the envelope's addresses.
+    Envelope {
+        from: Word<'a>,
+        to: Word<'a>,
+    },
+    /// To set the mailbox.
+    Mailbox {
+        mailbox: Word<'a>,
+    },
+    /// To report.
+    Report,
+}
+
+/// Whether an octet may stand in a line: a visible one of ASCII, or a space.
+fn is_plain_octet(octet: u8) -> bool
+    ensures { result ≡ is_plain octet }
+{
+    matches!(octet, 32..=126)
+}
+
+/// How many spaces a line begins with.
+fn leading_spaces(line: &[u8]) -> usize
+    ensures within { result ≤ length line.now }
+    ensures words { line_words (drop result line.now) ≡ line_words line.now }
+    ensures stops { slice_index (drop result line.now) 0 ≢ 32 }
+{
+    for (i, octet) in line.iter().enumerate() {
+        if *octet != b' ' {
+            return i;
+        }
+    }
+    line.len()
+}
+
+/// Where an octet of a line stands.
+#[derive(Clone, Copy)]
+pub(crate) enum Spot {
+    /// Outside quotes.
+    Outside,
+    /// Inside quotes.
+    Inside,
+    /// Behind a backslash inside quotes.
+    Escaped,
+}
+
+/// Where the octet behind an octet stands.
+fn spot_behind(spot: Spot, octet: u8) -> Spot
+    ensures { spot_as result ≡ spot_behind (spot_as spot) octet }
+{
+    match spot {
+        Spot::Outside => match octet {
+            b'"' => Spot::Inside,
+            _ => Spot::Outside,
+        },
+        Spot::Inside => match octet {
+            b'"' => Spot::Outside,
+            b'\\' => Spot::Escaped,
+            _ => Spot::Inside,
+        },
+        Spot::Escaped => Spot::Inside,
+    }
+}
+
+/// Whether an octet there is a space between words.
+fn is_gap(spot: Spot, octet: u8) -> bool
+    ensures { result ≡ is_gap (spot_as spot) octet }
+{
+    match spot {
+        Spot::Outside => octet == b' ',
+        Spot::Inside | Spot::Escaped => false,
+    }
+}
+
+/// How many octets stand before the first space that is outside quotes.
+fn word_len(line: &[u8]) -> usize
+    ensures value { result ≡ piece_length outside line.now }
+    ensures within { result ≤ length line.now }
+{
+    let mut spot = Spot::Outside;
+    for (i, octet) in line.iter().enumerate() {
+        if is_gap(spot, *octet) {
+            return i;
+        }
+        spot = spot_behind(spot, *octet);
+    }
+    line.len()
+}
+
+/// The first word of a line, and what is behind it.
+fn next_word(line: &[u8]) -> Option<(&[u8], &[u8])>
+    ensures { MatchOption result (line_words line.now ≡ []) (λ cut. line_words line.now ≡ cut.0.now ∷ line_words cut.1.now) }
+{
+    let (_, line) = line.split_at(leading_spaces(line));
+    if line.is_empty() {
+        return None;
+    }
+    Some(line.split_at(word_len(line)))
+}
+
+/// Whether a word is this text.
+#[tactic(auto, unfolding(crate::specs::SessionLine::is_text))]
+fn is_text(word: &[u8], text: &[u8]) -> bool
+    ensures { result ≡ is_text text.now word.now }
+{
+    word == text
+}
+
+/// The place of that name.
+fn place_of(word: &[u8]) -> Option<Place>
+    ensures { result ≡ place_of word.now }
+{
+    if is_text(word, b"personal") {
+        Some(Place::Personal)
+    } else if is_text(word, b"global") {
+        Some(Place::Global)
+    } else {
+        None
+    }
+}
+
+/// The value of a count: one to nine digits.
+fn count_of(word: &[u8]) -> Option<u64>
+    ensures { result ≡ count_of word.now }
+{
+    if word.is_empty() || word.len() > 9 {
+        return None;
+    }
+    let mut value = 0u64;
+    for octet in word {
+        if !octet.is_ascii_digit() {
+            return None;
+        }
+        value = value * 10 + u64::from(*octet - b'0');
+    }
+    Some(value)
+}
+
+/// Whether nothing but spaces is left.
+fn is_over(line: &[u8]) -> bool
+    ensures { IsTrue result ↔ (line_words line.now ≡ []) }
+{
+    next_word(line).is_none()
+}
+
+/// The value of a count that is the last word.
+fn last_count(line: &[u8]) -> Option<u64>
+    ensures { result ≡ last_count (line_words line.now) }
+{
+    let (count, line) = next_word(line)?;
+    if is_over(line) { count_of(count) } else { None }
+}
+
+/// The script of a place and a name.
+fn named<'a>(place: &[u8], name: &'a [u8]) -> Option<(Place, Word<'a>)>
+    ensures { result ≡ named place.now name.now }
+{
+    let place = place_of(place)?;
+    let name = Word::new(name)?;
+    Some((place, name))
+}
+
+/// A place and a name that are the last words.
+fn last_name(line: &[u8]) -> Option<(Place, Word<'_>)>
+    ensures { result ≡ last_name (line_words line.now) }
+{
+    let (place, line) = next_word(line)?;
+    let (name, line) = next_word(line)?;
+    if is_over(line) {
+        named(place, name)
+    } else {
+        None
+    }
+}
+
+/// What the last word stands for.
+fn last_value(line: &[u8]) -> Option<Word<'_>>
+    ensures { result ≡ last_value (line_words line.now) }
+{
+    let (word, line) = next_word(line)?;
+    if is_over(line) { Word::new(word) } else { None }
+}
+
+/// What `script PLACE NAME N` asks for, behind its first word.
+fn script_command(line: &[u8]) -> Option<Command<'_>>
+    ensures { option_map command_as result ≡ script_command (line_words line.now) }
+{
+    let (place, line) = next_word(line)?;
+    let (name, line) = next_word(line)?;
+    let (place, name) = named(place, name)?;
+    let count = last_count(line)?;
+    Some(Command::Script { place, name, count })
+}
+
+/// What `message ID N` asks for, behind its first word.
+fn message_command(line: &[u8]) -> Option<Command<'_>>
+    ensures { option_map command_as result ≡ message_command (line_words line.now) }
+{
+    let (id, line) = next_word(line)?;
+    let id = Word::new(id)?;
+    let count = last_count(line)?;
+    Some(Command::Message { id, count })
+}
+
+/// What `rename PLACE NAME PLACE NAME` asks for, behind its first word.
+fn rename_command(line: &[u8]) -> Option<Command<'_>>
+    ensures { option_map command_as result ≡ rename_command (line_words line.now) }
+{
+    let (place, line) = next_word(line)?;
+    let (name, line) = next_word(line)?;
+    let (place, name) = named(place, name)?;
+    let (new_place, new_name) = last_name(line)?;
+    Some(Command::Rename {
+        place,
+        name,
+        new_place,
+        new_name,
+    })
+}
+
+/// What `envelope FROM TO` asks for, behind its first word.
+fn envelope_command(line: &[u8]) -> Option<Command<'_>>
+    ensures { option_map command_as result ≡ envelope_command (line_words line.now) }
+{
+    let (from, line) = next_word(line)?;
+    let from = Word::new(from)?;
+    let to = last_value(line)?;
+    Some(Command::Envelope { from, to })
+}
+
+/// What `main PLACE NAME` asks for, behind its first word.
+fn main_command(line: &[u8]) -> Option<Command<'_>>
+    ensures { option_map command_as result ≡ main_command (line_words line.now) }
+{
+    let (place, name) = last_name(line)?;
+    Some(Command::Main { place, name })
+}
+
+/// What `drop-script PLACE NAME` asks for, behind its first word.
+fn drop_script_command(line: &[u8]) -> Option<Command<'_>>
+    ensures { option_map command_as result ≡ drop_script_command (line_words line.now) }
+{
+    let (place, name) = last_name(line)?;
+    Some(Command::DropScript { place, name })
+}
+
+/// What a line with a place and a name behind its first word asks for.
+fn name_command<'a>(word: &[u8], line: &'a [u8]) -> Option<Command<'a>>
+    ensures { option_map command_as result ≡ name_command word.now (line_words line.now) }
+{
+    if is_text(word, b"main") {
+        main_command(line)
+    } else if is_text(word, b"drop-script") {
+        drop_script_command(line)
+    } else {
+        None
+    }
+}
+
+/// What a line with one word behind its first asks for.
+fn value_command<'a>(word: &[u8], line: &'a [u8]) -> Option<Command<'a>>
+    ensures { option_map command_as result ≡ value_command word.now (line_words line.now) }
+{
+    if is_text(word, b"drop-message") {
+        let id = last_value(line)?;
+        Some(Command::DropMessage { id })
+    } else if is_text(word, b"mailbox") {
+        let mailbox = last_value(line)?;
+        Some(Command::Mailbox { mailbox })
+    } else {
+        name_command(word, line)
+    }
+}
+
+/// What a line of one word asks for.
+fn lone_command<'a>(word: &[u8], line: &'a [u8]) -> Option<Command<'a>>
+    ensures { option_map command_as result ≡ lone_command word.now (line_words line.now) }
+{
+    if is_text(word, b"no-main") {
+        if is_over(line) {
+            Some(Command::NoMain)
+        } else {
+            None
+        }
+    } else if is_text(word, b"report") {
+        if is_over(line) {
+            Some(Command::Report)
+        } else {
+            None
+        }
+    } else {
+        value_command(word, line)
+    }
+}
+
+/// What a line of some words asks for.
+fn command_by<'a>(word: &[u8], line: &'a [u8]) -> Option<Command<'a>>
+    ensures { option_map command_as result ≡ command_by word.now (line_words line.now) }
+{
+    if is_text(word, b"script") {
+        script_command(line)
+    } else if is_text(word, b"message") {
+        message_command(line)
+    } else if is_text(word, b"rename") {
+        rename_command(line)
+    } else if is_text(word, b"envelope") {
+        envelope_command(line)
+    } else {
+        lone_command(word, line)
+    }
+}
+
+/// What a line, without its LF and the CR before it, asks for. `None` where it is none of the lines that there are: for
+/// an octet that is neither a visible one of ASCII nor a space, an unknown first word, a word that is ill quoted, too
+/// few words or too many, or a count that isn't one to nine digits. Takes no memory.
+#[tactic(auto, unfolding(crate::specs::SessionLine::command_of_line))]
+pub fn command_of_line(line: &[u8]) -> Option<Command<'_>>
+    ensures { option_map command_as result ≡ command_of_line line.now }
+{
+    if !is_plain(line) {
+        return None;
+    }
+    match next_word(line) {
+        None => Some(Command::Nothing),
+        Some((word, line)) => command_by(word, line),
+    }
+}
+
+/// Whether a line has visible octets of ASCII and spaces alone.
+fn is_plain(line: &[u8]) -> bool
+    ensures { result ≡ list_all is_plain line.now }
+{
+    line.iter().all(|octet| is_plain_octet(*octet))
+}

@@ -1,0 +1,271 @@
+//! The words of a session's lines that may be quoted. Reading them takes no memory, and copying their octets does.
+ghost use Rattle.std.specs.Prelude.{◌≡◌, ◌<◌, ◌≤◌, ℕ, IfOk, Some, None, IfSome, is_some, length, take, drop, [], false, true, IsTrue, ◌↔◌};
+ghost use Rattle.std.specs.List.{list_all};
+ghost use Rattle.session_text.specs.SessionLine.{is_bare, hex_digit_value, hex_octet, behind, quoted_value, escaped_value, hex_octets, word_value};
+ghost use Rattle.session_text.specs.view.Word.{MatchNext};
+
+use sieve_base::Octets;
+use std::alloc::{AllocError, Global};
+use std::marker::Model;
+
+/// Whether an octet may stand in a bare word: a visible one of ASCII but the quote and the backslash.
+fn is_bare(octet: u8) -> bool
+    ensures { result ≡ is_bare octet }
+{
+    match octet {
+        b'"' | b'\\' => false,
+        33..=126 => true,
+        _ => false,
+    }
+}
+
+/// Whether all octets may stand in a bare word.
+fn are_bare(octets: &[u8]) -> bool
+    ensures { result ≡ list_all is_bare octets.now }
+{
+    octets.iter().all(|octet| is_bare(*octet))
+}
+
+/// The value of a hexadecimal digit, in either case.
+fn hex_digit_value(octet: u8) -> Option<u8>
+    ensures value { result ≡ hex_digit_value octet }
+    ensures small { IfSome result (λ value. value < 16) }
+{
+    match octet {
+        b'0'..=b'9' => Some(octet - b'0'),
+        b'A'..=b'F' => Some(octet - b'A' + 10),
+        b'a'..=b'f' => Some(octet - b'a' + 10),
+        _ => None,
+    }
+}
+
+/// The octet of two hexadecimal digits.
+fn hex_octet(high: u8, low: u8) -> Option<u8>
+    ensures { result ≡ hex_octet high low }
+{
+    let high = hex_digit_value(high)?;
+    let low = hex_digit_value(low)?;
+    Some(16 * high + low)
+}
+
+/// What a quoted word has next, behind its first quote.
+#[derive(Drop)]
+pub(crate) enum Next<'a> {
+    /// It ends.
+    End,
+    /// An octet, and what is behind it.
+    Octet { octet: u8, rest: &'a [u8] },
+    /// Nothing that there is.
+    Wrong,
+}
+
+/// What is behind a backslash and an `x`.
+#[tactic(auto, unfolding(crate::specs::SessionLine::hex_octets))]
+fn next_hex(rest: &[u8]) -> Next<'_>
+    ensures { MatchNext result ⊥
+        (λ octet left. (hex_octets rest.now ≡ behind octet (quoted_value left)) × (length left < length rest.now))
+        (hex_octets rest.now ≡ None) }
+{
+    let [high, low, rest @ ..] = rest else {
+        return Next::Wrong;
+    };
+    match hex_octet(*high, *low) {
+        Some(octet) => Next::Octet { octet, rest },
+        None => Next::Wrong,
+    }
+}
+
+/// What is behind a backslash.
+#[tactic(auto, unfolding(crate::specs::SessionLine::escaped_value))]
+fn next_escaped(rest: &[u8]) -> Next<'_>
+    ensures { MatchNext result ⊥
+        (λ octet left. (escaped_value rest.now ≡ behind octet (quoted_value left)) × (length left < length rest.now))
+        (escaped_value rest.now ≡ None) }
+{
+    let [octet, rest @ ..] = rest else {
+        return Next::Wrong;
+    };
+    match *octet {
+        b'"' | b'\\' => Next::Octet {
+            octet: *octet,
+            rest,
+        },
+        b'x' => next_hex(rest),
+        _ => Next::Wrong,
+    }
+}
+
+/// What a quoted word has next, behind its first quote.
+#[tactic(auto, unfolding(crate::specs::SessionLine::quoted_value))]
+fn next_octet(rest: &[u8]) -> Next<'_>
+    ensures { MatchNext result (quoted_value rest.now ≡ Some [])
+        (λ octet left. (quoted_value rest.now ≡ behind octet (quoted_value left)) × (length left < length rest.now))
+        (quoted_value rest.now ≡ None) }
+{
+    let [octet, rest @ ..] = rest else {
+        return Next::Wrong;
+    };
+    match *octet {
+        b'"' => {
+            if rest.is_empty() {
+                Next::End
+            } else {
+                Next::Wrong
+            }
+        }
+        b'\\' => next_escaped(rest),
+        octet => Next::Octet { octet, rest },
+    }
+}
+
+/// Whether the octets behind a quote make a quoted word.
+fn is_quoted(word: &[u8]) -> bool
+    ensures { result ≡ is_some (quoted_value word.now) }
+{
+    let mut rest = word;
+    loop {
+        match next_octet(rest) {
+            Next::End => return true,
+            Next::Octet { rest: left, .. } => rest = left,
+            Next::Wrong => return false,
+        }
+    }
+}
+
+/// A copy of the octets that a quoted word stands for, behind its first quote.
+fn copied_quoted(alloc: Global, word: &[u8]) -> Result<Vec<u8>, AllocError>
+    requires { is_some (quoted_value word.now) ≡ true }
+    ensures { IfOk result (λ octets. quoted_value word.now ≡ Some octets.items) }
+{
+    let mut octets = Vec::new(alloc);
+    let mut rest = word;
+    loop {
+        match next_octet(rest) {
+            Next::End => return Ok(octets),
+            Next::Octet { octet, rest: left } => {
+                octets.push(octet)?;
+                rest = left;
+            }
+            Next::Wrong => unreachable!(),
+        }
+    }
+}
+
+/// How many octets a quoted word stands for, behind its first quote.
+fn quoted_len(word: &[u8]) -> usize
+    ensures { IfSome (quoted_value word.now) (λ octets. length octets ≡ result) }
+{
+    let mut rest = word;
+    let mut count = 0;
+    while let Next::Octet { rest: left, .. } = next_octet(rest) {
+        count += 1;
+        rest = left;
+    }
+    count
+}
+
+/// Whether a quoted word, behind its first quote, stands for these octets.
+fn is_quoted_as(word: &[u8], octets: &[u8]) -> bool
+    ensures { IsTrue result ↔ (quoted_value word.now ≡ Some octets.now) }
+{
+    let mut rest = word;
+    let mut expected = octets;
+    loop {
+        match next_octet(rest) {
+            Next::End => return expected.is_empty(),
+            Next::Octet { octet, rest: left } => {
+                let [first, others @ ..] = expected else {
+                    return false;
+                };
+                if *first != octet {
+                    return false;
+                }
+                rest = left;
+                expected = others;
+            }
+            Next::Wrong => return false,
+        }
+    }
+}
+
+/// A word of a line that may be quoted. Contracts see the octets that it stands for.
+#[derive(Drop)]
+pub struct Word<'a> {
+    written: &'a [u8],
+}
+
+impl<'a> Model for Word<'a> {
+    ghost use Rattle.std.specs.Prelude.{◌≡◌, ℕ, List, [], is_some, true};
+    ghost use Rattle.session_text.specs.SessionLine.{word_value};
+    ghost use Rattle.session_text.specs.view.Word.{octets_if_any};
+
+    ghost Value = { List ℕ };
+
+    ghost view = { λ a. octets_if_any (word_value a.written.now) };
+
+    ghost invariant = { λ a. is_some (word_value a.written.now) ≡ true };
+}
+
+impl<'a> Word<'a> {
+    /// The word that is written so, if it is one.
+    #[tactic(auto, unfolding(crate::specs::SessionLine::word_value))]
+    pub(crate) fn new(written: &'a [u8]) -> Option<Word<'a>>
+        ensures { result ≡ word_value written.now }
+    {
+        let is_word = match written {
+            [] => false,
+            [b'"', rest @ ..] => is_quoted(rest),
+            bare => are_bare(bare),
+        };
+        if is_word {
+            Some(Word { written })
+        } else {
+            None
+        }
+    }
+
+    /// A copy of the octets that it stands for. An error is want of memory.
+    #[tactic(auto, unfolding(crate::specs::SessionLine::word_value))]
+    pub fn copied(&self, alloc: Global) -> Result<Octets, AllocError>
+        ensures { IfOk result (λ octets. octets ≡ self.now) }
+    {
+        match self.written {
+            [b'"', rest @ ..] => Ok(Octets::from_vec(copied_quoted(alloc, rest)?)),
+            bare => Octets::copied(alloc, bare),
+        }
+    }
+
+    /// How many octets it stands for. Takes no memory.
+    #[tactic(auto, unfolding(crate::specs::SessionLine::word_value))]
+    pub fn len(&self) -> usize
+        ensures { result ≡ length self.now }
+    {
+        match self.written {
+            [b'"', rest @ ..] => quoted_len(rest),
+            bare => bare.len(),
+        }
+    }
+
+    /// Whether it stands for these octets. Takes no memory.
+    #[tactic(auto, unfolding(crate::specs::SessionLine::word_value))]
+    pub fn is(&self, octets: &[u8]) -> bool
+        ensures { IsTrue result ↔ (self.now ≡ octets.now) }
+    {
+        match self.written {
+            [b'"', rest @ ..] => is_quoted_as(rest, octets),
+            bare => bare == octets,
+        }
+    }
+
+    /// The octets that it stands for, as they stand in the line, unless some of them are written otherwise: then there is none
+    /// such. Takes no memory.
+    pub fn as_written(&self) -> Option<&'a [u8]>
+        ensures { IfSome result (λ octets. octets.now ≡ self.now) }
+    {
+        let octets = match self.written {
+            [b'"', inner @ .., _] => inner,
+            bare => bare,
+        };
+        if self.is(octets) { Some(octets) } else { None }
+    }
+}

@@ -1,7 +1,0 @@
-use Rattle.std.proofs.Common.{◌≡◌, ◌<◌, ◌^◌, drop}
-use Rattle.sievebench.specs.SessionLine.{value_after}
-use Rattle.sievebench.proofs.session_line.count_of.Given as goal
-
--- the digits that are left make of the value so far what all make
-abbrev pub invariant-loop-octet : goal.invariant-loop-octet
-invariant-loop-octet l = (value_after l.value (drop l.octet-index l.word) ≡ value_after 0 l.word) × (l.value < 10 ^ l.octet-index)

@@ -1,8 +1,0 @@
-use Rattle.std.proofs.Common.{◌≡◌, ◌+◌, drop}
-use Rattle.sievebench.specs.SessionLine.{piece_length, outside}
-use Rattle.sievebench.specs.view.Command.{spot_as}
-use Rattle.sievebench.proofs.session_line.word_len.Given as goal
-
--- the octets so far, and those of what is left before the first such space
-abbrev pub invariant-loop-i : goal.invariant-loop-i
-invariant-loop-i l = piece_length outside l.line ≡ l.i + piece_length (spot_as l.spot) (drop l.i l.line)

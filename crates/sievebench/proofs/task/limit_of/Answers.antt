@@ -1,0 +1,8 @@
+use Rattle.std.proofs.Common.{refl}
+use Rattle.sievebench.proofs.task.limit_of.Goals as goal
+
+pub returns-in-Script : goal.returns-in-Script
+returns-in-Script c = rw c.in-Script.is refl
+
+pub returns-in-Message : goal.returns-in-Message
+returns-in-Message c = rw c.in-Message.is refl

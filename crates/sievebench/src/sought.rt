@@ -1,0 +1,27 @@
+//! The id of a message, looked up where its octets stand.
+ghost use Rattle.std.specs.Prelude.{nat_eq};
+ghost use Rattle.std.proofs.Common.{ap};
+ghost use Rattle.std.specs.Cmp.Lexicographic.{bytes_decides, nat_list_eq_equiv};
+ghost use Rattle.std.specs.Hash as fed;
+ghost use lib.Pointwise.{pointwise};
+
+use indexmap::Equivalent;
+use sieve_base::Octets;
+
+/// The octets of an id, which need not be copied to be looked up.
+#[derive(Clone, Copy, PartialEq, Eq, Hash)]
+pub(crate) struct Sought<'a> {
+    pub(crate) octets: &'a [u8],
+}
+
+impl Equivalent<Octets> for Sought<'_> {
+    ghost equivalent = { λ sought id. pointwise nat_eq sought.octets.now id };
+
+    ghost respects_hash = { λ sought id same. ap (fed.slice fed.u8) ((bytes_decides sought.octets.now id).0 same) };
+
+    ghost respects_eq = { λ sought x y. nat_list_eq_equiv.congr sought.octets.now x y };
+
+    fn equivalent(&self, id: &Octets) -> bool {
+        self.octets == id.as_slice()
+    }
+}
