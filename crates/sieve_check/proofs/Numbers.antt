@@ -1,7 +1,13 @@
--- The numbers of the rules.
+-- The numbers of the rules, of the roles and of the kinds of tags.
 use Rattle.std.proofs.Common.{◌≡◌, ◌-◌, Some, refl, slice_get}
 use Rattle.sieve_check.specs.Breach.{all_rules}
 use Rattle.sieve_check.specs.Rule.{rule_number}
+use Rattle.sieve_check.specs.Role.{all_roles, role_number}
+use Rattle.sieve_check.specs.Use.{all_kinds, kind_number}
+use Rattle.sieve_check.specs.declared.row.Role.{Role}
+use Rattle.sieve_check.specs.declared.row.Role.TheVariants as role
+use Rattle.sieve_check.specs.declared.row.TagKind.{TagKind}
+use Rattle.sieve_check.specs.declared.row.TagKind.TheVariants as kind
 use Rattle.sieve_check.specs.declared.rule.Rule.{Rule}
 use Rattle.sieve_check.specs.declared.rule.Rule.TheVariants.{RequirePlace, UnknownCapability, UnknownCommand, NotRequired, ElsePlace, BadTag, BadArguments, UnknownComparator, BadVariableName, GlobalAfterSet, BadNamespace, MatchIndex, NumberTooLarge, BadEnvelopePart, NotAddressHeader, TooManyVariables}
 
@@ -22,3 +28,36 @@ rule_at NumberTooLarge = refl
 rule_at BadEnvelopePart = refl
 rule_at NotAddressHeader = refl
 rule_at TooManyVariables = refl
+
+pub role_at : (role : Role) → slice_get all_roles (role_number role) ≡ Some role
+role_at role.Capabilities = refl
+role_at role.ComparatorName = refl
+role_at role.FieldNames = refl
+role_at role.AddressFields = refl
+role_at role.EnvelopeParts = refl
+role_at role.Keys = refl
+role_at role.Limit = refl
+role_at role.Mailbox = refl
+role_at role.Address = refl
+role_at role.Flags = refl
+role_at role.NameToSet = refl
+role_at role.NamesToRead = refl
+role_at role.NamesToDeclare = refl
+role_at role.ScriptName = refl
+role_at role.Text = refl
+
+pub kind_at : (kind : TagKind) → slice_get all_kinds (kind_number kind) ≡ Some kind
+kind_at kind.Comparator = refl
+kind_at kind.MatchType = refl
+kind_at kind.AddressPart = refl
+kind_at kind.Bound = refl
+kind_at kind.Flags = refl
+kind_at kind.Location = refl
+kind_at kind.Once = refl
+kind_at kind.Optional = refl
+kind_at kind.Case = refl
+kind_at kind.FirstLetter = refl
+kind_at kind.QuoteWildcard = refl
+kind_at kind.Length = refl
+
+pub ruleset numbered = (role_at, kind_at)

@@ -23,6 +23,10 @@ role_number role.NamesToDeclare = 12
 role_number role.ScriptName = 13
 role_number role.Text = 14
 
+-- the roles in the order of their numbers
+abbrev pub all_roles : List Role
+all_roles = role.Capabilities ∷ role.ComparatorName ∷ role.FieldNames ∷ role.AddressFields ∷ role.EnvelopeParts ∷ role.Keys ∷ role.Limit ∷ role.Mailbox ∷ role.Address ∷ role.Flags ∷ role.NameToSet ∷ role.NamesToRead ∷ role.NamesToDeclare ∷ role.ScriptName ∷ role.Text ∷ []
+
 abbrev pub same_role : Role → Role → Bool
 same_role a b = nat_eq (role_number a) (role_number b)
 

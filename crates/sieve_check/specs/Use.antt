@@ -56,6 +56,10 @@ kind_number kind.FirstLetter = 9
 kind_number kind.QuoteWildcard = 10
 kind_number kind.Length = 11
 
+-- the kinds in the order of their numbers
+abbrev pub all_kinds : List TagKind
+all_kinds = kind.Comparator ∷ kind.MatchType ∷ kind.AddressPart ∷ kind.Bound ∷ kind.Flags ∷ kind.Location ∷ kind.Once ∷ kind.Optional ∷ kind.Case ∷ kind.FirstLetter ∷ kind.QuoteWildcard ∷ kind.Length ∷ []
+
 abbrev pub same_kind : TagKind → TagKind → Bool
 same_kind a b = nat_eq (kind_number a) (kind_number b)
 

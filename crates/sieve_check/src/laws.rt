@@ -12,9 +12,13 @@ ghost use Rattle.sieve_check.specs.Element.{elements_of};
 ghost use Rattle.sieve_check.specs.Order.{IsInTextOrder};
 ghost use Rattle.sieve_check.specs.Parted.{parted};
 ghost use Rattle.sieve_check.specs.Readable.{IsReadable, DoesAll};
+ghost use Rattle.sieve_check.specs.Role.{all_roles, role_number};
 ghost use Rattle.sieve_check.specs.Rule.{rule_number};
 ghost use Rattle.sieve_check.specs.Table.{command_named, command_row, test_named, test_row};
 ghost use Rattle.sieve_check.specs.Tree as checked;
+ghost use Rattle.sieve_check.specs.Use.{all_kinds, kind_number};
+ghost use Rattle.sieve_check.specs.declared.row.Role.{Role};
+ghost use Rattle.sieve_check.specs.declared.row.TagKind.{TagKind};
 ghost use Rattle.sieve_check.specs.declared.rule.Rule.{Rule};
 ghost use Rattle.sieve_check.specs.declared.table.CommandKind.{CommandKind};
 ghost use Rattle.sieve_check.specs.declared.table.TestKind.{TestKind};
@@ -32,6 +36,13 @@ pub fn first_breach_is_least()
 pub fn rules_go_by_their_numbers()
     ensures order { (rule : Rule) → slice_get all_rules (rule_number rule - 1) ≡ Some rule }
     ensures all { length all_rules ≡ 16 }
+{}
+
+/// Roles and kinds of tags have numbers of their own, by which the definitions tell them apart.
+#[tactic(auto, using(crate::proofs::Numbers::numbered))]
+pub fn numbers_tell_roles_and_kinds()
+    ensures roles { (role : Role) → slice_get all_roles (role_number role) ≡ Some role }
+    ensures kinds { (kind : TagKind) → slice_get all_kinds (kind_number kind) ≡ Some kind }
 {}
 
 /// Each command and each test is found by the name of its row.
