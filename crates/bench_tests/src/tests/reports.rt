@@ -46,11 +46,11 @@ pub(super) fn report_text(alloc: Global, line: &[u8], lines: &[u8]) -> Result<Ve
 }
 
 /// Reports a script on one message, and compares.
-fn check_verdict(
+fn check_verdict<'a>(
     rt: &(impl AllocGlobal + Abort),
-    script: &[u8],
-    message: &[u8],
-    text: &[u8],
+    script: &'a [u8],
+    message: &'a [u8],
+    text: &'a [u8],
 ) -> Result<(), Fail> {
     check_stages(
         rt,

@@ -117,36 +117,54 @@ fn ending_in(alloc: Global, count: usize, last: u8) -> Result<Vec<u8>, AllocErro
     Ok(octets)
 }
 
-/// Searches a value for a key under i;octet and under i;ascii-casemap.
-fn found_in(alloc: Global, value: &[u8], key: &[u8]) -> Result<(bool, bool), AllocError> {
-    let octet = contains_in::<Octet>(alloc, value, key)?;
-    let casemap = contains_in::<AsciiCasemap>(alloc, value, key)?;
-    Ok((octet, casemap))
-}
-
-/// Searches a value for a key of 50,001 octets, and compares.
-fn check_long(
+/// Searches a value for a key, and compares.
+fn check_in<C: Comparator>(
     rt: &(impl AllocGlobal + Abort),
     value: &[u8],
-    last: u8,
-    wanted: (bool, bool),
+    key: &[u8],
+    wanted: bool,
 ) -> Result<(), Fail> {
-    let key = ending_in(rt.alloc(), 50_000, last)?;
-    assert_eq!(rt; found_in(rt.alloc(), value, &key)?, wanted);
+    assert_eq!(rt; contains_in::<C>(rt.alloc(), value, key)?, wanted);
     Ok(())
 }
 
-fn check_long_keys(rt: &(impl AllocGlobal + Abort), value: &[u8]) -> Result<(), Fail> {
-    check_long(rt, value, b'b', (true, true))?;
-    check_long(rt, value, b'B', (false, true))?;
-    check_long(rt, value, b'c', (false, false))
+fn check_both(
+    rt: &(impl AllocGlobal + Abort),
+    value: &[u8],
+    key: &[u8],
+    octet: bool,
+    casemap: bool,
+) -> Result<(), Fail> {
+    check_in::<Octet>(rt, value, key, octet)?;
+    check_in::<AsciiCasemap>(rt, value, key, casemap)
+}
+
+/// Searches a value for keys of 50,001 octets, and compares.
+fn check_long_keys(
+    rt: &(impl AllocGlobal + Abort),
+    value: &[u8],
+    rows: &[(u8, bool, bool)],
+) -> Result<(), Fail> {
+    for (last, octet, casemap) in rows {
+        let key = ending_in(rt.alloc(), 50_000, *last)?;
+        check_both(rt, value, &key, *octet, *casemap)?;
+    }
+    Ok(())
 }
 
 // Keys of 50,001 octets, of which each place of the value but the last begins all but the end.
 #[test]
 fn long_keys_take_linear_time(rt: HostRuntime) -> Result<(), Fail> {
     let value = ending_in(rt.alloc(), 500_000, b'b')?;
-    check_long_keys(&rt, &value)
+    check_long_keys(
+        &rt,
+        &value,
+        &[
+            (b'b', true, true),
+            (b'B', false, true),
+            (b'c', false, false),
+        ],
+    )
 }
 
 #[test]

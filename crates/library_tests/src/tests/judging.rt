@@ -21,59 +21,56 @@ fn fault(alloc: Global, text: &[u8]) -> Result<Option<(u64, &'static [u8])>, Jud
 /// A text's first fault, by its line and its word.
 type Fault<'a> = Option<(u64, &'a [u8])>;
 
-const SOUND: Fault<'static> = None;
-
-const REQUIRE_PLACE: Fault<'static> = Some((1, b"require-place"));
-
-const BAD_TAG: Fault<'static> = Some((1, b"bad-tag"));
-
-const BAD_ARGUMENTS: Fault<'static> = Some((1, b"bad-arguments"));
+/// Judges a text, and compares its first fault.
+fn check_fault(
+    rt: &(impl AllocGlobal + Abort),
+    text: &[u8],
+    wanted: Fault<'_>,
+) -> Result<(), Fail> {
+    let got = fault(rt.alloc(), text)?;
+    assert_eq!(rt; got, wanted, "at {text:?}");
+    Ok(())
+}
 
 /// Judges each text, and compares its first fault.
-fn check_faults(rt: &(impl AllocGlobal + Abort), rows: &[(&[u8], Fault<'_>)]) -> Result<(), Fail> {
-    for (text, wanted) in rows {
-        let got = fault(rt.alloc(), *text)?;
-        assert_eq!(rt; got, *wanted, "at {text:?}");
+fn check_texts(
+    rt: &(impl AllocGlobal + Abort),
+    wanted: Fault<'_>,
+    texts: &[&[u8]],
+) -> Result<(), Fail> {
+    for text in texts {
+        check_fault(rt, *text, wanted)?;
+    }
+    Ok(())
+}
+
+/// Judges each text, and compares the line and the word of its first fault.
+fn check_faults(rt: &(impl AllocGlobal + Abort), rows: &[(&[u8], u64, &[u8])]) -> Result<(), Fail> {
+    for (text, line, word) in rows {
+        check_fault(rt, *text, Some((*line, *word)))?;
     }
     Ok(())
 }
 
 #[test]
 fn sound_texts(rt: HostRuntime) -> Result<(), Fail> {
-    check_faults(
+    check_texts(
         &rt,
+        None,
         &[
-            (b"", SOUND),
-            (b"KEEP;Discard;sToP;", SOUND),
-            (
-                b"require [\"comparator-i;octet\", \"comparator-i;ascii-casemap\"]; IF TRUE { KEEP; }",
-                SOUND,
-            ),
-            (b"if size :over 18446744073709551615 {}", SOUND),
-            (b"if size :over 17179869183G {}", SOUND),
-            (
-                b"if header :contains :comparator \"i;octet\" [\"a\"] \"b\" {} elsif exists \"c\" {} else {}",
-                SOUND,
-            ),
-            (
-                b"if anyof (allof (true, false), not exists [\"a\", \"b\"]) { stop; }",
-                SOUND,
-            ),
+            b"",
+            b"KEEP;Discard;sToP;",
+            b"require [\"comparator-i;octet\", \"comparator-i;ascii-casemap\"]; IF TRUE { KEEP; }",
+            b"if size :over 18446744073709551615 {}",
+            b"if size :over 17179869183G {}",
+            b"if header :contains :comparator \"i;octet\" [\"a\"] \"b\" {} elsif exists \"c\" {} else {}",
+            b"if anyof (allof (true, false), not exists [\"a\", \"b\"]) { stop; }",
             // Chains.
-            (b"if true {} elsif true {} elsif false {} else {}", SOUND),
-            (
-                b"if true {} else {} if true {} elsif true {} else {}",
-                SOUND,
-            ),
-            (b"if true {} if true {} else {}", SOUND),
-            (
-                b"if true { if true {} elsif true {} else {} } elsif true {} else {}",
-                SOUND,
-            ),
-            (
-                b"if true { keep; } else { if true {} } if true {} else {}",
-                SOUND,
-            ),
+            b"if true {} elsif true {} elsif false {} else {}",
+            b"if true {} else {} if true {} elsif true {} else {}",
+            b"if true {} if true {} else {}",
+            b"if true { if true {} elsif true {} else {} } elsif true {} else {}",
+            b"if true { keep; } else { if true {} } if true {} else {}",
         ],
     )
 }
@@ -83,71 +80,60 @@ fn places_and_names(rt: HostRuntime) -> Result<(), Fail> {
     check_faults(
         &rt,
         &[
-            (b"kep;\nrequire \"x\";", Some((1, b"unknown-command"))),
-            (
-                b"require \"vacation\";\nkeep;\nstop;\nkeep }",
-                Some((4, b"syntax")),
-            ),
+            (b"kep;\nrequire \"x\";", 1, b"unknown-command"),
+            (b"require \"vacation\";\nkeep;\nstop;\nkeep }", 4, b"syntax"),
             (
                 b"require \"vacation\";\nkeep;\nstop;\nkeep;",
-                Some((1, b"unknown-capability")),
+                1,
+                b"unknown-capability",
             ),
-            (
-                b"require \"Comparator-i;octet\";",
-                Some((1, b"unknown-capability")),
-            ),
-            (b"kep 18446744073709551616;", Some((1, b"unknown-command"))),
-            (b"if true\n{\nkep; }", Some((3, b"unknown-command"))),
-            (b"if anyof (true, foo) {}", Some((1, b"unknown-command"))),
+            (b"require \"Comparator-i;octet\";", 1, b"unknown-capability"),
+            (b"kep 18446744073709551616;", 1, b"unknown-command"),
+            (b"if true\n{\nkep; }", 3, b"unknown-command"),
+            (b"if anyof (true, foo) {}", 1, b"unknown-command"),
             // Strings and numbers have lines of their own.
             (
                 b"require [\"comparator-i;octet\",\n\"x\"];",
-                Some((2, b"unknown-capability")),
+                2,
+                b"unknown-capability",
             ),
             (
                 b"if header :comparator\n\"i;basic\" \"a\" \"b\" {}",
-                Some((2, b"unknown-comparator")),
+                2,
+                b"unknown-comparator",
             ),
-            (
-                b"if size :over\n\n17179869184G {}",
-                Some((3, b"number-too-large")),
-            ),
+            (b"if size :over\n\n17179869184G {}", 3, b"number-too-large"),
             (
                 b"if true {}\nelsif size :under\n17179869184G {}",
-                Some((3, b"number-too-large")),
+                3,
+                b"number-too-large",
             ),
             // Comparators and numbers.
             (
                 b"if header :comparator \"i;basic\" \"a\" \"b\" {}",
-                Some((1, b"unknown-comparator")),
+                1,
+                b"unknown-comparator",
             ),
             (
                 b"if header :comparator \"I;OCTET\" \"a\" \"b\" {}",
-                Some((1, b"unknown-comparator")),
+                1,
+                b"unknown-comparator",
             ),
-            (
-                b"if size :over 17179869184G {}",
-                Some((1, b"number-too-large")),
-            ),
+            (b"if size :over 17179869184G {}", 1, b"number-too-large"),
         ],
     )
 }
 
 #[test]
 fn requires_lead(rt: HostRuntime) -> Result<(), Fail> {
-    check_faults(
+    check_texts(
         &rt,
+        Some((1, b"require-place".as_slice())),
         &[
-            (b"keep; require \"comparator-i;octet\";", REQUIRE_PLACE),
-            (b"keep; require;", REQUIRE_PLACE),
-            (
-                b"if true { require \"comparator-i;octet\"; }",
-                REQUIRE_PLACE,
-            ),
-            (
-                b"require \"comparator-i;octet\"; keep; require \"comparator-i;octet\";",
-                REQUIRE_PLACE,
-            ),
+            b"keep; require \"comparator-i;octet\";",
+            b"keep; require;",
+            b"if true { require \"comparator-i;octet\"; }",
+            b"require \"comparator-i;octet\"; keep; require \"comparator-i;octet\";",
         ],
     )
 }
@@ -157,30 +143,31 @@ fn broken_chains(rt: HostRuntime) -> Result<(), Fail> {
     check_faults(
         &rt,
         &[
-            (b"else {}", Some((1, b"else-place"))),
-            (b"elsif true {}", Some((1, b"else-place"))),
-            (b"if true {} keep; elsif true {}", Some((1, b"else-place"))),
+            (b"else {}", 1, b"else-place"),
+            (b"elsif true {}", 1, b"else-place"),
+            (b"if true {} keep; elsif true {}", 1, b"else-place"),
             (
                 b"if true {} elsif false {} else {} else {}",
-                Some((1, b"else-place")),
+                1,
+                b"else-place",
             ),
-            (
-                b"if true {} else {} elsif true {}",
-                Some((1, b"else-place")),
-            ),
+            (b"if true {} else {} elsif true {}", 1, b"else-place"),
             (
                 b"if true {} else {}\nif true {} else {}\nelse {}",
-                Some((3, b"else-place")),
+                3,
+                b"else-place",
             ),
-            (b"if true {\nelse {}\n}", Some((2, b"else-place"))),
-            (b"if true {\nelsif true {}\n}", Some((2, b"else-place"))),
+            (b"if true {\nelse {}\n}", 2, b"else-place"),
+            (b"if true {\nelsif true {}\n}", 2, b"else-place"),
             (
                 b"if true {\nif true {} else {}\nelsif true {}\n}\nelse {}",
-                Some((3, b"else-place")),
+                3,
+                b"else-place",
             ),
             (
                 b"if true {} else {\nif true {}\n}\nelse {}",
-                Some((4, b"else-place")),
+                4,
+                b"else-place",
             ),
         ],
     )
@@ -188,72 +175,68 @@ fn broken_chains(rt: HostRuntime) -> Result<(), Fail> {
 
 #[test]
 fn tags(rt: HostRuntime) -> Result<(), Fail> {
-    check_faults(
+    check_texts(
         &rt,
+        Some((1, b"bad-tag".as_slice())),
         &[
-            (b"if header \"Subject\" :is \"x\" {}", BAD_TAG),
-            (b"if header :is :contains \"a\" \"b\" {}", BAD_TAG),
-            (
-                b"if header :comparator \"i;octet\" :comparator \"i;octet\" \"a\" \"b\" {}",
-                BAD_TAG,
-            ),
-            (b"if size :over :under 1 {}", BAD_TAG),
-            (b"if size :over :over 1 {}", BAD_TAG),
-            (b"if size 1 :over {}", BAD_TAG),
-            (b"if size :is 1 {}", BAD_TAG),
-            (b"if exists :is \"a\" {}", BAD_TAG),
-            (b"if allof :is (true) {}", BAD_TAG),
-            (b"if anyof :over (true) {}", BAD_TAG),
-            (b"if not :is true {}", BAD_TAG),
-            (b"if :is true {}", BAD_TAG),
-            (b"keep :flags \"x\";", BAD_TAG),
+            b"if header \"Subject\" :is \"x\" {}",
+            b"if header :is :contains \"a\" \"b\" {}",
+            b"if header :comparator \"i;octet\" :comparator \"i;octet\" \"a\" \"b\" {}",
+            b"if size :over :under 1 {}",
+            b"if size :over :over 1 {}",
+            b"if size 1 :over {}",
+            b"if size :is 1 {}",
+            b"if exists :is \"a\" {}",
+            b"if allof :is (true) {}",
+            b"if anyof :over (true) {}",
+            b"if not :is true {}",
+            b"if :is true {}",
+            b"keep :flags \"x\";",
         ],
     )
 }
 
 #[test]
 fn arguments(rt: HostRuntime) -> Result<(), Fail> {
-    check_faults(
+    check_texts(
         &rt,
+        Some((1, b"bad-arguments".as_slice())),
         &[
-            (
-                b"if header :comparator [\"i;octet\"] \"a\" \"b\" {}",
-                BAD_ARGUMENTS,
-            ),
-            (b"if header \"a\" {}", BAD_ARGUMENTS),
-            (b"if header \"a\" \"b\" \"c\" {}", BAD_ARGUMENTS),
-            (b"if header 1 \"b\" {}", BAD_ARGUMENTS),
-            (b"if header \"a\" \"b\" true {}", BAD_ARGUMENTS),
-            (b"if size 1 {}", BAD_ARGUMENTS),
-            (b"if size :over {}", BAD_ARGUMENTS),
-            (b"if size :over \"1\" {}", BAD_ARGUMENTS),
-            (b"if size :over 1 2 {}", BAD_ARGUMENTS),
-            (b"if exists {}", BAD_ARGUMENTS),
-            (b"if exists 1 {}", BAD_ARGUMENTS),
-            (b"if exists \"a\" \"b\" {}", BAD_ARGUMENTS),
-            (b"if not {}", BAD_ARGUMENTS),
-            (b"if not (true) {}", BAD_ARGUMENTS),
-            (b"if not \"a\" true {}", BAD_ARGUMENTS),
-            (b"if allof {}", BAD_ARGUMENTS),
-            (b"if allof true {}", BAD_ARGUMENTS),
-            (b"if allof \"a\" (true) {}", BAD_ARGUMENTS),
-            (b"if anyof {}", BAD_ARGUMENTS),
-            (b"if anyof false {}", BAD_ARGUMENTS),
-            (b"if anyof 1 (false) {}", BAD_ARGUMENTS),
-            (b"if true \"a\" {}", BAD_ARGUMENTS),
-            (b"if false (true) {}", BAD_ARGUMENTS),
-            (b"if {}", BAD_ARGUMENTS),
-            (b"if (true) {}", BAD_ARGUMENTS),
-            (b"if \"a\" true {}", BAD_ARGUMENTS),
-            (b"if true;", BAD_ARGUMENTS),
-            (b"if true {} elsif {}", BAD_ARGUMENTS),
-            (b"if true {} else true {}", BAD_ARGUMENTS),
-            (b"if true {} else;", BAD_ARGUMENTS),
-            (b"stop {}", BAD_ARGUMENTS),
-            (b"stop true;", BAD_ARGUMENTS),
-            (b"discard (true);", BAD_ARGUMENTS),
-            (b"keep \"x\";", BAD_ARGUMENTS),
-            (b"stop 18446744073709551616;", BAD_ARGUMENTS),
+            b"if header :comparator [\"i;octet\"] \"a\" \"b\" {}",
+            b"if header \"a\" {}",
+            b"if header \"a\" \"b\" \"c\" {}",
+            b"if header 1 \"b\" {}",
+            b"if header \"a\" \"b\" true {}",
+            b"if size 1 {}",
+            b"if size :over {}",
+            b"if size :over \"1\" {}",
+            b"if size :over 1 2 {}",
+            b"if exists {}",
+            b"if exists 1 {}",
+            b"if exists \"a\" \"b\" {}",
+            b"if not {}",
+            b"if not (true) {}",
+            b"if not \"a\" true {}",
+            b"if allof {}",
+            b"if allof true {}",
+            b"if allof \"a\" (true) {}",
+            b"if anyof {}",
+            b"if anyof false {}",
+            b"if anyof 1 (false) {}",
+            b"if true \"a\" {}",
+            b"if false (true) {}",
+            b"if {}",
+            b"if (true) {}",
+            b"if \"a\" true {}",
+            b"if true;",
+            b"if true {} elsif {}",
+            b"if true {} else true {}",
+            b"if true {} else;",
+            b"stop {}",
+            b"stop true;",
+            b"discard (true);",
+            b"keep \"x\";",
+            b"stop 18446744073709551616;",
         ],
     )
 }
@@ -269,16 +252,16 @@ fn check_nested(
     wanted: Fault<'_>,
 ) -> Result<(), Fail> {
     let text = nested(rt.alloc(), front, part, count, b"", closed, end)?;
-    check_faults(rt, &[(text.as_slice(), wanted)])
+    check_fault(rt, text.as_slice(), wanted)
 }
 
 #[test]
 fn nested_blocks_and_tests(rt: HostRuntime) -> Result<(), Fail> {
     let too_deep = Some((33, b"syntax".as_slice()));
-    check_nested(&rt, b"", b"if true {\n", 32, b"}", b"", SOUND)?;
+    check_nested(&rt, b"", b"if true {\n", 32, b"}", b"", None)?;
     check_nested(&rt, b"", b"if true {\n", 33, b"}", b"", too_deep)?;
     let too_deep = Some((1, b"syntax".as_slice()));
-    check_nested(&rt, b"if ", b"not ", 31, b"", b"true {}", SOUND)?;
+    check_nested(&rt, b"if ", b"not ", 31, b"", b"true {}", None)?;
     check_nested(&rt, b"if ", b"not ", 32, b"", b"true {}", too_deep)
 }
 
