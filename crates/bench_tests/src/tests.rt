@@ -47,6 +47,11 @@ fn ended<R: Source, W: Sink>(
     }
 }
 
+/// The front of an input, for messages.
+fn front_of(input: &[u8]) -> &[u8] {
+    &input[..input.len().min(80)]
+}
+
 /// Serves a session on a bench, and compares what it writes and how it ends.
 fn check_session(
     rt: &(impl AllocGlobal + Abort),
@@ -56,16 +61,26 @@ fn check_session(
     wanted: SessionEnd,
 ) {
     let (output, end) = served(rt.alloc(), bench, input);
-    let front = &input[..input.len().min(80)];
-    assert_eq!(rt; output.as_slice(), text, "at {front:?}");
-    assert_eq!(rt; end, wanted, "at {front:?}");
+    let front = front_of(input);
+    assert_eq!(rt; (end, output.as_slice()), (wanted, text), "at {front:?}");
+}
+
+/// Serves a session on a new bench, and compares.
+fn check_row(
+    rt: &(impl AllocGlobal + Abort),
+    input: &[u8],
+    text: &[u8],
+    wanted: SessionEnd,
+) -> Result<(), Fail> {
+    let mut bench = Bench::new(rt.alloc())?;
+    check_session(rt, &mut bench, input, text, wanted);
+    Ok(())
 }
 
 /// Serves each session on a new bench, and compares.
 fn check_rows(rt: &(impl AllocGlobal + Abort), rows: &[Row<'_>]) -> Result<(), Fail> {
     for (input, text, wanted) in rows {
-        let mut bench = Bench::new(rt.alloc())?;
-        check_session(rt, &mut bench, *input, *text, *wanted);
+        check_row(rt, *input, *text, *wanted)?;
     }
     Ok(())
 }

@@ -16,10 +16,16 @@ fn counted(alloc: Global, front: &str, octets: &[u8]) -> Result<Vec<u8>, AllocEr
 
 /// A session that puts a script, which is main, and one message, and reports.
 fn session_of(alloc: Global, script: &[u8], message: &[u8]) -> Result<Vec<u8>, AllocError> {
-    let mut input = counted(alloc, "script personal main", script)?;
-    input.extend_from_slice(&counted(alloc, "message m", message)?)?;
-    input.extend_from_slice(b"main personal main\nreport\n")?;
-    Ok(input)
+    let script = counted(alloc, "script personal main", script)?;
+    let message = counted(alloc, "message m", message)?;
+    joined(
+        alloc,
+        &[
+            script.as_slice(),
+            message.as_slice(),
+            b"main personal main\nreport\n",
+        ],
+    )
 }
 
 /// Serves a session on a new bench, and compares its replies.
@@ -90,8 +96,8 @@ fn a_list_of_many_strings(rt: HostRuntime) -> Result<(), Fail> {
 
 #[test]
 fn a_command_of_many_arguments(rt: HostRuntime) -> Result<(), Fail> {
-    let mut script = Vec::from_slice(rt.alloc(), b"keep \"a\" [\"b\"]")?;
-    script.extend_from_slice(&nested(rt.alloc(), b" 1", 298, b";", b"")?)?;
+    let arguments = nested(rt.alloc(), b" 1", 298, b";", b"")?;
+    let script = joined(rt.alloc(), &[b"keep \"a\" [\"b\"]", arguments.as_slice()])?;
     check_served(
         &rt,
         script.as_slice(),
@@ -124,23 +130,30 @@ fn many_blocks_in_turn_and_in_each_other(rt: HostRuntime) -> Result<(), Fail> {
     check_served(&rt, depth.as_slice(), b"", OK, DISCARD)
 }
 
-/// So many messages of no octets, put by session, and the report of them.
-fn many_messages(alloc: Global, count: u32) -> Result<(Vec<u8>, Vec<u8>), AllocError> {
-    let mut input = Vec::new(alloc);
-    let mut listed = Vec::new(alloc);
+/// A text with each number below this one at each place of an `@`.
+fn numbered(alloc: Global, text: &[u8], count: u32) -> Result<Vec<u8>, AllocError> {
+    let mut out = Vec::new(alloc);
     for number in 0..count {
-        let line = format!(in alloc; "message {number} 0\n")?;
-        input.extend_from_slice(line.as_bytes())?;
-        let lines = format!(in alloc; "message \"{number}\"\n  implicit \"INBOX\"\n")?;
-        listed.extend_from_slice(lines.as_bytes())?;
+        push_numbered(&mut out, alloc, text, number)?;
     }
-    input.extend_from_slice(b"report\n")?;
-    Ok((input, listed))
+    Ok(out)
+}
+
+fn push_numbered(
+    out: &mut Vec<u8>,
+    alloc: Global,
+    text: &[u8],
+    number: u32,
+) -> Result<(), AllocError> {
+    let digits = format!(in alloc; "{number}")?;
+    push_filled(out, text, digits.as_bytes())
 }
 
 #[test]
 fn two_thousand_messages(rt: HostRuntime) -> Result<(), Fail> {
-    let (input, listed) = many_messages(rt.alloc(), 2_000)?;
+    let messages = numbered(rt.alloc(), b"message @ 0\n", 2_000)?;
+    let input = joined(rt.alloc(), &[messages.as_slice(), b"report\n"])?;
+    let listed = numbered(rt.alloc(), b"message \"@\"\n  implicit \"INBOX\"\n", 2_000)?;
     let answers = nested(rt.alloc(), b"ok\n", 2_000, b"", b"")?;
     let replies = joined(
         rt.alloc(),
@@ -157,6 +170,11 @@ fn two_thousand_messages(rt: HostRuntime) -> Result<(), Fail> {
 /// A text with this name at each place of an `@`.
 fn filled(alloc: Global, text: &[u8], name: &[u8]) -> Result<Vec<u8>, AllocError> {
     let mut out = Vec::new(alloc);
+    push_filled(&mut out, text, name)?;
+    Ok(out)
+}
+
+fn push_filled(out: &mut Vec<u8>, text: &[u8], name: &[u8]) -> Result<(), AllocError> {
     for octet in text {
         if *octet == b'@' {
             out.extend_from_slice(name)?;
@@ -164,7 +182,7 @@ fn filled(alloc: Global, text: &[u8], name: &[u8]) -> Result<Vec<u8>, AllocError
             out.push(*octet)?;
         }
     }
-    Ok(out)
+    Ok(())
 }
 
 #[test]

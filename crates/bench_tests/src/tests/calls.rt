@@ -1,112 +1,136 @@
-//! The edits of a bench, each with the answer that it must have.
+//! The edits of a bench, each with the answer that it must have, and the reports of what comes of them.
 
-use super::personal;
+use super::{check_report, personal};
 use sievebench::{Bench, EditFault, Octets, ScriptName};
-use std::alloc::{AllocError, Global};
+use std::alloc::Global;
 use std::process::Abort;
 use std::test::Fail;
 
-/// Puts a personal script, and compares the answer.
-pub(super) fn put_script(
-    rt: &(impl AllocGlobal + Abort),
-    bench: &mut Bench,
-    name: &[u8],
-    text: &[u8],
-    wanted: Result<(), EditFault>,
-) -> Result<(), Fail> {
-    let name = personal(rt.alloc(), name)?;
-    assert_eq!(rt; bench.put_script(&name, text), wanted);
-    Ok(())
+/// An edit. Its scripts are personal ones.
+#[derive(Clone, Copy, Debug)]
+pub(super) enum Edit<'a> {
+    PutScript(&'a [u8], &'a [u8]),
+    RemoveScript(&'a [u8]),
+    RenameScript(&'a [u8], &'a [u8]),
+    SetMain(&'a [u8]),
+    ClearMain,
+    PutMessage(&'a [u8], &'a [u8]),
+    RemoveMessage(&'a [u8]),
+    SetEnvelope(&'a [u8], &'a [u8]),
+    SetMailbox(&'a [u8]),
 }
 
-/// Two personal scripts' names.
-fn personals(
+/// An edit, and what it must answer.
+pub(super) type Answer<'a> = (Edit<'a>, Result<(), EditFault>);
+
+/// Edits in their order, and the report of the bench then, where one is made.
+pub(super) type Stage<'a> = (&'a [Answer<'a>], Option<&'a [u8]>);
+
+/// What is done with a script of this name.
+#[derive(Clone, Copy)]
+enum Use<'a> {
+    Put(&'a [u8]),
+    Remove,
+    Rename(&'a ScriptName),
+    Main,
+}
+
+fn used(bench: &mut Bench, name: &ScriptName, made: Use<'_>) -> Result<(), EditFault> {
+    match made {
+        Use::Put(text) => bench.put_script(name, text),
+        Use::Remove => bench.remove_script(name),
+        Use::Rename(to) => bench.rename_script(name, to),
+        Use::Main => bench.set_main(name),
+    }
+}
+
+fn use_script(
     alloc: Global,
-    first: &[u8],
-    second: &[u8],
-) -> Result<(ScriptName, ScriptName), AllocError> {
-    Ok((personal(alloc, first)?, personal(alloc, second)?))
+    bench: &mut Bench,
+    name: &[u8],
+    made: Use<'_>,
+) -> Result<(), EditFault> {
+    match personal(alloc, name) {
+        Ok(name) => used(bench, &name, made),
+        Err(_) => Err(EditFault::NoMemory),
+    }
 }
 
-/// Renames a personal script, and compares the answer.
-pub(super) fn rename_script(
-    rt: &(impl AllocGlobal + Abort),
+fn rename_script(
+    alloc: Global,
     bench: &mut Bench,
     from: &[u8],
     to: &[u8],
-    wanted: Result<(), EditFault>,
-) -> Result<(), Fail> {
-    let (from, to) = personals(rt.alloc(), from, to)?;
-    assert_eq!(rt; bench.rename_script(&from, &to), wanted);
-    Ok(())
+) -> Result<(), EditFault> {
+    match personal(alloc, to) {
+        Ok(to) => use_script(alloc, bench, from, Use::Rename(&to)),
+        Err(_) => Err(EditFault::NoMemory),
+    }
 }
 
-/// Removes a personal script, and compares the answer.
-pub(super) fn remove_script(
-    rt: &(impl AllocGlobal + Abort),
-    bench: &mut Bench,
-    name: &[u8],
-    wanted: Result<(), EditFault>,
-) -> Result<(), Fail> {
-    let name = personal(rt.alloc(), name)?;
-    assert_eq!(rt; bench.remove_script(&name), wanted);
-    Ok(())
-}
-
-/// Puts a message, and compares the answer.
-pub(super) fn put_message(
-    rt: &(impl AllocGlobal + Abort),
+/// Puts a message, or removes it where there are no octets.
+fn use_message(
+    alloc: Global,
     bench: &mut Bench,
     id: &[u8],
-    bytes: &[u8],
-    wanted: Result<(), EditFault>,
-) -> Result<(), Fail> {
-    let id = Octets::copied(rt.alloc(), id)?;
-    assert_eq!(rt; bench.put_message(&id, bytes), wanted);
-    Ok(())
+    octets: Option<&[u8]>,
+) -> Result<(), EditFault> {
+    match (Octets::copied(alloc, id), octets) {
+        (Ok(id), Some(octets)) => bench.put_message(&id, octets),
+        (Ok(id), None) => bench.remove_message(&id),
+        (Err(_), _) => Err(EditFault::NoMemory),
+    }
 }
 
-/// Removes a message, and compares the answer.
-pub(super) fn remove_message(
+/// Makes an edit.
+pub(super) fn edited(alloc: Global, bench: &mut Bench, edit: Edit<'_>) -> Result<(), EditFault> {
+    match edit {
+        Edit::PutScript(name, text) => use_script(alloc, bench, name, Use::Put(text)),
+        Edit::RemoveScript(name) => use_script(alloc, bench, name, Use::Remove),
+        Edit::RenameScript(from, to) => rename_script(alloc, bench, from, to),
+        Edit::SetMain(name) => use_script(alloc, bench, name, Use::Main),
+        Edit::ClearMain => {
+            bench.clear_main();
+            Ok(())
+        }
+        Edit::PutMessage(id, octets) => use_message(alloc, bench, id, Some(octets)),
+        Edit::RemoveMessage(id) => use_message(alloc, bench, id, None),
+        Edit::SetEnvelope(from, to) => bench.set_envelope(from, to),
+        Edit::SetMailbox(mailbox) => bench.set_mailbox(mailbox),
+    }
+}
+
+/// Makes each edit, and compares its answer.
+pub(super) fn check_edits(
     rt: &(impl AllocGlobal + Abort),
     bench: &mut Bench,
-    id: &[u8],
-    wanted: Result<(), EditFault>,
-) -> Result<(), Fail> {
-    let id = Octets::copied(rt.alloc(), id)?;
-    assert_eq!(rt; bench.remove_message(&id), wanted);
-    Ok(())
+    answers: &[Answer<'_>],
+) {
+    for (edit, wanted) in answers {
+        assert_eq!(rt; edited(rt.alloc(), bench, *edit), *wanted);
+    }
 }
 
-/// Makes a personal script main, and compares the answer.
-pub(super) fn set_main(
+/// Makes the edits of each stage on one bench, and compares their answers and the reports.
+fn check_stages_on(
     rt: &(impl AllocGlobal + Abort),
     bench: &mut Bench,
-    name: &[u8],
-    wanted: Result<(), EditFault>,
+    stages: &[Stage<'_>],
 ) -> Result<(), Fail> {
-    let name = personal(rt.alloc(), name)?;
-    assert_eq!(rt; bench.set_main(&name), wanted);
+    for (answers, report) in stages {
+        check_edits(rt, bench, *answers);
+        if let Some(text) = *report {
+            check_report(rt, bench, text)?;
+        }
+    }
     Ok(())
 }
 
-/// Sets the envelope's addresses, and compares the answer.
-pub(super) fn set_envelope(
-    rt: &impl Abort,
-    bench: &mut Bench,
-    from: &[u8],
-    to: &[u8],
-    wanted: Result<(), EditFault>,
-) {
-    assert_eq!(rt; bench.set_envelope(from, to), wanted);
-}
-
-/// Sets the mailbox, and compares the answer.
-pub(super) fn set_mailbox(
-    rt: &impl Abort,
-    bench: &mut Bench,
-    mailbox: &[u8],
-    wanted: Result<(), EditFault>,
-) {
-    assert_eq!(rt; bench.set_mailbox(mailbox), wanted);
+/// Makes the edits of each stage on one new bench, and compares their answers and the reports.
+pub(super) fn check_stages(
+    rt: &(impl AllocGlobal + Abort),
+    stages: &[Stage<'_>],
+) -> Result<(), Fail> {
+    let mut bench = Bench::new(rt.alloc())?;
+    check_stages_on(rt, &mut bench, stages)
 }

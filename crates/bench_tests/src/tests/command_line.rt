@@ -1,6 +1,7 @@
 //! The words of the command line, and the status of each end.
 
 use sievebench::{End, Job, SessionEnd, TestEnd, UsageFault, command_of, status_of};
+use std::process::Abort;
 use std::test::Fail;
 
 #[test]
@@ -32,6 +33,25 @@ fn a_session_is_named(rt: HostRuntime) -> Result<(), Fail> {
         Job::Session
     );
     Ok(())
+}
+
+/// Compares whether a text is for help, and looks for a part of it.
+fn check_text(rt: &impl Abort, help: bool, text: &str, wanted: bool, part: &str) {
+    assert_eq!(rt;
+        (help, text.contains(part)),
+        (wanted, true),
+        "{part:?} in {text:?}"
+    );
+}
+
+/// Compares the text of words that name no job.
+fn check_usage(rt: &(impl AllocGlobal + Abort), words: &[&str], wanted: bool, part: &str) {
+    match command_of(rt.alloc(), words) {
+        Err(UsageFault::Usage { help, text }) => {
+            check_text(rt, help, text.as_str(), wanted, part);
+        }
+        other => panic!(rt; "at {words:?}: {other:?}"),
+    }
 }
 
 #[test]
@@ -67,12 +87,6 @@ fn mistakes_and_calls_for_help_have_a_text(rt: HostRuntime) {
         ),
     ];
     for (words, wanted, part) in rows {
-        match command_of(rt.alloc(), words) {
-            Err(UsageFault::Usage { help, text }) => {
-                assert_eq!(rt; help, wanted, "at {words:?}");
-                assert!(rt; text.as_str().contains(part), "{part:?} in {text:?}");
-            }
-            other => panic!(rt; "at {words:?}: {other:?}"),
-        }
+        check_usage(&rt, words, wanted, part);
     }
 }

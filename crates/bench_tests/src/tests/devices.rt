@@ -5,7 +5,6 @@ use sievebench::{Counted, SessionEnd, Source};
 use std::io;
 use std::io::{ErrorKind, Read, Write};
 use std::process::Abort;
-use std::test::Fail;
 
 /// The session of these tests.
 const SESSION: &[u8] =
@@ -60,48 +59,48 @@ impl Read for Dripping<'_> {
     }
 }
 
+/// Serves a session on a new bench, and compares what it writes and how it ends.
+fn check_ended<R: Source>(
+    rt: &(impl AllocGlobal + Abort),
+    reader: &mut R,
+    turns: u64,
+    text: &[u8],
+    wanted: SessionEnd,
+) {
+    let mut writer = Counted::new(Vec::new(rt.alloc()));
+    let end = ended(rt.alloc(), reader, &mut writer, turns);
+    assert_eq!(rt; (end, writer.into_inner().as_slice()), (wanted, text));
+}
+
 /// Serves the session in single octets, each after some interruptions, and compares.
 fn check_dripping(
     rt: &(impl AllocGlobal + Abort),
     interruptions: u32,
     text: &[u8],
     wanted: SessionEnd,
-) -> Result<(), Fail> {
+) {
     let mut reader = Counted::new(Dripping::new(SESSION, interruptions));
-    let mut writer = Counted::new(Vec::new(rt.alloc()));
-    let end = ended(rt.alloc(), &mut reader, &mut writer, TURNS);
-    assert_eq!(rt; end, wanted);
-    assert_eq!(rt; writer.into_inner().as_slice(), text);
-    Ok(())
+    check_ended(rt, &mut reader, TURNS, text, wanted);
 }
 
 #[test]
-fn the_pieces_of_the_input_do_not_matter(rt: HostRuntime) -> Result<(), Fail> {
-    check_dripping(&rt, 0, REPLIES, SessionEnd::Done)?;
-    check_dripping(&rt, 1_000, REPLIES, SessionEnd::Done)?;
-    check_dripping(&rt, 1_001, b"", SessionEnd::Read)
+fn the_pieces_of_the_input_do_not_matter(rt: HostRuntime) {
+    check_dripping(&rt, 0, REPLIES, SessionEnd::Done);
+    check_dripping(&rt, 1_000, REPLIES, SessionEnd::Done);
+    check_dripping(&rt, 1_001, b"", SessionEnd::Read);
 }
 
 /// Serves a report in single octets with so many reads, and compares.
-fn check_turns(
-    rt: &(impl AllocGlobal + Abort),
-    turns: u64,
-    text: &[u8],
-    wanted: SessionEnd,
-) -> Result<(), Fail> {
+fn check_turns(rt: &(impl AllocGlobal + Abort), turns: u64, text: &[u8], wanted: SessionEnd) {
     let mut reader = Counted::new(Dripping::new(b"report", 0));
-    let mut writer = Counted::new(Vec::new(rt.alloc()));
-    let end = ended(rt.alloc(), &mut reader, &mut writer, turns);
-    assert_eq!(rt; end, wanted);
+    check_ended(rt, &mut reader, turns, text, wanted);
     assert_eq!(rt; reader.calls(), turns);
-    assert_eq!(rt; writer.into_inner().as_slice(), text);
-    Ok(())
 }
 
 #[test]
-fn the_end_of_the_input_is_read_once(rt: HostRuntime) -> Result<(), Fail> {
-    check_turns(&rt, 7, REPORT, SessionEnd::Done)?;
-    check_turns(&rt, 6, b"", SessionEnd::TurnLimit)
+fn the_end_of_the_input_is_read_once(rt: HostRuntime) {
+    check_turns(&rt, 7, REPORT, SessionEnd::Done);
+    check_turns(&rt, 6, b"", SessionEnd::TurnLimit);
 }
 
 /// A writer that takes so many octets and then fails.
@@ -126,29 +125,23 @@ impl Write for Brittle {
 }
 
 /// Serves the session to a writer of so much room: it must end so, and hold a front of the replies.
-fn check_brittle(
-    rt: &(impl AllocGlobal + Abort),
-    room: usize,
-    wanted: SessionEnd,
-) -> Result<(), Fail> {
+fn check_brittle(rt: &(impl AllocGlobal + Abort), room: usize, wanted: SessionEnd) {
     let mut reader = Counted::new(SESSION);
     let mut writer = Counted::new(Brittle {
         taken: Vec::new(rt.alloc()),
         room,
     });
     let end = ended(rt.alloc(), &mut reader, &mut writer, TURNS);
-    assert_eq!(rt; end, wanted, "at {room}");
-    let brittle = writer.into_inner();
-    assert!(rt; REPLIES.starts_with(brittle.taken.as_slice()), "at {room}");
-    Ok(())
+    let is_front = REPLIES.starts_with(writer.into_inner().taken.as_slice());
+    assert_eq!(rt; (end, is_front), (wanted, true), "at {room}");
 }
 
 #[test]
-fn a_writer_that_fails_ends_the_session(rt: HostRuntime) -> Result<(), Fail> {
+fn a_writer_that_fails_ends_the_session(rt: HostRuntime) {
     for room in [0, 2, 3, 20, 60, 100, 158] {
-        check_brittle(&rt, room, SessionEnd::Write)?;
+        check_brittle(&rt, room, SessionEnd::Write);
     }
-    check_brittle(&rt, 159, SessionEnd::Done)
+    check_brittle(&rt, 159, SessionEnd::Done);
 }
 
 /// A reader that gives its octets at once, and then fails.
@@ -168,22 +161,18 @@ impl Read for Failing<'_> {
 }
 
 /// Serves these octets from a reader that then fails, and compares what it writes.
-fn check_failing(rt: &(impl AllocGlobal + Abort), input: &[u8], text: &[u8]) -> Result<(), Fail> {
+fn check_failing(rt: &(impl AllocGlobal + Abort), input: &[u8], text: &[u8]) {
     let mut reader = Counted::new(Failing(input));
-    let mut writer = Counted::new(Vec::new(rt.alloc()));
-    let end = ended(rt.alloc(), &mut reader, &mut writer, TURNS);
-    assert_eq!(rt; end, SessionEnd::Read);
-    assert_eq!(rt; writer.into_inner().as_slice(), text);
-    Ok(())
+    check_ended(rt, &mut reader, TURNS, text, SessionEnd::Read);
 }
 
 /// The commands that came whole are answered, and nothing else is.
 #[test]
-fn a_reader_that_fails_ends_the_session(rt: HostRuntime) -> Result<(), Fail> {
-    check_failing(&rt, b"", b"")?;
-    check_failing(&rt, b"message m 0\nmain personal main", b"ok\n")?;
-    check_failing(&rt, b"no-main\nscript personal main 9\ndisc", b"ok\n")?;
-    check_failing(&rt, b"frob", b"")
+fn a_reader_that_fails_ends_the_session(rt: HostRuntime) {
+    check_failing(&rt, b"", b"");
+    check_failing(&rt, b"message m 0\nmain personal main", b"ok\n");
+    check_failing(&rt, b"no-main\nscript personal main 9\ndisc", b"ok\n");
+    check_failing(&rt, b"frob", b"");
 }
 
 /// A reader of one line for ever.
@@ -199,25 +188,16 @@ impl Read for Endless<'_> {
 }
 
 /// Serves one line for ever with so many reads, and compares.
-fn check_endless(
-    rt: &(impl AllocGlobal + Abort),
-    line: &[u8],
-    turns: u64,
-    text: &[u8],
-) -> Result<(), Fail> {
+fn check_endless(rt: &(impl AllocGlobal + Abort), line: &[u8], turns: u64, text: &[u8]) {
     let mut reader = Counted::new(Endless(line));
-    let mut writer = Counted::new(Vec::new(rt.alloc()));
-    let end = ended(rt.alloc(), &mut reader, &mut writer, turns);
-    assert_eq!(rt; end, SessionEnd::TurnLimit);
+    check_ended(rt, &mut reader, turns, text, SessionEnd::TurnLimit);
     assert_eq!(rt; reader.calls(), turns);
-    assert_eq!(rt; writer.into_inner().as_slice(), text);
-    Ok(())
 }
 
 #[test]
-fn reads_are_limited(rt: HostRuntime) -> Result<(), Fail> {
-    check_endless(&rt, b"\n", 5, b"")?;
-    check_endless(&rt, b"report\n", 1, REPORT)?;
-    check_endless(&rt, b"report\n", 2, TWO_REPORTS)?;
-    check_endless(&rt, b"report\n", 0, b"")
+fn reads_are_limited(rt: HostRuntime) {
+    check_endless(&rt, b"\n", 5, b"");
+    check_endless(&rt, b"report\n", 1, REPORT);
+    check_endless(&rt, b"report\n", 2, TWO_REPORTS);
+    check_endless(&rt, b"report\n", 0, b"");
 }

@@ -7,46 +7,60 @@ use std::fmt::Display;
 use std::process::Abort;
 use std::test::Fail;
 
-#[test]
-fn refusals_have_their_numbers(rt: HostRuntime) {
-    for (fault, number) in [
-        (EditFault::NoSuchScript, 1),
-        (EditFault::NameTaken, 2),
-        (EditFault::NoSuchMessage, 3),
-        (EditFault::Full, 4),
-        (EditFault::TooLarge, 5),
-        (EditFault::NoMemory, 6),
-    ] {
-        assert_eq!(rt; fault as u8, number, "at {fault:?}");
-    }
-    for (fault, number) in [(ReportFault::NoMemory, 1), (ReportFault::Write, 2)] {
-        assert_eq!(rt; fault as u8, number, "at {fault:?}");
+/// Compares numbers.
+fn check_numbers(rt: &impl Abort, rows: &[(u8, u8)]) {
+    for (number, wanted) in rows {
+        assert_eq!(rt; *number, *wanted);
     }
 }
 
 #[test]
+fn refusals_have_their_numbers(rt: HostRuntime) {
+    check_numbers(
+        &rt,
+        &[
+            (EditFault::NoSuchScript as u8, 1),
+            (EditFault::NameTaken as u8, 2),
+            (EditFault::NoSuchMessage as u8, 3),
+            (EditFault::Full as u8, 4),
+            (EditFault::TooLarge as u8, 5),
+            (EditFault::NoMemory as u8, 6),
+        ],
+    );
+    check_numbers(
+        &rt,
+        &[
+            (ReportFault::NoMemory as u8, 1),
+            (ReportFault::Write as u8, 2),
+        ],
+    );
+}
+
+#[test]
 fn ends_have_their_numbers(rt: HostRuntime) {
-    for (end, number) in [
-        (SessionEnd::Done, 0),
-        (SessionEnd::Syntax, 1),
-        (SessionEnd::Truncated, 2),
-        (SessionEnd::Read, 3),
-        (SessionEnd::Write, 4),
-        (SessionEnd::NoMemory, 5),
-        (SessionEnd::TurnLimit, 6),
-    ] {
-        assert_eq!(rt; end as u8, number, "at {end:?}");
-    }
-    for (end, number) in [
-        (TestEnd::Clean, 0),
-        (TestEnd::Faulty, 1),
-        (TestEnd::TooLarge, 2),
-        (TestEnd::Full, 3),
-        (TestEnd::Write, 4),
-        (TestEnd::NoMemory, 5),
-    ] {
-        assert_eq!(rt; end as u8, number, "at {end:?}");
-    }
+    check_numbers(
+        &rt,
+        &[
+            (SessionEnd::Done as u8, 0),
+            (SessionEnd::Syntax as u8, 1),
+            (SessionEnd::Truncated as u8, 2),
+            (SessionEnd::Read as u8, 3),
+            (SessionEnd::Write as u8, 4),
+            (SessionEnd::NoMemory as u8, 5),
+            (SessionEnd::TurnLimit as u8, 6),
+        ],
+    );
+    check_numbers(
+        &rt,
+        &[
+            (TestEnd::Clean as u8, 0),
+            (TestEnd::Faulty as u8, 1),
+            (TestEnd::TooLarge as u8, 2),
+            (TestEnd::Full as u8, 3),
+            (TestEnd::Write as u8, 4),
+            (TestEnd::NoMemory as u8, 5),
+        ],
+    );
 }
 
 /// Prints a refusal, and compares.

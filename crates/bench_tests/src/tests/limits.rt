@@ -1,6 +1,6 @@
 //! The limits of lines, names, texts, messages and settings, and how many scripts and messages there may be.
 
-use super::calls::{put_message, put_script, set_main};
+use super::calls::{Edit, check_edits, check_stages};
 use super::check_rows;
 use sievebench::{Bench, EditFault, SessionEnd};
 use std::alloc::{AllocError, Global};
@@ -123,52 +123,42 @@ fn octets_past_the_limit_are_passed_over(rt: HostRuntime) -> Result<(), Fail> {
     )
 }
 
-/// Puts a script of so many octets, and compares the answer.
-fn put_text_of(
-    rt: &(impl AllocGlobal + Abort),
-    bench: &mut Bench,
-    count: usize,
-    wanted: Result<(), EditFault>,
-) -> Result<(), Fail> {
-    let text = vec![in rt.alloc(); b' '; count]?;
-    put_script(rt, bench, b"main", text.as_slice(), wanted)
-}
-
 #[test]
 fn texts_have_their_limit(rt: HostRuntime) -> Result<(), Fail> {
-    let mut bench = Bench::new(rt.alloc())?;
-    put_text_of(&rt, &mut bench, 1_048_576, Ok(()))?;
-    put_text_of(&rt, &mut bench, 1_048_577, Err(EditFault::TooLarge))
-}
-
-/// Puts a message of so many octets, and compares the answer.
-fn put_bytes_of(
-    rt: &(impl AllocGlobal + Abort),
-    bench: &mut Bench,
-    count: usize,
-    wanted: Result<(), EditFault>,
-) -> Result<(), Fail> {
-    let bytes = vec![in rt.alloc(); b' '; count]?;
-    put_message(rt, bench, b"m", bytes.as_slice(), wanted)
+    let text = vec![in rt.alloc(); b' '; 1_048_576]?;
+    let large = vec![in rt.alloc(); b' '; 1_048_577]?;
+    check_stages(
+        &rt,
+        &[(
+            &[
+                (Edit::PutScript(b"main", text.as_slice()), Ok(())),
+                (
+                    Edit::PutScript(b"main", large.as_slice()),
+                    Err(EditFault::TooLarge),
+                ),
+            ],
+            None,
+        )],
+    )
 }
 
 #[test]
 fn messages_have_their_limit(rt: HostRuntime) -> Result<(), Fail> {
-    let mut bench = Bench::new(rt.alloc())?;
-    put_bytes_of(&rt, &mut bench, 16_777_216, Ok(()))?;
-    put_bytes_of(&rt, &mut bench, 16_777_217, Err(EditFault::TooLarge))
-}
-
-/// Makes edits with a name, and compares what each answers.
-fn check_name(
-    rt: &(impl AllocGlobal + Abort),
-    bench: &mut Bench,
-    name: &[u8],
-    wanted: Result<(), EditFault>,
-) -> Result<(), Fail> {
-    set_main(rt, bench, name, wanted)?;
-    put_script(rt, bench, name, b"", wanted)?;
-    put_message(rt, bench, name, b"", wanted)
+    let bytes = vec![in rt.alloc(); b' '; 16_777_216]?;
+    let large = vec![in rt.alloc(); b' '; 16_777_217]?;
+    check_stages(
+        &rt,
+        &[(
+            &[
+                (Edit::PutMessage(b"m", bytes.as_slice()), Ok(())),
+                (
+                    Edit::PutMessage(b"m", large.as_slice()),
+                    Err(EditFault::TooLarge),
+                ),
+            ],
+            None,
+        )],
+    )
 }
 
 /// Makes edits with a name of so many octets, and compares what each answers.
@@ -177,9 +167,18 @@ fn check_name_of(
     count: usize,
     wanted: Result<(), EditFault>,
 ) -> Result<(), Fail> {
-    let mut bench = Bench::new(rt.alloc())?;
     let name = vec![in rt.alloc(); b'n'; count]?;
-    check_name(rt, &mut bench, name.as_slice(), wanted)
+    check_stages(
+        rt,
+        &[(
+            &[
+                (Edit::SetMain(name.as_slice()), wanted),
+                (Edit::PutScript(name.as_slice(), b""), wanted),
+                (Edit::PutMessage(name.as_slice(), b""), wanted),
+            ],
+            None,
+        )],
+    )
 }
 
 #[test]
@@ -197,10 +196,21 @@ fn numbered(alloc: Global, number: u32) -> Result<Vec<u8>, AllocError> {
 fn fill_with_scripts(rt: &(impl AllocGlobal + Abort), bench: &mut Bench) -> Result<(), Fail> {
     for number in 0..1_024 {
         let name = numbered(rt.alloc(), number)?;
-        put_script(rt, bench, name.as_slice(), b"", Ok(()))?;
+        check_edits(
+            rt,
+            bench,
+            &[(Edit::PutScript(name.as_slice(), b""), Ok(()))],
+        );
     }
-    put_script(rt, bench, b"main", b"", Err(EditFault::Full))?;
-    put_script(rt, bench, b"1023", b"stop;", Ok(()))
+    check_edits(
+        rt,
+        bench,
+        &[
+            (Edit::PutScript(b"main", b""), Err(EditFault::Full)),
+            (Edit::PutScript(b"1023", b"stop;"), Ok(())),
+        ],
+    );
+    Ok(())
 }
 
 #[test]
@@ -213,10 +223,17 @@ fn a_bench_has_room_for_so_many_scripts(rt: HostRuntime) -> Result<(), Fail> {
 fn fill_with_messages(rt: &(impl AllocGlobal + Abort), bench: &mut Bench) -> Result<(), Fail> {
     for number in 0..65_536 {
         let id = numbered(rt.alloc(), number)?;
-        put_message(rt, bench, id.as_slice(), b"", Ok(()))?;
+        check_edits(rt, bench, &[(Edit::PutMessage(id.as_slice(), b""), Ok(()))]);
     }
-    put_message(rt, bench, b"more", b"", Err(EditFault::Full))?;
-    put_message(rt, bench, b"0", b"x", Ok(()))
+    check_edits(
+        rt,
+        bench,
+        &[
+            (Edit::PutMessage(b"more", b""), Err(EditFault::Full)),
+            (Edit::PutMessage(b"0", b"x"), Ok(())),
+        ],
+    );
+    Ok(())
 }
 
 #[test]

@@ -1,8 +1,6 @@
 //! Reports of one message, with the script's line and the verdict that they must have.
 
-use super::calls::{put_message, put_script, set_main};
-use super::check_report;
-use sievebench::Bench;
+use super::calls::{Edit, check_stages};
 use std::alloc::{AllocError, Global};
 use std::process::Abort;
 use std::test::Fail;
@@ -47,28 +45,24 @@ pub(super) fn report_text(alloc: Global, line: &[u8], lines: &[u8]) -> Result<Ve
     )
 }
 
-/// Puts a script that is main, and one message.
-fn put_both(
-    rt: &(impl AllocGlobal + Abort),
-    bench: &mut Bench,
-    script: &[u8],
-    message: &[u8],
-) -> Result<(), Fail> {
-    put_script(rt, bench, b"main", script, Ok(()))?;
-    put_message(rt, bench, b"m", message, Ok(()))?;
-    set_main(rt, bench, b"main", Ok(()))
-}
-
 /// Reports a script on one message, and compares.
-fn check_verdict(
+fn check_verdict<'a>(
     rt: &(impl AllocGlobal + Abort),
-    script: &[u8],
-    message: &[u8],
-    text: &[u8],
+    script: &'a [u8],
+    message: &'a [u8],
+    text: &'a [u8],
 ) -> Result<(), Fail> {
-    let mut bench = Bench::new(rt.alloc())?;
-    put_both(rt, &mut bench, script, message)?;
-    check_report(rt, &mut bench, text)
+    check_stages(
+        rt,
+        &[(
+            &[
+                (Edit::PutScript(b"main", script), Ok(())),
+                (Edit::PutMessage(b"m", message), Ok(())),
+                (Edit::SetMain(b"main"), Ok(())),
+            ],
+            Some(text),
+        )],
+    )
 }
 
 /// Reports each script on one message, and compares.

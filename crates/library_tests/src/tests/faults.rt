@@ -11,59 +11,191 @@ use std::fmt::Display;
 use std::process::Abort;
 use std::test::Fail;
 
+/// A number and a word, and what they must be.
+type Row<'a> = (u8, &'a [u8], u8, &'a [u8]);
+
+/// Compares numbers and words.
+fn check_words(rt: &impl Abort, rows: &[Row<'_>]) {
+    for (number, word, wanted_number, wanted_word) in rows {
+        assert_eq!(rt; (*number, *word), (*wanted_number, *wanted_word));
+    }
+}
+
 #[test]
 fn rules_have_their_numbers_and_words(rt: HostRuntime) {
-    let rows: [(Rule, u8, &[u8]); 16] = [
-        (Rule::RequirePlace, 1, b"require-place"),
-        (Rule::UnknownCapability, 2, b"unknown-capability"),
-        (Rule::UnknownCommand, 3, b"unknown-command"),
-        (Rule::NotRequired, 4, b"not-required"),
-        (Rule::ElsePlace, 5, b"else-place"),
-        (Rule::BadTag, 6, b"bad-tag"),
-        (Rule::BadArguments, 7, b"bad-arguments"),
-        (Rule::UnknownComparator, 8, b"unknown-comparator"),
-        (Rule::BadVariableName, 9, b"bad-variable-name"),
-        (Rule::GlobalAfterSet, 10, b"global-after-set"),
-        (Rule::BadNamespace, 11, b"bad-namespace"),
-        (Rule::MatchIndex, 12, b"match-index"),
-        (Rule::NumberTooLarge, 13, b"number-too-large"),
-        (Rule::BadEnvelopePart, 14, b"bad-envelope-part"),
-        (Rule::NotAddressHeader, 15, b"not-address-header"),
-        (Rule::TooManyVariables, 16, b"too-many-variables"),
-    ];
-    for (rule, number, word) in rows {
-        assert_eq!(rt; rule as u8, number, "at {rule:?}");
-        assert_eq!(rt; rule.word(), word);
-    }
+    check_words(
+        &rt,
+        &[
+            (
+                Rule::RequirePlace as u8,
+                Rule::RequirePlace.word(),
+                1,
+                b"require-place",
+            ),
+            (
+                Rule::UnknownCapability as u8,
+                Rule::UnknownCapability.word(),
+                2,
+                b"unknown-capability",
+            ),
+            (
+                Rule::UnknownCommand as u8,
+                Rule::UnknownCommand.word(),
+                3,
+                b"unknown-command",
+            ),
+            (
+                Rule::NotRequired as u8,
+                Rule::NotRequired.word(),
+                4,
+                b"not-required",
+            ),
+            (
+                Rule::ElsePlace as u8,
+                Rule::ElsePlace.word(),
+                5,
+                b"else-place",
+            ),
+            (Rule::BadTag as u8, Rule::BadTag.word(), 6, b"bad-tag"),
+            (
+                Rule::BadArguments as u8,
+                Rule::BadArguments.word(),
+                7,
+                b"bad-arguments",
+            ),
+            (
+                Rule::UnknownComparator as u8,
+                Rule::UnknownComparator.word(),
+                8,
+                b"unknown-comparator",
+            ),
+            (
+                Rule::BadVariableName as u8,
+                Rule::BadVariableName.word(),
+                9,
+                b"bad-variable-name",
+            ),
+            (
+                Rule::GlobalAfterSet as u8,
+                Rule::GlobalAfterSet.word(),
+                10,
+                b"global-after-set",
+            ),
+            (
+                Rule::BadNamespace as u8,
+                Rule::BadNamespace.word(),
+                11,
+                b"bad-namespace",
+            ),
+            (
+                Rule::MatchIndex as u8,
+                Rule::MatchIndex.word(),
+                12,
+                b"match-index",
+            ),
+            (
+                Rule::NumberTooLarge as u8,
+                Rule::NumberTooLarge.word(),
+                13,
+                b"number-too-large",
+            ),
+            (
+                Rule::BadEnvelopePart as u8,
+                Rule::BadEnvelopePart.word(),
+                14,
+                b"bad-envelope-part",
+            ),
+            (
+                Rule::NotAddressHeader as u8,
+                Rule::NotAddressHeader.word(),
+                15,
+                b"not-address-header",
+            ),
+            (
+                Rule::TooManyVariables as u8,
+                Rule::TooManyVariables.word(),
+                16,
+                b"too-many-variables",
+            ),
+        ],
+    );
 }
 
 #[test]
 fn errors_have_their_numbers_and_words(rt: HostRuntime) {
-    let rows: [(ErrorKind, u8, &[u8]); 9] = [
-        (ErrorKind::MissingScript, 1, b"missing-script"),
-        (ErrorKind::InvalidScript, 2, b"invalid-script"),
-        (ErrorKind::RecursiveInclude, 3, b"recursive-include"),
-        (ErrorKind::IncludeDepth, 4, b"include-depth"),
-        (ErrorKind::IncludeCount, 5, b"include-count"),
-        (ErrorKind::BadAddress, 6, b"bad-address"),
-        (ErrorKind::TooManyActions, 7, b"too-many-actions"),
-        (ErrorKind::TooManyGlobals, 8, b"too-many-globals"),
-        (ErrorKind::BadMailbox, 9, b"bad-mailbox"),
-    ];
-    for (kind, number, word) in rows {
-        assert_eq!(rt; kind as u8, number, "at {kind:?}");
-        assert_eq!(rt; kind.word(), word);
-    }
+    check_words(
+        &rt,
+        &[
+            (
+                ErrorKind::MissingScript as u8,
+                ErrorKind::MissingScript.word(),
+                1,
+                b"missing-script",
+            ),
+            (
+                ErrorKind::InvalidScript as u8,
+                ErrorKind::InvalidScript.word(),
+                2,
+                b"invalid-script",
+            ),
+            (
+                ErrorKind::RecursiveInclude as u8,
+                ErrorKind::RecursiveInclude.word(),
+                3,
+                b"recursive-include",
+            ),
+            (
+                ErrorKind::IncludeDepth as u8,
+                ErrorKind::IncludeDepth.word(),
+                4,
+                b"include-depth",
+            ),
+            (
+                ErrorKind::IncludeCount as u8,
+                ErrorKind::IncludeCount.word(),
+                5,
+                b"include-count",
+            ),
+            (
+                ErrorKind::BadAddress as u8,
+                ErrorKind::BadAddress.word(),
+                6,
+                b"bad-address",
+            ),
+            (
+                ErrorKind::TooManyActions as u8,
+                ErrorKind::TooManyActions.word(),
+                7,
+                b"too-many-actions",
+            ),
+            (
+                ErrorKind::TooManyGlobals as u8,
+                ErrorKind::TooManyGlobals.word(),
+                8,
+                b"too-many-globals",
+            ),
+            (
+                ErrorKind::BadMailbox as u8,
+                ErrorKind::BadMailbox.word(),
+                9,
+                b"bad-mailbox",
+            ),
+        ],
+    );
 }
 
+/// Refusals have numbers alone.
 #[test]
 fn refusals_have_their_numbers(rt: HostRuntime) {
-    for (fault, number) in [(MessageFault::TooLarge, 1), (MessageFault::NoMemory, 2)] {
-        assert_eq!(rt; fault as u8, number, "at {fault:?}");
-    }
-    for (fault, number) in [(JudgeFault::TooLarge, 1), (JudgeFault::NoMemory, 2)] {
-        assert_eq!(rt; fault as u8, number, "at {fault:?}");
-    }
+    check_words(
+        &rt,
+        &[
+            (MessageFault::TooLarge as u8, b"", 1, b""),
+            (MessageFault::NoMemory as u8, b"", 2, b""),
+            (JudgeFault::TooLarge as u8, b"", 1, b""),
+            (JudgeFault::NoMemory as u8, b"", 2, b""),
+        ],
+    );
 }
 
 /// Prints a refusal, and compares.

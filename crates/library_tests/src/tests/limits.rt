@@ -5,70 +5,98 @@ use std::alloc::{AllocError, Global};
 use std::process::Abort;
 use std::test::Fail;
 
-/// Octets: so many times one part, then another, and then so many times a third.
-fn nested(
+/// A text: a front, so many times one part, then another, so many times a third, and an end.
+pub(super) fn nested(
     alloc: Global,
+    front: &[u8],
     opened: &[u8],
+    count: usize,
     middle: &[u8],
     closed: &[u8],
-    count: usize,
+    end: &[u8],
 ) -> Result<Vec<u8>, AllocError> {
-    let mut text = Vec::new(alloc);
-    for _ in 0..count {
-        text.extend_from_slice(opened)?;
-    }
+    let mut text = Vec::from_slice(alloc, front)?;
+    push_times(&mut text, opened, count)?;
     text.extend_from_slice(middle)?;
-    for _ in 0..count {
-        text.extend_from_slice(closed)?;
-    }
+    push_times(&mut text, closed, count)?;
+    text.extend_from_slice(end)?;
     Ok(text)
 }
 
-/// Parses a text between a front and an end, and compares the line of its fault.
-fn check_fault(
-    rt: &(impl AllocGlobal + Abort),
-    front: &[u8],
-    text: &[u8],
-    end: &[u8],
-    line: Option<u64>,
-) -> Result<(), Fail> {
-    let mut whole = Vec::from_slice(rt.alloc(), front)?;
-    whole.extend_from_slice(text)?;
-    whole.extend_from_slice(end)?;
-    let wanted = line.map(|line| SyntaxFault::Syntax { line });
-    let got = parse(rt.alloc(), &whole).err();
-    assert_eq!(rt; got, wanted, "at {front:?}, {} octets, {end:?}", text.len());
+fn push_times(text: &mut Vec<u8>, part: &[u8], count: usize) -> Result<(), AllocError> {
+    for _ in 0..count {
+        text.extend_from_slice(part)?;
+    }
     Ok(())
+}
+
+/// The front, the part that opens and how often, the middle, the part that closes, the end, and the fault.
+type Row<'a> = (
+    &'a [u8],
+    &'a [u8],
+    usize,
+    &'a [u8],
+    &'a [u8],
+    &'a [u8],
+    Option<SyntaxFault>,
+);
+
+/// Parses each text, and compares its fault.
+fn check_faults(rt: &(impl AllocGlobal + Abort), rows: &[Row<'_>]) -> Result<(), Fail> {
+    for (front, opened, count, middle, closed, end, wanted) in rows {
+        let text = nested(rt.alloc(), *front, *opened, *count, *middle, *closed, *end)?;
+        let got = parse(rt.alloc(), &text).err();
+        assert_eq!(rt; got, *wanted, "at {front:?}, {opened:?} {count} times");
+    }
+    Ok(())
+}
+
+/// A fault at this line.
+const fn at(line: u64) -> Option<SyntaxFault> {
+    Some(SyntaxFault::Syntax { line })
 }
 
 #[test]
 fn blocks_stand_32_deep(rt: HostRuntime) -> Result<(), Fail> {
-    let rows: [(&[u8], &[u8], usize, Option<u64>); 4] = [
-        (b"if true {\n", b"}", 32, None),
-        (b"if true {\n", b"}", 33, Some(33)),
-        (b"if true {keep;}\nif true {", b"}", 32, None),
-        (b"if true {keep;}\nif true {", b"}", 33, Some(33)),
-    ];
-    for (opened, closed, count, line) in rows {
-        let text = nested(rt.alloc(), opened, b"", closed, count)?;
-        check_fault(&rt, b"", &text, b"", line)?;
-    }
-    Ok(())
+    check_faults(
+        &rt,
+        &[
+            (b"", b"if true {\n", 32, b"", b"}", b"", None),
+            (b"", b"if true {\n", 33, b"", b"}", b"", at(33)),
+            (b"", b"if true {keep;}\nif true {", 32, b"", b"}", b"", None),
+            (
+                b"",
+                b"if true {keep;}\nif true {",
+                33,
+                b"",
+                b"}",
+                b"",
+                at(33),
+            ),
+        ],
+    )
 }
 
 #[test]
 fn tests_stand_32_deep(rt: HostRuntime) -> Result<(), Fail> {
-    let rows: [(&[u8], &[u8], &[u8], usize, Option<u64>); 6] = [
-        (b" not", b" true", b"", 31, None),
-        (b" not", b" true", b"", 32, Some(1)),
-        (b" allof (", b"true", b")", 31, None),
-        (b" allof (", b"true", b")", 32, Some(1)),
-        (b" not", b" allof (true)", b"", 30, None),
-        (b" not", b" allof (true)", b"", 31, Some(1)),
-    ];
-    for (opened, middle, closed, count, line) in rows {
-        let text = nested(rt.alloc(), opened, middle, closed, count)?;
-        check_fault(&rt, b"if", &text, b"{}", line)?;
+    check_faults(
+        &rt,
+        &[
+            (b"if", b" not", 31, b" true", b"", b"{}", None),
+            (b"if", b" not", 32, b" true", b"", b"{}", at(1)),
+            (b"if", b" allof (", 31, b"true", b")", b"{}", None),
+            (b"if", b" allof (", 32, b"true", b")", b"{}", at(1)),
+            (b"if", b" not", 30, b" allof (true)", b"", b"{}", None),
+            (b"if", b" not", 31, b" allof (true)", b"", b"{}", at(1)),
+        ],
+    )
+}
+
+/// Parses each piece as often as 60,000 octets have room for it: no such text is a script.
+fn check_pieces(rt: &(impl AllocGlobal + Abort), pieces: &[&[u8]]) -> Result<(), Fail> {
+    for piece in pieces {
+        let count = 60_000 / piece.len().max(1);
+        check_faults(rt, &[(b"", *piece, count, b"", b"", b"", at(1))])?;
     }
     Ok(())
 }
@@ -76,36 +104,44 @@ fn tests_stand_32_deep(rt: HostRuntime) -> Result<(), Fail> {
 /// Each piece begins no script, however often it is repeated, and is looked at once.
 #[test]
 fn long_texts_answer_at_once(rt: HostRuntime) -> Result<(), Fail> {
-    let pieces: [&[u8]; 11] = [
-        b"[",
-        b"(",
-        b"\"",
-        b"{",
-        b";",
-        b"\x7f",
-        b"a",
-        b"a [\"b\", ",
-        b"a \"bcde\"",
-        b"text:\nx\n",
-        b"/*\n ",
-    ];
-    for piece in pieces {
-        let text = nested(rt.alloc(), piece, b"", b"", 60_000 / piece.len())?;
-        check_fault(&rt, b"", &text, b"", Some(1))?;
-    }
-    Ok(())
+    check_pieces(
+        &rt,
+        &[
+            b"[",
+            b"(",
+            b"\"",
+            b"{",
+            b";",
+            b"\x7f",
+            b"a",
+            b"a [\"b\", ",
+            b"a \"bcde\"",
+            b"text:\nx\n",
+            b"/*\n ",
+        ],
+    )
+}
+
+/// How many commands a text has.
+fn commands_of(alloc: Global, text: &[u8]) -> Result<usize, SyntaxFault> {
+    Ok(parse(alloc, text)?.commands.len())
 }
 
 #[test]
 fn texts_have_their_limit(rt: HostRuntime) -> Result<(), Fail> {
-    let mut text = vec![in rt.alloc(); b'\n'; 1_048_576]?;
-    check_fault(&rt, b"", &text, b"", None)?;
-    text.push(b'\n')?;
-    assert_eq!(rt; parse(rt.alloc(), &text).err(), Some(SyntaxFault::TooLarge));
-    let commands = nested(rt.alloc(), b"a;", b"", b"", 524_288)?;
-    match parse(rt.alloc(), &commands) {
-        Ok(script) => assert_eq!(rt; script.commands.len(), 524_288),
-        Err(fault) => panic!(rt; "{fault:?}"),
-    }
+    let large = Some(SyntaxFault::TooLarge);
+    check_faults(
+        &rt,
+        &[
+            (b"", b"\n", 1_048_576, b"", b"", b"", None),
+            (b"", b"\n", 1_048_577, b"", b"", b"", large),
+        ],
+    )
+}
+
+#[test]
+fn a_text_has_so_many_commands(rt: HostRuntime) -> Result<(), Fail> {
+    let text = nested(rt.alloc(), b"", b"a;", 524_288, b"", b"", b"")?;
+    assert_eq!(rt; commands_of(rt.alloc(), &text), Ok(524_288));
     Ok(())
 }

@@ -1,7 +1,9 @@
 //! Trees, faults and tokens as text.
 
-use sieve_syntax::{Argument, Command, SyntaxFault, Test, Tests, Text, parse, tokens};
+use sieve_syntax::{Argument, Command, SyntaxFault, Test, Tests, Text, Token, parse, tokens};
 use std::alloc::{AllocError, Global};
+use std::process::Abort;
+use std::test::Fail;
 
 /// Octets as printed text: those outside 32 to 126 in hexadecimal.
 fn print_octets(out: &mut String, octets: &[u8]) -> Result<(), AllocError> {
@@ -37,28 +39,32 @@ fn print_text(out: &mut String, alloc: Global, text: &Text) -> Result<(), AllocE
     print_number(out, alloc, text.line)
 }
 
+fn print_texts(out: &mut String, alloc: Global, texts: &[Text]) -> Result<(), AllocError> {
+    for text in texts {
+        print_text(out, alloc, text)?;
+    }
+    Ok(())
+}
+
+fn print_value(out: &mut String, alloc: Global, value: Option<u64>) -> Result<(), AllocError> {
+    match value {
+        Some(number) => print_number(out, alloc, number),
+        None => out.push_str("none"),
+    }
+}
+
 /// An argument, as `"text"LINE`, `["text"LINE "text"LINE]`, `#VALUE@LINE` or `:NAME@LINE`.
 fn print_argument(out: &mut String, alloc: Global, argument: &Argument) -> Result<(), AllocError> {
     out.push_str(" ")?;
     match argument {
         Argument::Strings { items, bracketed } => {
-            if *bracketed {
-                out.push_str("[")?;
-            }
-            for item in items {
-                print_text(out, alloc, item)?;
-            }
-            if *bracketed {
-                out.push_str("]")?;
-            }
-            Ok(())
+            out.push_str(if *bracketed { "[" } else { "" })?;
+            print_texts(out, alloc, items)?;
+            out.push_str(if *bracketed { "]" } else { "" })
         }
         Argument::Number { value, line } => {
             out.push_str("#")?;
-            match value {
-                Some(number) => print_number(out, alloc, *number)?,
-                None => out.push_str("none")?,
-            }
+            print_value(out, alloc, *value)?;
             out.push_str("@")?;
             print_number(out, alloc, *line)
         }
@@ -115,52 +121,89 @@ fn print_tests(out: &mut String, alloc: Global, tests: &Tests) -> Result<(), All
 }
 
 /// A command, as `NAME@LINE ARGUMENTS TESTS;` or with a block in braces.
+#[cycle(commands)]
 fn print_command(out: &mut String, alloc: Global, command: &Command) -> Result<(), AllocError> {
     print_head(out, alloc, &command.name, command.line, &command.args)?;
     print_tests(out, alloc, &command.tests)?;
     match &command.block {
         None => out.push_str(";"),
-        Some(commands) => {
-            out.push_str("{")?;
-            for inner in commands {
-                print_command(out, alloc, inner)?;
-            }
-            out.push_str("}")
-        }
+        Some(commands) => print_block(out, alloc, commands),
     }
 }
 
-/// The tree of a text, or the line of its fault.
-pub(super) fn outcome(alloc: Global, text: &[u8]) -> Result<String, AllocError> {
-    let mut out = String::new(alloc);
-    match parse(alloc, text) {
-        Ok(script) => {
-            for command in &script.commands {
-                print_command(&mut out, alloc, command)?;
-            }
-        }
-        Err(SyntaxFault::Syntax { line }) => {
+#[cycle(commands)]
+fn print_block(out: &mut String, alloc: Global, commands: &Vec<Command>) -> Result<(), AllocError> {
+    out.push_str("{")?;
+    for inner in commands {
+        print_command(out, alloc, inner)?;
+    }
+    out.push_str("}")
+}
+
+fn print_commands(out: &mut String, alloc: Global, commands: &[Command]) -> Result<(), AllocError> {
+    for command in commands {
+        print_command(out, alloc, command)?;
+    }
+    Ok(())
+}
+
+fn print_fault(out: &mut String, alloc: Global, fault: SyntaxFault) -> Result<(), AllocError> {
+    match fault {
+        SyntaxFault::Syntax { line } => {
             out.push_str("fault ")?;
-            print_number(&mut out, alloc, line)?;
+            print_number(out, alloc, line)
         }
-        Err(SyntaxFault::TooLarge) => out.push_str("too large")?,
-        Err(SyntaxFault::NoMemory) => out.push_str("no memory")?,
+        SyntaxFault::TooLarge => out.push_str("too large"),
+        SyntaxFault::NoMemory => out.push_str("no memory"),
     }
-    Ok(out)
 }
 
-/// The tokens of a text, as `KIND START-END@LINE` and a space each.
-pub(super) fn token_list(alloc: Global, text: &[u8]) -> Result<String, AllocError> {
-    let mut out = String::new(alloc);
-    for token in &tokens(alloc, text)? {
-        let kind = format!(in alloc; "{:?} ", token.kind)?;
-        out.push_str(&kind)?;
-        print_number(&mut out, alloc, token.start as u64)?;
-        out.push_str("-")?;
-        print_number(&mut out, alloc, token.end as u64)?;
-        out.push_str("@")?;
-        print_number(&mut out, alloc, token.line)?;
-        out.push_str(" ")?;
+/// Prints the tree of a text, or the line of its fault.
+fn print_outcome(out: &mut String, alloc: Global, text: &[u8]) -> Result<(), AllocError> {
+    match parse(alloc, text) {
+        Ok(script) => print_commands(out, alloc, &script.commands),
+        Err(fault) => print_fault(out, alloc, fault),
     }
-    Ok(out)
+}
+
+/// Parses each text, and compares its tree, or the line of its fault.
+pub(super) fn check_outcomes(
+    rt: &(impl AllocGlobal + Abort),
+    rows: &[(&[u8], &str)],
+) -> Result<(), Fail> {
+    for (text, wanted) in rows {
+        let mut out = String::new(rt.alloc());
+        print_outcome(&mut out, rt.alloc(), *text)?;
+        assert_eq!(rt; out.as_str(), *wanted, "at {text:?}");
+    }
+    Ok(())
+}
+
+/// A token, as `KIND START-END@LINE` and a space.
+fn print_token(out: &mut String, alloc: Global, token: &Token) -> Result<(), AllocError> {
+    let printed = format!(in alloc;
+        "{:?} {}-{}@{} ",
+        token.kind, token.start, token.end, token.line
+    )?;
+    out.push_str(&printed)
+}
+
+fn print_tokens(out: &mut String, alloc: Global, tokens: &[Token]) -> Result<(), AllocError> {
+    for token in tokens {
+        print_token(out, alloc, token)?;
+    }
+    Ok(())
+}
+
+/// Compares the tokens of each text.
+pub(super) fn check_tokens(
+    rt: &(impl AllocGlobal + Abort),
+    rows: &[(&[u8], &str)],
+) -> Result<(), Fail> {
+    for (text, wanted) in rows {
+        let mut out = String::new(rt.alloc());
+        print_tokens(&mut out, rt.alloc(), &tokens(rt.alloc(), *text)?)?;
+        assert_eq!(rt; out.as_str(), *wanted, "at {text:?}");
+    }
+    Ok(())
 }

@@ -1,121 +1,119 @@
 //! What tokens are spelled like, and what they stand for.
 
-use super::print::{outcome, token_list};
+use super::print::{check_outcomes, check_tokens};
 use std::test::Fail;
 
 #[test]
 fn spellings(rt: HostRuntime) -> Result<(), Fail> {
-    for (text, want) in [
-        (b"".as_slice(), ""),
-        (b" \t\r\n\r", ""),
-        (b"a\n\"b", "Identifier 0-1@1 Bad 2-4@2 "),
-        // Comments.
-        (b"#c", ""),
-        (b"#c\nx", "Identifier 3-4@2 "),
-        (b"#\rx", ""),
-        (b"#\0\xff\r\nx", "Identifier 5-6@2 "),
-        (b"/* a /* b */ c */", "Identifier 13-14@1 Bad 15-17@1 "),
-        (b"/**/x", "Identifier 4-5@1 "),
-        (b"/***/x", "Identifier 5-6@1 "),
-        (b"/*/", "Bad 0-3@1 "),
-        (b"/*\n\0\xff\r*/x", "Identifier 8-9@2 "),
-        (b"x /* y", "Identifier 0-1@1 Bad 2-6@1 "),
-        (b"/x", "Bad 0-2@1 "),
-        // Identifiers, tags and numbers.
-        (b"_a9Z", "Identifier 0-4@1 "),
-        (b"a-b", "Identifier 0-1@1 Bad 1-3@1 "),
-        (b":a9 :_", "Tag 0-3@1 Tag 4-6@1 "),
-        (b":9", "Bad 0-2@1 "),
-        (b":", "Bad 0-1@1 "),
-        (b"\"s\":t", "Quoted 0-3@1 Tag 3-5@1 "),
-        (b"10", "Number 0-2@1 "),
-        (b"10K 1m 2G", "Number 0-3@1 Number 4-6@1 Number 7-9@1 "),
-        (b"10Kx", "Number 0-3@1 Identifier 3-4@1 "),
-        (b"1KK", "Number 0-2@1 Identifier 2-3@1 "),
-        (b"1T", "Number 0-1@1 Identifier 1-2@1 "),
-        // Quoted strings.
-        (b"\"\"\"a\"", "Quoted 0-2@1 Quoted 2-5@1 "),
-        (b"\"a\\\"b\"", "Quoted 0-6@1 "),
-        (b"\"a\\\\\"b", "Quoted 0-5@1 Identifier 5-6@1 "),
-        (b"\"\\", "Bad 0-2@1 "),
-        (b"\"\\\"", "Bad 0-3@1 "),
-        (b"\"\0\r\xff\n#/*\" x", "Quoted 0-9@1 Identifier 10-11@2 "),
-        // Multi-line strings.
-        (b"text:\n.\n", "MultiLine 0-8@1 "),
-        (b"text:\r\n.\r\nx", "MultiLine 0-10@1 Identifier 10-11@3 "),
-        (b"TeXT: \t# c\n..\n.\n", "MultiLine 0-16@1 "),
-        (b"text: \t\r\n.\n", "MultiLine 0-11@1 "),
-        (b"text:\n\0\r\xff\n.a\n. \n.\r\r\n.\n", "MultiLine 0-22@1 "),
-        (b"text:\n.\n.\n", "MultiLine 0-8@1 Bad 8-10@3 "),
-        (b"text:", "Identifier 0-4@1 Bad 4-5@1 "),
-        (b"text:\n", "Identifier 0-4@1 Bad 4-6@1 "),
-        (b"text:\n.", "Identifier 0-4@1 Bad 4-7@1 "),
-        (b"text:\n.\r", "Identifier 0-4@1 Bad 4-8@1 "),
-        (b"text:#", "Identifier 0-4@1 Bad 4-6@1 "),
-        (b"text:\r.\n", "Identifier 0-4@1 Bad 4-8@1 "),
-        (b"text:\r\r\n.\n", "Identifier 0-4@1 Bad 4-10@1 "),
-        (b"text: x\n.\n", "Identifier 0-4@1 Bad 4-10@1 "),
-        (b"text :\n.\n", "Identifier 0-4@1 Bad 5-9@1 "),
-        (b"text:x\n.\n", "Identifier 0-4@1 Tag 4-6@1 Bad 7-9@2 "),
-        (b"texts:\n.\n", "Identifier 0-5@1 Bad 5-9@1 "),
-        (b"atext:\n.\n", "Identifier 0-5@1 Bad 5-9@1 "),
-        // Punctuation, and octets that begin nothing.
-        (
-            b";,{}()[]",
-            "Semicolon 0-1@1 Comma 1-2@1 OpenBrace 2-3@1 CloseBrace 3-4@1 OpenParenthesis 4-5@1 CloseParenthesis 5-6@1 OpenBracket 6-7@1 CloseBracket 7-8@1 ",
-        ),
-        (b"a\x7f", "Identifier 0-1@1 Bad 1-2@1 "),
-        (b"a\0;", "Identifier 0-1@1 Bad 1-3@1 "),
-        (b"\n\xe9;", "Bad 1-3@2 "),
-        (b"a\x0b;", "Identifier 0-1@1 Bad 1-3@1 "),
-    ] {
-        let got = token_list(rt.alloc(), text)?;
-        assert_eq!(rt; got.as_str(), want, "at {text:?}");
-    }
-    Ok(())
+    check_tokens(
+        &rt,
+        &[
+            (b"", ""),
+            (b" \t\r\n\r", ""),
+            (b"a\n\"b", "Identifier 0-1@1 Bad 2-4@2 "),
+            // Comments.
+            (b"#c", ""),
+            (b"#c\nx", "Identifier 3-4@2 "),
+            (b"#\rx", ""),
+            (b"#\0\xff\r\nx", "Identifier 5-6@2 "),
+            (b"/* a /* b */ c */", "Identifier 13-14@1 Bad 15-17@1 "),
+            (b"/**/x", "Identifier 4-5@1 "),
+            (b"/***/x", "Identifier 5-6@1 "),
+            (b"/*/", "Bad 0-3@1 "),
+            (b"/*\n\0\xff\r*/x", "Identifier 8-9@2 "),
+            (b"x /* y", "Identifier 0-1@1 Bad 2-6@1 "),
+            (b"/x", "Bad 0-2@1 "),
+            // Identifiers, tags and numbers.
+            (b"_a9Z", "Identifier 0-4@1 "),
+            (b"a-b", "Identifier 0-1@1 Bad 1-3@1 "),
+            (b":a9 :_", "Tag 0-3@1 Tag 4-6@1 "),
+            (b":9", "Bad 0-2@1 "),
+            (b":", "Bad 0-1@1 "),
+            (b"\"s\":t", "Quoted 0-3@1 Tag 3-5@1 "),
+            (b"10", "Number 0-2@1 "),
+            (b"10K 1m 2G", "Number 0-3@1 Number 4-6@1 Number 7-9@1 "),
+            (b"10Kx", "Number 0-3@1 Identifier 3-4@1 "),
+            (b"1KK", "Number 0-2@1 Identifier 2-3@1 "),
+            (b"1T", "Number 0-1@1 Identifier 1-2@1 "),
+            // Quoted strings.
+            (b"\"\"\"a\"", "Quoted 0-2@1 Quoted 2-5@1 "),
+            (b"\"a\\\"b\"", "Quoted 0-6@1 "),
+            (b"\"a\\\\\"b", "Quoted 0-5@1 Identifier 5-6@1 "),
+            (b"\"\\", "Bad 0-2@1 "),
+            (b"\"\\\"", "Bad 0-3@1 "),
+            (b"\"\0\r\xff\n#/*\" x", "Quoted 0-9@1 Identifier 10-11@2 "),
+            // Multi-line strings.
+            (b"text:\n.\n", "MultiLine 0-8@1 "),
+            (b"text:\r\n.\r\nx", "MultiLine 0-10@1 Identifier 10-11@3 "),
+            (b"TeXT: \t# c\n..\n.\n", "MultiLine 0-16@1 "),
+            (b"text: \t\r\n.\n", "MultiLine 0-11@1 "),
+            (b"text:\n\0\r\xff\n.a\n. \n.\r\r\n.\n", "MultiLine 0-22@1 "),
+            (b"text:\n.\n.\n", "MultiLine 0-8@1 Bad 8-10@3 "),
+            (b"text:", "Identifier 0-4@1 Bad 4-5@1 "),
+            (b"text:\n", "Identifier 0-4@1 Bad 4-6@1 "),
+            (b"text:\n.", "Identifier 0-4@1 Bad 4-7@1 "),
+            (b"text:\n.\r", "Identifier 0-4@1 Bad 4-8@1 "),
+            (b"text:#", "Identifier 0-4@1 Bad 4-6@1 "),
+            (b"text:\r.\n", "Identifier 0-4@1 Bad 4-8@1 "),
+            (b"text:\r\r\n.\n", "Identifier 0-4@1 Bad 4-10@1 "),
+            (b"text: x\n.\n", "Identifier 0-4@1 Bad 4-10@1 "),
+            (b"text :\n.\n", "Identifier 0-4@1 Bad 5-9@1 "),
+            (b"text:x\n.\n", "Identifier 0-4@1 Tag 4-6@1 Bad 7-9@2 "),
+            (b"texts:\n.\n", "Identifier 0-5@1 Bad 5-9@1 "),
+            (b"atext:\n.\n", "Identifier 0-5@1 Bad 5-9@1 "),
+            // Punctuation, and octets that begin nothing.
+            (
+                b";,{}()[]",
+                "Semicolon 0-1@1 Comma 1-2@1 OpenBrace 2-3@1 CloseBrace 3-4@1 OpenParenthesis 4-5@1 CloseParenthesis 5-6@1 OpenBracket 6-7@1 CloseBracket 7-8@1 ",
+            ),
+            (b"a\x7f", "Identifier 0-1@1 Bad 1-2@1 "),
+            (b"a\0;", "Identifier 0-1@1 Bad 1-3@1 "),
+            (b"\n\xe9;", "Bad 1-3@2 "),
+            (b"a\x0b;", "Identifier 0-1@1 Bad 1-3@1 "),
+        ],
+    )
 }
 
 #[test]
 fn values(rt: HostRuntime) -> Result<(), Fail> {
-    for (text, want) in [
-        (b"a \"\";".as_slice(), "a@1 \"\"1;"),
-        (
-            b"a \"b\nc\r\nd\re\";",
-            "a@1 \"b\\x0d\\x0ac\\x0d\\x0ad\\x0de\"1;",
-        ),
-        (b"a \"\n\";", "a@1 \"\\x0d\\x0a\"1;"),
-        (b"a \"\r\\\n\";", "a@1 \"\\x0d\\x0d\\x0a\"1;"),
-        (b"a \"\\q\\\\\\\"\";", "a@1 \"q\\\"\"1;"),
-        (b"a \"\0\xff\";", "a@1 \"\\x00\\xff\"1;"),
-        (
-            b"a\ntext:\n..a\n.b\n.\n;",
-            "a@1 \".a\\x0d\\x0a.b\\x0d\\x0a\"2;",
-        ),
-        (
-            b"a text:\r\n...\r\n\r\n.\r\n;",
-            "a@1 \"..\\x0d\\x0a\\x0d\\x0a\"1;",
-        ),
-        (
-            b"a text: # c\nb\rc\\\"\n.\r\n;",
-            "a@1 \"b\\x0dc\\\"\\x0d\\x0a\"1;",
-        ),
-        (b"a text:\n.\n;", "a@1 \"\"1;"),
-        (b"a text:\n.\r\r\n.\n;", "a@1 \".\\x0d\\x0d\\x0a\"1;"),
-        (b"a 0 007 10;", "a@1 #0@1 #7@1 #10@1;"),
-        (
-            b"a 1k 1K 1m 1M 1g 1G;",
-            "a@1 #1024@1 #1024@1 #1048576@1 #1048576@1 #1073741824@1 #1073741824@1;",
-        ),
-        (b"a 18446744073709551615;", "a@1 #18446744073709551615@1;"),
-        (b"a 18446744073709551616;", "a@1 #none@1;"),
-        (b"a 17179869183G;", "a@1 #18446744072635809792@1;"),
-        (b"a 17179869184G;", "a@1 #none@1;"),
-        (b"a 99999999999999999999999999999999;", "a@1 #none@1;"),
-        (b"a 000000000000000000000000000000001K;", "a@1 #1024@1;"),
-        (b"a :Tag\n:_t9;", "a@1 :Tag@1 :_t9@2;"),
-    ] {
-        let got = outcome(rt.alloc(), text)?;
-        assert_eq!(rt; got.as_str(), want, "at {text:?}");
-    }
-    Ok(())
+    check_outcomes(
+        &rt,
+        &[
+            (b"a \"\";", "a@1 \"\"1;"),
+            (
+                b"a \"b\nc\r\nd\re\";",
+                "a@1 \"b\\x0d\\x0ac\\x0d\\x0ad\\x0de\"1;",
+            ),
+            (b"a \"\n\";", "a@1 \"\\x0d\\x0a\"1;"),
+            (b"a \"\r\\\n\";", "a@1 \"\\x0d\\x0d\\x0a\"1;"),
+            (b"a \"\\q\\\\\\\"\";", "a@1 \"q\\\"\"1;"),
+            (b"a \"\0\xff\";", "a@1 \"\\x00\\xff\"1;"),
+            (
+                b"a\ntext:\n..a\n.b\n.\n;",
+                "a@1 \".a\\x0d\\x0a.b\\x0d\\x0a\"2;",
+            ),
+            (
+                b"a text:\r\n...\r\n\r\n.\r\n;",
+                "a@1 \"..\\x0d\\x0a\\x0d\\x0a\"1;",
+            ),
+            (
+                b"a text: # c\nb\rc\\\"\n.\r\n;",
+                "a@1 \"b\\x0dc\\\"\\x0d\\x0a\"1;",
+            ),
+            (b"a text:\n.\n;", "a@1 \"\"1;"),
+            (b"a text:\n.\r\r\n.\n;", "a@1 \".\\x0d\\x0d\\x0a\"1;"),
+            (b"a 0 007 10;", "a@1 #0@1 #7@1 #10@1;"),
+            (
+                b"a 1k 1K 1m 1M 1g 1G;",
+                "a@1 #1024@1 #1024@1 #1048576@1 #1048576@1 #1073741824@1 #1073741824@1;",
+            ),
+            (b"a 18446744073709551615;", "a@1 #18446744073709551615@1;"),
+            (b"a 18446744073709551616;", "a@1 #none@1;"),
+            (b"a 17179869183G;", "a@1 #18446744072635809792@1;"),
+            (b"a 17179869184G;", "a@1 #none@1;"),
+            (b"a 99999999999999999999999999999999;", "a@1 #none@1;"),
+            (b"a 000000000000000000000000000000001K;", "a@1 #1024@1;"),
+            (b"a :Tag\n:_t9;", "a@1 :Tag@1 :_t9@2;"),
+        ],
+    )
 }

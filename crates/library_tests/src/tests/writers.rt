@@ -1,8 +1,11 @@
 //! What the writers print, and what they do at writers that take little, interrupt or give up.
 
-use sieve_base::{Counted, Faults, Piece, Source, write_out, write_pieces, write_quoted};
+use sieve_base::{
+    Counted, Faults, Piece, Sink, Source, WriteFault, write_out, write_pieces, write_quoted,
+};
 use std::io;
 use std::io::{ErrorKind, Read, Write};
+use std::process::Abort;
 use std::test::Fail;
 
 // What a writer without room answers.
@@ -59,31 +62,37 @@ impl Read for Broken {
     }
 }
 
-#[test]
-fn prints_octets_between_quotes(rt: HostRuntime) -> Result<(), Fail> {
-    let rows: [(&[u8], &[u8]); 10] = [
-        (b"", b"\"\""),
-        (b"a", b"\"a\""),
-        (b"a\"b\\", b"\"a\\\"b\\\\\""),
-        (b"\x00", b"\"\\x00\""),
-        (b"\n", b"\"\\x0a\""),
-        (b"\x1f", b"\"\\x1f\""),
-        (b" ", b"\" \""),
-        (b"~", b"\"~\""),
-        (b"\x7f", b"\"\\x7f\""),
-        (b"ab\xffcd", b"\"ab\\xffcd\""),
-    ];
+/// Prints octets between quotes, and compares.
+fn check_quoted(rt: &(impl AllocGlobal + Abort), rows: &[(&[u8], &[u8])]) -> Result<(), Fail> {
     for (octets, text) in rows {
         let mut writer = Counted::new(Vec::new(rt.alloc()));
-        write_quoted(octets, &mut writer)?;
-        assert_eq!(rt; writer.into_inner().as_slice(), text);
+        write_quoted(*octets, &mut writer)?;
+        assert_eq!(rt; writer.into_inner().as_slice(), *text);
     }
     Ok(())
 }
 
 #[test]
-fn prints_pieces_in_order(rt: HostRuntime) -> Result<(), Fail> {
-    let mut writer = Counted::new(Vec::new(rt.alloc()));
+fn prints_octets_between_quotes(rt: HostRuntime) -> Result<(), Fail> {
+    check_quoted(
+        &rt,
+        &[
+            (b"", b"\"\""),
+            (b"a", b"\"a\""),
+            (b"a\"b\\", b"\"a\\\"b\\\\\""),
+            (b"\x00", b"\"\\x00\""),
+            (b"\n", b"\"\\x0a\""),
+            (b"\x1f", b"\"\\x1f\""),
+            (b" ", b"\" \""),
+            (b"~", b"\"~\""),
+            (b"\x7f", b"\"\\x7f\""),
+            (b"ab\xffcd", b"\"ab\\xffcd\""),
+        ],
+    )
+}
+
+/// Prints pieces and an end.
+fn print_pieces<W: Sink>(writer: &mut W) -> Result<(), WriteFault> {
     let pieces = [
         Piece::Raw(b"main "),
         Piece::Quoted(b"a b"),
@@ -92,57 +101,89 @@ fn prints_pieces_in_order(rt: HostRuntime) -> Result<(), Fail> {
         Piece::Raw(b" "),
         Piece::Number(18_446_744_073_709_551_615),
     ];
-    write_pieces(&pieces, &mut writer)?;
-    write_out(b" end", &mut writer)?;
-    assert_eq!(rt; writer.faults(), 0);
+    write_pieces(&pieces, writer)?;
+    write_out(b" end", writer)
+}
+
+#[test]
+fn prints_pieces_in_order(rt: HostRuntime) {
+    let mut writer = Counted::new(Vec::new(rt.alloc()));
+    let result = print_pieces(&mut writer);
+    assert_eq!(rt; (result.is_ok(), writer.faults()), (true, 0));
     let text = b"main \"a b\"\n0 18446744073709551615 end";
     assert_eq!(rt; writer.into_inner().as_slice(), text.as_slice());
-    Ok(())
 }
 
-#[test]
-fn tries_an_interrupted_write_a_thousand_times(rt: HostRuntime) -> Result<(), Fail> {
-    let rows: [(usize, Full, u32, bool, &[u8], u64); 6] = [
-        (9, Full::Zero, 0, true, b"\"abc\"", 0),
-        (3, Full::Zero, 0, false, b"\"ab", 1),
-        (4, Full::Broken, 0, false, b"\"abc", 1),
-        (0, Full::Broken, 0, false, b"", 1),
-        (9, Full::Broken, 1_000, true, b"\"abc\"", 5_000),
-        (9, Full::Broken, 1_001, false, b"", 1_001),
-    ];
-    for (room, full, interruptions, is_ok, text, faults) in rows {
-        let mut writer = Counted::new(Slow {
-            taken: Vec::new(rt.alloc()),
-            room,
-            full,
-            interruptions,
-            interrupted: 0,
-        });
-        let result = write_quoted(b"abc", &mut writer);
-        assert_eq!(rt;
-            result.is_ok(),
-            is_ok,
-            "room {room}, {interruptions} interruptions"
-        );
-        assert_eq!(rt; writer.faults(), faults);
-        assert_eq!(rt; writer.into_inner().taken.as_slice(), text);
+/// The room, what is answered without, the interruptions before each octet, whether printing `abc` between quotes
+/// succeeds, what is taken then, and the faults.
+type Row<'a> = (usize, Full, u32, bool, &'a [u8], u64);
+
+fn check_row(rt: &(impl AllocGlobal + Abort), row: &Row<'_>) {
+    let (room, full, interruptions, is_ok, text, faults) = *row;
+    let mut writer = Counted::new(Slow {
+        taken: Vec::new(rt.alloc()),
+        room,
+        full,
+        interruptions,
+        interrupted: 0,
+    });
+    let result = write_quoted(b"abc", &mut writer);
+    assert_eq!(rt;
+        (result.is_ok(), writer.faults()),
+        (is_ok, faults),
+        "room {room}, {interruptions} interruptions"
+    );
+    assert_eq!(rt; writer.into_inner().taken.as_slice(), text);
+}
+
+fn check_rows(rt: &(impl AllocGlobal + Abort), rows: &[Row<'_>]) {
+    for row in rows {
+        check_row(rt, row);
     }
-    Ok(())
 }
 
 #[test]
-fn counts_reads_and_faults(rt: HostRuntime) -> Result<(), Fail> {
+fn tries_an_interrupted_write_a_thousand_times(rt: HostRuntime) {
+    check_rows(
+        &rt,
+        &[
+            (9, Full::Zero, 0, true, b"\"abc\"", 0),
+            (3, Full::Zero, 0, false, b"\"ab", 1),
+            (4, Full::Broken, 0, false, b"\"abc", 1),
+            (0, Full::Broken, 0, false, b"", 1),
+            (9, Full::Broken, 1_000, true, b"\"abc\"", 5_000),
+            (9, Full::Broken, 1_001, false, b"", 1_001),
+        ],
+    );
+}
+
+/// Reads three times into two octets, and compares how many are given.
+fn check_reads<R: Source>(
+    rt: &impl Abort,
+    reader: &mut R,
+    wanted: (Option<usize>, Option<usize>, Option<usize>),
+) {
     let mut buf = [0u8; 2];
+    let first = reader.read_some(&mut buf).ok();
+    let second = reader.read_some(&mut buf).ok();
+    let third = reader.read_some(&mut buf).ok();
+    assert_eq!(rt; (first, second, third), wanted);
+}
+
+#[test]
+fn counts_reads(rt: HostRuntime) {
     let mut reader = Counted::new(b"abc".as_slice());
-    assert_eq!(rt; reader.read_some(&mut buf)?, 2);
-    assert_eq!(rt; reader.read_some(&mut buf)?, 1);
-    assert_eq!(rt; reader.read_some(&mut buf)?, 0);
+    check_reads(&rt, &mut reader, (Some(2), Some(1), Some(0)));
     assert_eq!(rt; (reader.calls(), reader.faults()), (3, 0));
     assert_eq!(rt; reader.into_inner(), b"".as_slice());
+}
 
+#[test]
+fn counts_faults(rt: HostRuntime) {
+    let mut buf = [0u8; 2];
     let mut broken = Counted::new(Broken);
-    assert!(rt; broken.read_some(&mut buf).is_err());
-    assert!(rt; broken.read_some(&mut buf).is_err());
+    let first = broken.read_some(&mut buf).is_err();
+    let second = broken.read_some(&mut buf).is_err();
+    assert_eq!(rt; (first, second), (true, true));
     assert_eq!(rt; (broken.calls(), broken.faults()), (2, 2));
-    Ok(())
 }
