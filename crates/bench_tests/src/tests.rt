@@ -2,7 +2,6 @@
 
 mod amounts;
 mod calls;
-mod command_line;
 mod devices;
 mod edits;
 mod faults;
@@ -13,6 +12,7 @@ mod refusals;
 mod reports;
 mod sessions;
 mod standard;
+mod usage;
 
 use sievebench::{Bench, Counted, Meter, Place, ScriptName, SessionEnd, Sink, Source, session};
 use std::alloc::{AllocError, Global};
