@@ -1,6 +1,6 @@
 //! Nesting, and long texts.
 
-use sieve_syntax::{SyntaxFault, parse};
+use sieve_syntax::{SyntaxFault, parse, tokens};
 use std::alloc::{AllocError, Global};
 use std::process::Abort;
 use std::test::Fail;
@@ -143,5 +143,13 @@ fn texts_have_their_limit(rt: HostRuntime) -> Result<(), Fail> {
 fn a_text_has_so_many_commands(rt: HostRuntime) -> Result<(), Fail> {
     let text = nested(rt.alloc(), b"", b"a;", 524_288, b"", b"", b"")?;
     assert_eq!(rt; commands_of(rt.alloc(), &text), Ok(524_288));
+    Ok(())
+}
+
+#[test]
+fn a_text_has_so_many_tokens(rt: HostRuntime) -> Result<(), Fail> {
+    let text = nested(rt.alloc(), b"", b"a;", 524_288, b"", b"", b"")?;
+    let found = tokens(rt.alloc(), &text)?;
+    assert_eq!(rt; found.len(), 1_048_576);
     Ok(())
 }
