@@ -1,15 +1,22 @@
 //! What an argument is for, by its label.
 ghost use Rattle.std.specs.Prelude.{◌≡◌, drop};
-ghost use Rattle.sieve_check.specs.Role.{first_role, has_role, role_of, same_role};
+ghost use Rattle.sieve_check.specs.Role.{first_role, has_role, role_number, role_of, same_role};
 
 use crate::label::Label;
 use crate::row::Role;
+
+/// The number that tells a role.
+fn role_number(role: Role) -> u8
+    ensures { result ≡ role_number role }
+{
+    role as u8
+}
 
 /// Whether two roles are one.
 fn same_role(a: Role, b: Role) -> bool
     ensures { result ≡ same_role a b }
 {
-    a as u8 == b as u8
+    role_number(a) == role_number(b)
 }
 
 /// Whether it is that role.

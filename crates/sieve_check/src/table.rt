@@ -1,6 +1,6 @@
 //! The table: a row for each command, test and tag that there is.
 ghost use Rattle.std.specs.Prelude.{◌≡◌, find};
-ghost use Rattle.sieve_check.specs.Table.{bare_tag, command_named, command_row, is_named, tag_named, tag_row, test_named, test_row};
+ghost use Rattle.sieve_check.specs.Table.{bare, bare_tag, command_named, command_row, is_named, tag_named, tag_row, test_named, test_row};
 ghost use Rattle.sieve_check.specs.view.Row.{row_as, tag_row_as};
 
 use crate::row::{Form, Inner, Role, Row, Slot, TagKind, TagRow};
@@ -84,16 +84,20 @@ const TESTS: [TestKind; 8] = [
 ];
 
 /// What takes nothing.
-const BARE: Row = Row {
-    name: b"",
-    tags: &[],
-    one_of: None,
-    front: None,
-    slots: &[],
-    tests: Inner::None,
-    has_block: false,
-    needs: &[],
-};
+const fn bare(name: &'static [u8]) -> Row
+    ensures { row_as result ≡ bare name.now }
+{
+    Row {
+        name,
+        tags: &[],
+        one_of: None,
+        front: None,
+        slots: &[],
+        tests: Inner::None,
+        has_block: false,
+        needs: &[],
+    }
+}
 
 /// A tag that takes nothing.
 const fn bare_tag(name: &'static [u8], kind: TagKind) -> TagRow
@@ -132,43 +136,30 @@ impl CommandKind {
     {
         match self {
             CommandKind::Require => Row {
-                name: b"require",
                 slots: &[Slot {
                     form: Form::List,
                     role: Role::Capabilities,
                     needs: None,
                 }],
-                ..BARE
+                ..bare(b"require")
             },
             CommandKind::If => Row {
-                name: b"if",
                 tests: Inner::One,
                 has_block: true,
-                ..BARE
+                ..bare(b"if")
             },
             CommandKind::Elsif => Row {
-                name: b"elsif",
                 tests: Inner::One,
                 has_block: true,
-                ..BARE
+                ..bare(b"elsif")
             },
             CommandKind::Else => Row {
-                name: b"else",
                 has_block: true,
-                ..BARE
+                ..bare(b"else")
             },
-            CommandKind::Keep => Row {
-                name: b"keep",
-                ..BARE
-            },
-            CommandKind::Discard => Row {
-                name: b"discard",
-                ..BARE
-            },
-            CommandKind::Stop => Row {
-                name: b"stop",
-                ..BARE
-            },
+            CommandKind::Keep => bare(b"keep"),
+            CommandKind::Discard => bare(b"discard"),
+            CommandKind::Stop => bare(b"stop"),
         }
     }
 }
@@ -194,18 +185,15 @@ impl TestKind {
     {
         match self {
             TestKind::Header => Row {
-                name: b"header",
                 tags: &[Tag::Comparator, Tag::Is, Tag::Contains],
                 slots: &[FIELD_NAMES, KEYS],
-                ..BARE
+                ..bare(b"header")
             },
             TestKind::Exists => Row {
-                name: b"exists",
                 slots: &[FIELD_NAMES],
-                ..BARE
+                ..bare(b"exists")
             },
             TestKind::Size => Row {
-                name: b"size",
                 tags: &[Tag::Over, Tag::Under],
                 one_of: Some(TagKind::Bound),
                 slots: &[Slot {
@@ -213,31 +201,22 @@ impl TestKind {
                     role: Role::Limit,
                     needs: None,
                 }],
-                ..BARE
+                ..bare(b"size")
             },
             TestKind::AllOf => Row {
-                name: b"allof",
                 tests: Inner::List,
-                ..BARE
+                ..bare(b"allof")
             },
             TestKind::AnyOf => Row {
-                name: b"anyof",
                 tests: Inner::List,
-                ..BARE
+                ..bare(b"anyof")
             },
             TestKind::Not => Row {
-                name: b"not",
                 tests: Inner::One,
-                ..BARE
+                ..bare(b"not")
             },
-            TestKind::True => Row {
-                name: b"true",
-                ..BARE
-            },
-            TestKind::False => Row {
-                name: b"false",
-                ..BARE
-            },
+            TestKind::True => bare(b"true"),
+            TestKind::False => bare(b"false"),
         }
     }
 }

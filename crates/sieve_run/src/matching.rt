@@ -3,8 +3,8 @@ ghost use Rattle.std.specs.Prelude.{◌≡◌, ◌<◌, length, map, Some, slice
 ghost use Rattle.std.specs.List.{list_all};
 ghost use Rattle.message_text.specs.Fields.{fields_of};
 ghost use Rattle.sieve_check.specs.view.Reading.{ask_as, texts_as};
-ghost use Rattle.sieve_check.specs.Reading.{text_value};
-ghost use Rattle.sieve_check.specs.view.Tree.{text_of};
+ghost use Rattle.sieve_check.specs.Reading.{part_value, text_value};
+ghost use Rattle.sieve_check.specs.view.Tree.{part_of, text_of};
 ghost use Rattle.sieve_run.specs.view.FieldTests.{field_matches, octets_of_each};
 ghost use Rattle.sieve_run.specs.Matching.{fold_of, has_field, header_pairs, is_field_named, matches, pairs_named, pairs_with, some_matches, truth_of};
 
@@ -128,14 +128,22 @@ fn header_matches(
     Ok(false)
 }
 
+/// The octets that a part stands for.
+fn part_value(part: &Part) -> &[u8]
+    ensures { result.now ≡ part_value (part_of part.now) }
+{
+    match part {
+        Part::Literal(octets) => octets,
+    }
+}
+
 /// The octets that a string stands for.
 fn expanded_text(alloc: Global, text: &Text) -> Result<Vec<u8>, AllocError>
     ensures { IfOk result (λ octets. octets.items ≡ text_value (text_of text.now).parts) }
 {
     let mut octets = Vec::new(alloc);
     for part in &text.parts {
-        let Part::Literal(literal) = part;
-        octets.extend_from_slice(literal)?;
+        octets.extend_from_slice(part_value(part))?;
     }
     Ok(octets)
 }

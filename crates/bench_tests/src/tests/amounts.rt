@@ -167,6 +167,24 @@ fn two_thousand_messages(rt: HostRuntime) -> Result<(), Fail> {
     check_replies(&rt, input.as_slice(), replies.as_slice())
 }
 
+/// Each line asks for a message that is not there: comparing it with each id would take minutes.
+#[test]
+fn absent_messages_are_looked_up(rt: HostRuntime) -> Result<(), Fail> {
+    let puts = numbered(rt.alloc(), b"message @ 0\n", 60_000)?;
+    let drops = nested(
+        rt.alloc(),
+        b"drop-message m\ndrop-message \"m\"\n",
+        150_000,
+        b"",
+        b"",
+    )?;
+    let input = joined(rt.alloc(), &[puts.as_slice(), drops.as_slice()])?;
+    let answers = nested(rt.alloc(), b"ok\n", 60_000, b"", b"")?;
+    let refusals = nested(rt.alloc(), b"no no-such-message\n", 300_000, b"", b"")?;
+    let replies = joined(rt.alloc(), &[answers.as_slice(), refusals.as_slice()])?;
+    check_replies(&rt, input.as_slice(), replies.as_slice())
+}
+
 /// A text with this name at each place of an `@`.
 fn filled(alloc: Global, text: &[u8], name: &[u8]) -> Result<Vec<u8>, AllocError> {
     let mut out = Vec::new(alloc);
