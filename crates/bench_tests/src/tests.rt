@@ -3,6 +3,7 @@
 mod amounts;
 mod calls;
 mod devices;
+mod dumps;
 mod edits;
 mod faults;
 mod limits;

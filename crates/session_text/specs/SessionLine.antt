@@ -132,6 +132,7 @@ pub data Command : Type 0 where
   envelope : (from to : List ℕ) → Command
   mailbox : (box : List ℕ) → Command
   report : Command
+  dump : (place : Place) (name : List ℕ) → Command
 
 -- whether a word is this text
 unfoldable pub is_text : List ℕ → List ℕ → Bool
@@ -196,12 +197,19 @@ main_command words = option_map (λ n. main n.0 n.1) (last_name words)
 abbrev pub drop_script_command : List (List ℕ) → Option Command
 drop_script_command words = option_map (λ n. drop_script n.0 n.1) (last_name words)
 
+abbrev pub dump_command : List (List ℕ) → Option Command
+dump_command words = option_map (λ n. dump n.0 n.1) (last_name words)
+
+-- a command that prints what there is at a place and a name
+abbrev pub print_command : List ℕ → List (List ℕ) → Option Command
+print_command word words = if is_text (codes "dump") word then dump_command words else None
+
 -- a command of a place and a name
 abbrev pub name_command : List ℕ → List (List ℕ) → Option Command
 name_command word words =
     if is_text (codes "main") word then main_command words
     else if is_text (codes "drop-script") word then drop_script_command words
-    else None
+    else print_command word words
 
 -- a command of one word, or one of those
 abbrev pub value_command : List ℕ → List (List ℕ) → Option Command

@@ -3,7 +3,7 @@ ghost use Rattle.std.specs.Prelude.{◌≡◌, ◌≢◌, ◌<◌, ◌≤◌, �
 ghost use Rattle.std.specs.List.{list_all};
 ghost use Rattle.std.specs.Option.{option_map};
 ghost use Rattle.session_text.specs.SessionLine.{is_plain, outside, spot_behind, is_gap, piece_length, line_words};
-ghost use Rattle.session_text.specs.SessionLine.{is_text, place_of, count_of, last_count, named, last_name, last_value, script_command, message_command, rename_command, envelope_command, main_command, drop_script_command, name_command, value_command, lone_command, command_by, command_of_line};
+ghost use Rattle.session_text.specs.SessionLine.{is_text, place_of, count_of, last_count, named, last_name, last_value, script_command, message_command, rename_command, envelope_command, main_command, drop_script_command, dump_command, print_command, name_command, value_command, lone_command, command_by, command_of_line};
 ghost use Rattle.session_text.specs.view.Command.{command_as, spot_as};
 
 use crate::word::Word;
@@ -59,6 +59,11 @@ pub enum Command<'a> {
     },
     /// To report.
     Report,
+    /// To print the code of a script.
+    Dump {
+        place: Place,
+        name: Word<'a>,
+    },
 }
 
 /// Whether an octet may stand in a line: a visible one of ASCII, or a space.
@@ -293,6 +298,25 @@ fn drop_script_command(line: &[u8]) -> Option<Command<'_>>
     Some(Command::DropScript { place, name })
 }
 
+/// What `dump PLACE NAME` asks for, behind its first word.
+fn dump_command(line: &[u8]) -> Option<Command<'_>>
+    ensures { option_map command_as result ≡ dump_command (line_words line.now) }
+{
+    let (place, name) = last_name(line)?;
+    Some(Command::Dump { place, name })
+}
+
+/// What a line that prints what there is at a place and a name asks for.
+fn print_command<'a>(word: &[u8], line: &'a [u8]) -> Option<Command<'a>>
+    ensures { option_map command_as result ≡ print_command word.now (line_words line.now) }
+{
+    if is_text(word, b"dump") {
+        dump_command(line)
+    } else {
+        None
+    }
+}
+
 /// What a line with a place and a name behind its first word asks for.
 fn name_command<'a>(word: &[u8], line: &'a [u8]) -> Option<Command<'a>>
     ensures { option_map command_as result ≡ name_command word.now (line_words line.now) }
@@ -302,7 +326,7 @@ fn name_command<'a>(word: &[u8], line: &'a [u8]) -> Option<Command<'a>>
     } else if is_text(word, b"drop-script") {
         drop_script_command(line)
     } else {
-        None
+        print_command(word, line)
     }
 }
 

@@ -1,6 +1,5 @@
 mod Rows
 pub mod Unchanged
+pub mod Performing
 pub mod Searching
-pub mod Views
-pub mod Deciding
 pub mod Stepping

@@ -3,6 +3,7 @@ pub mod Library
 pub mod Matching
 pub mod Meter
 pub mod Name
+pub mod Perform
 pub mod Run
 pub mod Shelf
 pub mod Verdict

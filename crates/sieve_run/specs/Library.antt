@@ -3,6 +3,8 @@ use Rattle.std.specs.Prelude.{ℕ, List, length, Option, None, Some, if◌then�
 use Rattle.sieve_base.specs.Limits.{text_limit, name_limit}
 use Rattle.sieve_check.specs.Judgement.{Judgement, judgement_of, sound, faulty}
 use Rattle.sieve_check.specs.Tree.{Node}
+use Rattle.sieve_code.specs.Compiles.{Compiles}
+use Rattle.sieve_code.specs.Operation.{Operation}
 use Rattle.sieve_run.specs.declared.name.ScriptName.{ScriptName}
 
 -- nothing, a text with a fault, or the tree of a text without one
@@ -10,6 +12,12 @@ pub data Lookup : Type 0 where
   missing : Lookup
   invalid : Lookup
   present : (tree : List Node) → Lookup
+
+-- what is there is a tree, and these operations are its code
+abbrev pub HasCode : Lookup → List Operation → Type 0
+HasCode missing ops = ⊥
+HasCode invalid ops = ⊥
+HasCode (present tree) ops = Compiles tree ops
 
 -- a text with a fault is invalid
 abbrev pub lookup_of_judgement : Judgement → Lookup

@@ -1,10 +1,12 @@
-ghost use Rattle.std.specs.Prelude.{◌≡◌, [], ◌∷◌, true, None, Some, IfOk};
+ghost use Rattle.std.specs.Prelude.{◌≡◌, [], ◌∷◌, true, None, Some, IfOk, length};
 ghost use Rattle.std.specs.Option.{option_copied};
-ghost use Rattle.sieve_run.specs.Library.{found_at, lookup_of, present};
+ghost use Rattle.sieve_run.specs.Library.{found_at, lookup_of};
 ghost use Rattle.sieve_run.specs.Meter.{next_run};
-ghost use Rattle.sieve_run.specs.Run.{outcome_of, verdict_at};
-ghost use Rattle.sieve_run.specs.view.Found.{found_as};
-ghost use Rattle.sieve_check.specs.view.Checked.{tree_of};
+ghost use Rattle.sieve_run.specs.Run.{begun, outcome_of, verdict_of};
+ghost use Rattle.sieve_code.specs.Walk.{code_walk};
+ghost use Rattle.sieve_code.specs.view.Code.{ops_of};
+ghost use Rattle.sieve_run.specs.view.Found.{FoundAs};
+ghost use Rattle.sieve_run.specs.view.Step.{doing};
 
 use crate::delivery::Delivery;
 use crate::envelope::Envelope;
@@ -17,7 +19,7 @@ use crate::steps::execute;
 use indexmap::IndexMap;
 use message_text::Message;
 use sieve_base::limits::MAX_NAME;
-use sieve_check::Checked;
+use sieve_code::Code;
 use std::alloc::{AllocError, Global};
 
 /// The outcome where the main script itself can't run: the implicit keep stands.
@@ -61,15 +63,15 @@ fn first_read(
     Ok(reads)
 }
 
-/// Runs the main script's commands from the start.
+/// Runs the main script's code from the start.
 fn run_main(
     alloc: Global,
     main: &ScriptName,
-    script: &Checked,
+    code: &Code,
     envelope: &Envelope,
     message: &Message,
 ) -> Result<Outcome, AllocError>
-    ensures { IfOk result (λ outcome. outcome ≡ verdict_at envelope.now message.now main.now (present (tree_of script.now))) }
+    ensures { IfOk result (λ outcome. outcome ≡ verdict_of (doing message.now envelope.now (code_walk (ops_of code.now) (length (ops_of code.now))) (begun main.now))) }
 {
     let mut state = State {
         actions: Vec::new(alloc),
@@ -81,7 +83,7 @@ fn run_main(
         message,
         envelope,
     };
-    let _ = execute(&delivery, script.commands(), &mut state)?;
+    let _ = execute(&delivery, code, &mut state)?;
     let State {
         actions,
         cancelled,
@@ -109,7 +111,7 @@ fn no_main(alloc: Global) -> Outcome
 
 /// What a library has at a name, where that isn't too long.
 fn find<'a, L: Library>(lib: &'a L, name: &ScriptName) -> Found<'a>
-    ensures { found_as result ≡ found_at (λ name. lookup_of (L.texts lib.now name)) name.now }
+    ensures { FoundAs result (found_at (λ name. lookup_of (L.texts lib.now name)) name.now) }
 {
     if name.name.as_slice().len() > MAX_NAME {
         Found::Missing
@@ -119,7 +121,7 @@ fn find<'a, L: Library>(lib: &'a L, name: &ScriptName) -> Found<'a>
 }
 
 /// Runs the main script on a message. The meter counts the run, also where memory runs out.
-#[tactic(auto, unfolding(crate::specs::Run::outcome_of))]
+#[tactic(auto, using(crate::proofs::Performing::by_code), unfolding(crate::specs::Run::outcome_of))]
 pub fn run<L: Library>(
     alloc: Global,
     lib: &L,
@@ -139,6 +141,6 @@ pub fn run<L: Library>(
     match find(lib, name) {
         Found::Missing => failed_at_main(alloc, name, false, ErrorKind::MissingScript),
         Found::Invalid => failed_at_main(alloc, name, true, ErrorKind::InvalidScript),
-        Found::Present(script) => run_main(alloc, name, script, envelope, message),
+        Found::Present(code) => run_main(alloc, name, code, envelope, message),
     }
 }

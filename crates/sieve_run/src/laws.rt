@@ -2,8 +2,11 @@
 
 ghost use Rattle.std.specs.Prelude.{◌≡◌, ℕ, List};
 ghost use Rattle.sieve_check.specs.Reading.{Ask, Leaf};
-ghost use Rattle.sieve_check.specs.Script.{Commands, Condition, stops};
+ghost use Rattle.sieve_check.specs.Script.{Commands, Condition, script_of, stops};
+ghost use Rattle.sieve_check.specs.Tree.{Node};
+ghost use Rattle.sieve_code.specs.Walk.{gone, tree_walk};
 ghost use Rattle.sieve_run.specs.Name.{name_cmp, name_eq};
+ghost use Rattle.sieve_run.specs.Perform.{answers_of, do_gone, perform};
 ghost use Rattle.sieve_run.specs.Run.{Answer, Ending, RunState, answer_of, decide, exec};
 ghost use Rattle.sieve_run.specs.declared.name.ScriptName as names;
 
@@ -21,6 +24,15 @@ pub fn stop_ends_the_commands()
 #[tactic(auto, using(crate::proofs::Unchanged::decide_keeps))]
 pub fn tests_change_nothing()
     ensures state { (message : List ℕ) (condition : Condition) (state : RunState) → (decide (answer_of message) condition state).state ≡ state }
+{}
+
+/// What running a checked tree's commands does is what doing the leaves of its walk in turn gives, up to the first that ends
+/// the run, the answers being what tests ask; whatever tests ask, and whatever commands that act do.
+/// So it is with the list of answers: what the walk meets with them, done in turn.
+#[tactic(auto, using(crate::proofs::Performing::walking))]
+pub fn a_run_does_its_walk()
+    ensures same { (ask : Ask → RunState → Answer) (act : Leaf → ℕ → RunState → Ending) (tree : List Node) (state : RunState) → exec ask act (script_of tree) state ≡ perform ask act (tree_walk tree) state }
+    ensures met { (ask : Ask → RunState → Answer) (act : Leaf → ℕ → RunState → Ending) (tree : List Node) (state : RunState) → exec ask act (script_of tree) state ≡ do_gone ask act (gone (tree_walk tree) (answers_of ask act (tree_walk tree) state)) state }
 {}
 
 /// The names of scripts are in the order of their stores, and within a store in the order of their octets. Two are equal where

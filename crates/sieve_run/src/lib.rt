@@ -2,7 +2,6 @@
 //! verdict looked at.
 #![tactic(auto)]
 
-mod decision;
 mod delivery;
 mod envelope;
 mod interpreter;

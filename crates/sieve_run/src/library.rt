@@ -1,8 +1,8 @@
 ghost use Rattle.sieve_run.specs.Library.{Lookup, lookup_of};
-ghost use Rattle.sieve_run.specs.view.Found.{found_as};
+ghost use Rattle.sieve_run.specs.view.Found.{FoundAs};
 
 use crate::name::ScriptName;
-use sieve_check::Checked;
+use sieve_code::Code;
 
 /// What a library has at a name.
 #[derive(Debug, Drop)]
@@ -11,8 +11,8 @@ pub enum Found<'a> {
     Missing,
     /// A script with a fault, or a text past the limit of 1,048,576 octets.
     Invalid,
-    /// A script without a fault.
-    Present(&'a Checked),
+    /// The code of a script without a fault.
+    Present(&'a Code),
 }
 
 /// Where a run finds scripts by their names.
@@ -25,5 +25,5 @@ pub trait Library {
 
     /// What there is at a name. Takes no memory.
     fn find(&self, name: &ScriptName) -> Found<'_>
-        ensures { found_as result ≡ lookup_of (texts self.now name.now) };
+        ensures { FoundAs result (lookup_of (texts self.now name.now)) };
 }

@@ -2,23 +2,25 @@
 ghost use Rattle.std.specs.Prelude.{◌≡◌, ◌<◌, length, map, Some, slice_get, IfOk};
 ghost use Rattle.std.specs.List.{list_all};
 ghost use Rattle.message_text.specs.Fields.{fields_of};
-ghost use Rattle.sieve_check.specs.view.Reading.{ask_as, texts_as};
-ghost use Rattle.sieve_check.specs.Reading.{part_value, text_value};
-ghost use Rattle.sieve_check.specs.view.Tree.{part_of, text_of};
+ghost use Rattle.std.specs.Cow.{cow_slice_items};
+ghost use Rattle.sieve_check.specs.Reading.{exists_ask, header_ask, over_ask, part_value, text_value, under_ask};
+ghost use Rattle.sieve_check.specs.view.Tree.{part_of};
+ghost use Rattle.sieve_code.specs.view.Op.{strings_of};
 ghost use Rattle.sieve_run.specs.view.FieldTests.{field_matches, octets_of_each};
 ghost use Rattle.sieve_run.specs.Matching.{fold_of, has_field, header_pairs, is_field_named, matches, pairs_named, pairs_with, some_matches, truth_of};
 
 use match_text::{AsciiCasemap, Collation, Octet, contains, contains_in, is};
 use message_text::Message;
-use sieve_check::{Ask, MatchType, Part, Text};
+use sieve_check::{MatchType, Part};
 use std::alloc::{AllocError, Global};
+use std::borrow::CowSlice;
 
 /// How a test compares a value with keys.
 #[derive(Clone, Copy, Debug)]
 struct Comparison<'a> {
     match_type: MatchType,
     collation: Collation,
-    keys: &'a [Vec<u8>],
+    keys: &'a [CowSlice<'a, u8>],
 }
 
 impl Comparison<'_> {
@@ -41,7 +43,7 @@ impl Comparison<'_> {
         ensures { IfOk result (λ truth. truth ≡ some_matches self.now.match_type (fold_of self.now.collation) (pairs_with (octets_of_each self.now.keys.now) value.now)) }
     {
         for key in self.keys {
-            if self.matches_key(alloc, value, key)? {
+            if self.matches_key(alloc, value, key.as_slice())? {
                 return Ok(true);
             }
         }
@@ -70,10 +72,10 @@ fn has_field(message: &Message, name: &[u8]) -> bool
 }
 
 /// Whether there is a field of each name.
-fn has_fields(message: &Message, names: &[Vec<u8>]) -> bool
+fn has_fields(message: &Message, names: &[CowSlice<'_, u8>]) -> bool
     ensures { result ≡ list_all (has_field (fields_of message.now)) (octets_of_each names.now) }
 {
-    names.iter().all(|name| has_field(message, name))
+    names.iter().all(|name| has_field(message, name.as_slice()))
 }
 
 /// Whether field `i` has that name and its value matches some key.
@@ -115,13 +117,13 @@ fn name_matches(
 fn header_matches(
     alloc: Global,
     message: &Message,
-    names: &[Vec<u8>],
+    names: &[CowSlice<'_, u8>],
     comparison: &Comparison<'_>,
 ) -> Result<bool, AllocError>
     ensures { IfOk result (λ truth. truth ≡ some_matches comparison.now.match_type (fold_of comparison.now.collation) (header_pairs (fields_of message.now) (octets_of_each names.now) (octets_of_each comparison.now.keys.now))) }
 {
     for name in names {
-        if name_matches(alloc, message, name, comparison)? {
+        if name_matches(alloc, message, name.as_slice(), comparison)? {
             return Ok(true);
         }
     }
@@ -137,54 +139,85 @@ fn part_value(part: &Part) -> &[u8]
     }
 }
 
-/// The octets that a string stands for.
-fn expanded_text(alloc: Global, text: &Text) -> Result<Vec<u8>, AllocError>
-    ensures { IfOk result (λ octets. octets.items ≡ text_value (text_of text.now).parts) }
+/// The octets that the parts of a string stand for, joined.
+fn joined(alloc: Global, parts: &[Part]) -> Result<Vec<u8>, AllocError>
+    ensures { IfOk result (λ octets. octets.items ≡ text_value (map part_of parts.now)) }
 {
     let mut octets = Vec::new(alloc);
-    for part in &text.parts {
+    for part in parts {
         octets.extend_from_slice(part_value(part))?;
     }
     Ok(octets)
 }
 
+/// The octets that a string stands for. Those of one part are borrowed.
+fn expanded_string(alloc: Global, parts: &[Part]) -> Result<CowSlice<'_, u8>, AllocError>
+    ensures { IfOk result (λ octets. cow_slice_items octets ≡ text_value (map part_of parts.now)) }
+{
+    match parts {
+        [part] => Ok(CowSlice::Borrowed(part_value(part))),
+        _ => Ok(CowSlice::Owned(joined(alloc, parts)?)),
+    }
+}
+
 /// The octets that each string stands for.
-fn expanded(alloc: Global, texts: &[Text]) -> Result<Vec<Vec<u8>>, AllocError>
-    ensures { IfOk result (λ values. octets_of_each values.items ≡ map text_value (texts_as texts.now)) }
+fn expanded(alloc: Global, strings: &[Vec<Part>]) -> Result<Vec<CowSlice<'_, u8>>, AllocError>
+    ensures { IfOk result (λ values. octets_of_each values.items ≡ map text_value (strings_of strings.now)) }
 {
     let mut values = Vec::new(alloc);
-    for text in texts {
-        values.push(expanded_text(alloc, text)?)?;
+    for parts in strings {
+        values.push(expanded_string(alloc, parts)?)?;
     }
     Ok(values)
 }
 
-/// Whether what a test asks of the message is so. Its strings are expanded before the first comparison.
+/// Whether a value of some named field matches some key. All strings are expanded before the first comparison.
 #[tactic(auto, unfolding(crate::specs::Matching::truth_of))]
-pub(crate) fn truth_of(alloc: Global, message: &Message, ask: &Ask<'_>) -> Result<bool, AllocError>
-    ensures { IfOk result (λ truth. truth ≡ truth_of message.now (ask_as ask.now)) }
+pub(crate) fn header_holds(
+    alloc: Global,
+    message: &Message,
+    match_type: MatchType,
+    collation: Collation,
+    names: &[Vec<Part>],
+    keys: &[Vec<Part>],
+) -> Result<bool, AllocError>
+    ensures { IfOk result (λ truth. truth ≡ truth_of message.now (header_ask match_type collation (strings_of names.now) (strings_of keys.now))) }
 {
-    match ask {
-        Ask::Header {
-            match_type,
-            collation,
-            names,
-            keys,
-        } => {
-            let names = expanded(alloc, names)?;
-            let keys = expanded(alloc, keys)?;
-            let comparison = Comparison {
-                match_type: *match_type,
-                collation: *collation,
-                keys: &keys,
-            };
-            header_matches(alloc, message, &names, &comparison)
-        }
-        Ask::Exists { names } => {
-            let names = expanded(alloc, names)?;
-            Ok(has_fields(message, &names))
-        }
-        Ask::Over { limit } => Ok(message.size() as u64 > *limit),
-        Ask::Under { limit } => Ok((message.size() as u64) < *limit),
-    }
+    let names = expanded(alloc, names)?;
+    let keys = expanded(alloc, keys)?;
+    let comparison = Comparison {
+        match_type,
+        collation,
+        keys: &keys,
+    };
+    header_matches(alloc, message, &names, &comparison)
+}
+
+/// Whether all named fields are there.
+#[tactic(auto, unfolding(crate::specs::Matching::truth_of))]
+pub(crate) fn exists(
+    alloc: Global,
+    message: &Message,
+    names: &[Vec<Part>],
+) -> Result<bool, AllocError>
+    ensures { IfOk result (λ truth. truth ≡ truth_of message.now (exists_ask (strings_of names.now))) }
+{
+    let names = expanded(alloc, names)?;
+    Ok(has_fields(message, &names))
+}
+
+/// Whether the message has more octets.
+#[tactic(auto, unfolding(crate::specs::Matching::truth_of))]
+pub(crate) fn is_over(message: &Message, limit: u64) -> bool
+    ensures { result ≡ truth_of message.now (over_ask limit) }
+{
+    message.size() as u64 > limit
+}
+
+/// Whether the message has fewer octets.
+#[tactic(auto, unfolding(crate::specs::Matching::truth_of))]
+pub(crate) fn is_under(message: &Message, limit: u64) -> bool
+    ensures { result ≡ truth_of message.now (under_ask limit) }
+{
+    (message.size() as u64) < limit
 }

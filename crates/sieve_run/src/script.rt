@@ -2,32 +2,54 @@ ghost use Rattle.std.specs.Prelude.{◌≡◌, ◌≤◌, IfOk, Some, length};
 ghost use Rattle.sieve_base.specs.Limits.{text_limit};
 ghost use Rattle.sieve_check.specs.Judgement.{fault_of, judgement_of};
 ghost use Rattle.sieve_run.specs.Library.{lookup_of};
-ghost use Rattle.sieve_run.specs.view.Found.{found_as};
+ghost use Rattle.sieve_check.specs.view.Judged.{judged_as};
+ghost use Rattle.sieve_run.specs.view.Compiled.{CompiledFrom};
+ghost use Rattle.sieve_run.specs.view.Found.{FoundAs};
 
 use crate::library::Found;
 use sieve_base::Octets;
 use sieve_check::{FaultKind, JudgeFault, Judged, judge};
+use sieve_code::{Code, compile};
 use std::alloc::{AllocError, Global};
 use std::marker::Model;
 
-/// A script's text with its judgement, which is made once. Contracts see the text.
+/// What is kept of a text's judgement.
+#[derive(Debug, Drop)]
+enum Compiled {
+    /// The code of a text without a fault.
+    Sound(Code),
+    /// The first fault of another.
+    Faulty { line: u64, kind: FaultKind },
+}
+
+/// What is kept of a judgement: a checked script is compiled, and its tree goes.
+fn without_tree(alloc: Global, judged: Judged) -> Result<Compiled, AllocError>
+    ensures { IfOk result (λ compiled. CompiledFrom compiled (judged_as judged)) }
+{
+    match judged {
+        Judged::Sound(checked) => Ok(Compiled::Sound(compile(alloc, &checked)?)),
+        Judged::Faulty { line, kind } => Ok(Compiled::Faulty { line, kind }),
+    }
+}
+
+/// A script's text with its code or its first fault, which are found once. Contracts see the text.
 #[derive(Debug, Drop)]
 pub struct Script {
     text: Octets,
-    judged: Judged,
+    compiled: Compiled,
 }
 
 impl Model for Script {
     ghost use Rattle.std.specs.Prelude.{ℕ, List, ◌≡◌, ◌≤◌, length};
     ghost use Rattle.sieve_base.specs.Limits.{text_limit};
     ghost use Rattle.sieve_check.specs.Judgement.{judgement_of};
-    ghost use Rattle.sieve_check.specs.view.Judged.{judged_as};
+    ghost use Rattle.sieve_run.specs.view.Compiled.{CompiledFrom};
 
     ghost Value = { List ℕ };
 
     ghost view = { λ a. a.text };
 
-    ghost invariant = { λ a. (judged_as a.judged ≡ judgement_of a.text) × (length a.text ≤ text_limit) };
+    ghost invariant = { λ a. CompiledFrom a.compiled (judgement_of a.text) × (length a.text ≤ text_limit) };
 }
 
 impl Script {
@@ -37,7 +59,10 @@ impl Script {
         ensures { IfOk result (λ script. script ≡ text) }
     {
         match judge(alloc, text.as_slice()) {
-            Ok(judged) => Ok(Script { text, judged }),
+            Ok(judged) => Ok(Script {
+                text,
+                compiled: without_tree(alloc, judged)?,
+            }),
             Err(JudgeFault::TooLarge) => unreachable!(),
             Err(JudgeFault::NoMemory) => Err(AllocError),
         }
@@ -62,19 +87,19 @@ impl Script {
     pub fn fault(&self) -> Option<(u64, FaultKind)>
         ensures { result ≡ fault_of (judgement_of self.now) }
     {
-        match self.judged {
-            Judged::Sound(_) => None,
-            Judged::Faulty { line, kind } => Some((line, kind)),
+        match self.compiled {
+            Compiled::Sound(_) => None,
+            Compiled::Faulty { line, kind } => Some((line, kind)),
         }
     }
 
     /// What a run finds here.
     pub fn found(&self) -> Found<'_>
-        ensures { found_as result ≡ lookup_of (Some self.now) }
+        ensures { FoundAs result (lookup_of (Some self.now)) }
     {
-        match &self.judged {
-            Judged::Sound(checked) => Found::Present(checked),
-            Judged::Faulty { .. } => Found::Invalid,
+        match &self.compiled {
+            Compiled::Sound(code) => Found::Present(code),
+            Compiled::Faulty { .. } => Found::Invalid,
         }
     }
 }

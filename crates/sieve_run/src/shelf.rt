@@ -1,7 +1,7 @@
 ghost use Rattle.std.specs.Prelude.{◌≡◌, ◌<◌, ◌≤◌, IfOk, Some, length};
 ghost use Rattle.sieve_base.specs.Limits.{name_limit};
 ghost use Rattle.sieve_run.specs.Library.{lookup_of};
-ghost use Rattle.sieve_run.specs.view.Found.{found_as};
+ghost use Rattle.sieve_run.specs.view.Found.{FoundAs};
 
 use crate::library::{Found, Library};
 use crate::name::ScriptName;
@@ -53,7 +53,7 @@ impl Kept {
 
     /// What a run finds here.
     fn found(&self) -> Found<'_>
-        ensures { found_as result ≡ lookup_of (Some self.now) }
+        ensures { FoundAs result (lookup_of (Some self.now)) }
     {
         match &self.entry {
             Entry::Script(script) => script.found(),

@@ -1,19 +1,20 @@
-//! Carries out the commands of a script (RFC 5228, sections 3 and 4).
-ghost use Rattle.std.specs.Prelude.{◌≡◌, map, IfOk};
-ghost use Rattle.sieve_check.specs.Script.{script_of};
-ghost use Rattle.sieve_check.specs.view.Tree.{node_of};
+//! Carries out the operations of code.
+ghost use Rattle.std.specs.Prelude.{◌≡◌, if◌then◌else◌, length, IfOk};
+ghost use Rattle.sieve_code.specs.Walk.{code_walk};
+ghost use Rattle.sieve_code.specs.view.Code.{ops_of};
+ghost use Rattle.sieve_code.specs.view.Op.{op_as};
 ghost use Rattle.sieve_run.specs.view.Flow.{ending_by};
-ghost use Rattle.sieve_run.specs.Run.{act_of, answer_of, exec};
 ghost use Rattle.sieve_run.specs.view.State.{state_of};
-ghost use Rattle.sieve_run.specs.view.Step.{StepsTo, doing_block, doing_branch, doing_command};
+ghost use Rattle.sieve_run.specs.view.Step.{StepsTo, doing};
+ghost use Rattle.sieve_run.specs.declared.steps.Step.TheVariants.{Next};
 
-use crate::decision::first_holds;
 use crate::delivery::Delivery;
+use crate::matching::{exists, header_holds, is_over, is_under};
 use crate::state::State;
-use sieve_check::{Command, CommandReading, Leaf};
+use sieve_code::{Code, Op};
 use std::alloc::AllocError;
 
-/// How a list of commands ended.
+/// How code ended.
 #[derive(Debug, Drop)]
 pub(crate) enum Flow {
     /// At its end.
@@ -22,103 +23,108 @@ pub(crate) enum Flow {
     Stopped,
 }
 
-/// How a command ended.
+/// How an operation ended.
 #[derive(Debug, Drop)]
-pub(crate) enum Step {
-    /// At its end. An `elsif` or `else` that stands behind it is passed over, or isn't.
-    Next { passes_over: bool },
+enum Step {
+    /// It goes on at a place, with a truth in the register.
+    Next { place: usize, register: bool },
     /// By `stop`.
     Stopped,
 }
 
-/// Carries out commands in order.
-#[cycle(steps)]
+/// Carries out code. Its jumps go forward, so it takes no more turns than there are operations.
 pub(crate) fn execute(
     delivery: &Delivery<'_>,
-    commands: &[Command],
+    code: &Code,
     state: &mut State,
 ) -> Result<Flow, AllocError>
     ensures { IfOk result (λ flow.
-        exec (answer_of delivery.now.message.now) (act_of delivery.now.envelope.now) (script_of (map node_of commands.now)) (state_of state.old)
+        doing delivery.now.message.now delivery.now.envelope.now (code_walk (ops_of code.now) (length (ops_of code.now))) (state_of state.old)
         ≡ ending_by flow (state_of state.new)) }
 {
-    let mut passes_over = true;
-    for command in commands {
-        match carry_out(delivery, command, passes_over, state)? {
-            Step::Next { passes_over: next } => passes_over = next,
+    let mut place = 0;
+    let mut register = false;
+    for _turn in 0..code.len() {
+        if place >= code.len() {
+            return Ok(Flow::GoesOn);
+        }
+        match carry_out(delivery, code.op(place), place + 1, register, state)? {
+            Step::Next {
+                place: next,
+                register: truth,
+            } => {
+                place = next;
+                register = truth;
+            }
             Step::Stopped => return Ok(Flow::Stopped),
         }
     }
     Ok(Flow::GoesOn)
 }
 
-/// Carries out a command, where an `elsif` or `else` is passed over or isn't.
-#[cycle(steps)]
+/// Carries out an operation, where this is the place behind it.
+#[tactic(auto, using(crate::proofs::Stepping::asks_steps, crate::proofs::Stepping::discard_steps, crate::proofs::Stepping::stop_steps))]
 fn carry_out(
     delivery: &Delivery<'_>,
-    command: &Command,
-    passes_over: bool,
+    op: &Op,
+    behind: usize,
+    register: bool,
     state: &mut State,
 ) -> Result<Step, AllocError>
     ensures { IfOk result (λ step.
-        StepsTo delivery.now.message.now delivery.now.envelope.now (doing_command passes_over (node_of command.now)) (state_of state.old) step (state_of state.new)) }
+        StepsTo delivery.now.message.now delivery.now.envelope.now (op_as op.now) behind register (state_of state.old) step (state_of state.new)) }
 {
-    let passed_over = Step::Next { passes_over: true };
-    match command.reading() {
-        Some(CommandReading::Opens) => branch(delivery, command, state),
-        Some(CommandReading::Continues) => {
-            if passes_over {
-                Ok(passed_over)
-            } else {
-                branch(delivery, command, state)
-            }
+    match op {
+        Op::True => Ok(with(true, behind)),
+        Op::False => Ok(with(false, behind)),
+        Op::Not => Ok(with(!register, behind)),
+        Op::Header {
+            match_type,
+            collation,
+            names,
+            keys,
+        } => {
+            let truth = header_holds(
+                delivery.alloc,
+                delivery.message,
+                *match_type,
+                *collation,
+                names,
+                keys,
+            )?;
+            Ok(with(truth, behind))
         }
-        Some(CommandReading::Otherwise) => {
-            if passes_over {
-                Ok(passed_over)
-            } else {
-                block(delivery, command, state)
-            }
+        Op::Exists { names } => {
+            let truth = exists(delivery.alloc, delivery.message, names)?;
+            Ok(with(truth, behind))
         }
-        Some(CommandReading::Acts(Leaf::Keep)) => {
+        Op::SizeOver(limit) => Ok(with(is_over(delivery.message, *limit), behind)),
+        Op::SizeUnder(limit) => Ok(with(is_under(delivery.message, *limit), behind)),
+        Op::Jump(target) => Ok(with(register, *target)),
+        Op::JumpIfFalse(target) => Ok(with(register, chosen(register, behind, *target))),
+        Op::JumpIfTrue(target) => Ok(with(register, chosen(register, *target, behind))),
+        Op::Keep(_) => {
             state.store(delivery.alloc, delivery.envelope.mailbox.as_slice())?;
-            Ok(passed_over)
+            Ok(with(register, behind))
         }
-        Some(CommandReading::Acts(Leaf::Discard)) => {
+        Op::Discard(_) => {
             state.discard()?;
-            Ok(passed_over)
+            Ok(with(register, behind))
         }
-        Some(CommandReading::Stops) => Ok(Step::Stopped),
-        Some(CommandReading::Nothing) => Ok(passed_over),
-        None => Ok(passed_over),
+        Op::Stop => Ok(Step::Stopped),
     }
 }
 
-/// Carries out the block of an `if` or `elsif`, where its test holds.
-#[cycle(steps)]
-fn branch(delivery: &Delivery<'_>, command: &Command, state: &mut State) -> Result<Step, AllocError>
-    ensures { IfOk result (λ step.
-        StepsTo delivery.now.message.now delivery.now.envelope.now (doing_branch (node_of command.now)) (state_of state.old) step (state_of state.new)) }
+/// One of two places.
+fn chosen(truth: bool, there: usize, otherwise: usize) -> usize
+    ensures { result ≡ if truth then there else otherwise }
 {
-    let truth = first_holds(delivery, &command.tests)?;
-    if truth {
-        block(delivery, command, state)
-    } else {
-        Ok(Step::Next { passes_over: false })
-    }
+    if truth { there } else { otherwise }
 }
 
-/// Carries out the block of a command.
-#[cycle(steps)]
-fn block(delivery: &Delivery<'_>, command: &Command, state: &mut State) -> Result<Step, AllocError>
-    ensures { IfOk result (λ step.
-        StepsTo delivery.now.message.now delivery.now.envelope.now (doing_block (node_of command.now)) (state_of state.old) step (state_of state.new)) }
+/// On at a place, with a truth in the register.
+fn with(register: bool, place: usize) -> Step
+    ensures { result ≡ Next place register }
 {
-    let Some(commands) = &command.block else {
-        return Ok(Step::Next { passes_over: true });
-    };
-    match execute(delivery, commands, state)? {
-        Flow::GoesOn => Ok(Step::Next { passes_over: true }),
-        Flow::Stopped => Ok(Step::Stopped),
-    }
+    Step::Next { place, register }
 }

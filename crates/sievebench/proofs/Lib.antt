@@ -1,3 +1,5 @@
+pub mod Dumping
+pub mod Lines
 pub mod Messages
 pub mod Requests
 pub mod Serving

@@ -5,13 +5,17 @@ use Rattle.std.proofs.KnownBytes.{Appends-nil}
 use Rattle.std.specs.Io.KnownBytes.{Appends, Keeps, prepend_known}
 use Rattle.sieve_base.specs.Limits.{line_limit}
 use Rattle.sievebench.specs.Content.{Content, Edit, put_script, put_message, set_main, rename_script, remove_script, set_envelope, set_mailbox}
+use Rattle.sieve_run.specs.declared.name.ScriptName.{ScriptName}
 use Rattle.session_text.specs.view.Line.{IsLine, IsWithin}
-use Rattle.sievebench.specs.Session.{MatchSessionEnd, Request, takes_memory, request_of, request_at, request_by, with_octets, edits, unreadable}
+use Rattle.sievebench.specs.Session.{MatchSessionEnd, Request, takes_memory, request_of, request_at, request_by, with_octets, dumps, edits, unreadable}
 use Rattle.session_text.specs.SessionLine as line
 use Rattle.session_text.specs.SessionLine.{first_line, command_of_line}
-use Rattle.sievebench.specs.view.Task.{IsFollowedBy, command_of, edit_by}
+use Rattle.sievebench.specs.view.Task.{IsFollowedBy, IsTask, command_of, edit_by, edit_of}
 use Rattle.sievebench.specs.declared.task.Change.{Change}
 use Rattle.sievebench.specs.declared.task.Change.TheVariants as changes
+use Rattle.sievebench.specs.declared.task.Subject.{Subject}
+use Rattle.sievebench.specs.declared.task.Subject.TheVariants as subjects
+use Rattle.sievebench.specs.declared.task.Task.TheVariants as tasks
 use Rattle.sievebench.specs.view.Turn.{StepFrom, EndFrom, TurnsFrom, EndsBy}
 use Rattle.session_text.specs.declared.line.Line.TheVariants.{Over, Whole, TooLong}
 use Rattle.sievebench.specs.declared.server.Turn.{Turn}
@@ -23,19 +27,32 @@ use Rattle.sievebench.specs.declared.status.SessionEnd.TheVariants as ends
 pub forgotten : (command : Option line.Command) (count : ℕ) (turn : Turn) (content : Content) (unread before left after' : Option (List ℕ)) → IsFollowedBy count command
     → ((edit : List ℕ → Edit) → ((octets : List ℕ) → takes_memory (edit octets) ≡ true) → TurnsFrom (λ rest. with_octets count rest edit) turn content unread before content left after')
     → (count ≡ 0 → (edit : Edit) → takes_memory edit ≡ true → TurnsFrom (λ rest. edits edit rest) turn content unread before content left after')
+    → (count ≡ 0 → (name : ScriptName) → TurnsFrom (λ rest. dumps name rest) turn content unread before content left after')
     → TurnsFrom (request_by command) turn content unread before content left after'
-forgotten None count turn content unread before left after' is put other = absurd is
-forgotten (Some line.nothing) count turn content unread before left after' is put other = absurd is
-forgotten (Some (line.script place name n)) count turn content unread before left after' is put other = rw is (put (put_script (record { place = place; name = name })) (λ octets. refl))
-forgotten (Some (line.message id n)) count turn content unread before left after' is put other = rw is (put (put_message id) (λ octets. refl))
-forgotten (Some (line.main place name)) count turn content unread before left after' is put other = other is (set_main (record { place = place; name = name })) refl
-forgotten (Some line.no_main) count turn content unread before left after' is put other = absurd is
-forgotten (Some (line.rename place name new_place new_name)) count turn content unread before left after' is put other = other is (rename_script (record { place = place; name = name }) (record { place = new_place; name = new_name })) refl
-forgotten (Some (line.drop_script place name)) count turn content unread before left after' is put other = other is (remove_script (record { place = place; name = name })) refl
-forgotten (Some (line.drop_message id)) count turn content unread before left after' is put other = absurd is
-forgotten (Some (line.envelope from to)) count turn content unread before left after' is put other = other is (set_envelope from to) refl
-forgotten (Some (line.mailbox box)) count turn content unread before left after' is put other = other is (set_mailbox box) refl
-forgotten (Some line.report) count turn content unread before left after' is put other = absurd is
+forgotten None count turn content unread before left after' is put other dump = absurd is
+forgotten (Some line.nothing) count turn content unread before left after' is put other dump = absurd is
+forgotten (Some (line.script place name n)) count turn content unread before left after' is put other dump = rw is (put (put_script (record { place = place; name = name })) (λ octets. refl))
+forgotten (Some (line.message id n)) count turn content unread before left after' is put other dump = rw is (put (put_message id) (λ octets. refl))
+forgotten (Some (line.main place name)) count turn content unread before left after' is put other dump = other is (set_main (record { place = place; name = name })) refl
+forgotten (Some line.no_main) count turn content unread before left after' is put other dump = absurd is
+forgotten (Some (line.rename place name new_place new_name)) count turn content unread before left after' is put other dump = other is (rename_script (record { place = place; name = name }) (record { place = new_place; name = new_name })) refl
+forgotten (Some (line.drop_script place name)) count turn content unread before left after' is put other dump = other is (remove_script (record { place = place; name = name })) refl
+forgotten (Some (line.drop_message id)) count turn content unread before left after' is put other dump = absurd is
+forgotten (Some (line.envelope from to)) count turn content unread before left after' is put other dump = other is (set_envelope from to) refl
+forgotten (Some (line.mailbox box)) count turn content unread before left after' is put other dump = other is (set_mailbox box) refl
+forgotten (Some line.report) count turn content unread before left after' is put other dump = absurd is
+forgotten (Some (line.dump place name)) count turn content unread before left after' is put other dump = dump is (record { place = place; name = name })
+
+-- a turn of a put
+pub put_turn : (subject : Subject) (count : ℕ) (command : Option line.Command) (turn : Turn) (old new : Content) (unread before left after' : Option (List ℕ)) → IsTask (tasks.Put subject count) command
+    → TurnsFrom (λ rest. with_octets count rest (edit_of subject)) turn old unread before new left after' → TurnsFrom (request_by command) turn old unread before new left after'
+put_turn (subjects.Script name) count command turn old new unread before left after' is turned = rw is turned
+put_turn (subjects.Message id) count command turn old new unread before left after' is turned = rw is turned
+
+-- a line of no words
+pub idle_step : (content : Content) (unread written : Option (List ℕ)) → StepFrom (request_by (Some line.nothing)) content unread written content unread written
+idle_step content None written = tt
+idle_step content (Some xs) written = ([], (refl, refl, refl), Appends-nil written)
 
 -- a turn of an edit that no octets follow
 pub change_turn : (change : Change) (turn : Turn) (old new : Content) (unread before left after' : Option (List ℕ)) → TurnsFrom (λ rest. edits (edit_by change) rest) turn old unread before new left after'

@@ -5,14 +5,19 @@ use Rattle.std.specs.Io.KnownBytes.{Appends}
 use Rattle.sieve_base.specs.Limits.{message_count_limit, message_limit, script_count_limit, text_limit}
 use Rattle.sievebench.specs.Content.{Content, Edit, after, Refuses, unless, is_long, is_long_id, text_at, message_at, with_script, with_message}
 use Rattle.session_text.specs.view.Payload.{Takes, FallsShort}
-use Rattle.sievebench.specs.Session.{takes_memory, with_octets, edits, reports, truncated, Replies, refusal_line}
+use Rattle.sievebench.specs.Session.{MatchSessionEnd, Request, takes_memory, with_octets, dumps, edits, reports, truncated, Replies, refusal_line}
+use Rattle.sieve_run.specs.declared.name.ScriptName.{ScriptName}
+use Rattle.sievebench.specs.Dump.{dump_of}
 use Rattle.sievebench.specs.Report.{report_text}
 use Rattle.sievebench.specs.view.Task.{edit_of, limit_of}
-use Rattle.sievebench.specs.view.Turn.{RefusesIf, StepFrom, EndFrom, reply_line}
+use Rattle.sievebench.specs.view.Turn.{RefusesIf, Continues, EndsBy, StepFrom, EndFrom, TurnsFrom, reply_line}
+use Rattle.sievebench.specs.declared.server.Turn.{Turn}
+use Rattle.sievebench.specs.declared.server.Turn.TheVariants as turns
 use Rattle.sievebench.specs.declared.fault.EditFault.{EditFault}
 use Rattle.sievebench.specs.declared.fault.EditFault.TheVariants.{TooLarge, Full, NoMemory}
 use Rattle.sievebench.specs.declared.task.Subject.{Subject}
 use Rattle.sievebench.specs.declared.task.Subject.TheVariants as subjects
+use Rattle.sievebench.specs.declared.status.SessionEnd.{SessionEnd}
 use Rattle.sievebench.specs.declared.status.SessionEnd.TheVariants as ends
 
 -- what an edit answers is what its definition allows
@@ -90,6 +95,24 @@ unkept_replies subject count old octets size = by_flag (nat_lt (limit_of subject
         rw (too_large subject old octets more) (inl refl, refl)
     by_flag false is = no_memory_replies (takes_memory (edit_of subject octets)) (after old (edit_of subject octets)) old (put_takes subject octets)
 
+-- where a reply was written, or the writer failed
+pub answered : (request : List ℕ → Request) (turn : Turn) (old new : Content) (unread left before after' : Option (List ℕ)) (P : Type 0) → Continues turn P → (P → StepFrom request old unread before new left after')
+    → TurnsFrom request turn old unread before new left after'
+answered request turns.Continues old new unread left before after' P said step = step said
+answered request (turns.Ends end) old new unread left before after' P said step = rw said tt
+
+-- where the last reply was written, or the writer failed
+pub ended : (request : List ℕ → Request) (wanted : SessionEnd) (turn : Turn) (old : Content) (unread left before after' : Option (List ℕ)) (P : Type 0) → EndsBy wanted turn P → (P → MatchSessionEnd wanted (EndFrom request wanted old unread before old after') ⊥)
+    → TurnsFrom request turn old unread before old left after'
+ended request wanted turns.Continues old unread left before after' P said step = absurd said
+ended request wanted (turns.Ends end) old unread left before after' P (inl both) step = rw both.0 (step both.1)
+ended request wanted (turns.Ends end) old unread left before after' P (inr failed) step = rw failed tt
+
+-- no octets can't end too early
+pub none_short : (request : List ℕ → Request) (old : Content) (unread rest before after' : Option (List ℕ)) → FallsShort 0 unread rest → EndFrom request ends.Truncated old unread before old after'
+none_short request old None rest before after' less = tt
+none_short request old (Some xs) rest before after' less = absurd (omega (arith, less.0))
+
 -- an edit that no octets follow
 pub edit_step : (edit : Edit) (old new : Content) (unread before after' : Option (List ℕ)) (reply : List ℕ) → Replies (takes_memory edit) (after old edit) old reply new → Appends before after' reply
     → StepFrom (λ rest. edits edit rest) old unread before new unread after'
@@ -109,4 +132,17 @@ pub report_step : (old : Content) (unread before after' : Option (List ℕ)) (re
 report_step old None before after' reply either written = tt
 report_step old (Some xs) before after' reply either written = (reply, (either, refl, refl), written)
 
-pub ruleset serving = (replies_of, replies_with_memory, no_memory_replies, put_takes, put_step, put_end, unkept_replies, edit_step, edit_step-kept, report_step)
+-- the code of a script, or why there is none, or the reply that memory was refused
+pub dump_step : (name : ScriptName) (old : Content) (unread before after' : Option (List ℕ)) (reply : List ℕ) → (reply ≡ dump_of old name) ⊎ (reply ≡ refusal_line NoMemory) → Appends before after' reply
+    → StepFrom (λ rest. dumps name rest) old unread before old unread after'
+dump_step name old None before after' reply either written = tt
+dump_step name old (Some xs) before after' reply either written = (reply, (either, refl, refl), written)
+
+-- the same, where no octets were taken
+pub dump_step-kept : (name : ScriptName) (old : Content) (unread left before after' kept : Option (List ℕ)) → Takes 0 unread left kept → Appends before after' (refusal_line NoMemory)
+    → StepFrom (λ rest. dumps name rest) old unread before old left after'
+dump_step-kept name old None left before after' kept taken written = tt
+dump_step-kept name old (Some xs) None before after' kept taken written = absurd taken
+dump_step-kept name old (Some xs) (Some ys) before after' kept taken written = (refusal_line NoMemory, (inr refl, refl, taken.1), written)
+
+pub ruleset serving = (replies_of, replies_with_memory, no_memory_replies, put_takes, put_step, put_end, unkept_replies, edit_step, edit_step-kept, report_step, dump_step, dump_step-kept)

@@ -1,5 +1,5 @@
 -- How a text that is written in several steps comes about.
-use Rattle.std.proofs.Common.{◌≡◌, ℕ, List, [], ◌++◌, sym, ap, ◌∙◌, append_assoc, append-nil, refl, Option, Result, Ok, Err, OnErr, ◌<◌, ◌+◌, length, get_or, drop, subst}
+use Rattle.std.proofs.Common.{◌≡◌, ℕ, List, [], ◌++◌, sym, ap, ◌∙◌, append_assoc, append-nil, refl, Option, Result, Ok, Err, OnOk, OnErr, ◌<◌, ◌+◌, length, get_or, drop, subst}
 use Rattle.std.specs.List.{flat_map}
 use Rattle.std.proofs.lemmas.List.{drop_more}
 use Rattle.sieve_base.proofs.Writing.{wrote_nothing, wrote_both, wrote_then_front, wrote_front_of}
@@ -62,6 +62,13 @@ pub stops_last : {S T E : Type 0} (contents : S → Option (List ℕ)) (fault_co
     → Writing contents fault_count a b part all → OnErr r (WroteFront contents fault_count b c part) → OnErr r (WroteFront contents fault_count a c all)
 stops_last contents fault_count (Ok x) a b c part all so_far step = tt
 stops_last contents fault_count (Err e) a b c part all so_far step = breaks_off contents fault_count a b c part [] all (rw append-nil so_far) step
+
+-- the last part is written, where that is what the answer says
+pub ends_last : {S T E : Type 0} (contents : S → Option (List ℕ)) (fault_count : S → ℕ) (r : Result T E) (a b c : S) (part all : List ℕ)
+    → Writing contents fault_count a b part all → OnOk r (Wrote contents fault_count b c part) → OnOk r (Wrote contents fault_count a c all)
+ends_last contents fault_count (Ok x) a b c part all so_far step =
+    subst (Wrote contents fault_count a c) so_far.whole (wrote_both contents fault_count a b c so_far.done part so_far.wrote step)
+ends_last contents fault_count (Err e) a b c part all so_far step = tt
 
 -- the next item's text is written
 pub goes_on_at : {S X : Type 0} (contents : S → Option (List ℕ)) (fault_count : S → ℕ) (a b c : S) (f : X → List ℕ) (xs : List X) (i : ℕ) (x : X) (all : List ℕ)

@@ -1,4 +1,5 @@
 pub mod Content
+pub mod Dump
 pub mod Report
 pub mod Session
 pub mod Status

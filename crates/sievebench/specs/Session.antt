@@ -3,15 +3,17 @@ use Rattle.std.specs.Prelude.{◌≡◌, ⊤, ℕ, Bool, true, false, ◌⊎◌,
 use Rattle.std.specs.Io.KnownBytes.{Appends}
 use Rattle.sieve_base.specs.Limits.{line_limit}
 use Rattle.sievebench.specs.Content.{Content, Edit, put_script, put_message, set_main, rename_script, remove_script, remove_message, clear_main, set_envelope, set_mailbox, after}
+use Rattle.sievebench.specs.Dump.{dump_of}
 use Rattle.sievebench.specs.Report.{report_text}
-use Rattle.session_text.specs.SessionLine.{Command, nothing, script, message, main, no_main, rename, drop_script, drop_message, envelope, mailbox, report, first_line, command_of_line}
+use Rattle.sieve_run.specs.declared.name.ScriptName.{ScriptName}
+use Rattle.session_text.specs.SessionLine.{Command, nothing, script, message, main, no_main, rename, drop_script, drop_message, envelope, mailbox, report, dump, first_line, command_of_line}
 use Rattle.sievebench.specs.declared.fault.EditFault.{EditFault}
 use Rattle.sievebench.specs.declared.fault.EditFault.TheVariants.{NoSuchScript, NameTaken, NoSuchMessage, Full, TooLarge, NoMemory}
 use Rattle.sievebench.specs.declared.status.SessionEnd.{SessionEnd}
 use Rattle.sievebench.specs.declared.status.SessionEnd.TheVariants as ends
 
 -- what a stream begins with: nothing; a line that says nothing that there is; octets that end too early; a line of
--- no words; an edit; or a report; and what follows
+-- no words; an edit; a report; or a dump; and what follows
 pub data Request : Type 0 where
   over : Request
   unreadable : Request
@@ -19,6 +21,7 @@ pub data Request : Type 0 where
   idle : (rest : List ℕ) → Request
   edits : (edit : Edit) (rest : List ℕ) → Request
   reports : (rest : List ℕ) → Request
+  dumps : (name : ScriptName) (rest : List ℕ) → Request
 
 -- an edit of so many octets, which follow the line directly
 abbrev pub with_octets : ℕ → List ℕ → (List ℕ → Edit) → Request
@@ -37,6 +40,7 @@ request_by (Some (drop_message id)) rest = edits (remove_message id) rest
 request_by (Some (envelope from to)) rest = edits (set_envelope from to) rest
 request_by (Some (mailbox box)) rest = edits (set_mailbox box) rest
 request_by (Some report) rest = reports rest
+request_by (Some (dump place name)) rest = dumps (record { place = place; name = name }) rest
 
 -- a line that is too long says nothing that there is
 abbrev pub request_at : List ℕ × List ℕ → Request
@@ -80,6 +84,7 @@ Step old truncated reply new left = ⊥
 Step old (idle rest) reply new left = (reply ≡ []) × (new ≡ old) × (left ≡ rest)
 Step old (edits edit rest) reply new left = Replies (takes_memory edit) (after old edit) old reply new × (left ≡ rest)
 Step old (reports rest) reply new left = ((reply ≡ report_text old) ⊎ (reply ≡ refusal_line NoMemory)) × (new ≡ old) × (left ≡ rest)
+Step old (dumps name rest) reply new left = ((reply ≡ dump_of old name) ⊎ (reply ≡ refusal_line NoMemory)) × (new ≡ old) × (left ≡ rest)
 
 -- some commands in turn: their replies, the content after them, and what is left of the stream
 pub data Steps (old : Content) (stream : List ℕ) : List ℕ → Content → List ℕ → Type 0 where
@@ -94,6 +99,7 @@ Ends truncated end reply = (end ≡ ends.Truncated) × (reply ≡ codes "no trun
 Ends (idle rest) end reply = ⊥
 Ends (edits edit rest) end reply = ⊥
 Ends (reports rest) end reply = ⊥
+Ends (dumps name rest) end reply = ⊥
 
 -- the text of a session over a stream, its end, and the content that its commands leave
 pub record SessionText (old : Content) (stream : List ℕ) (text : List ℕ) (end : SessionEnd) (new : Content) : Type 0 where

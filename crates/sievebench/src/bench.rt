@@ -1,17 +1,19 @@
 ghost use Rattle.std.specs.Prelude.{◌≡◌, ⊤, ◌≤◌, IfOk, OnOk, OnErr, IfErr, Ok, length, remove, is_some, IfSome};
 ghost use Rattle.sievebench.specs.view.Task.{Drops};
 ghost use Rattle.sieve_base.specs.Writers.{Wrote, WroteFront};
+ghost use Rattle.sieve_run.specs.Library.{found_at, lookup_of};
 ghost use Rattle.sieve_run.specs.Meter.{runs_after};
+ghost use Rattle.sieve_run.specs.view.Found.{FoundAs};
 ghost use Rattle.sievebench.specs.Report.{report_text};
 ghost use Rattle.sievebench.specs.view.ReportFault.{MatchReportFault};
-ghost use Rattle.sievebench.specs.Content.{after, Answers, message_at, new_content, Refuses, without_message};
+ghost use Rattle.sievebench.specs.Content.{after, Answers, message_at, new_content, Refuses, text_at, without_message};
 ghost use Rattle.sievebench.specs.Content.{put_script, put_message, set_main, rename_script, remove_script, remove_message, clear_main, set_envelope, set_mailbox};
 
 use crate::fault::{EditFault, ReportFault};
 use crate::message::message_of;
 use crate::refusal::{
-    refuse_envelope, refuse_mailbox, refuse_main, refuse_message, refuse_remove_message,
-    refuse_remove_script, refuse_rename, refuse_script,
+    is_long, refuse_envelope, refuse_mailbox, refuse_main, refuse_message, refuse_remove_script,
+    refuse_rename, refuse_script,
 };
 use crate::report::{run_all, write_report};
 use crate::scripts::Scripts;
@@ -20,7 +22,7 @@ use indexmap::IndexMap;
 use session_text::Word;
 use sieve_base::limits::MAX_ID;
 use sieve_base::{Octets, Sink};
-use sieve_run::{Envelope, Message, Meter, ScriptName};
+use sieve_run::{Envelope, Found, Library, Message, Meter, ScriptName};
 use std::alloc::{AllocError, Global};
 use std::collections::BTreeMap;
 use std::marker::Model;
@@ -65,6 +67,17 @@ impl Bench {
         self.alloc
     }
 
+    /// What a run finds at a name.
+    pub(crate) fn found(&self, name: &ScriptName) -> Found<'_>
+        ensures { FoundAs result (found_at (λ other. lookup_of (text_at self.now.scripts other)) name.now) }
+    {
+        if is_long(&name.name) {
+            Found::Missing
+        } else {
+            self.scripts.find(name)
+        }
+    }
+
     /// Keeps a script's text at a name, neither of which needs to be copied.
     pub(crate) fn keep_script(&mut self, name: ScriptName, text: Octets) -> Result<(), EditFault>
         ensures ok { OnOk result (after self.old (put_script name text) ≡ Ok self.new) }
@@ -74,9 +87,8 @@ impl Bench {
         if let Some(fault) = refuse_script(&self.scripts, &name, text.as_slice()) {
             return Err(fault);
         }
-        self.scripts
-            .put(self.alloc, name, text)
-            .map_err(|_| EditFault::NoMemory)
+        self.scripts.put(self.alloc, name, text)?;
+        Ok(())
     }
 
     /// Keeps a message's octets at an id, neither of which needs to be copied.
@@ -88,24 +100,11 @@ impl Bench {
         if let Some(fault) = refuse_message(&self.messages, &id, bytes.as_slice()) {
             return Err(fault);
         }
-        let message = message_of(self.alloc, bytes).map_err(|_| EditFault::NoMemory)?;
+        let message = message_of(self.alloc, bytes)?;
         match self.messages.insert(id, message) {
             Ok(_) => Ok(()),
             Err(_) => Err(EditFault::NoMemory),
         }
-    }
-
-    /// Makes a script main, whose name doesn't need to be copied.
-    pub(crate) fn keep_main(&mut self, name: ScriptName) -> Result<(), EditFault>
-        ensures ok { OnOk result (after self.old (set_main name) ≡ Ok self.new) }
-        ensures err { OnErr result (self.new ≡ self.old) }
-        ensures refused { Refuses (after self.old (set_main name)) result }
-    {
-        if let Some(fault) = refuse_main(&name) {
-            return Err(fault);
-        }
-        self.main = Some(name);
-        Ok(())
     }
 
     /// A bench with no scripts, no messages, no main script, an empty envelope, and the mailbox `INBOX`.
@@ -137,8 +136,8 @@ impl Bench {
         if let Some(fault) = refuse_script(&self.scripts, name, text) {
             return Err(fault);
         }
-        let text = Octets::copied(self.alloc, text).map_err(|_| EditFault::NoMemory)?;
-        let name = name.copy(self.alloc).map_err(|_| EditFault::NoMemory)?;
+        let text = Octets::copied(self.alloc, text)?;
+        let name = name.copy(self.alloc)?;
         self.keep_script(name, text)
     }
 
@@ -151,8 +150,8 @@ impl Bench {
         if let Some(fault) = refuse_message(&self.messages, id, bytes) {
             return Err(fault);
         }
-        let bytes = Octets::copied(self.alloc, bytes).map_err(|_| EditFault::NoMemory)?;
-        let id = Octets::copied(self.alloc, id.as_slice()).map_err(|_| EditFault::NoMemory)?;
+        let bytes = Octets::copied(self.alloc, bytes)?;
+        let id = Octets::copied(self.alloc, id.as_slice())?;
         self.keep_message(id, bytes)
     }
 
@@ -165,8 +164,9 @@ impl Bench {
         if let Some(fault) = refuse_main(name) {
             return Err(fault);
         }
-        let name = name.copy(self.alloc).map_err(|_| EditFault::NoMemory)?;
-        self.keep_main(name)
+        let name = name.copy(self.alloc)?;
+        self.main = Some(name);
+        Ok(())
     }
 
     /// Renames a script to a name that no script has. The main script's name stays as it is.
@@ -178,9 +178,8 @@ impl Bench {
         if let Some(fault) = refuse_rename(&self.scripts, from, to) {
             return Err(fault);
         }
-        self.scripts
-            .rename(self.alloc, from, to)
-            .map_err(|_| EditFault::NoMemory)
+        self.scripts.rename(self.alloc, from, to)?;
+        Ok(())
     }
 
     /// Removes a script. Takes no memory.
@@ -202,11 +201,9 @@ impl Bench {
         ensures err { OnErr result (self.new ≡ self.old) }
         ensures refused { Answers (after self.old (remove_message id.now)) result }
     {
-        if let Some(fault) = refuse_remove_message(&self.messages, id) {
-            return Err(fault);
-        }
-        self.messages.shift_remove(id);
-        Ok(())
+        self.drop_sought(Sought {
+            octets: id.as_slice(),
+        })
     }
 
     /// Removes the message of an id. Takes no memory.
@@ -266,8 +263,8 @@ impl Bench {
         if let Some(fault) = refuse_envelope(from, to) {
             return Err(fault);
         }
-        let from = Octets::copied(self.alloc, from).map_err(|_| EditFault::NoMemory)?;
-        let to = Octets::copied(self.alloc, to).map_err(|_| EditFault::NoMemory)?;
+        let from = Octets::copied(self.alloc, from)?;
+        let to = Octets::copied(self.alloc, to)?;
         self.envelope.from = from;
         self.envelope.to = to;
         Ok(())
@@ -282,7 +279,7 @@ impl Bench {
         if let Some(fault) = refuse_mailbox(mailbox) {
             return Err(fault);
         }
-        let mailbox = Octets::copied(self.alloc, mailbox).map_err(|_| EditFault::NoMemory)?;
+        let mailbox = Octets::copied(self.alloc, mailbox)?;
         self.envelope.mailbox = mailbox;
         Ok(())
     }

@@ -1,3 +1,7 @@
+ghost use Rattle.std.specs.Prelude.{◌≡◌};
+ghost use Rattle.sievebench.specs.declared.fault.EditFault.TheVariants as edit;
+
+use std::alloc::AllocError;
 use thiserror::Error;
 
 /// Why an edit was refused. A refused edit changes nothing. Where several hold, the first of `TooLarge`,
@@ -23,6 +27,14 @@ pub enum EditFault {
     /// Memory was refused.
     #[error("out of memory")]
     NoMemory = 6,
+}
+
+impl From<AllocError> for EditFault {
+    ghost from_gives = { λ _ fault. fault ≡ edit.NoMemory };
+
+    fn from(_refused: AllocError) -> EditFault {
+        EditFault::NoMemory
+    }
 }
 
 /// Why a report wasn't written.

@@ -3,6 +3,7 @@
 #![tactic(auto)]
 
 mod bench;
+mod dump;
 mod fault;
 mod message;
 mod refusal;

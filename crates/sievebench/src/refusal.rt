@@ -1,6 +1,6 @@
 //! Why an edit is refused, apart from memory.
 ghost use Rattle.std.specs.Prelude.{◌≡◌};
-ghost use Rattle.sievebench.specs.Content.{is_long, is_long_id, script_refusal, message_refusal, main_refusal, rename_refusal, remove_script_refusal, remove_message_refusal, envelope_refusal, mailbox_refusal};
+ghost use Rattle.sievebench.specs.Content.{is_long, script_refusal, message_refusal, main_refusal, rename_refusal, remove_script_refusal, envelope_refusal, mailbox_refusal};
 
 use crate::fault::EditFault;
 use crate::scripts::Scripts;
@@ -12,17 +12,10 @@ use sieve_base::limits::{
 use sieve_run::{Message, ScriptName};
 
 /// Whether a script's name is past its limit.
-fn is_long(name: &Octets) -> bool
+pub(crate) fn is_long(name: &Octets) -> bool
     ensures { result ≡ is_long name.now }
 {
     name.as_slice().len() > MAX_NAME
-}
-
-/// Whether a message's id is past its limit.
-fn is_long_id(id: &Octets) -> bool
-    ensures { result ≡ is_long_id id.now }
-{
-    id.as_slice().len() > MAX_ID
 }
 
 /// Why a script isn't put, apart from memory.
@@ -46,7 +39,7 @@ pub(crate) fn refuse_message(
 ) -> Option<EditFault>
     ensures { result ≡ message_refusal messages.now.entries id.now bytes.now }
 {
-    if is_long_id(id) || bytes.len() > MAX_MESSAGE {
+    if id.as_slice().len() > MAX_ID || bytes.len() > MAX_MESSAGE {
         return Some(EditFault::TooLarge);
     }
     if !messages.contains_key(id) && messages.len() >= MAX_MESSAGES {
@@ -93,22 +86,6 @@ pub(crate) fn refuse_remove_script(scripts: &Scripts, name: &ScriptName) -> Opti
         Some(EditFault::TooLarge)
     } else if !scripts.contains(name) {
         Some(EditFault::NoSuchScript)
-    } else {
-        None
-    }
-}
-
-/// Why a message isn't removed.
-pub(crate) fn refuse_remove_message(
-    messages: &IndexMap<Octets, Message>,
-    id: &Octets,
-) -> Option<EditFault>
-    ensures { result ≡ remove_message_refusal messages.now.entries id.now }
-{
-    if is_long_id(id) {
-        Some(EditFault::TooLarge)
-    } else if !messages.contains_key(id) {
-        Some(EditFault::NoSuchMessage)
     } else {
         None
     }

@@ -84,7 +84,6 @@ fn write_scripts<W: Sink>(scripts: &Scripts, writer: &mut W) -> Result<(), Write
 }
 
 /// Writes the lines of a verdict.
-#[tactic(auto, using(crate::proofs::Writing::writing), unfolding(crate::specs::Report::verdict_lines))]
 fn write_verdict<W: Sink>(
     envelope: &Envelope,
     outcome: &Outcome,
@@ -100,7 +99,6 @@ fn write_verdict<W: Sink>(
 }
 
 /// Writes the lines of a message.
-#[tactic(auto, using(crate::proofs::Writing::writing))]
 fn write_reported<W: Sink>(
     envelope: &Envelope,
     reported: &Reported<'_>,
@@ -140,7 +138,6 @@ fn error_count(reported: &[Reported<'_>]) -> usize
 }
 
 /// Writes a report with these verdicts.
-#[tactic(auto, using(crate::proofs::Writing::writing), unfolding(crate::specs::Report::report_with))]
 pub(crate) fn write_report<W: Sink>(
     main: Option<&ScriptName>,
     envelope: &Envelope,

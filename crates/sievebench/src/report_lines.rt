@@ -41,7 +41,6 @@ pub(crate) fn write_main<W: Sink>(
 }
 
 /// Writes the line of the envelope.
-#[tactic(auto, unfolding(crate::specs::Report::envelope_line))]
 pub(crate) fn write_envelope<W: Sink>(envelope: &Envelope, writer: &mut W) -> Result<(), WriteFault>
     ensures ok { OnOk result (Wrote W.contents W.fault_count writer.old writer.new (envelope_line envelope.now)) }
     ensures err { OnErr result (WroteFront W.contents W.fault_count writer.old writer.new (envelope_line envelope.now)) }
@@ -61,7 +60,6 @@ pub(crate) fn write_envelope<W: Sink>(envelope: &Envelope, writer: &mut W) -> Re
 }
 
 /// Writes the line of a script.
-#[tactic(auto, unfolding(crate::specs::Report::script_line))]
 pub(crate) fn write_script<W: Sink>(
     name: &ScriptName,
     script: &Script,
@@ -206,7 +204,6 @@ pub(crate) fn write_read<W: Sink>(
 }
 
 /// Writes the last line: how many messages there are, and how many of them have an error.
-#[tactic(auto, unfolding(crate::specs::Report::total_line))]
 pub(crate) fn write_total<W: Sink>(
     messages: u64,
     errors: u64,

@@ -3,19 +3,21 @@ ghost use Rattle.std.specs.Prelude.{◌≡◌, true, ◌≤◌, ◌<◌, ℕ, Li
 ghost use Rattle.sieve_base.specs.Writers.{Wrote};
 ghost use Rattle.sievebench.specs.Content.{Content, Edit, after, remove_message, Refuses};
 ghost use Rattle.session_text.specs.view.Input.{unread, fuel, Knows};
-ghost use Rattle.sievebench.specs.Session.{SessionFrom, MatchSessionEnd, AtLastEnd, with_octets, request_by, request_of, edits, reports, takes_memory};
+ghost use Rattle.sievebench.specs.Session.{SessionFrom, MatchSessionEnd, AtLastEnd, with_octets, request_by, request_of, dumps, edits, reports, takes_memory};
 ghost use Rattle.session_text.specs.SessionLine as line;
 ghost use Rattle.std.specs.Io.KnownBytes.{IsAtEnd};
+ghost use Rattle.sieve_run.specs.declared.name.ScriptName as names;
 ghost use Rattle.sievebench.specs.view.Task.{Tasks, Drops, edit_by, edit_of};
 ghost use Rattle.sievebench.specs.view.Turn.{TurnsFrom, RefusesIf, Continues, EndsBy, OnContinues, AtLast, reply_line};
 
 use crate::bench::Bench;
+use crate::dump::write_dump;
 use crate::fault::{EditFault, ReportFault};
 use crate::status::SessionEnd;
 use crate::task::{Change, Subject, Task, limit_of, task_of};
 use session_text::{Input, Line, Taken, take_octets};
 use sieve_base::{Octets, Sink, Source, write_out};
-use sieve_run::Meter;
+use sieve_run::{Meter, ScriptName};
 use std::alloc::Global;
 
 /// How a command went.
@@ -92,7 +94,7 @@ fn carry_out(bench: &mut Bench, change: Change) -> Result<(), EditFault>
     ensures refused { RefusesIf (takes_memory (edit_by change)) (after bench.old (edit_by change)) result }
 {
     match change {
-        Change::Main { name } => bench.keep_main(name),
+        Change::Main { name } => bench.set_main(&name),
         Change::NoMain => {
             bench.clear_main();
             Ok(())
@@ -166,11 +168,14 @@ fn serve_forgotten<R: Source, W: Sink>(
     ensures other { count ≡ 0 → (content : Content) (edit : Edit) → takes_memory edit ≡ true → TurnsFrom (λ rest. edits edit rest) result
         content (unread input.old (R.remaining reader.old)) (W.contents writer.old)
         content (unread input.new (R.remaining reader.new)) (W.contents writer.new) }
+    ensures dump { count ≡ 0 → (content : Content) (name : names.ScriptName) → TurnsFrom (λ rest. dumps name rest) result
+        content (unread input.old (R.remaining reader.old)) (W.contents writer.old)
+        content (unread input.new (R.remaining reader.new)) (W.contents writer.new) }
     ensures fuel { fuel input.new ≤ fuel input.old }
     ensures end { AtLast result (IsAtEnd (R.remaining reader.new)) }
 {
     match take_octets(alloc, input, reader, count as usize, false) {
-        Taken::Whole { .. } => answer(Err(EditFault::NoMemory), writer),
+        Taken::Whole { kept: _kept } => answer(Err(EditFault::NoMemory), writer),
         Taken::Truncated => refuse_octets(writer),
         Taken::Failed => Turn::Ends(SessionEnd::Read),
         Taken::Spent => Turn::Ends(SessionEnd::TurnLimit),
@@ -211,6 +216,19 @@ fn serve_report<W: Sink>(bench: &mut Bench, meter: &mut Meter, writer: &mut W) -
     }
 }
 
+/// Prints the code of a script, or replies why not.
+#[tactic(auto, using(crate::proofs::Serving::serving))]
+fn serve_dump<W: Sink>(bench: &Bench, writer: &mut W, name: &ScriptName) -> Turn
+    ensures turn { (unread : Option (List ℕ)) → TurnsFrom (λ rest. dumps name.now rest) result
+        bench.now unread (W.contents writer.old) bench.now unread (W.contents writer.new) }
+    ensures end { AtLast result ⊥ }
+{
+    match write_dump(bench.found(name), writer) {
+        Ok(()) => Turn::Continues,
+        Err(_) => Turn::Ends(SessionEnd::Write),
+    }
+}
+
 /// Does what a line asks for.
 #[tactic(auto, using(crate::proofs::Serving::serving))]
 fn perform<R: Source, W: Sink>(
@@ -235,6 +253,7 @@ fn perform<R: Source, W: Sink>(
         Task::Change { change } => serve_change(bench, writer, change),
         Task::Dropped { outcome } => serve_dropped(outcome, writer),
         Task::Report => serve_report(bench, meter, writer),
+        Task::Dump { name } => serve_dump(bench, writer, &name),
         Task::Forgotten { count } => {
             serve_forgotten(bench.allocator(), input, reader, writer, count)
         }

@@ -3,7 +3,7 @@ ghost use Rattle.std.specs.Prelude.{◌≡◌};
 ghost use Rattle.sievebench.specs.Status.{status};
 
 /// How a session ended.
-#[derive(Clone, Copy, Debug, PartialEq, Eq, Hash)]
+#[derive(Clone, Copy, Debug, PartialEq, Eq)]
 pub enum SessionEnd {
     /// The input ended behind a whole command.
     Done = 0,
@@ -22,7 +22,7 @@ pub enum SessionEnd {
 }
 
 /// How the test of a message, or a dump, ended.
-#[derive(Clone, Copy, Debug, PartialEq, Eq, Hash)]
+#[derive(Clone, Copy, Debug, PartialEq, Eq)]
 pub enum TestEnd {
     /// No script has a fault, and no message an error.
     Clean = 0,
@@ -39,7 +39,7 @@ pub enum TestEnd {
 }
 
 /// How a run ended.
-#[derive(Clone, Copy, Debug, PartialEq, Eq, Hash)]
+#[derive(Clone, Copy, Debug, PartialEq, Eq)]
 pub enum End {
     Session(SessionEnd),
     Test(TestEnd),

@@ -41,7 +41,9 @@ pub(crate) enum Task {
     /// A message is removed already, or why it isn't.
     Dropped { outcome: Result<(), EditFault> },
     Report,
-    /// Memory was refused for the words of an edit, which so many octets follow.
+    /// To print the code of a script.
+    Dump { name: ScriptName },
+    /// Memory was refused for the words of a command, which so many octets follow.
     Forgotten { count: u64 },
     Unreadable,
 }
@@ -66,6 +68,16 @@ fn script_task(alloc: Global, place: Place, name: &Word<'_>, count: u64) -> Task
             count,
         },
         Err(_) => Task::Forgotten { count },
+    }
+}
+
+/// To print the code of a script.
+fn dump_task(alloc: Global, place: Place, name: &Word<'_>) -> Task
+    ensures { IsTask result (Some (line.dump place name.now)) }
+{
+    match copied_name(alloc, place, name) {
+        Ok(name) => Task::Dump { name },
+        Err(_) => Task::Forgotten { count: 0 },
     }
 }
 
@@ -149,6 +161,7 @@ pub(crate) fn task_of(bench: &mut Bench, line: &[u8]) -> Task
         None => Task::Unreadable,
         Some(Command::Nothing) => Task::Idle,
         Some(Command::Report) => Task::Report,
+        Some(Command::Dump { place, name }) => dump_task(alloc, place, &name),
         Some(Command::Script { place, name, count }) => script_task(alloc, place, &name, count),
         Some(Command::Message { id, count }) => message_task(alloc, &id, count),
         Some(Command::Main { place, name }) => change_task(main_change(alloc, place, &name)),

@@ -96,6 +96,13 @@ fn names_that_are_removed_have_their_limit(rt: HostRuntime) -> Result<(), Fail> 
     check_word(&rt, b"drop-message ", 1_025, b"\n", b"no too-large\n")
 }
 
+#[test]
+fn no_name_past_the_limit_is_dumped(rt: HostRuntime) -> Result<(), Fail> {
+    let absent = b"no no-such-script\n";
+    check_word(&rt, b"dump personal ", 1_024, b"\n", absent)?;
+    check_word(&rt, b"dump personal ", 1_025, b"\n", absent)
+}
+
 /// Serves a script of so many octets and a report, and compares.
 fn check_script(
     rt: &(impl AllocGlobal + Abort),

@@ -1,7 +1,7 @@
 -- What the program's commands stand for.
 use Rattle.session_text.specs.SessionLine as line
 use Rattle.session_text.specs.declared.session_line.Command.{Command}
-use Rattle.session_text.specs.declared.session_line.Command.TheVariants.{Nothing, Script, Message, Main, NoMain, Rename, DropScript, DropMessage, Envelope, Mailbox, Report}
+use Rattle.session_text.specs.declared.session_line.Command.TheVariants.{Nothing, Script, Message, Main, NoMain, Rename, DropScript, DropMessage, Envelope, Mailbox, Report, Dump}
 use Rattle.session_text.specs.declared.session_line.Spot.{Spot}
 use Rattle.session_text.specs.declared.session_line.Spot.TheVariants as spots
 
@@ -17,6 +17,7 @@ command_as (DropMessage id) = line.drop_message id
 command_as (Envelope from to) = line.envelope from to
 command_as (Mailbox mailbox) = line.mailbox mailbox
 command_as Report = line.report
+command_as (Dump place name) = line.dump place name
 
 abbrev pub spot_as : Spot → line.Spot
 spot_as spots.Outside = line.outside

@@ -1,50 +1,23 @@
--- What the interpreter knows of tests and of single commands.
-use Rattle.std.specs.Prelude.{◌≡◌, ℕ, List, Bool, true, false}
-use Rattle.sieve_check.specs.Reading.{Ask, Leaf}
-use Rattle.sieve_check.specs.Script.{Condition, Commands, chooses, Chain, node_before, block_commands, branch_condition, conditions_in}
-use Rattle.sieve_check.specs.Tree.{Node, node}
-use Rattle.sieve_run.specs.Run.{RunState, Ending, Answer, stopped, and_then, decide, exec, answer_of, act_of}
+-- What is left to do after an operation.
+use Rattle.std.specs.Prelude.{◌≡◌, ◌+◌, ℕ, Bool, List, Some}
+use Rattle.sieve_code.specs.Operation.{Operation}
+use Rattle.sieve_code.specs.Walk as walk
+use Rattle.sieve_code.specs.Walk.{Walk}
+use Rattle.sieve_run.specs.Perform.{perform}
+use Rattle.sieve_run.specs.Run.{RunState, Ending, stopped, act_of, answer_of}
 use Rattle.sieve_run.specs.declared.envelope.Envelope.{Envelope}
 use Rattle.sieve_run.specs.declared.steps.Step.{Step}
 use Rattle.sieve_run.specs.declared.steps.Step.TheVariants.{Next, Stopped}
 
--- a condition comes to a truth, whatever the state, and leaves the state as it is
-pub record ComesTo (message : List ℕ) (condition : Condition) (truth : Bool) : Type 0 where
-  pub answer : (state : RunState) → decide (answer_of message) condition state ≡ record { truth = truth; state = state }
+-- what a walk does to a message
+abbrev pub doing : List ℕ → Envelope → Walk → RunState → Ending
+doing message envelope w state = perform (answer_of message) (act_of envelope) w state
 
--- what a test or a block of a command is
-abbrev pub condition_at : Node → Condition
-condition_at (node name line args ts ending) = branch_condition (conditions_in ts)
+-- after a step, where `go` is the walk from a place with a truth in the register
+abbrev pub doing_after : List ℕ → Envelope → (go : ℕ → Bool → Walk) → Step → RunState → Ending
+doing_after message envelope go (Next place register) state = doing message envelope (go place register) state
+doing_after message envelope go Stopped state = stopped state
 
-abbrev pub block_at : Node → Commands
-block_at (node name line args ts ending) = block_commands ending
-
--- what is to be done with the commands behind, where `ask` says what tests ask and `act` what commands do that act
-abbrev pub Doing : Type 0
-Doing = (Ask → RunState → Answer) → (Leaf → ℕ → RunState → Ending) → Chain → RunState → Ending
-
--- with these commands, where branches that stand first are passed over, or aren't
-abbrev pub doing_rest : Bool → Doing
-doing_rest true ask act chain state = exec ask act chain.rest state
-doing_rest false ask act chain state = and_then (exec ask act chain.otherwise state) (exec ask act chain.rest)
-
--- with a command in front of them
-abbrev pub doing_command : Bool → Node → Doing
-doing_command passes_over n ask act chain state = doing_rest passes_over ask act (node_before n chain) state
-
--- with the test and the block of an `if` in front of them
-abbrev pub doing_branch : Node → Doing
-doing_branch n ask act chain state = exec ask act (chooses (condition_at n) (block_at n) chain.otherwise chain.rest) state
-
--- with a block in front of them that takes the place of the branches behind it
-abbrev pub doing_block : Node → Doing
-doing_block n ask act chain state = and_then (exec ask act (block_at n) state) (exec ask act chain.rest)
-
--- after a step
-abbrev pub doing_after : Step → Doing
-doing_after (Next passes_over) ask act chain state = doing_rest passes_over ask act chain state
-doing_after Stopped ask act chain state = stopped state
-
--- a step does its part, whatever stands behind it
-pub record StepsTo (message : List ℕ) (envelope : Envelope) (doing : Doing) (old : RunState) (step : Step) (new : RunState) : Type 0 where
-  pub before : (chain : Chain) → doing (answer_of message) (act_of envelope) chain old ≡ doing_after step (answer_of message) (act_of envelope) chain new
+-- a step does its operation, whatever the walk behind it; `behind` is the place behind the operation's
+pub record StepsTo (message : List ℕ) (envelope : Envelope) (op : Operation) (behind : ℕ) (register : Bool) (old : RunState) (step : Step) (new : RunState) : Type 0 where
+  pub before : (place : ℕ) (go : ℕ → Bool → Walk) → behind ≡ place + 1 → doing message envelope (walk.step go (Some op) place register) old ≡ doing_after message envelope go step new

@@ -1,7 +1,7 @@
 -- What the program's tasks stand for.
 use Rattle.std.specs.Prelude.{◌≡◌, ℕ, List, Option, Some, None, Result, Ok, Err, OnOk, OnErr}
 use Rattle.sieve_base.specs.Limits.{text_limit, message_limit}
-use Rattle.session_text.specs.SessionLine.{Command, nothing, script, message, main, no_main, rename, drop_script, drop_message, envelope, mailbox, report}
+use Rattle.session_text.specs.SessionLine.{Command, nothing, script, message, main, no_main, rename, drop_script, drop_message, envelope, mailbox, report, dump}
 use Rattle.sievebench.specs.Content.{Content, Edit, put_script, put_message, set_main, rename_script, remove_script, remove_message, clear_main, set_envelope, set_mailbox, after, Answers}
 use Rattle.sievebench.specs.declared.task.Subject.{Subject}
 use Rattle.sievebench.specs.declared.task.Subject.TheVariants as subjects
@@ -26,6 +26,7 @@ IsFollowedBy count (Some (drop_message id)) = ⊥
 IsFollowedBy count (Some (envelope from to)) = count ≡ 0
 IsFollowedBy count (Some (mailbox box)) = count ≡ 0
 IsFollowedBy count (Some report) = ⊥
+IsFollowedBy count (Some (dump place name)) = count ≡ 0
 
 -- the command that asks for an edit
 abbrev pub command_of : Change → Command
@@ -53,6 +54,7 @@ IsTask (tasks.Put (subjects.Message id) count) command = command ≡ Some (messa
 IsTask (tasks.Change change) command = command ≡ Some (command_of change)
 IsTask (tasks.Dropped outcome) command = ⊥
 IsTask tasks.Report command = command ≡ Some report
+IsTask (tasks.Dump name) command = command ≡ Some (dump name.place name.name)
 IsTask (tasks.Forgotten count) command = IsFollowedBy count command
 IsTask tasks.Unreadable command = command ≡ None
 
@@ -72,6 +74,7 @@ Tasks tasks.Idle command old new = IsTask tasks.Idle command × (new ≡ old)
 Tasks (tasks.Put subject count) command old new = IsTask (tasks.Put subject count) command × (new ≡ old)
 Tasks (tasks.Change change) command old new = IsTask (tasks.Change change) command × (new ≡ old)
 Tasks tasks.Report command old new = IsTask tasks.Report command × (new ≡ old)
+Tasks (tasks.Dump name) command old new = IsTask (tasks.Dump name) command × (new ≡ old)
 Tasks (tasks.Forgotten count) command old new = IsTask (tasks.Forgotten count) command × (new ≡ old)
 Tasks tasks.Unreadable command old new = IsTask tasks.Unreadable command × (new ≡ old)
 

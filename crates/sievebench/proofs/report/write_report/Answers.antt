@@ -1,6 +1,6 @@
 use Rattle.std.proofs.Common.{refl}
 use Rattle.sievebench.specs.Report.{report_with}
-use Rattle.sievebench.proofs.Writing.{begins, goes_on, stops, stops_last}
+use Rattle.sievebench.proofs.Writing.{begins, goes_on, stops, stops_last, ends_last}
 use Rattle.sievebench.proofs.report.write_report.Goals as goal
 
 pub returns-in_err-write_main-clause-err : goal.returns-in_err-write_main-clause-err
@@ -26,3 +26,8 @@ pub returns-clause-err : goal.returns-clause-err
 unfolding report_with
 returns-clause-err g c =
     stops_last _ _ _ _ _ _ _ _ (goes_on _ _ _ _ _ _ _ _ (goes_on _ _ _ _ _ _ _ _ (goes_on _ _ _ _ _ _ _ _ (goes_on _ _ _ _ _ _ _ _ (begins _ _ _ _) c.in_ok-write_main.ensures.ok) c.in_ok-write_envelope.ensures.ok) c.in_ok-write_scripts.ensures.ok) c.in_ok-write_all_reported.ensures.ok) c.write_totals.ensures.err
+
+pub returns-clause-ok : goal.returns-clause-ok
+unfolding report_with
+returns-clause-ok g c =
+    ends_last _ _ _ _ _ _ _ _ (goes_on _ _ _ _ _ _ _ _ (goes_on _ _ _ _ _ _ _ _ (goes_on _ _ _ _ _ _ _ _ (goes_on _ _ _ _ _ _ _ _ (begins _ _ _ _) c.in_ok-write_main.ensures.ok) c.in_ok-write_envelope.ensures.ok) c.in_ok-write_scripts.ensures.ok) c.in_ok-write_all_reported.ensures.ok) c.write_totals.ensures.ok

@@ -1,0 +1,144 @@
+-- The code of commands does what the abstract script does.
+use Rattle.std.proofs.Common.{◌≡◌, ℕ, Bool, true, false, ◌∷◌, length, Option, Some, None, refl, sym, subst}
+use Rattle.sieve_check.specs.Reading as reading
+use Rattle.sieve_check.specs.Reading.{CommandReading, command_reading}
+use Rattle.sieve_check.specs.Script as script
+use Rattle.sieve_check.specs.Script.{Condition, Commands, no_commands, chooses, Chain, branch_condition, conditions_in, block_commands, chain_of}
+use Rattle.sieve_check.specs.Tree.{Node, node, Block, no_block, block, Nodes, end_nodes, more_nodes}
+use Rattle.sieve_code.specs.Choice.{Tail, Branches, no_branch, past_branches, branch_before, command_before, node_before, block_before, nodes_before, first_before}
+use Rattle.sieve_code.specs.Operation.{jumps, jumps_if, acts, stops}
+use Rattle.sieve_code.specs.Walk.{Walk, by_stop, acted, condition_walk, commands_walk}
+use Rattle.sieve_code.proofs.Tails.{Walks, Ends, Forward, ends_self, ends_more, ends_trans, walks_acts, walks_stops, walks_jumps, walks_jumps_if, forward_plain, forward_jumps, forward_jumps_if, landed}
+use Rattle.sieve_code.proofs.Conditions.{IsCode, first_code}
+
+-- a tail goes this walk, whatever is in the register, and its jumps go forward
+pub record Goes (tail : Tail) (walk : Walk) : Type 0 where
+  pub forward : Forward tail
+  pub walks : Walks tail (λ r. walk)
+
+-- a tail that ends with another goes this walk
+pub record GoesBefore (tail behind : Tail) (walk : Walk) : Type 0 where
+  pub ends : Ends tail behind
+  pub goes : Goes tail walk
+
+-- what is put in front of a tail does what commands do
+pub record IsBlock (before : Tail → Tail) (cs : Commands) : Type 0 where
+  pub at : (behind : Tail) (next : Walk) → Goes behind next → GoesBefore (before behind) behind (commands_walk cs next)
+
+-- a tail with branches in front does what a chain does, and what is behind it
+pub record IsChain (b : Branches) (chain : Chain) (behind : Tail) (next : Walk) : Type 0 where
+  pub rest : GoesBefore b.behind_branches behind (commands_walk chain.rest next)
+  pub branch : GoesBefore b.with_branch b.behind_branches (commands_walk chain.otherwise (commands_walk chain.rest next))
+  pub alone : b.has_branch ≡ false → b.with_branch ≡ b.behind_branches
+
+-- a tail without a branch in front
+plain_chain : (tail : Tail) (cs : Commands) (behind : Tail) (next : Walk) → GoesBefore tail behind (commands_walk cs next) → IsChain (no_branch tail) (record { otherwise = no_commands; rest = cs }) behind next
+unfolding commands_walk
+plain_chain tail cs behind next g = record {
+  rest = g;
+  branch = record { ends = ends_self tail; goes = g.goes };
+  alone = λ _. refl;
+}
+
+-- a branch in front
+branch_chain : (tail : Tail) (cs : Commands) (b : Branches) (chain : Chain) (behind : Tail) (next : Walk) → IsChain b chain behind next → GoesBefore tail b.behind_branches (commands_walk cs (commands_walk chain.rest next)) → IsChain (record { has_branch = true; with_branch = tail; behind_branches = b.behind_branches }) (record { otherwise = cs; rest = chain.rest }) behind next
+branch_chain tail cs b chain behind next c g = record {
+  rest = c.rest;
+  branch = g;
+  alone = λ e. absurd (apart e);
+}
+  where
+    apart : true ≡ false → ⊥
+    apart e = cc
+
+-- an operation in front
+stops_before : (tail behind : Tail) (walk : Walk) → GoesBefore tail behind walk → GoesBefore (stops ∷ tail) behind by_stop
+stops_before tail behind walk g = record {
+  ends = ends_more stops tail behind g.ends;
+  goes = record { forward = forward_plain stops tail refl g.goes.forward; walks = walks_stops tail };
+}
+
+acts_before : (leaf : reading.Leaf) (line : ℕ) (tail behind : Tail) (walk : Walk) → GoesBefore tail behind walk → GoesBefore (acts leaf line ∷ tail) behind (acted leaf line walk)
+acts_before leaf line tail behind walk g = record {
+  ends = ends_more (acts leaf line) tail behind g.ends;
+  goes = record { forward = forward_plain (acts leaf line) tail refl g.goes.forward; walks = walks_acts tail (λ r. walk) g.goes.walks leaf line };
+}
+
+-- BRANCHES
+
+-- behind a block: what is behind the branches
+past_goes : (has : Bool) (w r behind : Tail) (other after : Walk) → Goes r after → GoesBefore w r other → (has ≡ false → w ≡ r) → GoesBefore (past_branches (record { has_branch = has; with_branch = w; behind_branches = r })) w after
+past_goes true w r behind other after rest branch alone = record {
+  ends = ends_more (jumps (length r)) w w (ends_self w);
+  goes = record { forward = forward_jumps w r branch.ends branch.goes.forward; walks = walks_jumps w r (λ q. after) branch.ends rest.walks };
+}
+past_goes false w r behind other after rest branch alone = record {
+  ends = ends_self w;
+  goes = subst (λ t. Goes t after) (sym (alone refl)) rest;
+}
+
+-- a branch with a test: its block, or the other branches, and what is behind them
+test_branch : (first inner : Tail → Tail) (condition : Condition) (cs : Commands) (b : Branches) (chain : Chain) (behind : Tail) (next : Walk) → IsCode first condition → IsBlock inner cs → IsChain b chain behind next → GoesBefore (branch_before first inner b) b.with_branch (condition_walk condition (commands_walk cs (commands_walk chain.rest next)) (commands_walk chain.otherwise (commands_walk chain.rest next)))
+test_branch first inner condition cs b chain behind next f i c =
+    let after = commands_walk chain.rest next in
+    let other = commands_walk chain.otherwise after in
+    let past = past_goes b.has_branch b.with_branch b.behind_branches behind other after c.rest.goes c.branch c.alone in
+    let block_goes = i.at (past_branches b) after past.goes in
+    let block_ends = ends_trans (inner (past_branches b)) (past_branches b) b.with_branch block_goes.ends past.ends in
+    let jump = jumps_if false (length b.with_branch) ∷ inner (past_branches b) in
+    record {
+      ends = ends_trans (first jump) jump b.with_branch (f.ends jump) (ends_more _ (inner (past_branches b)) b.with_branch block_ends);
+      goes = record {
+        forward = f.forward jump (forward_jumps_if false (inner (past_branches b)) b.with_branch block_ends block_goes.goes.forward);
+        walks = f.walks jump (λ r. landed false r other (commands_walk cs after)) (walks_jumps_if (inner (past_branches b)) b.with_branch (λ r. other) block_ends c.branch.goes.walks false (λ r. commands_walk cs after) block_goes.goes.walks);
+      };
+    }
+
+-- COMMANDS
+
+module _ (first inner : Tail → Tail) (condition : Condition) (cs : Commands) (f : IsCode first condition) (i : IsBlock inner cs) (b : Branches) (chain : Chain) (behind : Tail) (next : Walk) (c : IsChain b chain behind next) where
+  command_chain : (r : Option CommandReading) (line : ℕ) → IsChain (command_before r line first inner b) (script.command_before r line condition cs chain) behind next
+  unfolding commands_walk
+  command_chain None line = plain_chain b.behind_branches chain.rest behind next c.rest
+  command_chain (Some reading.opens) line =
+      let g = test_branch first inner condition cs b chain behind next f i c in
+      plain_chain (branch_before first inner b) (chooses condition cs chain.otherwise chain.rest) behind next
+      (record { ends = ends_trans _ _ _ g.ends (ends_trans _ _ _ c.branch.ends c.rest.ends); goes = g.goes })
+  command_chain (Some reading.continues) line =
+      let g = test_branch first inner condition cs b chain behind next f i c in
+      branch_chain (branch_before first inner b) (chooses condition cs chain.otherwise no_commands) b chain behind next c
+      (record { ends = ends_trans _ _ _ g.ends c.branch.ends; goes = g.goes })
+  command_chain (Some reading.otherwise) line =
+      branch_chain (inner b.behind_branches) cs b chain behind next c (i.at b.behind_branches (commands_walk chain.rest next) c.rest.goes)
+  command_chain (Some reading.stops) line = plain_chain (stops ∷ b.behind_branches) (script.stops chain.rest) behind next (stops_before _ _ _ c.rest)
+  command_chain (Some reading.nothing) line = plain_chain b.behind_branches chain.rest behind next c.rest
+  command_chain (Some (reading.acts leaf)) line = plain_chain (acts leaf line ∷ b.behind_branches) (script.acts leaf line chain.rest) behind next (acts_before leaf line _ _ _ c.rest)
+
+-- TREES
+
+end_chain : (behind : Tail) (next : Walk) → Goes behind next → IsChain (nodes_before end_nodes behind) (chain_of end_nodes) behind next
+unfolding nodes_before chain_of commands_walk
+end_chain behind next g = plain_chain behind no_commands behind next (record { ends = ends_self behind; goes = g })
+
+no_block_code : IsBlock (block_before no_block) (block_commands no_block)
+unfolding block_before block_commands commands_walk
+no_block_code = record { at = λ behind next g. record { ends = ends_self behind; goes = g } }
+
+block_of_chain : (ns : Nodes) → ((behind : Tail) (next : Walk) → Goes behind next → IsChain (nodes_before ns behind) (chain_of ns) behind next) → IsBlock (block_before (block ns)) (block_commands (block ns))
+unfolding block_before block_commands
+block_of_chain ns chain = record { at = λ behind next g. (chain behind next g).rest }
+
+mutual
+  unfolding node_before script.node_before nodes_before chain_of
+
+  node_code : (n : Node) (b : Branches) (chain : Chain) (behind : Tail) (next : Walk) → IsChain b chain behind next → IsChain (node_before n b) (script.node_before n chain) behind next
+  node_code (node name line args ts ending) b chain behind next c =
+      command_chain (first_before ts) (block_before ending) (branch_condition (conditions_in ts)) (block_commands ending) (first_code ts) (block_code ending) b chain behind next c (command_reading (node name line args ts ending)) line
+
+  block_code : (ending : Block) → IsBlock (block_before ending) (block_commands ending)
+  block_code no_block = no_block_code
+  block_code (block ns) = block_of_chain ns (nodes_code ns)
+
+  pub nodes_code : (ns : Nodes) (behind : Tail) (next : Walk) → Goes behind next → IsChain (nodes_before ns behind) (chain_of ns) behind next
+  nodes_code end_nodes behind next g = end_chain behind next g
+  nodes_code (more_nodes n ns) behind next g = node_code n (nodes_before ns behind) (chain_of ns) behind next (nodes_code ns behind next g)

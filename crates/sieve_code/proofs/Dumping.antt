@@ -1,0 +1,98 @@
+-- What the dump writes of parts and strings.
+use Rattle.std.proofs.Common.{◌≡◌, ℕ, ◌-◌, ◌<◌, ◌≤◌, Option, Result, OnOk, OnErr, List, [], ◌∷◌, ◌++◌, length, map, get_or, take, drop, codes, refl, sym, ap, subst, ◌∙◌, arith, append_assoc}
+use Rattle.std.specs.List.{flat_map}
+use Rattle.std.proofs.lemmas.List.{take_rest}
+use Rattle.sieve_base.specs.Writers.{Wrote, WroteFront}
+use Rattle.std.specs.declared.alloc.Global.{Global}
+use Rattle.std.specs.declared.vec.Vec.{Vec}
+use Rattle.match_text.specs.declared.comparators.Collation.{Collation}
+use Rattle.sieve_check.specs.Reading.{header_ask}
+use Rattle.sieve_check.specs.Tree as tree
+use Rattle.sieve_check.specs.view.Tree.{part_of}
+use Rattle.sieve_check.specs.declared.reading.MatchType.{MatchType}
+use Rattle.sieve_check.specs.declared.tree.Part.{Part}
+use Rattle.sieve_code.specs.Dump.{ask_text, header_words, list_text, part_text, separated, string_text}
+use Rattle.sieve_code.specs.view.Marked.{marked_part, marked_string}
+use Rattle.sieve_code.specs.view.Op.{parts_of, strings_of}
+
+pub marked_part_at : (parts : List Part) (i : ℕ) (part : Part) → part ≡ get_or parts i part → codes "+" ++ part_text (part_of part) ≡ marked_part (get_or parts i part)
+unfolding marked_part
+marked_part_at parts i part is = ap (λ p. codes "+" ++ part_text (part_of p)) is
+
+pub marked_string_at : (strings : List (Vec Part Global)) (i : ℕ) (string : Vec Part Global) (parts : List Part) → parts ≡ string.items → string ≡ get_or strings i string → codes ", " ++ string_text (map part_of parts) ≡ marked_string (get_or strings i string)
+unfolding marked_string
+marked_string_at strings i string parts same is =
+    ap (λ ps. codes ", " ++ string_text (map part_of ps)) same ∙ ap (λ s. codes ", " ++ string_text (parts_of s)) is
+
+parts_marked : (parts : List Part) → flat_map (λ p. codes "+" ++ part_text p) (map part_of parts) ≡ flat_map marked_part parts
+unfolding marked_part
+parts_marked [] = refl
+parts_marked (p ∷ ps) = ap (λ t. (codes "+" ++ part_text (part_of p)) ++ t) (parts_marked ps)
+
+strings_marked : (strings : List (Vec Part Global)) → flat_map (λ s. codes ", " ++ string_text s) (strings_of strings) ≡ flat_map marked_string strings
+unfolding marked_string
+strings_marked [] = refl
+strings_marked (s ∷ ss) = ap (λ t. (codes ", " ++ string_text (parts_of s)) ++ t) (strings_marked ss)
+
+-- a string without parts
+pub string_none : (parts : List Part) → length parts ≤ 0 → codes "\"\"" ≡ string_text (map part_of parts)
+unfolding string_text
+string_none [] none = refl
+string_none (p ∷ ps) none = absurd (omega (arith, none))
+
+-- a string of parts, the first of which stands without a mark
+pub string_some : (parts : List Part) (part : Part) → 0 < length parts → part ≡ get_or parts 0 part → part_text (part_of part) ++ flat_map marked_part (drop 1 parts) ≡ string_text (map part_of parts)
+unfolding string_text
+string_some [] part some is = absurd (omega (arith, some))
+string_some (p ∷ ps) part some is =
+    ap (λ x. part_text (part_of x) ++ flat_map marked_part ps) is ∙ ap (λ t. part_text (part_of p) ++ t) (sym (parts_marked ps))
+
+pub strings_none : (strings : List (Vec Part Global)) → length strings ≤ 0 → [] ≡ separated (codes ", ") string_text (strings_of strings)
+strings_none [] none = refl
+strings_none (s ∷ ss) none = absurd (omega (arith, none))
+
+pub strings_some : (strings : List (Vec Part Global)) (string : Vec Part Global) (parts : List Part) → 0 < length strings → parts ≡ string.items → string ≡ get_or strings 0 string → string_text (map part_of parts) ++ flat_map marked_string (drop 1 strings) ≡ separated (codes ", ") string_text (strings_of strings)
+strings_some [] string parts some same is = absurd (omega (arith, some))
+strings_some (s ∷ ss) string parts some same is =
+    ap (λ ps. string_text (map part_of ps) ++ flat_map marked_string ss) same
+    ∙ ap (λ x. string_text (parts_of x) ++ flat_map marked_string ss) is
+    ∙ ap (λ t. string_text (parts_of s) ++ t) (sym (strings_marked ss))
+
+-- FRONTS
+
+-- what was written may be said otherwise
+pub ok_as : {S T E : Type 0} (contents : S → Option (List ℕ)) (fault_count : S → ℕ) (a b : S) (r : Result T E) (s t : List ℕ) → s ≡ t → OnOk r (Wrote contents fault_count a b s) → OnOk r (Wrote contents fault_count a b t)
+ok_as contents fault_count a b r s t same h = subst (λ text. OnOk r (Wrote contents fault_count a b text)) same h
+
+pub err_as : {S T E : Type 0} (contents : S → Option (List ℕ)) (fault_count : S → ℕ) (a b : S) (r : Result T E) (s t : List ℕ) → s ≡ t → OnErr r (WroteFront contents fault_count a b s) → OnErr r (WroteFront contents fault_count a b t)
+err_as contents fault_count a b r s t same h = subst (λ text. OnErr r (WroteFront contents fault_count a b text)) same h
+
+-- all but the first
+abbrev pub others_of : {X : Type 0} → List X → List X
+others_of xs = take (length xs - 1) (drop 1 xs)
+
+pub string_front : (front : List ℕ) (parts : List Part) (part : Part) → 0 < length parts → part ≡ get_or parts 0 part → (front ++ part_text (part_of part)) ++ flat_map marked_part (others_of parts) ≡ front ++ string_text (map part_of parts)
+string_front front parts part some is =
+    append_assoc front (part_text (part_of part)) (flat_map marked_part (others_of parts))
+    ∙ ap (λ ps. front ++ (part_text (part_of part) ++ flat_map marked_part ps)) (take_rest parts 1)
+    ∙ ap (λ t. front ++ t) (string_some parts part some is)
+
+pub strings_front : (front : List ℕ) (strings : List (Vec Part Global)) (string : Vec Part Global) (parts : List Part) → 0 < length strings → parts ≡ string.items → string ≡ get_or strings 0 string → (front ++ string_text (map part_of parts)) ++ flat_map marked_string (others_of strings) ≡ front ++ separated (codes ", ") string_text (strings_of strings)
+strings_front front strings string parts some same is =
+    append_assoc front (string_text (map part_of parts)) (flat_map marked_string (others_of strings))
+    ∙ ap (λ ss. front ++ (string_text (map part_of parts) ++ flat_map marked_string ss)) (take_rest strings 1)
+    ∙ ap (λ t. front ++ t) (strings_some strings string parts some same is)
+
+abbrev pub opened : List (List tree.Part) → List ℕ
+opened strings = codes "[" ++ separated (codes ", ") string_text strings
+
+pub list_whole : (front : List ℕ) (strings : List (List tree.Part)) → (front ++ opened strings) ++ codes "]" ≡ front ++ list_text strings
+unfolding list_text
+list_whole front strings = append_assoc front (opened strings) (codes "]")
+
+pub header_whole : (match_type : MatchType) (collation : Collation) (names keys : List (List tree.Part)) → (header_words match_type collation ++ (codes " " ++ list_text names)) ++ (codes " " ++ list_text keys) ≡ ask_text (header_ask match_type collation names keys)
+unfolding ask_text
+header_whole match_type collation names keys =
+    let words = header_words match_type collation in
+    ap (λ t. t ++ (codes " " ++ list_text keys)) (sym (append_assoc words (codes " ") (list_text names)))
+    ∙ sym (append_assoc ((words ++ codes " ") ++ list_text names) (codes " ") (list_text keys))

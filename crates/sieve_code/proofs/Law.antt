@@ -1,0 +1,131 @@
+-- The code of a tree does what the tree does.
+use Rattle.std.proofs.Common.{◌≡◌, ℕ, zero, suc, ◌+◌, ◌-◌, ◌<◌, ◌≤◌, Bool, true, false, not, List, [], ◌∷◌, ◌++◌, length, take, drop, map, Some, None, refl, sym, ap, ◌∙◌, arith, append_assoc, length-append, length-take-le, take-append-drop}
+use Rattle.std.proofs.lemmas.List.{length-map}
+use Rattle.std.specs.Prelude.{slice_get}
+use Rattle.sieve_check.specs.Tree.{Node, nodes}
+use Rattle.sieve_code.specs.Choice.{Tail, AllGoForward, code_of, placed, tail_of}
+use Rattle.sieve_code.specs.Operation.{Operation, sets, inverts, asks, jumps, jumps_if, acts, stops, target_of, targeting}
+use Rattle.sieve_code.specs.Walk.{at_end, asked, acted, at_limit, step, walk_from, code_walk, tree_walk}
+use Rattle.sieve_code.specs.view.Branches.{last}
+use Rattle.sieve_code.proofs.Tails.{Forward, tail_step, tail_walk, walks_none}
+use Rattle.sieve_code.proofs.Chains.{Goes, nodes_code}
+
+-- PLACES
+
+-- an operation with its target's place, in code of that length
+abbrev put : ℕ → Operation → Operation
+put count = targeting (λ left. count - left)
+
+got_at : (f : Operation → Operation) (front : Tail) (op : Operation) (rest : Tail) → slice_get (map f (front ++ op ∷ rest)) (length front) ≡ Some (f op)
+got_at f [] op rest = refl
+got_at f (x ∷ front) op rest = got_at f front op rest
+
+got_past : (f : Operation → Operation) (front : Tail) → slice_get (map f (front ++ [])) (length front) ≡ None
+got_past f [] = refl
+got_past f (x ∷ front) = got_past f front
+
+forward_drop : (k : ℕ) (tail : Tail) → Forward tail → Forward (drop k tail)
+forward_drop zero tail f = f
+forward_drop (suc k) [] f = f
+forward_drop (suc k) (op ∷ rest) f = forward_drop k rest f.1
+
+-- from a place on, code does what its tail there does
+abbrev Same : ℕ → Type 0
+Same n = (front tail : Tail) (r : Bool) → Forward tail → walk_from (placed (front ++ tail)) n (length front) r ≡ tail_walk n tail r
+
+-- at the next place
+same_next : (n : ℕ) → Same n → (front : Tail) (op : Operation) (rest : Tail) (r : Bool) → Forward rest → walk_from (placed (front ++ op ∷ rest)) n (length front + 1) r ≡ tail_walk n rest r
+same_next n same front op rest r f =
+    let place : length front + 1 ≡ length (front ++ op ∷ []) = omega (arith, length-append front (op ∷ [])) in
+    ap (λ p. walk_from (placed (front ++ op ∷ rest)) n p r) place
+    ∙ ap (λ t. walk_from (placed t) n (length (front ++ op ∷ [])) r) (sym (append_assoc front (op ∷ []) rest))
+    ∙ same (front ++ op ∷ []) rest r f
+
+length_take : (k : ℕ) (tail : Tail) → k ≤ length tail → length (take k tail) ≡ k
+length_take k tail le = length-take-le k tail le
+
+-- at a target
+same_target : (n : ℕ) → Same n → (front : Tail) (op : Operation) (rest : Tail) (r : Bool) (left : ℕ) → left ≤ length rest → Forward rest → walk_from (placed (front ++ op ∷ rest)) n (length (front ++ op ∷ rest) - left) r ≡ tail_walk n (last left rest) r
+same_target n same front op rest r left le f =
+    let k = length rest - left in
+    let taken : length (take (length rest - left) rest) ≡ length rest - left = length_take (length rest - left) rest (omega arith) in
+    let place : length (front ++ op ∷ rest) - left ≡ length (front ++ op ∷ take k rest) = omega (arith, taken, length-append front (op ∷ rest), length-append front (op ∷ take k rest)) in
+    let whole : front ++ op ∷ rest ≡ (front ++ op ∷ take k rest) ++ drop k rest =
+    ap (λ t. front ++ op ∷ t) (sym (take-append-drop k rest)) ∙ sym (append_assoc front (op ∷ take k rest) (drop k rest)) in
+    ap (λ p. walk_from (placed (front ++ op ∷ rest)) n p r) place
+    ∙ ap (λ t. walk_from (placed t) n (length (front ++ op ∷ take k rest)) r) whole
+    ∙ same (front ++ op ∷ take k rest) (drop k rest) r (forward_drop k rest f)
+
+-- one operation
+same_step : (n : ℕ) → Same n → (front : Tail) (op : Operation) (rest : Tail) (r : Bool) → Forward (op ∷ rest) → step (walk_from (placed (front ++ op ∷ rest)) n) (Some (put (length (front ++ op ∷ rest)) op)) (length front) r ≡ tail_step (tail_walk n) (op ∷ rest) r
+same_step n same front (sets truth) rest r f = same_next n same front (sets truth) rest truth f.1
+same_step n same front inverts rest r f = same_next n same front inverts rest (not r) f.1
+same_step n same front (asks ask) rest r f =
+    ap (λ w. asked ask w (walk_from (placed (front ++ asks ask ∷ rest)) n (length front + 1) false)) (same_next n same front (asks ask) rest true f.1)
+    ∙ ap (λ w. asked ask (tail_walk n rest true) w) (same_next n same front (asks ask) rest false f.1)
+same_step n same front (jumps left) rest r f = same_target n same front (jumps left) rest r left (f.0 left refl) f.1
+same_step n same front (jumps_if true left) rest true f = same_target n same front (jumps_if true left) rest true left (f.0 left refl) f.1
+same_step n same front (jumps_if true left) rest false f = same_next n same front (jumps_if true left) rest false f.1
+same_step n same front (jumps_if false left) rest true f = same_next n same front (jumps_if false left) rest true f.1
+same_step n same front (jumps_if false left) rest false f = same_target n same front (jumps_if false left) rest false left (f.0 left refl) f.1
+same_step n same front (acts leaf line) rest r f = ap (acted leaf line) (same_next n same front (acts leaf line) rest r f.1)
+same_step n same front stops rest r f = refl
+
+same_walk : (n : ℕ) → Same n
+unfolding walk_from placed
+same_walk zero front [] r f = ap at_limit (got_past (put (length (front ++ []))) front)
+same_walk zero front (op ∷ rest) r f = ap at_limit (got_at (put (length (front ++ op ∷ rest))) front op rest)
+same_walk (suc n) front [] r f = ap (λ o. step (walk_from (placed (front ++ [])) n) o (length front) r) (got_past (put (length (front ++ []))) front)
+same_walk (suc n) front (op ∷ rest) r f =
+    ap (λ o. step (walk_from (placed (front ++ op ∷ rest)) n) o (length front) r) (got_at (put (length (front ++ op ∷ rest))) front op rest)
+    ∙ same_step n (same_walk n) front op rest r f
+
+-- TREES
+
+goes_of : (tree : List Node) → Goes (tail_of tree) (tree_walk tree)
+goes_of tree = (nodes_code (nodes tree) [] at_end (record { forward = tt; walks = walks_none })).rest.goes
+
+length_placed : (tail : Tail) → length (placed tail) ≡ length tail
+unfolding placed
+length_placed tail = length-map tail (put (length tail))
+
+pub code_walks : (tree : List Node) → code_walk (code_of tree) (length (code_of tree)) ≡ tree_walk tree
+code_walks tree =
+    let goes = goes_of tree in
+    let tail = tail_of tree in
+    ap (λ n. code_walk (code_of tree) n) (length_placed tail)
+    ∙ same_walk (length tail) [] tail false goes.forward
+    ∙ goes.walks.by (length tail) (omega arith) false
+
+-- a jump in front of a tail
+jump_at : (count : ℕ) (op : Operation) (rest : Tail) → Forward (op ∷ rest) → (target : ℕ) → target_of (put count op) ≡ Some target → (left : ℕ) × (target ≡ count - left) × (left < length (op ∷ rest))
+jump_at count (sets truth) rest f target is = absurd cc
+jump_at count inverts rest f target is = absurd cc
+jump_at count (asks ask) rest f target is = absurd cc
+jump_at count (jumps left) rest f target is = (left, cc, omega (arith, f.0 left refl))
+jump_at count (jumps_if truth left) rest f target is = (left, cc, omega (arith, f.0 left refl))
+jump_at count (acts leaf line) rest f target is = absurd cc
+jump_at count stops rest f target is = absurd cc
+
+same_op : (op other : Operation) (target : ℕ) → Some other ≡ Some op → target_of op ≡ Some target → target_of other ≡ Some target
+same_op op other target is has = let e : other ≡ op = cc in ap target_of e ∙ has
+
+-- a jump from a place in a tail
+jump_forward : (count : ℕ) (tail : Tail) → Forward tail → (place : ℕ) (op : Operation) (target : ℕ) → slice_get (map (put count) tail) place ≡ Some op → target_of op ≡ Some target → (left : ℕ) × (target ≡ count - left) × (left + place < length tail)
+jump_forward count [] f place op target is has = absurd cc
+jump_forward count (o ∷ rest) f zero op target is has =
+    let j = jump_at count o rest f target (same_op op (put count o) target is has) in
+    (j.0, j.1, omega (arith, j.2))
+jump_forward count (o ∷ rest) f (suc place) op target is has =
+    let j = jump_forward count rest f.1 place op target is has in
+    (j.0, j.1, omega (arith, j.2))
+
+pub code_forward : (tree : List Node) → AllGoForward (code_of tree)
+unfolding placed
+code_forward tree place target op is has =
+    let tail = tail_of tree in
+    let j = jump_forward (length tail) tail (goes_of tree).forward place op target is has in
+    let counted : length (map (put (length tail)) tail) ≡ length tail = length-map tail (put (length tail)) in
+    (omega (arith, j.1, j.2), omega (arith, j.1, j.2, counted))
+
+pub ruleset code_laws = (code_walks, code_forward)

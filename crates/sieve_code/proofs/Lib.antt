@@ -1,0 +1,11 @@
+pub mod Rows
+pub mod Tails
+pub mod Conditions
+pub mod Chains
+pub mod Law
+pub mod Views
+pub mod Suffixes
+pub mod Putting
+pub mod Placing
+pub mod Dumping
+pub mod Whole

@@ -1,0 +1,228 @@
+-- What single steps of the compiler put in front of a tail.
+use Rattle.std.proofs.Common.{◌≡◌, ℕ, suc, ◌+◌, ◌-◌, ◌<◌, ◌≤◌, Bool, true, false, not, nat_lt, List, [], ◌∷◌, ◌++◌, length, length-append, length-drop, map, get_or, drop, if◌then◌else◌, Option, Some, None, Result, OnOk, refl, sym, ap, ◌∙◌, subst, arith}
+use Rattle.std.proofs.lemmas.List.{at_drop_all, at_drop_more, drop-map, length-map}
+use borrow.Author.Tests.{ltb-true, ltb-false}
+use Rattle.std.specs.declared.alloc.Global.{Global}
+use Rattle.std.specs.declared.boxed.Box.{Box}
+use Rattle.std.specs.declared.vec.Vec.{Vec}
+use Rattle.sieve_check.specs.Reading.{TestReading, CommandReading, test_reading, command_reading}
+use Rattle.sieve_check.specs.Tree.{TestList, test_list, tests, Node, node, nodes}
+use Rattle.sieve_check.specs.view.Tree.{node_of, test_of, tests_of}
+use Rattle.sieve_check.specs.declared.tree.Command as commands
+use Rattle.sieve_check.specs.declared.tree.Command.TheViews as command_views
+use Rattle.sieve_check.specs.declared.tree.Test as one_tests
+use Rattle.sieve_check.specs.declared.tree.Tests.TheVariants as test_variants
+use Rattle.sieve_code.specs.Choice.{Tail, Branches, no_branch, past_branches, joint, reading_before, test_before, tests_before, list_before, first_before, command_before, node_before, block_before, nodes_before}
+use Rattle.sieve_code.specs.Operation.{Operation, sets, jumps, jumps_if}
+use Rattle.sieve_code.specs.view.Branches.{block_at, branch_at, branches_as, first_at, last}
+use Rattle.sieve_code.specs.declared.command_code.Front.{Front}
+use Rattle.sieve_code.proofs.Tails.{Ends, last_of}
+use Rattle.sieve_code.proofs.Conditions.{first_code}
+use Rattle.sieve_code.proofs.Suffixes.{Extends, block_ends, branch_ends}
+use Rattle.sieve_code.proofs.Views.{block_of, seen_command, seen_list, seen_none, seen_one, seen_test}
+
+-- what is put may be said otherwise
+pub on_ok_along : {T E X : Type 0} (r : Result T E) (a b c : X) → b ≡ c → OnOk r (a ≡ b) → OnOk r (a ≡ c)
+on_ok_along r a b c same h = subst (λ x. OnOk r (a ≡ x)) same h
+
+-- DROPPING
+
+pub dropped_one : {X : Type 0} (xs : List X) (count : ℕ) → count < length xs → drop (length (drop 1 xs) - count) (drop 1 xs) ≡ drop (length xs - count) xs
+dropped_one [] count below = absurd (omega (arith, below))
+dropped_one (x ∷ xs) count below =
+    let e : length (x ∷ xs) - count ≡ suc (length xs - count) = omega (arith, below) in
+    sym (ap (λ n. drop n (x ∷ xs)) e)
+
+pub all_kept : {X : Type 0} (xs : List X) (count : ℕ) → length xs ≤ count → drop (length xs - count) xs ≡ xs
+all_kept xs count le = let none : length xs - count ≡ 0 = omega arith in ap (λ n. drop n xs) none
+
+-- TESTS
+
+pub first_none : (ts : test_variants.the_data) (behind : Tail) → ts ≡ test_variants.None → sets false ∷ behind ≡ first_before (tests_of ts) behind
+unfolding first_before
+first_none ts behind is = sym (ap (λ x. first_before x behind) (seen_none ts is))
+
+pub first_one : (ts : test_variants.the_data) (b : Box one_tests.Test Global) (t : one_tests.Test) (behind : Tail) → ts ≡ test_variants.One b → t ≡ b.value → test_before (test_of t) behind ≡ first_before (tests_of ts) behind
+unfolding first_before
+first_one ts b t behind is same = sym (ap (λ x. first_before x behind) (seen_one ts b t is same))
+
+pub all_none : (truth : Bool) (ts : test_variants.the_data) (behind : Tail) → ts ≡ test_variants.None → sets (not truth) ∷ behind ≡ tests_before truth (tests_of ts) behind
+unfolding tests_before
+all_none truth ts behind is = sym (ap (λ x. tests_before truth x behind) (seen_none ts is))
+
+pub all_one : (truth : Bool) (ts : test_variants.the_data) (b : Box one_tests.Test Global) (t : one_tests.Test) (behind : Tail) → ts ≡ test_variants.One b → t ≡ b.value → test_before (test_of t) behind ≡ tests_before truth (tests_of ts) behind
+unfolding tests_before
+all_one truth ts b t behind is same = sym (ap (λ x. tests_before truth x behind) (seen_one ts b t is same))
+
+pub all_list : (truth : Bool) (ts : test_variants.the_data) (v : Vec one_tests.Test Global) (list : List one_tests.Test) (behind : Tail) → ts ≡ test_variants.List v → list ≡ v.items → tests_before truth (test_list (tests (map test_of list))) behind ≡ tests_before truth (tests_of ts) behind
+all_list truth ts v list behind is same = sym (ap (λ x. tests_before truth x behind) (seen_list ts v list is same))
+
+first_of_none : (list : List one_tests.Test) (behind : Tail) → length list ≤ 0 → sets false ∷ behind ≡ first_before (test_list (tests (map test_of list))) behind
+unfolding first_before
+first_of_none [] behind le = refl
+first_of_none (t ∷ list) behind le = absurd (omega (arith, le))
+
+first_of_some : (list : List one_tests.Test) (t : one_tests.Test) (behind : Tail) → 0 < length list → t ≡ get_or list 0 t → test_before (test_of t) behind ≡ first_before (test_list (tests (map test_of list))) behind
+unfolding first_before
+first_of_some [] t behind some is = absurd (omega (arith, some))
+first_of_some (u ∷ list) t behind some is = ap (λ x. test_before (test_of x) behind) is
+
+pub first_empty : (ts : test_variants.the_data) (v : Vec one_tests.Test Global) (list : List one_tests.Test) (behind : Tail) → ts ≡ test_variants.List v → list ≡ v.items → length list ≤ 0 → sets false ∷ behind ≡ first_before (tests_of ts) behind
+first_empty ts v list behind is same none = first_of_none list behind none ∙ sym (ap (λ x. first_before x behind) (seen_list ts v list is same))
+
+pub first_listed : (ts : test_variants.the_data) (v : Vec one_tests.Test Global) (list : List one_tests.Test) (t : one_tests.Test) (behind : Tail) → ts ≡ test_variants.List v → list ≡ v.items → 0 < length list → t ≡ get_or list 0 t → test_before (test_of t) behind ≡ first_before (tests_of ts) behind
+first_listed ts v list t behind is same some first = first_of_some list t behind some first ∙ sym (ap (λ x. first_before x behind) (seen_list ts v list is same))
+
+pub test_put : (t : one_tests.Test) (r : Option TestReading) (behind : Tail) → r ≡ test_reading (test_of t) → reading_before r (tests_before false (tests_of t.tests)) (tests_before true (tests_of t.tests)) (first_before (tests_of t.tests)) behind ≡ test_before (test_of t) behind
+unfolding test_before
+test_put t r behind is =
+    ap (λ x. reading_before x (tests_before false (tests_of t.tests)) (tests_before true (tests_of t.tests)) (first_before (tests_of t.tests)) behind) (is ∙ ap test_reading (seen_test t))
+    ∙ sym (ap (λ x. test_before x behind) (seen_test t))
+
+-- LISTS OF TESTS
+
+abbrev pub list_on : List one_tests.Test → TestList
+list_on list = tests (map test_of list)
+
+pub list_empty : (truth : Bool) (list : List one_tests.Test) (behind : Tail) → length list ≤ 0 → sets (not truth) ∷ behind ≡ tests_before truth (test_list (list_on list)) behind
+unfolding tests_before
+list_empty truth [] behind none = refl
+list_empty truth (t ∷ list) behind none = absurd (omega (arith, none))
+
+pub list_some : (truth : Bool) (list : List one_tests.Test) (behind : Tail) → 0 < length list → list_before truth (list_on list) behind ≡ tests_before truth (test_list (list_on list)) behind
+unfolding tests_before
+list_some truth [] behind some = absurd (omega (arith, some))
+list_some truth (t ∷ list) behind some = refl
+
+pub list_none : (truth : Bool) (list : List one_tests.Test) (i : ℕ) (behind : Tail) → length list ≤ i → list_before truth (list_on (drop i list)) behind ≡ behind
+unfolding list_before
+list_none truth list i behind all = at_drop_all (λ l. list_before truth (list_on l) behind) list i all
+
+joint_by : (truth : Bool) (list : List one_tests.Test) (follows : Bool) (behind others : Tail) → (follows ≡ true → 0 < length list) → (follows ≡ false → length list ≤ 0) → joint truth (list_on list) behind others ≡ (if follows then jumps_if truth (length behind) ∷ others else others)
+joint_by truth [] true behind others some none = absurd (omega (arith, some refl))
+joint_by truth [] false behind others some none = refl
+joint_by truth (t ∷ list) true behind others some none = refl
+joint_by truth (t ∷ list) false behind others some none = absurd (omega (arith, none refl))
+
+list_first : (truth : Bool) (t : one_tests.Test) (list : List one_tests.Test) (behind : Tail) → list_before truth (list_on (t ∷ list)) behind ≡ test_before (test_of t) (joint truth (list_on list) behind (list_before truth (list_on list) behind))
+unfolding list_before
+list_first truth t list behind = refl
+
+some_left : (list : List one_tests.Test) (i : ℕ) (follows : Bool) → follows ≡ nat_lt (i + 1) (length list) → follows ≡ true → 0 < length (drop (i + 1) list)
+some_left list i follows is holds = let lt : i + 1 < length list = ltb-true (i + 1) (length list) (sym is ∙ holds) in omega (arith, lt, length-drop (i + 1) list)
+
+none_left : (list : List one_tests.Test) (i : ℕ) (follows : Bool) → follows ≡ nat_lt (i + 1) (length list) → follows ≡ false → length (drop (i + 1) list) ≤ 0
+none_left list i follows is fails = let le : length list ≤ i + 1 = ltb-false (i + 1) (length list) (sym is ∙ fails) in omega (arith, le, length-drop (i + 1) list)
+
+-- a test of a list in front of the others
+pub list_put : (truth : Bool) (list : List one_tests.Test) (i : ℕ) (t : one_tests.Test) (behind others new : Tail) (follows : Bool) → i < length list → t ≡ get_or list i t → follows ≡ nat_lt (i + 1) (length list) → others ≡ list_before truth (list_on (drop (i + 1) list)) behind → new ≡ test_before (test_of t) (if follows then jumps_if truth (length behind) ∷ others else others) → new ≡ list_before truth (list_on (drop i list)) behind
+list_put truth list i t behind others new follows below is more before after =
+    after
+    ∙ ap (λ o. test_before (test_of t) (if follows then jumps_if truth (length behind) ∷ o else o)) before
+    ∙ ap (test_before (test_of t)) (sym (joint_by truth (drop (i + 1) list) follows behind (list_before truth (list_on (drop (i + 1) list)) behind) (some_left list i follows more) (none_left list i follows more)))
+    ∙ ap (λ x. test_before (test_of x) (joint truth (list_on (drop (i + 1) list)) behind (list_before truth (list_on (drop (i + 1) list)) behind))) is
+    ∙ sym (list_first truth (get_or list i t) (drop (i + 1) list) behind)
+    ∙ sym (at_drop_more (λ l. list_before truth (list_on l) behind) list i t below)
+
+-- BRANCHES
+
+abbrev pub made : Bool → Tail → Tail → Branches
+made has w r = record { has_branch = has; with_branch = w; behind_branches = r }
+
+pub length_last : (count : ℕ) (tail : Tail) → count ≤ length tail → length (last count tail) ≡ count
+length_last count tail le = omega (arith, length-drop (length tail - count) tail)
+
+-- a jump past the branches
+pub past : (front : Front) (tail : Tail) → front.behind ≤ length tail → past_branches (branches_as front tail) ≡ (if front.has_branch then jumps front.behind ∷ tail else tail)
+past front tail le = ap (λ n. if front.has_branch then jumps n ∷ tail else tail) (length_last front.behind tail le)
+
+-- a tail without a branch in front
+pub alone : (front : Front) (tail : Tail) → front.has_branch ≡ false → front.behind ≡ length tail → branches_as front tail ≡ no_branch tail
+alone front tail none all =
+    ap (λ h. made h tail (last front.behind tail)) none
+    ∙ ap (λ n. made false tail (last n tail)) all
+    ∙ ap (made false tail) (all_kept tail (length tail) (omega arith))
+
+drop_past : (front tail : Tail) (n : ℕ) → drop (length front + n) (front ++ tail) ≡ drop n tail
+drop_past [] tail n = let e : length {A = Operation} [] + n ≡ n = omega arith in ap (λ m. drop m tail) e
+drop_past (op ∷ front) tail n =
+    let e : length (op ∷ front) + n ≡ suc (length front + n) = omega arith in
+    ap (λ m. drop m (op ∷ front ++ tail)) e ∙ drop_past front tail n
+
+-- a branch in front, with the same tail behind the branches
+pub with_front : (count : ℕ) (tail new : Tail) → count ≤ length tail → Ends new tail → last count new ≡ last count tail
+with_front count tail new le e =
+    let count_left : length (e.front ++ tail) - count ≡ length e.front + (length tail - count) = omega (arith, length-append e.front tail) in
+    ap (last count) e.split ∙ ap (λ n. drop n (e.front ++ tail)) count_left ∙ drop_past e.front tail (length tail - count)
+
+-- what a command's parts are put in front of ends what they give
+first_at_ends : (n : Node) → Extends (first_at n)
+first_at_ends (node name line args ts ending) = (first_code ts).ends
+
+pub block_at_ends : (n : Node) → Extends (block_at n)
+block_at_ends (node name line args ts ending) = block_ends ending
+
+pub branch_at_ends : (n : Node) (b : Branches) → Ends (branch_at n b) b.with_branch
+branch_at_ends n b = branch_ends (first_at n) (block_at n) b (first_at_ends n) (block_at_ends n)
+
+-- the last branch in front of what is behind the branches
+pub last_branch : (n : Node) (count : ℕ) (old kept new : Tail) → count ≤ length old → kept ≡ last count old → new ≡ block_at n kept → made true new (last count new) ≡ made true (block_at n (last count old)) (last count old)
+last_branch n count old kept new le keeps puts =
+    let behind = last count old in
+    ap (λ t. made true t (last count t)) (puts ∙ ap (block_at n) keeps)
+    ∙ ap (made true (block_at n behind)) (ap (λ k. last k (block_at n behind)) (sym (length_last count old le)) ∙ last_of (block_at n behind) behind (block_at_ends n behind))
+
+-- COMMANDS
+
+pub line_at : Node → ℕ
+line_at (node name line args ts ending) = line
+
+by_kind : (n : Node) (b : Branches) → node_before n b ≡ command_before (command_reading n) (line_at n) (first_at n) (block_at n) b
+unfolding node_before line_at
+by_kind (node name line args ts ending) b = refl
+
+pub command_put : (n : Node) (r : Option CommandReading) (b : Branches) → r ≡ command_reading n → command_before r (line_at n) (first_at n) (block_at n) b ≡ node_before n b
+command_put n r b is = ap (λ x. command_before x (line_at n) (first_at n) (block_at n) b) is ∙ sym (by_kind n b)
+
+-- the line, the first test and the block of a command
+pub line_seen : (c : commands.Command) → line_at (node_of c) ≡ (command_views.out-Command c).line
+unfolding line_at
+line_seen c = ap line_at (seen_command c)
+
+pub first_seen : (c : commands.Command) (behind : Tail) → first_before (tests_of (command_views.out-Command c).tests) behind ≡ first_at (node_of c) behind
+first_seen c behind = sym (ap (λ n. first_at n behind) (seen_command c))
+
+block_seen : (c : commands.Command) (behind : Tail) → block_at (node_of c) behind ≡ block_before (block_of (command_views.out-Command c).block) behind
+block_seen c behind = ap (λ n. block_at n behind) (seen_command c)
+
+pub block_none : (c : commands.Command) (behind : Tail) → (command_views.out-Command c).block ≡ None → behind ≡ block_at (node_of c) behind
+unfolding block_before
+block_none c behind is = sym (block_seen c behind ∙ ap (λ b. block_before (block_of b) behind) is)
+
+pub block_some : (c : commands.Command) (v : Vec commands.Command Global) (list : List commands.Command) (behind : Tail) → (command_views.out-Command c).block ≡ Some v → list ≡ v.items → (nodes_before (nodes (map node_of list)) behind).behind_branches ≡ block_at (node_of c) behind
+unfolding block_before
+block_some c v list behind is same =
+    ap (λ l. (nodes_before (nodes (map node_of l)) behind).behind_branches) same
+    ∙ sym (block_seen c behind ∙ ap (λ b. block_before (block_of b) behind) is)
+
+-- LISTS OF COMMANDS
+
+abbrev pub branches_on : List commands.Command → Tail → Branches
+branches_on list behind = nodes_before (nodes (map node_of list)) behind
+
+pub commands_none : (list : List commands.Command) (i : ℕ) (behind : Tail) → length list ≤ i → branches_on (drop i list) behind ≡ no_branch behind
+unfolding nodes_before
+commands_none list i behind all = at_drop_all (λ l. branches_on l behind) list i all
+
+commands_first : (c : commands.Command) (list : List commands.Command) (behind : Tail) → branches_on (c ∷ list) behind ≡ node_before (node_of c) (branches_on list behind)
+unfolding nodes_before
+commands_first c list behind = refl
+
+-- a command in front of the others
+pub command_listed : (list : List commands.Command) (i : ℕ) (c : commands.Command) (behind : Tail) (now new : Branches) → i < length list → c ≡ get_or list i c → now ≡ branches_on (drop (i + 1) list) behind → new ≡ node_before (node_of c) now → new ≡ branches_on (drop i list) behind
+command_listed list i c behind now new below is so after =
+    after
+    ∙ ap (node_before (node_of c)) so
+    ∙ ap (λ x. node_before (node_of x) (branches_on (drop (i + 1) list) behind)) is
+    ∙ sym (commands_first (get_or list i c) (drop (i + 1) list) behind)
+    ∙ sym (at_drop_more (λ l. branches_on l behind) list i c below)

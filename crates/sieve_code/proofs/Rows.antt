@@ -1,0 +1,173 @@
+-- Worked rows of what code is chosen, of what it does, and of how it is printed.
+use Rattle.std.proofs.Common.{◌≡◌, ℕ, true, false, List, [], ◌∷◌, Some, refl, codes}
+use Rattle.match_text.specs.declared.comparators.Collation.TheVariants.{Casemap}
+use Rattle.std.specs.Fmt.{digits}
+use Rattle.sieve_base.specs.Writers.{quoted}
+use Rattle.sieve_check.specs.Reading.{Ask, header_ask, over_ask, keep_leaf, discard_leaf}
+use Rattle.sieve_check.specs.Script as script
+use Rattle.sieve_check.specs.Script.{chain_of, condition_of, conditions_in, conditions, block_commands}
+use Rattle.sieve_check.specs.Table.{command_named, test_named}
+use Rattle.sieve_check.specs.Tree.{literal, Argument, strings, number, tag, Test, test, no_tests, one_test, test_list, tests, Node, node, Block, no_block, block, nodes}
+use Rattle.sieve_check.specs.declared.reading.MatchType.TheVariants.{Contains}
+use Rattle.sieve_code.specs.Choice.{code_of, placed, test_before, tests_before, list_before, first_before, node_before, block_before, nodes_before}
+use Rattle.sieve_code.specs.Dump.{ask_text, header_words, line_text, list_text, operation_text, string_text}
+use Rattle.sieve_code.specs.Operation.{Operation, sets, inverts, asks, jumps, jumps_if, acts, stops}
+use Rattle.sieve_code.specs.Walk.{Walk, at_end, by_stop, cut_off, asked, acted, code_walk, walk_from, tree_walk, commands_walk, condition_walk, gone, met_ask, met_leaf, ended, unanswered}
+
+-- TREES
+
+abbrev plain : List ℕ → ℕ → Block → Node
+plain name line ending = node name line [] no_tests ending
+
+abbrev testing : List ℕ → ℕ → Test → List Node → Node
+testing name line t inner = node name line [] (one_test t) (block (nodes inner))
+
+abbrev last_branch : List Node → Node
+last_branch inner = plain (codes "else") 3 (block (nodes inner))
+
+abbrev constant : List ℕ → Test
+constant name = test name 1 [] no_tests
+
+abbrev list_of : List ℕ → List Test → Test
+list_of name ts = test name 1 [] (test_list (tests ts))
+
+abbrev string : List ℕ → Argument
+string octets = strings (record { parts = literal octets ∷ []; line = 1 } ∷ []) false
+
+abbrev header_test : Test
+header_test = test (codes "header") 1 (tag (codes "contains") 1 ∷ string (codes "Subject") ∷ string (codes "[list]") ∷ []) no_tests
+
+abbrev size_test : Test
+size_test = test (codes "size") 1 (tag (codes "over") 1 ∷ number (Some 1048576) 1 ∷ []) no_tests
+
+abbrev keep_at : ℕ → Node
+keep_at line = plain (codes "keep") line no_block
+
+abbrev discard_at : ℕ → Node
+discard_at line = plain (codes "discard") line no_block
+
+abbrev stop_at : ℕ → Node
+stop_at line = plain (codes "stop") line no_block
+
+-- CHOICE
+
+-- if anyof (header :contains "Subject" "[list]", size :over 1M) { keep; } else { discard; }
+abbrev worked : List Node
+worked = testing (codes "if") 1 (list_of (codes "anyof") (header_test ∷ size_test ∷ [])) (keep_at 2 ∷ []) ∷ last_branch (discard_at 4 ∷ []) ∷ []
+
+abbrev list_ask : Ask
+list_ask = header_ask Contains Casemap ((literal (codes "Subject") ∷ []) ∷ []) ((literal (codes "[list]") ∷ []) ∷ [])
+
+abbrev worked_code : List Operation
+worked_code =
+    asks list_ask
+    ∷ jumps_if true 3
+    ∷ asks (over_ask 1048576)
+    ∷ jumps_if false 6
+    ∷ acts keep_leaf 2
+    ∷ jumps 7
+    ∷ acts discard_leaf 4
+    ∷ []
+
+worked_row : code_of worked ≡ worked_code
+unfolding placed nodes_before node_before block_before test_before tests_before list_before first_before command_named test_named
+worked_row = refl
+
+-- an empty script has no operations
+empty_row : code_of [] ≡ []
+unfolding placed nodes_before
+empty_row = refl
+
+-- require gives none
+require_row : code_of (node (codes "require") 1 (string (codes "fileinto") ∷ []) no_tests no_block ∷ []) ≡ []
+unfolding placed nodes_before node_before block_before command_named
+require_row = refl
+
+-- if not anyof (allof (true, false), true) { }
+nested_row : code_of (testing (codes "if") 1 (test (codes "not") 1 [] (one_test (list_of (codes "anyof") (list_of (codes "allof") (constant (codes "true") ∷ constant (codes "false") ∷ []) ∷ constant (codes "true") ∷ [])))) [] ∷ [])
+    ≡ sets true ∷ jumps_if false 3 ∷ sets false ∷ jumps_if true 5 ∷ sets true ∷ inverts ∷ jumps_if false 7 ∷ []
+unfolding placed nodes_before node_before block_before test_before tests_before list_before first_before command_named test_named
+nested_row = refl
+
+-- if allof (true) { keep; }: one test in the list is that test alone
+single_row : code_of (testing (codes "if") 1 (list_of (codes "allof") (constant (codes "true") ∷ [])) (keep_at 1 ∷ []) ∷ []) ≡ sets true ∷ jumps_if false 3 ∷ acts keep_leaf 1 ∷ []
+unfolding placed nodes_before node_before block_before test_before tests_before list_before first_before command_named test_named
+single_row = refl
+
+-- if true { keep; } elsif false { discard; } stop;
+without_else_row : code_of (testing (codes "if") 1 (constant (codes "true")) (keep_at 1 ∷ []) ∷ testing (codes "elsif") 2 (constant (codes "false")) (discard_at 2 ∷ []) ∷ stop_at 3 ∷ [])
+    ≡ sets true ∷ jumps_if false 4 ∷ acts keep_leaf 1 ∷ jumps 7 ∷ sets false ∷ jumps_if false 7 ∷ acts discard_leaf 2 ∷ stops ∷ []
+unfolding placed nodes_before node_before block_before test_before tests_before list_before first_before command_named test_named
+without_else_row = refl
+
+-- if true { keep; } elsif false { discard; } else { stop; }
+with_else_row : code_of (testing (codes "if") 1 (constant (codes "true")) (keep_at 1 ∷ []) ∷ testing (codes "elsif") 2 (constant (codes "false")) (discard_at 2 ∷ []) ∷ last_branch (stop_at 3 ∷ []) ∷ [])
+    ≡ sets true ∷ jumps_if false 4 ∷ acts keep_leaf 1 ∷ jumps 9 ∷ sets false ∷ jumps_if false 8 ∷ acts discard_leaf 2 ∷ jumps 9 ∷ stops ∷ []
+unfolding placed nodes_before node_before block_before test_before tests_before list_before first_before command_named test_named
+with_else_row = refl
+
+-- if true { } else { }: a branch follows, so the jump is there
+empty_blocks_row : code_of (testing (codes "if") 1 (constant (codes "true")) [] ∷ last_branch [] ∷ []) ≡ sets true ∷ jumps_if false 3 ∷ jumps 3 ∷ []
+unfolding placed nodes_before node_before block_before test_before tests_before list_before first_before command_named test_named
+empty_blocks_row = refl
+
+-- stop; keep;
+behind_stop_row : code_of (stop_at 1 ∷ keep_at 2 ∷ []) ≡ stops ∷ acts keep_leaf 2 ∷ []
+unfolding placed nodes_before node_before block_before command_named
+behind_stop_row = refl
+
+-- WALKS
+
+abbrev worked_walk : Walk
+worked_walk = asked list_ask (acted keep_leaf 2 at_end) (asked (over_ask 1048576) (acted keep_leaf 2 at_end) (acted discard_leaf 4 at_end))
+
+worked_code_row : code_walk worked_code 7 ≡ worked_walk
+unfolding walk_from
+worked_code_row = refl
+
+worked_tree_row : tree_walk worked ≡ worked_walk
+unfolding commands_walk condition_walk chain_of script.node_before block_commands condition_of conditions_in conditions command_named test_named
+worked_tree_row = refl
+
+-- five operations are too few on the longest way alone
+cut_row : code_walk worked_code 5 ≡ asked list_ask (acted keep_leaf 2 at_end) (asked (over_ask 1048576) (acted keep_leaf 2 cut_off) (acted discard_leaf 4 at_end))
+unfolding walk_from
+cut_row = refl
+
+stop_row : code_walk (stops ∷ acts keep_leaf 2 ∷ []) 2 ≡ by_stop
+unfolding walk_from
+stop_row = refl
+
+answers_row : gone worked_walk (false ∷ true ∷ true ∷ []) ≡ record { met = met_ask list_ask ∷ met_ask (over_ask 1048576) ∷ met_leaf keep_leaf 2 ∷ []; ending = ended }
+unfolding gone
+answers_row = refl
+
+unanswered_row : gone worked_walk (false ∷ []) ≡ record { met = met_ask list_ask ∷ met_ask (over_ask 1048576) ∷ []; ending = unanswered }
+unfolding gone
+unanswered_row = refl
+
+-- DUMP
+
+header_line_row : line_text 0 (asks list_ask) ≡ codes "0: header contains casemap [\"Subject\"] [\"[list]\"]\n"
+unfolding line_text operation_text digits ask_text header_words list_text string_text quoted
+header_line_row = refl
+
+jump_line_row : line_text 1 (jumps_if true 3) ≡ codes "1: jump-if-true 3\n"
+unfolding line_text operation_text digits
+jump_line_row = refl
+
+size_line_row : line_text 2 (asks (over_ask 1048576)) ≡ codes "2: size over 1048576\n"
+unfolding line_text operation_text digits ask_text
+size_line_row = refl
+
+keep_line_row : line_text 4 (acts keep_leaf 2) ≡ codes "4: keep internal @2\n"
+unfolding line_text operation_text digits
+keep_line_row = refl
+
+discard_line_row : line_text 6 (acts discard_leaf 4) ≡ codes "6: discard @4\n"
+unfolding line_text operation_text digits
+discard_line_row = refl
+
+strings_row : list_text ((literal (codes "a") ∷ literal (codes "b") ∷ []) ∷ [] ∷ []) ≡ codes "[\"a\"+\"b\", \"\"]"
+unfolding list_text string_text quoted
+strings_row = refl

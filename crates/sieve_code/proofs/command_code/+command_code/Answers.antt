@@ -1,0 +1,121 @@
+use Rattle.std.proofs.Common.{◌≡◌, ◌+◌, ◌-◌, ◌<◌, true, false, Some, None, ◌∷◌, drop, length, ap, sym, ◌∙◌, arith}
+use Rattle.sieve_check.specs.Reading as reading
+use Rattle.sieve_check.specs.view.Reading.{command_reading_as, leaf_as}
+use Rattle.sieve_check.specs.view.Tree.{node_of}
+use Rattle.sieve_code.specs.Choice.{no_branch}
+use Rattle.sieve_code.specs.Operation.{acts, jumps_if, stops}
+use Rattle.sieve_code.specs.view.Branches.{block_at, branch_at, branches_as, first_at, last}
+use Rattle.sieve_code.proofs.Tails.{ends_below}
+use Rattle.sieve_code.proofs.Putting.{alone, block_at_ends, block_none, block_some, branch_at_ends, branches_on, command_listed, command_put, commands_none, first_seen, last_branch, length_last, line_at, line_seen, made, on_ok_along, with_front}
+use Rattle.sieve_code.proofs.command_code.+command_code.Goals as goal
+
+pub put_block-returns-in-Some : goal.put_block-returns-in-Some
+put_block-returns-in-Some t c =
+    on_ok_along _ _ _ _ (block_some c.args.command.now c.in-Some.commands c.deref.result.now c.args.tail.now c.in-Some.is c.deref.ensures.value) c.put_commands.ensures
+
+pub put_block-returns-in-None : goal.put_block-returns-in-None
+put_block-returns-in-None t c = block_none c.args.command.now c.args.tail.now c.in-None.is
+
+pub put_branch-returns : goal.put_branch-returns
+put_branch-returns t c =
+    let n = node_of c.args.command.now in
+    on_ok_along _ _ _ _
+    (first_seen c.args.command.now c.put.new.self
+    ∙ ap (first_at n)
+    (c.in_ok-put.ensures
+    ∙ ap (λ k. jumps_if false k ∷ c.put_block.new.tail) c.len-next.ensures
+    ∙ ap (λ tail. jumps_if false (length c.args.tail.now) ∷ tail) (c.in_ok-put_block.ensures ∙ ap (block_at n) c.in_ok-put_past.ensures)))
+    c.put_first.ensures
+
+pub put_command-returns-in_ok-put_branch-in-Some-Opens-clause-value :
+    goal.put_command-returns-in_ok-put_branch-in-Some-Opens-clause-value
+put_command-returns-in_ok-put_branch-in-Some-Opens-clause-value t c =
+    alone c.without_branch.result c.put_branch.new.tail c.without_branch.ensures.branches c.without_branch.ensures.behind
+    ∙ ap no_branch c.in_ok-put_branch-in-Some-Opens.ensures
+    ∙ command_put (node_of c.args.command.now) (Some reading.opens) (branches_as c.args.front c.args.tail.now)
+    (ap (λ r. Some (command_reading_as r)) (sym c.in-Some-Opens.field-0-is) ∙ c.in-Some-Opens.ensures)
+
+pub put_command-returns-in_ok-put_branch-in-Some-Continues-clause-within :
+    goal.put_command-returns-in_ok-put_branch-in-Some-Continues-clause-within
+put_command-returns-in_ok-put_branch-in-Some-Continues-clause-within t c =
+    let n = node_of c.args.command.now in
+    let b = branches_as c.args.front c.args.tail.now in
+    omega (arith, c.requires, ap length c.in_ok-put_branch-in-Some-Continues.ensures, ends_below (branch_at n b) c.args.tail.now (branch_at_ends n b))
+
+pub put_command-returns-in_ok-put_branch-in-Some-Continues-clause-value :
+    goal.put_command-returns-in_ok-put_branch-in-Some-Continues-clause-value
+put_command-returns-in_ok-put_branch-in-Some-Continues-clause-value t c =
+    let n = node_of c.args.command.now in
+    let b = branches_as c.args.front c.args.tail.now in
+    ap (λ tail. made true tail (last c.args.front.behind tail)) c.in_ok-put_branch-in-Some-Continues.ensures
+    ∙ ap (made true (branch_at n b)) (with_front c.args.front.behind c.args.tail.now (branch_at n b) c.requires (branch_at_ends n b))
+    ∙ command_put n (Some reading.continues) b
+    (ap (λ r. Some (command_reading_as r)) (sym c.in-Some-Continues.field-0-is) ∙ c.in-Some-Continues.ensures)
+
+pub put_command-returns-in_ok-put_block-in-Some-Otherwise-clause-within :
+    goal.put_command-returns-in_ok-put_block-in-Some-Otherwise-clause-within
+put_command-returns-in_ok-put_block-in-Some-Otherwise-clause-within t c =
+    let n = node_of c.args.command.now in
+    let kept = c.keep_last.new.self in
+    omega (arith, ap length c.keep_last.ensures, length_last c.args.front.behind c.args.tail.now c.requires, ap length c.in_ok-put_block-in-Some-Otherwise.ensures, ends_below (block_at n kept) kept (block_at_ends n kept))
+
+pub put_command-returns-in_ok-put_block-in-Some-Otherwise-clause-value :
+    goal.put_command-returns-in_ok-put_block-in-Some-Otherwise-clause-value
+put_command-returns-in_ok-put_block-in-Some-Otherwise-clause-value t c =
+    let n = node_of c.args.command.now in
+    last_branch n c.args.front.behind c.args.tail.now c.keep_last.new.self c.put_block.new.tail c.requires c.keep_last.ensures c.in_ok-put_block-in-Some-Otherwise.ensures
+    ∙ command_put n (Some reading.otherwise) (branches_as c.args.front c.args.tail.now)
+    (ap (λ r. Some (command_reading_as r)) (sym c.in-Some-Otherwise.field-0-is) ∙ c.in-Some-Otherwise.ensures)
+
+pub put_command-returns-in_ok-put-in-Some-Acts-clause-value :
+    goal.put_command-returns-in_ok-put-in-Some-Acts-clause-value
+put_command-returns-in_ok-put-in-Some-Acts-clause-value t c =
+    let leaf = leaf_as c.in-Some-Acts.leaf in
+    alone c.without_branch-in-Some-Acts.result c.put.new.self c.without_branch-in-Some-Acts.ensures.branches c.without_branch-in-Some-Acts.ensures.behind
+    ∙ ap no_branch
+    (c.in_ok-put-in-Some-Acts.ensures
+    ∙ ap (λ op. op ∷ c.keep_last-in-Some-Acts.new.self) c.leaf_op.ensures
+    ∙ ap (λ line. acts leaf line ∷ c.keep_last-in-Some-Acts.new.self) (sym (line_seen c.args.command.now))
+    ∙ ap (λ tail. acts leaf (line_at (node_of c.args.command.now)) ∷ tail) c.keep_last-in-Some-Acts.ensures)
+    ∙ command_put (node_of c.args.command.now) (Some (reading.acts leaf)) (branches_as c.args.front c.args.tail.now)
+    (ap (λ r. Some (command_reading_as r)) (sym c.in-Some-Acts.field-0-is) ∙ c.in-Some-Acts.ensures)
+
+pub put_command-returns-in_ok-put-in-Some-Stops-clause-value :
+    goal.put_command-returns-in_ok-put-in-Some-Stops-clause-value
+put_command-returns-in_ok-put-in-Some-Stops-clause-value t c =
+    alone c.without_branch-in-Some-Stops.result c.put-in-Some-Stops.new.self c.without_branch-in-Some-Stops.ensures.branches c.without_branch-in-Some-Stops.ensures.behind
+    ∙ ap no_branch (c.in_ok-put-in-Some-Stops.ensures ∙ ap (λ tail. stops ∷ tail) c.keep_last-in-Some-Stops.ensures)
+    ∙ command_put (node_of c.args.command.now) (Some reading.stops) (branches_as c.args.front c.args.tail.now)
+    (ap (λ r. Some (command_reading_as r)) (sym c.in-Some-Stops.field-0-is) ∙ c.in-Some-Stops.ensures)
+
+pub put_command-returns-in-Some-Nothing-clause-value :
+    goal.put_command-returns-in-Some-Nothing-clause-value
+put_command-returns-in-Some-Nothing-clause-value t c =
+    alone c.without_branch-in-Some-Nothing.result c.keep_last-in-Some-Nothing.new.self c.without_branch-in-Some-Nothing.ensures.branches c.without_branch-in-Some-Nothing.ensures.behind
+    ∙ ap no_branch c.keep_last-in-Some-Nothing.ensures
+    ∙ command_put (node_of c.args.command.now) (Some reading.nothing) (branches_as c.args.front c.args.tail.now)
+    (ap (λ r. Some (command_reading_as r)) (sym c.in-Some-Nothing.field-0-is) ∙ c.in-Some-Nothing.ensures)
+
+pub put_command-returns-in-None-clause-value : goal.put_command-returns-in-None-clause-value
+put_command-returns-in-None-clause-value t c =
+    alone c.without_branch-in-None.result c.keep_last-in-None.new.self c.without_branch-in-None.ensures.branches c.without_branch-in-None.ensures.behind
+    ∙ ap no_branch c.keep_last-in-None.ensures
+    ∙ command_put (node_of c.args.command.now) None (branches_as c.args.front c.args.tail.now) c.in-None.ensures
+
+pub put_commands-loop-i-init : goal.put_commands-loop-i-init
+put_commands-loop-i-init t c = (
+  omega (arith, c.without_branch-front.ensures.behind),
+  alone c.without_branch-front.result c.args.tail.now c.without_branch-front.ensures.branches c.without_branch-front.ensures.behind
+      ∙ sym (commands_none c.args.commands.now (length c.args.commands.now) c.args.tail.now (omega arith)),
+)
+
+pub put_commands-loop-i-preserved : goal.put_commands-loop-i-preserved
+put_commands-loop-i-preserved t c =
+    let list = c.args.commands.now in
+    let back : c.loop-i.i ≡ c.loop-i.i - 1 + 1 = omega arith in
+    let below : c.loop-i.i - 1 < length c.args.commands.now = omega arith in (
+      c.in_ok-front.ensures.within,
+      command_listed list (c.loop-i.i - 1) c.index-commands-i.result c.args.tail.now (branches_as c.loop-i.front c.loop-i.tail) (branches_as c.in_ok-front.front c.put_command.new.tail) below c.index-commands-i.is
+          (c.loop-i.invariant.1 ∙ ap (λ n. branches_on (drop n list) c.args.tail.now) back)
+          c.in_ok-front.ensures.value,
+    )

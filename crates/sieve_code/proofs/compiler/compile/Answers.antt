@@ -1,0 +1,36 @@
+use Rattle.std.proofs.Common.{length, map, sym, ap, ◌∙◌, subst}
+use Rattle.sieve_check.specs.Tree.{nodes}
+use Rattle.sieve_check.specs.view.Checked.{tree_of}
+use Rattle.sieve_check.specs.view.Tree.{node_of}
+use Rattle.sieve_code.specs.Choice.{AllGoForward, nodes_before, tail_of}
+use Rattle.sieve_code.specs.Walk.{code_walk, gone}
+use Rattle.sieve_code.proofs.Law.{code_forward, code_walks}
+use Rattle.sieve_code.proofs.Placing.{code_made}
+use Rattle.sieve_code.proofs.compiler.compile.Goals as goal
+
+pub invariant_of-result : goal.invariant_of-result
+invariant_of-result c =
+    let tree = tree_of c.args.checked.now in
+    let tail = c.in_ok-put_commands.ensures ∙ ap (λ b. (nodes_before (nodes (map node_of c.commands.result.now)) b).behind_branches) c.new-tail.ensures ∙ ap tail_of c.commands.ensures in
+    let made = code_made tree c.in_ok-ops.ops.items c.into_ops.result.items c.put_commands.new.tail c.in_ok-ops.ensures c.into_ops.ensures tail in
+    record {
+      forward = subst (λ ops. AllGoForward ops) (sym made) (code_forward tree);
+      compiled = ∣ record {
+        tree = tree;
+        compiles = record { chosen = made; does = ap (λ ops. code_walk ops (length ops)) made ∙ code_walks tree };
+      } ∣₁;
+    }
+
+pub returns-clause-code : goal.returns-clause-code
+returns-clause-code c =
+    let tree = tree_of c.args.checked.now in
+    let tail = c.in_ok-put_commands.ensures ∙ ap (λ b. (nodes_before (nodes (map node_of c.commands.result.now)) b).behind_branches) c.new-tail.ensures ∙ ap tail_of c.commands.ensures in
+    let made = code_made tree c.in_ok-ops.ops.items c.into_ops.result.items c.put_commands.new.tail c.in_ok-ops.ensures c.into_ops.ensures tail in
+    record { chosen = made; does = ap (λ ops. code_walk ops (length ops)) made ∙ code_walks tree }
+
+pub returns-clause-answers : goal.returns-clause-answers
+returns-clause-answers c = λ answers.
+    let tree = tree_of c.args.checked.now in
+    let tail = c.in_ok-put_commands.ensures ∙ ap (λ b. (nodes_before (nodes (map node_of c.commands.result.now)) b).behind_branches) c.new-tail.ensures ∙ ap tail_of c.commands.ensures in
+    let made = code_made tree c.in_ok-ops.ops.items c.into_ops.result.items c.put_commands.new.tail c.in_ok-ops.ensures c.into_ops.ensures tail in
+    ap (λ walk. gone walk answers) (ap (λ ops. code_walk ops (length ops)) made ∙ code_walks tree)

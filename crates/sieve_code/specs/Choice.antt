@@ -1,0 +1,117 @@
+-- Which operations the code of a checked tree has: those of its tests (RFC 5228, sections 5.2 to 5.10) and commands (sections
+-- 3.1, 3.3 and 4) in the order of the text, with jumps between them.
+use Rattle.std.specs.Prelude.{ℕ, ◌-◌, ◌<◌, ◌≤◌, ◌≡◌, Bool, true, false, not, if◌then◌else◌, List, [], ◌∷◌, length, map, Option, Some, None, slice_get}
+use Rattle.sieve_check.specs.Reading as reading
+use Rattle.sieve_check.specs.Reading.{TestReading, reads_always, reads_never, reads_ask, reads_all, reads_any, reads_not, CommandReading, test_reading, command_reading}
+use Rattle.sieve_check.specs.Tree.{Test, test, Tests, no_tests, one_test, test_list, TestList, end_tests, more_tests, Node, node, Block, no_block, block, Nodes, end_nodes, more_nodes, nodes}
+use Rattle.sieve_code.specs.Operation.{Operation, sets, inverts, asks, jumps, jumps_if, acts, stops, target_of, targeting}
+
+-- Operations up to the end of the code. Here a jump has for its target how many operations there are from the target to the
+-- end, so that what stands in front doesn't matter.
+abbrev pub Tail : Type 0
+Tail = List Operation
+
+-- TESTS
+
+-- the others of a list of tests, which stand in front of `behind`: before them a jump past the last one, where the test in front
+-- of them comes to that truth
+abbrev pub joint : Bool → TestList → Tail → Tail → Tail
+joint truth end_tests behind others = others
+joint truth (more_tests t ts) behind others = jumps_if truth (length behind) ∷ others
+
+-- A test in front of a tail, where `all` and `any` are the tests in it, joined, and `first` is the first of them. A test that
+-- isn't read as anything, which no checked script has, is false.
+abbrev pub reading_before : Option TestReading → (all any first : Tail → Tail) → Tail → Tail
+reading_before None all any first behind = sets false ∷ behind
+reading_before (Some reads_always) all any first behind = sets true ∷ behind
+reading_before (Some reads_never) all any first behind = sets false ∷ behind
+reading_before (Some (reads_ask ask)) all any first behind = asks ask ∷ behind
+reading_before (Some reads_all) all any first behind = all behind
+reading_before (Some reads_any) all any first behind = any behind
+reading_before (Some reads_not) all any first behind = first (inverts ∷ behind)
+
+unfoldable mutual
+  -- the operations of a test in front of a tail
+  pub test_before : Test → Tail → Tail
+  test_before (test name line args ts) behind =
+      reading_before (test_reading (test name line args ts)) (tests_before false ts) (tests_before true ts) (first_before ts) behind
+
+  -- those of all tests: behind each but the last, a jump past the last one where it comes to that truth; without a test, the
+  -- other truth
+  pub tests_before : Bool → Tests → Tail → Tail
+  tests_before truth no_tests behind = sets (not truth) ∷ behind
+  tests_before truth (one_test t) behind = test_before t behind
+  tests_before truth (test_list end_tests) behind = sets (not truth) ∷ behind
+  tests_before truth (test_list (more_tests t ts)) behind = list_before truth (more_tests t ts) behind
+
+  pub list_before : Bool → TestList → Tail → Tail
+  list_before truth end_tests behind = behind
+  list_before truth (more_tests t ts) behind = test_before t (joint truth ts behind (list_before truth ts behind))
+
+  -- those of the first test; without one, false
+  pub first_before : Tests → Tail → Tail
+  first_before no_tests behind = sets false ∷ behind
+  first_before (one_test t) behind = test_before t behind
+  first_before (test_list end_tests) behind = sets false ∷ behind
+  first_before (test_list (more_tests t ts)) behind = test_before t behind
+
+-- COMMANDS
+
+-- A tail from some command on: whether a branch `elsif` or `else` stands there, the tail with it, and the tail behind such
+-- branches. Where there is none, both are one tail.
+pub record Branches : Type 0 where
+  pub has_branch : Bool
+  pub with_branch : Tail
+  pub behind_branches : Tail
+
+abbrev pub no_branch : Tail → Branches
+no_branch tail = record { has_branch = false; with_branch = tail; behind_branches = tail }
+
+-- behind a block: where a branch follows, a jump past the branches
+abbrev pub past_branches : Branches → Tail
+past_branches branches = if branches.has_branch then jumps (length branches.behind_branches) ∷ branches.with_branch else branches.with_branch
+
+-- a branch with a test: the test, a jump to the next branch or the chain's end where it is false, and the block
+abbrev pub branch_before : (first inner : Tail → Tail) → Branches → Tail
+branch_before first inner branches = first (jumps_if false (length branches.with_branch) ∷ inner (past_branches branches))
+
+-- a command in front of a tail, with its first test and its block; one that isn't read as anything, which no checked script
+-- has, gives nothing
+abbrev pub command_before : Option CommandReading → ℕ → (first inner : Tail → Tail) → Branches → Branches
+command_before None line first inner branches = no_branch branches.behind_branches
+command_before (Some reading.opens) line first inner branches = no_branch (branch_before first inner branches)
+command_before (Some reading.continues) line first inner branches = record { has_branch = true; with_branch = branch_before first inner branches; behind_branches = branches.behind_branches }
+command_before (Some reading.otherwise) line first inner branches = record { has_branch = true; with_branch = inner branches.behind_branches; behind_branches = branches.behind_branches }
+command_before (Some reading.stops) line first inner branches = no_branch (stops ∷ branches.behind_branches)
+command_before (Some reading.nothing) line first inner branches = no_branch branches.behind_branches
+command_before (Some (reading.acts leaf)) line first inner branches = no_branch (acts leaf line ∷ branches.behind_branches)
+
+unfoldable mutual
+  pub node_before : Node → Branches → Branches
+  node_before (node name line args ts ending) branches = command_before (command_reading (node name line args ts ending)) line (first_before ts) (block_before ending) branches
+
+  pub block_before : Block → Tail → Tail
+  block_before no_block behind = behind
+  block_before (block ns) behind = (nodes_before ns behind).behind_branches
+
+  pub nodes_before : Nodes → Tail → Branches
+  nodes_before end_nodes behind = no_branch behind
+  nodes_before (more_nodes n ns) behind = node_before n (nodes_before ns behind)
+
+-- all operations of a tree
+abbrev pub tail_of : List Node → Tail
+tail_of tree = (nodes_before (nodes tree) []).behind_branches
+
+-- THE CODE
+
+-- a tail that is all of the code, with the targets' places
+unfoldable pub placed : Tail → List Operation
+placed tail = map (targeting (λ left. length tail - left)) tail
+
+-- the operations of a checked tree
+abbrev pub code_of : List Node → List Operation
+code_of tree = placed (tail_of tree)
+
+-- each jump's target is behind its place, and at most one past the last operation
+abbrev pub AllGoForward : List Operation → Type 0
+AllGoForward code = (place target : ℕ) (op : Operation) → slice_get code place ≡ Some op → target_of op ≡ Some target → (place < target) × (target ≤ length code)

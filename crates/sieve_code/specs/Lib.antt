@@ -1,0 +1,6 @@
+pub mod Choice
+pub mod Compiles
+pub mod Dump
+pub mod Operation
+pub mod Walk
+pub mod view

@@ -1,0 +1,107 @@
+-- What a script and its code do, apart from what the message answers: a tree of decisions.
+use Rattle.std.specs.Prelude.{ℕ, zero, suc, ◌+◌, Bool, true, false, not, List, [], ◌∷◌, Option, Some, None, slice_get, if◌then◌else◌}
+use Rattle.sieve_check.specs.Reading.{Ask, Leaf}
+use Rattle.sieve_check.specs.Script as script
+use Rattle.sieve_check.specs.Script.{Condition, always, never, negated, both, either, Commands, no_commands, chooses, script_of}
+use Rattle.sieve_check.specs.Tree.{Node}
+use Rattle.sieve_code.specs.Operation.{Operation, sets, inverts, asks, jumps, jumps_if, acts, stops}
+
+-- A walk: it has come to the end, it was ended by `stop` (RFC 5228, section 3.3), or its operations were used up; it asks
+-- something of the message, and goes on by the answer; or it does what a command does, with the command's line, and goes on.
+pub data Walk : Type 0 where
+  at_end : Walk
+  by_stop : Walk
+  cut_off : Walk
+  asked : (ask : Ask) (held failed : Walk) → Walk
+  acted : (leaf : Leaf) (line : ℕ) (next : Walk) → Walk
+
+-- THE WALK OF A TREE
+
+-- a condition, and the walks where it holds and where it doesn't: tests go from left to right, and no further than needed
+-- (RFC 5228, section 5)
+unfoldable pub condition_walk : Condition → (held failed : Walk) → Walk
+condition_walk always held failed = held
+condition_walk never held failed = failed
+condition_walk (script.asks ask) held failed = asked ask held failed
+condition_walk (negated c) held failed = condition_walk c failed held
+condition_walk (both c d) held failed = condition_walk c (condition_walk d held failed) failed
+condition_walk (either c d) held failed = condition_walk c held (condition_walk d held failed)
+
+-- commands, and the walk behind them
+unfoldable pub commands_walk : Commands → Walk → Walk
+commands_walk no_commands next = next
+commands_walk (script.stops rest) next = by_stop
+commands_walk (script.acts leaf line rest) next = acted leaf line (commands_walk rest next)
+commands_walk (chooses condition block otherwise rest) next = condition_walk condition (commands_walk block (commands_walk rest next)) (commands_walk otherwise (commands_walk rest next))
+
+-- what a checked tree does
+abbrev pub tree_walk : List Node → Walk
+tree_walk tree = commands_walk (script_of tree) at_end
+
+-- THE WALK OF CODE
+
+-- the operation at a place, or the end where there is none; `go` goes on at a place with a truth in the register
+abbrev pub step : (go : ℕ → Bool → Walk) → Option Operation → (place : ℕ) (register : Bool) → Walk
+step go None place register = at_end
+step go (Some (sets truth)) place register = go (place + 1) truth
+step go (Some inverts) place register = go (place + 1) (not register)
+step go (Some (asks ask)) place register = asked ask (go (place + 1) true) (go (place + 1) false)
+step go (Some (jumps target)) place register = go target register
+step go (Some (jumps_if true target)) place register = if register then go target register else go (place + 1) register
+step go (Some (jumps_if false target)) place register = if register then go (place + 1) register else go target register
+step go (Some (acts leaf line)) place register = acted leaf line (go (place + 1) register)
+step go (Some stops) place register = by_stop
+
+-- without a further operation: the end, where the code ends there
+abbrev pub at_limit : Option Operation → Walk
+at_limit None = at_end
+at_limit (Some op) = cut_off
+
+-- from a place, with a truth in the register, in at most so many operations
+unfoldable pub walk_from : List Operation → ℕ → (place : ℕ) (register : Bool) → Walk
+walk_from ops zero place register = at_limit (slice_get ops place)
+walk_from ops (suc n) place register = step (walk_from ops n) (slice_get ops place) place register
+
+-- what code does in at most so many operations; the register starts as false
+abbrev pub code_walk : List Operation → ℕ → Walk
+code_walk ops n = walk_from ops n 0 false
+
+-- no part of a walk is cut off
+unfoldable pub IsWhole : Walk → Type 0
+IsWhole at_end = Unit {0}
+IsWhole by_stop = Unit {0}
+IsWhole cut_off = ⊥
+IsWhole (asked ask held failed) = IsWhole held × IsWhole failed
+IsWhole (acted leaf line next) = IsWhole next
+
+-- WITH ANSWERS
+
+-- what is met on a walk: a test that asks, and a command that acts, with its line
+pub data Met : Type 0 where
+  met_ask : (ask : Ask) → Met
+  met_leaf : (leaf : Leaf) (line : ℕ) → Met
+
+-- how a walk ends: at the end, by `stop`, for want of an answer, or with its operations used up
+pub data End : Type 0 where
+  ended : End
+  stopped : End
+  unanswered : End
+  unfinished : End
+
+-- a walk that was gone: what was met, in order, and how it ended
+pub record Gone : Type 0 where
+  pub met : List Met
+  pub ending : End
+
+abbrev pub met_before : Met → Gone → Gone
+met_before m gone = record { met = m ∷ gone.met; ending = gone.ending }
+
+-- a walk with these answers, of which each test that asks takes the next
+unfoldable pub gone : Walk → List Bool → Gone
+gone at_end answers = record { met = []; ending = ended }
+gone by_stop answers = record { met = []; ending = stopped }
+gone cut_off answers = record { met = []; ending = unfinished }
+gone (asked ask held failed) [] = met_before (met_ask ask) (record { met = []; ending = unanswered })
+gone (asked ask held failed) (true ∷ answers) = met_before (met_ask ask) (gone held answers)
+gone (asked ask held failed) (false ∷ answers) = met_before (met_ask ask) (gone failed answers)
+gone (acted leaf line next) answers = met_before (met_leaf leaf line) (gone next answers)

@@ -1,0 +1,5 @@
+-- What the program's types stand for in contracts. The other files of specs/ restate the subject.
+pub mod Branches
+pub mod Code
+pub mod Marked
+pub mod Op

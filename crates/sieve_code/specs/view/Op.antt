@@ -1,0 +1,50 @@
+-- The program's operations.
+use Rattle.std.specs.Prelude.{ℕ, ◌-◌, List, map, true, false}
+use Rattle.std.specs.declared.alloc.Global.{Global}
+use Rattle.std.specs.declared.vec.Vec.{Vec}
+use Rattle.sieve_check.specs.Reading.{header_ask, exists_ask, over_ask, under_ask, keep_leaf, discard_leaf}
+use Rattle.sieve_check.specs.Tree as tree
+use Rattle.sieve_check.specs.view.Tree.{part_of}
+use Rattle.sieve_check.specs.declared.tree.Part.{Part}
+use Rattle.sieve_code.specs.Operation.{Operation, sets, inverts, asks, jumps, jumps_if, acts, stops}
+use Rattle.sieve_code.specs.declared.op.Op.{Op}
+use Rattle.sieve_code.specs.declared.op.Op.TheVariants.{True, False, Not, Header, Exists, SizeOver, SizeUnder, Jump, JumpIfFalse, JumpIfTrue, Keep, Discard, Stop}
+
+-- the parts of a string
+abbrev pub parts_of : Vec Part Global → List tree.Part
+parts_of parts = map part_of parts.items
+
+-- strings, each as its parts
+abbrev pub strings_of : List (Vec Part Global) → List (List tree.Part)
+strings_of strings = map parts_of strings
+
+abbrev pub op_as : Op → Operation
+op_as True = sets true
+op_as False = sets false
+op_as Not = inverts
+op_as (Header match_type collation names keys) = asks (header_ask match_type collation (strings_of names.items) (strings_of keys.items))
+op_as (Exists names) = asks (exists_ask (strings_of names.items))
+op_as (SizeOver limit) = asks (over_ask limit)
+op_as (SizeUnder limit) = asks (under_ask limit)
+op_as (Jump target) = jumps target
+op_as (JumpIfFalse target) = jumps_if false target
+op_as (JumpIfTrue target) = jumps_if true target
+op_as (Keep line) = acts keep_leaf line
+op_as (Discard line) = acts discard_leaf line
+op_as Stop = stops
+
+-- an operation whose target counts from the end of code of that length, with the target's place
+abbrev pub with_place_of : ℕ → Op → Op
+with_place_of count True = True
+with_place_of count False = False
+with_place_of count Not = Not
+with_place_of count (Header match_type collation names keys) = Header match_type collation names keys
+with_place_of count (Exists names) = Exists names
+with_place_of count (SizeOver limit) = SizeOver limit
+with_place_of count (SizeUnder limit) = SizeUnder limit
+with_place_of count (Jump left) = Jump (count - left)
+with_place_of count (JumpIfFalse left) = JumpIfFalse (count - left)
+with_place_of count (JumpIfTrue left) = JumpIfTrue (count - left)
+with_place_of count (Keep line) = Keep line
+with_place_of count (Discard line) = Discard line
+with_place_of count Stop = Stop

@@ -1,0 +1,146 @@
+//! The operations of commands (RFC 5228, sections 3 and 4).
+ghost use Rattle.std.specs.Prelude.{◌≡◌, ◌≤◌, false, length, map, OnOk, IfOk};
+ghost use Rattle.sieve_check.specs.Tree.{nodes};
+ghost use Rattle.sieve_check.specs.view.Tree.{node_of};
+ghost use Rattle.sieve_code.specs.Choice.{node_before, nodes_before, past_branches};
+ghost use Rattle.sieve_code.specs.view.Branches.{block_at, branch_at, branches_as};
+
+use crate::op::Op;
+use crate::strings::leaf_op;
+use crate::tail::Tail;
+use crate::test_code::put_first;
+use sieve_check::{Command, CommandReading};
+use std::alloc::{AllocError, Global};
+
+/// What stands at the front of a tail.
+#[derive(Clone, Copy, Debug)]
+pub(crate) struct Front {
+    /// Whether a branch `elsif` or `else` stands there.
+    has_branch: bool,
+    /// How many operations stand behind such branches.
+    behind: usize,
+}
+
+/// The front of a tail where no branch stands.
+fn without_branch(tail: &Tail) -> Front
+    ensures branches { result.has_branch ≡ false }
+    ensures behind { result.behind ≡ length tail.now }
+{
+    Front {
+        has_branch: false,
+        behind: tail.len(),
+    }
+}
+
+/// Puts a jump past the branches in front of a tail where a branch stands there.
+#[tactic(auto, using(crate::proofs::Putting::past))]
+fn put_past(front: Front, tail: &mut Tail) -> Result<(), AllocError>
+    requires { front.behind ≤ length tail.old }
+    ensures { OnOk result (tail.new ≡ past_branches (branches_as front tail.old)) }
+{
+    if front.has_branch {
+        tail.put(Op::Jump(front.behind))
+    } else {
+        Ok(())
+    }
+}
+
+/// Puts commands in front of a tail.
+#[cycle(command_code)]
+pub(crate) fn put_commands(
+    alloc: Global,
+    commands: &[Command],
+    tail: &mut Tail,
+) -> Result<(), AllocError>
+    ensures { OnOk result (tail.new ≡ (nodes_before (nodes (map node_of commands.now)) tail.old).behind_branches) }
+{
+    let mut front = without_branch(tail);
+    for i in (0..commands.len()).rev() {
+        front = put_command(alloc, &commands[i], front, tail)?;
+    }
+    // Branches that no `if` opens do nothing. A checked script has none.
+    tail.keep_last(front.behind);
+    Ok(())
+}
+
+/// Puts a command in front of a tail.
+#[cycle(command_code)]
+fn put_command(
+    alloc: Global,
+    command: &Command,
+    front: Front,
+    tail: &mut Tail,
+) -> Result<Front, AllocError>
+    requires { front.behind ≤ length tail.old }
+    ensures within { IfOk result (λ new. new.behind ≤ length tail.new) }
+    ensures value { IfOk result (λ new. branches_as new tail.new ≡ node_before (node_of command.now) (branches_as front tail.old)) }
+{
+    match command.reading() {
+        Some(CommandReading::Opens) => {
+            put_branch(alloc, command, front, tail)?;
+            Ok(without_branch(tail))
+        }
+        Some(CommandReading::Continues) => {
+            put_branch(alloc, command, front, tail)?;
+            Ok(Front {
+                has_branch: true,
+                behind: front.behind,
+            })
+        }
+        Some(CommandReading::Otherwise) => {
+            tail.keep_last(front.behind);
+            put_block(alloc, command, tail)?;
+            Ok(Front {
+                has_branch: true,
+                behind: front.behind,
+            })
+        }
+        Some(CommandReading::Acts(leaf)) => {
+            tail.keep_last(front.behind);
+            tail.put(leaf_op(leaf, command.line))?;
+            Ok(without_branch(tail))
+        }
+        Some(CommandReading::Stops) => {
+            tail.keep_last(front.behind);
+            tail.put(Op::Stop)?;
+            Ok(without_branch(tail))
+        }
+        Some(CommandReading::Nothing) => {
+            tail.keep_last(front.behind);
+            Ok(without_branch(tail))
+        }
+        None => {
+            tail.keep_last(front.behind);
+            Ok(without_branch(tail))
+        }
+    }
+}
+
+/// Puts the test and the block of an `if` or `elsif` in front of a tail.
+#[cycle(command_code)]
+fn put_branch(
+    alloc: Global,
+    command: &Command,
+    front: Front,
+    tail: &mut Tail,
+) -> Result<(), AllocError>
+    requires { front.behind ≤ length tail.old }
+    ensures { OnOk result (tail.new ≡ branch_at (node_of command.now) (branches_as front tail.old)) }
+{
+    let next = tail.len();
+    put_past(front, tail)?;
+    put_block(alloc, command, tail)?;
+    tail.put(Op::JumpIfFalse(next))?;
+    put_first(alloc, &command.tests, tail)
+}
+
+/// Puts the block of a command in front of a tail.
+#[cycle(command_code)]
+fn put_block(alloc: Global, command: &Command, tail: &mut Tail) -> Result<(), AllocError>
+    ensures { OnOk result (tail.new ≡ block_at (node_of command.now) tail.old) }
+{
+    match &command.block {
+        Some(commands) => put_commands(alloc, commands, tail),
+        None => Ok(()),
+    }
+}

@@ -1,0 +1,18 @@
+//! The compiler of checked Sieve scripts (RFC 5228): code of operations in a row, with one truth register, that does what the
+//! script does.
+#![tactic(auto)]
+
+mod code;
+mod command_code;
+mod compiler;
+mod dump;
+pub mod laws;
+mod op;
+mod strings;
+mod tail;
+mod test_code;
+
+pub use code::Code;
+pub use compiler::compile;
+pub use op::Op;
+pub use sieve_base::{Counted, Faults, Place, Sink, Source, WriteFault, write_out, write_quoted};

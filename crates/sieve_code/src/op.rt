@@ -1,0 +1,47 @@
+//! The operations of code.
+
+use match_text::Collation;
+use sieve_check::{MatchType, Part};
+
+/// An operation. Code has one truth register, which tests set. A string is its parts in order.
+#[derive(Debug, Drop)]
+pub enum Op {
+    /// Sets the register to true.
+    True,
+    /// Sets it to false.
+    False,
+    /// Inverts it.
+    Not,
+    /// Whether a value of some named field matches some key (RFC 5228, section 5.7).
+    Header {
+        /// How a value is compared with a key.
+        match_type: MatchType,
+        /// Which octets are equal.
+        collation: Collation,
+        /// The names of fields.
+        names: Vec<Vec<Part>>,
+        /// The keys.
+        keys: Vec<Vec<Part>>,
+    },
+    /// Whether all named fields are there (RFC 5228, section 5.5).
+    Exists {
+        /// The names of fields.
+        names: Vec<Vec<Part>>,
+    },
+    /// Whether the message has more octets (RFC 5228, section 5.9).
+    SizeOver(u64),
+    /// Whether the message has fewer octets (RFC 5228, section 5.9).
+    SizeUnder(u64),
+    /// Goes on at that place, or ends there where it is behind the last operation.
+    Jump(usize),
+    /// Goes on there where the register is false, and else behind this operation.
+    JumpIfFalse(usize),
+    /// Goes on there where the register is true, and else behind this operation.
+    JumpIfTrue(usize),
+    /// Stores into the mailbox of the delivery (RFC 5228, section 4.3), with the command's line.
+    Keep(u64),
+    /// Discards the message (RFC 5228, section 4.4), with the command's line.
+    Discard(u64),
+    /// Ends the run (RFC 5228, section 3.3).
+    Stop,
+}

@@ -1,0 +1,104 @@
+//! The operations of tests (RFC 5228, section 5).
+ghost use Rattle.std.specs.Prelude.{◌≡◌, ◌∷◌, if◌then◌else◌, map, not, OnOk};
+ghost use Rattle.sieve_check.specs.Tree.{test_list, tests};
+ghost use Rattle.sieve_check.specs.view.Tree.{test_of, tests_of};
+ghost use Rattle.sieve_code.specs.Choice.{first_before, test_before, tests_before};
+ghost use Rattle.sieve_code.specs.Operation.{jumps_if, sets};
+ghost use Rattle.sieve_code.specs.view.Op.{op_as};
+
+use crate::op::Op;
+use crate::strings::ask_op;
+use crate::tail::Tail;
+use sieve_check::{Test, TestReading, Tests};
+use std::alloc::{AllocError, Global};
+
+/// The operation that sets the register.
+fn constant(truth: bool) -> Op
+    ensures { op_as result ≡ sets truth }
+{
+    if truth { Op::True } else { Op::False }
+}
+
+/// The operation that jumps where the register has that truth.
+fn jump_if(truth: bool, target: usize) -> Op
+    ensures { op_as result ≡ jumps_if truth target }
+{
+    if truth {
+        Op::JumpIfTrue(target)
+    } else {
+        Op::JumpIfFalse(target)
+    }
+}
+
+/// Puts a jump in front of a tail where other tests follow there.
+fn put_joint(follows: bool, truth: bool, end: usize, tail: &mut Tail) -> Result<(), AllocError>
+    ensures { OnOk result (tail.new ≡ (if follows then jumps_if truth end ∷ tail.old else tail.old)) }
+{
+    if follows {
+        tail.put(jump_if(truth, end))
+    } else {
+        Ok(())
+    }
+}
+
+/// Puts a test in front of a tail.
+#[cycle(test_code)]
+fn put_test(alloc: Global, test: &Test, tail: &mut Tail) -> Result<(), AllocError>
+    ensures { OnOk result (tail.new ≡ test_before (test_of test.now) tail.old) }
+{
+    match test.reading() {
+        Some(TestReading::Always) => tail.put(Op::True),
+        Some(TestReading::Never) => tail.put(Op::False),
+        None => tail.put(Op::False),
+        Some(TestReading::Asks(ask)) => tail.put(ask_op(alloc, &ask)?),
+        Some(TestReading::AllOf) => put_tests(alloc, false, &test.tests, tail),
+        Some(TestReading::AnyOf) => put_tests(alloc, true, &test.tests, tail),
+        Some(TestReading::Not) => {
+            tail.put(Op::Not)?;
+            put_first(alloc, &test.tests, tail)
+        }
+    }
+}
+
+/// Puts all tests in front of a tail, with jumps past the last one where one comes to that truth.
+#[cycle(test_code)]
+fn put_tests(alloc: Global, truth: bool, tests: &Tests, tail: &mut Tail) -> Result<(), AllocError>
+    ensures { OnOk result (tail.new ≡ tests_before truth (tests_of tests.now) tail.old) }
+{
+    match tests {
+        Tests::None => tail.put(constant(!truth)),
+        Tests::One(test) => put_test(alloc, test, tail),
+        Tests::List(tests) => put_list(alloc, truth, tests, tail),
+    }
+}
+
+/// Puts the tests of a list in front of a tail.
+#[cycle(test_code)]
+fn put_list(alloc: Global, truth: bool, list: &[Test], tail: &mut Tail) -> Result<(), AllocError>
+    ensures { OnOk result (tail.new ≡ tests_before truth (test_list (tests (map test_of list.now))) tail.old) }
+{
+    if list.is_empty() {
+        return tail.put(constant(!truth));
+    }
+    let end = tail.len();
+    for i in (0..list.len()).rev() {
+        put_joint(i + 1 < list.len(), truth, end, tail)?;
+        put_test(alloc, &list[i], tail)?;
+    }
+    Ok(())
+}
+
+/// Puts the first of the tests in front of a tail.
+#[cycle(test_code)]
+pub(crate) fn put_first(alloc: Global, tests: &Tests, tail: &mut Tail) -> Result<(), AllocError>
+    ensures { OnOk result (tail.new ≡ first_before (tests_of tests.now) tail.old) }
+{
+    match tests {
+        Tests::None => tail.put(Op::False),
+        Tests::One(test) => put_test(alloc, test, tail),
+        Tests::List(tests) => match tests.as_slice() {
+            [] => tail.put(Op::False),
+            [test, ..] => put_test(alloc, test, tail),
+        },
+    }
+}

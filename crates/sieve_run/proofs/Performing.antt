@@ -1,0 +1,111 @@
+-- Doing the leaves of a script's walk is what running the script is.
+use Rattle.std.proofs.Common.{◌≡◌, ℕ, Bool, true, false, not, List, ◌∷◌, length, refl, ap, sym, ◌∙◌}
+use Rattle.sieve_check.specs.Reading.{Ask, Leaf}
+use Rattle.sieve_check.specs.Script.{Condition, always, never, asks, negated, both, either, Commands, no_commands, stops, acts, chooses, script_of}
+use Rattle.sieve_check.specs.Tree.{Node}
+use Rattle.sieve_code.specs.Walk.{Walk, at_end, by_stop, cut_off, asked, acted, code_walk, condition_walk, gone, commands_walk, tree_walk}
+use Rattle.sieve_code.specs.Operation.{Operation}
+use Rattle.sieve_run.specs.Library.{HasCode, Lookup, missing, invalid, present}
+use Rattle.sieve_run.specs.Perform.{answers_after, answers_of, chosen_answers, do_gone, do_met, end_of, perform}
+use Rattle.sieve_run.specs.declared.envelope.Envelope.{Envelope}
+use Rattle.sieve_run.specs.declared.name.ScriptName.{ScriptName}
+use Rattle.sieve_run.specs.view.Step.{doing}
+use Rattle.sieve_run.specs.Run.{RunState, Ending, Answer, goes_on, stopped, failed, also, or_else, act_of, and_then, answer_of, begun, chosen, decide, exec, verdict_at, verdict_of}
+
+module _ (ask : Ask → RunState → Answer) (act : Leaf → ℕ → RunState → Ending) where
+  -- TESTS
+
+  other_way : (truth : Bool) (f g : RunState → Ending) (s : RunState) → chosen truth f g s ≡ chosen (not truth) g f s
+  other_way true f g s = refl
+  other_way false f g s = refl
+
+  -- `first` decides between `f` and `g` where `second` does
+  both_by : (second : RunState → Answer) (first f g : RunState → Ending) → ((s : RunState) → first s ≡ chosen (second s).truth f g (second s).state) → (truth : Bool) (s : RunState) → chosen truth first g s ≡ chosen (also truth second s).truth f g (also truth second s).state
+  both_by second first f g is true s = is s
+  both_by second first f g is false s = refl
+
+  either_by : (second : RunState → Answer) (first f g : RunState → Ending) → ((s : RunState) → first s ≡ chosen (second s).truth f g (second s).state) → (truth : Bool) (s : RunState) → chosen truth f first s ≡ chosen (or_else truth second s).truth f g (or_else truth second s).state
+  either_by second first f g is true s = refl
+  either_by second first f g is false s = is s
+
+  by_condition : (c : Condition) (so otherwise : Walk) (s : RunState) → perform ask act (condition_walk c so otherwise) s ≡ chosen (decide ask c s).truth (perform ask act so) (perform ask act otherwise) (decide ask c s).state
+  unfolding perform condition_walk decide
+  by_condition always so otherwise s = refl
+  by_condition never so otherwise s = refl
+  by_condition (asks a) so otherwise s = refl
+  by_condition (negated c) so otherwise s =
+      by_condition c otherwise so s ∙ other_way (decide ask c s).truth (perform ask act otherwise) (perform ask act so) (decide ask c s).state
+  by_condition (both c d) so otherwise s =
+      by_condition c (condition_walk d so otherwise) otherwise s
+      ∙ both_by (decide ask d) (perform ask act (condition_walk d so otherwise)) (perform ask act so) (perform ask act otherwise) (by_condition d so otherwise) (decide ask c s).truth (decide ask c s).state
+  by_condition (either c d) so otherwise s =
+      by_condition c so (condition_walk d so otherwise) s
+      ∙ either_by (decide ask d) (perform ask act (condition_walk d so otherwise)) (perform ask act so) (perform ask act otherwise) (by_condition d so otherwise) (decide ask c s).truth (decide ask c s).state
+
+  -- COMMANDS
+
+  in_turn : (e : Ending) (f g h : RunState → Ending) → ((s : RunState) → h s ≡ and_then (f s) g) → and_then e h ≡ and_then (and_then e f) g
+  in_turn (goes_on s) f g h is = is s
+  in_turn (stopped s) f g h is = refl
+  in_turn (failed error s) f g h is = refl
+
+  choice_by : (f g block otherwise rest h : RunState → Ending) → ((s : RunState) → f s ≡ and_then (and_then (block s) rest) h) → ((s : RunState) → g s ≡ and_then (and_then (otherwise s) rest) h) → (truth : Bool) (s : RunState) → chosen truth f g s ≡ and_then (and_then (chosen truth block otherwise s) rest) h
+  choice_by f g block otherwise rest h then_is else_is true s = then_is s
+  choice_by f g block otherwise rest h then_is else_is false s = else_is s
+
+  by_commands : (c : Commands) (next : Walk) (s : RunState) → perform ask act (commands_walk c next) s ≡ and_then (exec ask act c s) (perform ask act next)
+  unfolding perform commands_walk exec
+  by_commands no_commands next s = refl
+  by_commands (stops rest) next s = refl
+  by_commands (acts leaf line rest) next s =
+      in_turn (act leaf line s) (exec ask act rest) (perform ask act next) (perform ask act (commands_walk rest next)) (by_commands rest next)
+  by_commands (chooses condition block otherwise rest) next s =
+      let behind : (e : Ending) → and_then e (perform ask act (commands_walk rest next)) ≡ and_then (and_then e (exec ask act rest)) (perform ask act next) = λ e. in_turn e (exec ask act rest) (perform ask act next) (perform ask act (commands_walk rest next)) (by_commands rest next)
+      in by_condition condition (commands_walk block (commands_walk rest next)) (commands_walk otherwise (commands_walk rest next)) s
+      ∙ choice_by (perform ask act (commands_walk block (commands_walk rest next))) (perform ask act (commands_walk otherwise (commands_walk rest next))) (exec ask act block) (exec ask act otherwise) (exec ask act rest) (perform ask act next)
+      (λ t. by_commands block (commands_walk rest next) t ∙ behind (exec ask act block t))
+      (λ t. by_commands otherwise (commands_walk rest next) t ∙ behind (exec ask act otherwise t))
+      (decide ask condition s).truth (decide ask condition s).state
+
+  nothing_behind : (e : Ending) → and_then e (perform ask act at_end) ≡ e
+  unfolding perform
+  nothing_behind (goes_on s) = refl
+  nothing_behind (stopped s) = refl
+  nothing_behind (failed error s) = refl
+
+  by_truth : (a : Ask) (so otherwise : Walk) (s : RunState) → ((t : RunState) → perform ask act so t ≡ do_gone ask act (gone so (answers_of ask act so t)) t) → ((t : RunState) → perform ask act otherwise t ≡ do_gone ask act (gone otherwise (answers_of ask act otherwise t)) t) → (truth : Bool) →
+      chosen truth (perform ask act so) (perform ask act otherwise) (ask a s).state
+      ≡ do_gone ask act (gone (asked a so otherwise) (truth ∷ chosen_answers truth (answers_of ask act so) (answers_of ask act otherwise) (ask a s).state)) s
+  unfolding gone do_met
+  by_truth a so otherwise s first second true = first (ask a s).state
+  by_truth a so otherwise s first second false = second (ask a s).state
+
+  by_leaf : (leaf : Leaf) (line : ℕ) (next : Walk) (s : RunState) → ((t : RunState) → perform ask act next t ≡ do_gone ask act (gone next (answers_of ask act next t)) t) → (e : Ending) →
+      and_then e (perform ask act next) ≡ and_then (and_then e (do_met ask act (gone next (answers_after e (answers_of ask act next))).met)) (end_of (gone next (answers_after e (answers_of ask act next))).ending)
+  by_leaf leaf line next s behind (goes_on t) = behind t
+  by_leaf leaf line next s behind (stopped t) = refl
+  by_leaf leaf line next s behind (failed error t) = refl
+
+  -- a walk with the truths of its tests for answers
+  does_gone : (w : Walk) (s : RunState) → perform ask act w s ≡ do_gone ask act (gone w (answers_of ask act w s)) s
+  unfolding perform gone answers_of do_met
+  does_gone at_end s = refl
+  does_gone by_stop s = refl
+  does_gone cut_off s = refl
+  does_gone (asked a so otherwise) s = by_truth a so otherwise s (does_gone so) (does_gone otherwise) (ask a s).truth
+  does_gone (acted leaf line next) s = by_leaf leaf line next s (does_gone next) (act leaf line s)
+
+  pub does_walk : (tree : List Node) (s : RunState) → exec ask act (script_of tree) s ≡ perform ask act (tree_walk tree) s
+  does_walk tree s = sym (by_commands (script_of tree) at_end s ∙ nothing_behind (exec ask act (script_of tree) s))
+
+  pub does_met : (tree : List Node) (s : RunState) → exec ask act (script_of tree) s ≡ do_gone ask act (gone (tree_walk tree) (answers_of ask act (tree_walk tree) s)) s
+  does_met tree s = does_walk tree s ∙ does_gone (tree_walk tree) s
+
+pub ruleset walking = (does_walk, does_met)
+
+-- the verdict by the code of what is found
+pub by_code : (message : List ℕ) (envelope : Envelope) (main : ScriptName) (lookup : Lookup) (ops : List Operation) → HasCode lookup ops → verdict_of (doing message envelope (code_walk ops (length ops)) (begun main)) ≡ verdict_at envelope message main lookup
+by_code message envelope main missing ops has = absurd has
+by_code message envelope main invalid ops has = absurd has
+by_code message envelope main (present tree) ops has =
+    ap verdict_of (ap (λ w. doing message envelope w (begun main)) has.does ∙ sym (does_walk (answer_of message) (act_of envelope) tree (begun main)))

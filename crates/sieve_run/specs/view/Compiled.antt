@@ -1,0 +1,17 @@
+-- What is kept of a text's judgement.
+use Rattle.std.specs.Prelude.{◌≡◌, ℕ, List}
+use Rattle.sieve_check.specs.Judgement.{Judgement, sound, faulty}
+use Rattle.sieve_code.specs.Compiles.{Compiles}
+use Rattle.sieve_code.specs.Operation.{Operation}
+use Rattle.sieve_code.specs.view.Code.{ops_of}
+use Rattle.sieve_run.specs.declared.script.Compiled.{Compiled}
+use Rattle.sieve_run.specs.declared.script.Compiled.TheVariants as compiled
+
+-- the text is sound, and these operations are the code of its tree
+abbrev pub IsSound : List Operation → Judgement → Type 0
+IsSound ops (sound tree) = Compiles tree ops
+IsSound ops (faulty line kind) = ⊥
+
+abbrev pub CompiledFrom : Compiled → Judgement → Type 0
+CompiledFrom (compiled.Sound code) judgement = IsSound (ops_of code) judgement
+CompiledFrom (compiled.Faulty line kind) judgement = judgement ≡ faulty line kind
