@@ -27,7 +27,7 @@ fn parts_of(
 ) -> Result<Vec<Part>, AllocError>
     ensures { IfOk result (λ parts. map part_of parts.items ≡ parts_of (context_as context) role octets.now) }
 {
-    let mut parts = Vec::new(alloc);
+    let mut parts = Vec::with_capacity(alloc, 1)?;
     parts.push(Part::Literal(Vec::from_slice(alloc, octets)?))?;
     Ok(parts)
 }
@@ -56,7 +56,7 @@ fn parted_texts(
 ) -> Result<Vec<Text>, AllocError>
     ensures { IfOk result (λ copies. map text_of copies.items ≡ map (parted_text (context_as context) role) (map seen.text_of texts.now)) }
 {
-    let mut copies = Vec::new(alloc);
+    let mut copies = Vec::with_capacity(alloc, texts.len())?;
     for text in texts {
         copies.push(parted_text(alloc, context, role, text)?)?;
     }
@@ -97,7 +97,7 @@ fn parted_labelled(
 ) -> Result<Vec<Argument>, AllocError>
     ensures { IfOk result (λ copies. map argument_of copies.items ≡ parted_labelled (context_as context) labels.now (map seen.argument_of args.now)) }
 {
-    let mut copies = Vec::new(alloc);
+    let mut copies = Vec::with_capacity(alloc, args.len())?;
     let mut labels_left = labels;
     for argument in args {
         copies.push(parted_argument(alloc, context, first_role(labels_left), argument)?)?;
@@ -211,7 +211,7 @@ fn parted_test_list(
 ) -> Result<Vec<Test>, AllocError>
     ensures { IfOk result (λ copies. map test_of copies.items ≡ map (parted_test (context_as context)) (map seen.test_of tests.now)) }
 {
-    let mut copies = Vec::new(alloc);
+    let mut copies = Vec::with_capacity(alloc, tests.len())?;
     for test in tests {
         copies.push(parted_test(alloc, context, test)?)?;
     }
@@ -268,7 +268,7 @@ fn parted_commands(
 ) -> Result<Vec<Command>, AllocError>
     ensures { IfOk result (λ copies. map node_of copies.items ≡ items (parted_nodes (context_as start) (syntax.nodes (map seen.node_of commands.now)))) }
 {
-    let mut copies = Vec::new(alloc);
+    let mut copies = Vec::with_capacity(alloc, commands.len())?;
     let mut context = start;
     for command in commands {
         copies.push(parted_command(alloc, context, command)?)?;
