@@ -113,7 +113,7 @@ fn in_arguments(
 {
     match word {
         Word::String { octets, line } => {
-            let mut items = Vec::new(alloc);
+            let mut items = Vec::with_capacity(alloc, 1)?;
             items.push(Text { octets, line })?;
             let argument = Argument::Strings {
                 items,
@@ -300,9 +300,10 @@ fn close_command(
             }
             let mut blocks = blocks;
             blocks.push(Open { done, head, tests })?;
+            // Most blocks have one command, and a vector that grows has room for four.
             Ok(State::Between(Outer {
                 blocks,
-                done: Vec::new(alloc),
+                done: Vec::with_capacity(alloc, 1)?,
             }))
         }
         _ => Err(Stop::Fault),
