@@ -1,5 +1,5 @@
 -- Cases on a test.
-use Rattle.std.proofs.Common.{◌≡◌, ◌&&◌, Bool, true, false, Option, Some, None, refl}
+use Rattle.std.proofs.Common.{◌≡◌, ◌&&◌, ◌||◌, Bool, true, false, Option, Some, None, refl}
 
 -- what holds of both outcomes, each with its equation, holds of the test
 pub by_cases : (b : Bool) (P : Bool → Type 0) → (b ≡ true → P true) → (b ≡ false → P false) → P b
@@ -21,3 +21,11 @@ and_right false b e = cc
 pub both_true : (a b : Bool) → a ≡ true → b ≡ true → (a && b) ≡ true
 both_true true b e f = f
 both_true false b e f = e
+
+pub nor_left : (a b : Bool) → (a || b) ≡ false → a ≡ false
+nor_left true b e = e
+nor_left false b e = refl
+
+pub nor_right : (a b : Bool) → (a || b) ≡ false → b ≡ false
+nor_right true b e = cc
+nor_right false b e = e

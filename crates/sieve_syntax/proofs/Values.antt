@@ -1,11 +1,12 @@
 -- The recursions that give values, one octet on.
-use Rattle.std.proofs.Common.{◌≡◌, ℕ, ◌+◌, ◌-◌, ◌*◌, ◌^◌, ◌<◌, ◌≤◌, ◌==◌, ◌||◌, ◌&&◌, Bool, true, false, nat_lt, if◌then◌else◌, List, [], ◌∷◌, ◌++◌, length, take, drop, get_or, Some, None, refl, sym, ap, ◌∙◌, arith, append_assoc, append-nil}
+use Rattle.std.proofs.Common.{◌≡◌, ℕ, ◌+◌, ◌-◌, ◌*◌, ◌^◌, ◌<◌, ◌≤◌, ◌==◌, ◌||◌, ◌&&◌, Bool, true, false, not, nat_lt, if◌then◌else◌, List, [], ◌∷◌, ◌++◌, length, take, drop, get_or, Some, None, refl, sym, ap, ◌∙◌, arith, append_assoc, append-nil}
+use Rattle.std.specs.List.{list_any, slice_range}
 use Rattle.std.proofs.lemmas.Bool.{lt-ltb}
 use Rattle.std.proofs.lemmas.List.{at_drop_more, at_drop_all, take_rest, drop_all, drop-drop, length-drop}
 use Rattle.sieve_base.specs.Octet.{is_digit}
 use Rattle.sieve_syntax.specs.Line.{line_length, lines_of, is_dot_line}
-use Rattle.sieve_syntax.specs.Value.{unit_of, number_from, number_of, line_end, with_cr, is_protector, kept_octet, unprotected, first_kept, quoted_octets, without_dot, dot_lines, multi_line_octets}
-use Rattle.sieve_syntax.proofs.Cases.{by_cases}
+use Rattle.sieve_syntax.specs.Value.{unit_of, number_from, number_of, line_end, with_cr, is_protector, kept_octet, unprotected, first_kept, is_changed, quoted_octets, without_dot, dot_lines, multi_line_octets}
+use Rattle.sieve_syntax.proofs.Cases.{by_cases, nor_left, nor_right}
 use Rattle.sieve_syntax.proofs.Lines.{lines_some, lines_none}
 
 -- NUMBERS
@@ -79,6 +80,22 @@ unfolding quoted_octets unprotected with_cr
 no_octets [] h = refl
 no_octets (c ∷ []) h = refl
 no_octets (c ∷ d ∷ ds) h = absurd (omega arith)
+
+-- octets of which each stands for itself
+plain_kept : (xs : List ℕ) (after_cr : Bool) → list_any is_changed xs ≡ false → unprotected (with_cr after_cr xs) ≡ xs
+unfolding unprotected with_cr
+plain_kept [] after_cr e = refl
+plain_kept (c ∷ cs) after_cr e =
+    let here = nor_left (is_changed c) (list_any is_changed cs) e in
+    ap (λ b. unprotected ((if b && not after_cr then 13 ∷ 10 ∷ [] else c ∷ []) ++ with_cr (c == 13) cs)) (nor_left (c == 10) (c == 92) here)
+    ∙ ap (λ b. if b then first_kept (with_cr (c == 13) cs) else c ∷ unprotected (with_cr (c == 13) cs)) (nor_right (c == 10) (c == 92) here)
+    ∙ ap (λ x. c ∷ x) (plain_kept cs (c == 13) (nor_right (is_changed c) (list_any is_changed cs) e))
+
+pub plain_string : (word : List ℕ) → list_any is_changed (slice_range word 1 (length word - 1)) ≡ false → quoted_octets word ≡ slice_range word 1 (length word - 1)
+unfolding quoted_octets
+plain_string word e = plain_kept (slice_range word 1 (length word - 1)) false e
+
+pub ruleset quoted_steps = (no_octets, plain_string)
 
 -- LINES
 

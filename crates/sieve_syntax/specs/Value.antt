@@ -44,6 +44,10 @@ unfoldable mutual
   first_kept [] = []
   first_kept (c ∷ cs) = c ∷ unprotected cs
 
+-- whether an octet in a string in quotation marks may stand for another than itself
+abbrev pub is_changed : ℕ → Bool
+is_changed c = (c == octet_of "\n") || (c == octet_of "\\")
+
 -- a quoted string without its quotation marks
 abbrev pub between_quotes : List ℕ → List ℕ
 between_quotes word = slice_range word 1 (length word - 1)

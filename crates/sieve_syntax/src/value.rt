@@ -2,7 +2,8 @@
 
 ghost use Rattle.std.specs.Prelude.{◌≡◌, ◌+◌, ◌-◌, ◌*◌, ◌^◌, ◌<◌, ◌++◌, false, IfOk, IsTrue, OnOk, SomeIff};
 ghost use Rattle.sieve_base.specs.Octet.{is_digit};
-ghost use Rattle.sieve_syntax.specs.Value.{is_protector, kept_octet, line_end, multi_line_octets, number_of, quoted_octets, unit_of, unprotected, with_cr, without_dot};
+ghost use Rattle.std.specs.List.{list_any};
+ghost use Rattle.sieve_syntax.specs.Value.{is_changed, is_protector, kept_octet, line_end, multi_line_octets, number_of, quoted_octets, unit_of, unprotected, with_cr, without_dot};
 
 use crate::line::{is_dot_line, line_length};
 use crate::octet::is_digit;
@@ -99,17 +100,28 @@ fn unprotected(alloc: Global, octets: &[u8]) -> Result<Vec<u8>, AllocError>
     Ok(kept)
 }
 
+/// Whether an octet is among them that may stand for another than itself: an LF or a backslash. Most strings have none.
+fn has_changed(octets: &[u8]) -> bool
+    ensures { result ≡ list_any is_changed octets.now }
+{
+    octets.iter().any(|octet| matches!(*octet, b'\n' | b'\\'))
+}
+
 /// What a quoted string stands for: each LF that lacks a CR gets one, and then a backslash and an octet give that octet.
-#[tactic(auto, unfolding(crate::specs::Value::quoted_octets), using(crate::proofs::Values::no_octets))]
+#[tactic(auto, unfolding(crate::specs::Value::quoted_octets), using(crate::proofs::Values::quoted_steps))]
 pub(crate) fn quoted_octets(alloc: Global, word: &[u8]) -> Result<Vec<u8>, AllocError>
     ensures { IfOk result (λ octets. octets.items ≡ quoted_octets word.now) }
 {
     if word.len() < 2 {
         return Ok(Vec::new(alloc));
     }
-    let mut octets = Vec::new(alloc);
-    push_with_cr(&mut octets, &word[1..word.len() - 1])?;
-    unprotected(alloc, &octets)
+    let octets = &word[1..word.len() - 1];
+    if !has_changed(octets) {
+        return octets.to_vec(alloc);
+    }
+    let mut ended = Vec::new(alloc);
+    push_with_cr(&mut ended, octets)?;
+    unprotected(alloc, &ended)
 }
 
 /// The line without the first of two dots that begin it.
