@@ -1,19 +1,21 @@
 //! Copies of a text's tree in which each string is cut into parts.
-ghost use Rattle.std.specs.Prelude.{◌≡◌, map, IfOk};
+ghost use Rattle.std.specs.Prelude.{◌≡◌, [], map, IfOk};
 ghost use Rattle.sieve_syntax.specs.Tree as syntax;
 ghost use Rattle.sieve_syntax.specs.view.Tree as seen;
 ghost use Rattle.sieve_check.specs.Context.{behind};
 ghost use Rattle.sieve_check.specs.Parted.{command_labels, parted, parted_argument, parted_labelled, parted_node, parted_nodes, parted_test, parted_tests, parted_text, parts_of, test_labels};
+ghost use Rattle.sieve_check.specs.Shape.{row_labels};
 ghost use Rattle.sieve_check.specs.Table as table;
 ghost use Rattle.sieve_check.specs.Tree.{items};
 ghost use Rattle.sieve_check.specs.view.Context.{context_as};
+ghost use Rattle.sieve_check.specs.view.Row.{row_as};
 ghost use Rattle.sieve_check.specs.view.Tree.{argument_of, node_of, part_of, test_of, tests_of, text_of};
 
 use crate::context::Context;
-use crate::label::Label;
-use crate::role::{behind_first, first_role};
-use crate::row::Role;
-use crate::shape::row_labels;
+use crate::label::Shaped;
+use crate::role::role_of;
+use crate::row::{Role, Row};
+use crate::shape::row_expected;
 use crate::table::{command_named, test_named};
 use crate::tree::{Argument, Command, Part, Test, Tests, Text};
 use std::alloc::{AllocError, Global};
@@ -88,50 +90,39 @@ fn parted_argument(
     }
 }
 
-/// Arguments with their strings in parts, by their labels.
-fn parted_labelled(
+/// Arguments of a row, with their strings in parts by what each argument is for.
+fn parted_by_row(
     alloc: Global,
     context: Context,
-    labels: &[Label],
+    row: &Row,
     args: &[sieve_syntax::Argument],
 ) -> Result<Vec<Argument>, AllocError>
-    ensures { IfOk result (λ copies. map argument_of copies.items ≡ parted_labelled (context_as context) labels.now (map seen.argument_of args.now)) }
+    ensures { IfOk result (λ copies. map argument_of copies.items ≡ parted_labelled (context_as context) (row_labels (row_as row.now) (map seen.argument_of args.now)) (map seen.argument_of args.now)) }
 {
     let mut copies = Vec::with_capacity(alloc, args.len())?;
-    let mut labels_left = labels;
+    let mut expected = row_expected(row, args);
     for argument in args {
-        copies.push(parted_argument(alloc, context, first_role(labels_left), argument)?)?;
-        labels_left = behind_first(labels_left);
+        let shape = argument.shape(row.tags);
+        let role = role_of(expected.label(shape));
+        copies.push(parted_argument(alloc, context, role, argument)?)?;
+        expected = expected.behind(shape);
     }
     Ok(copies)
 }
 
-/// The labels of the arguments of a test of that name.
-fn test_labels(
+/// Arguments of what no row is for, with their strings in parts.
+fn parted_without_row(
     alloc: Global,
-    name: &[u8],
+    context: Context,
     args: &[sieve_syntax::Argument],
-) -> Result<Vec<Label>, AllocError>
-    ensures { IfOk result (λ labels. labels.items ≡ test_labels (table.test_named name.now) (map seen.argument_of args.now)) }
+) -> Result<Vec<Argument>, AllocError>
+    ensures { IfOk result (λ copies. map argument_of copies.items ≡ parted_labelled (context_as context) [] (map seen.argument_of args.now)) }
 {
-    match test_named(name) {
-        None => Ok(Vec::new(alloc)),
-        Some(kind) => row_labels(alloc, &kind.row(), args),
+    let mut copies = Vec::with_capacity(alloc, args.len())?;
+    for argument in args {
+        copies.push(parted_argument(alloc, context, None, argument)?)?;
     }
-}
-
-/// The labels of the arguments of a command of that name.
-fn command_labels(
-    alloc: Global,
-    name: &[u8],
-    args: &[sieve_syntax::Argument],
-) -> Result<Vec<Label>, AllocError>
-    ensures { IfOk result (λ labels. labels.items ≡ command_labels (table.command_named name.now) (map seen.argument_of args.now)) }
-{
-    match command_named(name) {
-        None => Ok(Vec::new(alloc)),
-        Some(kind) => row_labels(alloc, &kind.row(), args),
-    }
+    Ok(copies)
 }
 
 /// The arguments of a test of that name, with their strings in parts.
@@ -143,8 +134,10 @@ fn test_arguments(
 ) -> Result<Vec<Argument>, AllocError>
     ensures { IfOk result (λ copies. map argument_of copies.items ≡ parted_labelled (context_as context) (test_labels (table.test_named name.now) (map seen.argument_of args.now)) (map seen.argument_of args.now)) }
 {
-    let labels = test_labels(alloc, name, args)?;
-    parted_labelled(alloc, context, &labels, args)
+    match test_named(name) {
+        None => parted_without_row(alloc, context, args),
+        Some(kind) => parted_by_row(alloc, context, &kind.row(), args),
+    }
 }
 
 /// The arguments of a command of that name, with their strings in parts.
@@ -156,8 +149,10 @@ fn command_arguments(
 ) -> Result<Vec<Argument>, AllocError>
     ensures { IfOk result (λ copies. map argument_of copies.items ≡ parted_labelled (context_as context) (command_labels (table.command_named name.now) (map seen.argument_of args.now)) (map seen.argument_of args.now)) }
 {
-    let labels = command_labels(alloc, name, args)?;
-    parted_labelled(alloc, context, &labels, args)
+    match command_named(name) {
+        None => parted_without_row(alloc, context, args),
+        Some(kind) => parted_by_row(alloc, context, &kind.row(), args),
+    }
 }
 
 /// A test with its strings in parts.

@@ -2,10 +2,11 @@
 ghost use Rattle.std.specs.Prelude.{◌≡◌, IfOk, map};
 ghost use Rattle.sieve_syntax.specs.view.Tree.{argument_of};
 ghost use Rattle.sieve_check.specs.Shape.{shape_of, shapes_of, texts_shape};
-ghost use Rattle.sieve_check.specs.Label.{is_filled, labels_of};
+ghost use Rattle.sieve_check.specs.Label.{expecting, is_filled, labels_of, slots_of};
+ghost use Rattle.sieve_check.specs.view.Expected.{expected_as};
 ghost use Rattle.sieve_check.specs.view.Row.{row_as};
 
-use crate::label::{Label, Shape, Shaped, is_filled, labels_of};
+use crate::label::{Expected, Label, Shape, Shaped, expected_of, is_filled, labels_of};
 use crate::row::Row;
 use crate::table::{Tag, tag_named};
 use sieve_syntax::Argument;
@@ -32,6 +33,14 @@ impl Shaped for Argument {
             Argument::Tag { name, .. } => Shape::Tag(tag_named(tags, name)),
         }
     }
+}
+
+/// What is expected of a row's arguments.
+#[tactic(auto, using(crate::proofs::Fusing::of_views))]
+pub(crate) fn row_expected<'a>(row: &Row, args: &[Argument]) -> Expected<'a>
+    ensures { expected_as result ≡ expecting (slots_of (row_as row.now) (shapes_of row.now.tags.now (map argument_of args.now))) }
+{
+    expected_of(row, args)
 }
 
 /// What a row's arguments are.
