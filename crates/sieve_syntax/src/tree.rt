@@ -1,5 +1,10 @@
 //! The generic tree of a script (RFC 5228, section 8.2). A line is one plus the number of LF before it.
 
+use smallvec::SmallVec;
+
+/// An identifier, or a tag without its colon. Those that Sieve has are short, and take no memory of their own.
+pub type Name = SmallVec<u8, 16>;
+
 /// A whole script: its commands in the order of the text.
 #[derive(Debug, Drop)]
 pub struct Script {
@@ -10,7 +15,7 @@ pub struct Script {
 #[derive(Debug, Drop)]
 pub struct Command {
     /// The identifier, as it is written. Case doesn't matter to Sieve.
-    pub name: Vec<u8>,
+    pub name: Name,
     /// The line of the identifier.
     pub line: u64,
     pub args: Vec<Argument>,
@@ -24,7 +29,7 @@ pub struct Command {
 #[cycle(tests)]
 pub struct Test {
     /// The identifier, as it is written. Case doesn't matter to Sieve.
-    pub name: Vec<u8>,
+    pub name: Name,
     /// The line of the identifier.
     pub line: u64,
     pub args: Vec<Argument>,
@@ -49,7 +54,7 @@ pub enum Argument {
     /// A number with its unit multiplied in, or `None` where it is past `u64::MAX`, and its line.
     Number { value: Option<u64>, line: u64 },
     /// A tag without its colon, as it is written, and the line of the colon.
-    Tag { name: Vec<u8>, line: u64 },
+    Tag { name: Name, line: u64 },
 }
 
 /// A string: the octets that it stands for, and the line where it begins.

@@ -6,14 +6,15 @@ ghost use Rattle.sieve_syntax.specs.Token.{IsInside};
 ghost use Rattle.sieve_syntax.specs.Word.{word_of};
 
 use crate::token::{Token, TokenKind};
+use crate::tree::Name;
 use crate::value::{multi_line_octets, number_of, quoted_octets};
 use std::alloc::{AllocError, Global};
 
 /// A token without its place.
 #[derive(Debug, Drop)]
 pub(crate) enum Word {
-    Identifier { name: Vec<u8>, line: u64 },
-    Tag { name: Vec<u8>, line: u64 },
+    Identifier { name: Name, line: u64 },
+    Tag { name: Name, line: u64 },
     Number { value: Option<u64>, line: u64 },
     String { octets: Vec<u8>, line: u64 },
     Semicolon,
@@ -37,11 +38,11 @@ pub(crate) fn read_word(alloc: Global, text: &[u8], token: Token) -> Result<Word
     let line = token.line;
     match token.kind {
         TokenKind::Identifier => Ok(Word::Identifier {
-            name: octets.to_vec(alloc)?,
+            name: Name::from_slice(alloc, octets)?,
             line,
         }),
         TokenKind::Tag => Ok(Word::Tag {
-            name: octets[1..].to_vec(alloc)?,
+            name: Name::from_slice(alloc, &octets[1..])?,
             line,
         }),
         TokenKind::Number => Ok(Word::Number {
