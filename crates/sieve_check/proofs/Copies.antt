@@ -6,6 +6,7 @@ use Rattle.sieve_check.specs.Parted.{command_labels, parted_block, parted_labell
 use Rattle.sieve_check.specs.Context.{Context, inside}
 use Rattle.sieve_check.specs.Table.{command_named}
 use Rattle.std.specs.declared.vec.Vec.{Vec}
+use Rattle.smallvec.specs.SmallVec.{SmallVec}
 use Rattle.std.specs.declared.alloc.Global.{Global}
 use Rattle.sieve_syntax.specs.declared.tree.Command as syntax_commands
 use Rattle.sieve_syntax.specs.declared.tree.Command.TheViews as syntax_command_views
@@ -47,7 +48,7 @@ abbrev block_of : Option (Vec commands.Command Global) → Block
 block_of None = no_block
 block_of (Some v) = block (nodes (map node_of v.items))
 
-seen_whole : (name : Vec ℕ Global) (line : ℕ) (args : Vec arguments.Argument Global) (ts : test_variants.the_data) (inner : Option (Vec commands.Command Global)) → node_of (command_views.roll-Command (record { name = name; line = line; args = args; tests = ts; block = inner })) ≡ node name.items line (map argument_of args.items) (tests_of ts) (block_of inner)
+seen_whole : (name : SmallVec ℕ) (line : ℕ) (args : Vec arguments.Argument Global) (ts : test_variants.the_data) (inner : Option (Vec commands.Command Global)) → node_of (command_views.roll-Command (record { name = name; line = line; args = args; tests = ts; block = inner })) ≡ node name.items line (map argument_of args.items) (tests_of ts) (block_of inner)
 seen_whole name line args ts None = command_folds.fold-roll-Command Node command_step (record { name = name; line = line; args = args; tests = ts; block = None })
 seen_whole name line args ts (Some v) = command_folds.fold-roll-Command Node command_step (record { name = name; line = line; args = args; tests = ts; block = Some v })
 
@@ -66,7 +67,7 @@ abbrev pub parted_args : Context → List ℕ → List syntax.Argument → List 
 parted_args context name args = parted_labelled context (command_labels (command_named name) args) args
 
 -- copies of a command's parts make the copy of the command
-pub command_copied : (context within : Context) (name : Vec ℕ Global) (args : Vec arguments.Argument Global) (ts : test_variants.the_data) (copies : Vec commands.Command Global) (whole : syntax_commands.Command) (inner : Vec syntax_commands.Command Global) (xs : List syntax_commands.Command) → let o = syntax_command_views.out-Command whole in
+pub command_copied : (context within : Context) (name : SmallVec ℕ) (args : Vec arguments.Argument Global) (ts : test_variants.the_data) (copies : Vec commands.Command Global) (whole : syntax_commands.Command) (inner : Vec syntax_commands.Command Global) (xs : List syntax_commands.Command) → let o = syntax_command_views.out-Command whole in
     name.items ≡ o.name.items → map argument_of args.items ≡ parted_args context o.name.items (map seen.argument_of o.args.items) → tests_of ts ≡ parted_tests context (seen.tests_of o.tests) → o.block ≡ Some inner → xs ≡ inner.items → within ≡ inside context → map node_of copies.items ≡ items (parted_nodes within (syntax.nodes (map seen.node_of xs)))
     → node_of (command_views.roll-Command (record { name = name; line = o.line; args = args; tests = ts; block = Some copies })) ≡ parted_node context (seen.node_of whole)
 command_copied context within name args ts copies whole inner xs n a t b same start e =

@@ -2,6 +2,7 @@
 use Rattle.std.proofs.Common.{◌≡◌, ℕ, Option, Some, None, map, sym, ap, ◌∙◌}
 use Rattle.std.specs.declared.vec.Vec.{Vec}
 use Rattle.std.specs.declared.alloc.Global.{Global}
+use Rattle.smallvec.specs.SmallVec.{SmallVec}
 use Rattle.sieve_syntax.specs.Tree.{Node, node, Test, Tests, test, no_tests}
 use Rattle.sieve_syntax.specs.view.Tree.{node_of, test_of, tests_of, argument_of, command_step, test_step, tests_step}
 use Rattle.sieve_syntax.specs.declared.tree.Argument as arguments
@@ -14,7 +15,7 @@ use Rattle.sieve_syntax.specs.declared.tree.Tests.TheOpen as layers
 use Rattle.sieve_syntax.specs.declared.tree.Tests.TheVariants as some_tests
 use Rattle.sieve_check.specs.view.Head.{block_as}
 
-seen : (name : Vec ℕ Global) (line : ℕ) (args : Vec arguments.Argument Global) (ts : some_tests.the_data) (inner : Option (Vec commands.Command Global)) → node_of (roll-Command (record { name = name; line = line; args = args; tests = ts; block = inner })) ≡ node name.items line (map argument_of args.items) (tests_of ts) (block_as inner)
+seen : (name : SmallVec ℕ) (line : ℕ) (args : Vec arguments.Argument Global) (ts : some_tests.the_data) (inner : Option (Vec commands.Command Global)) → node_of (roll-Command (record { name = name; line = line; args = args; tests = ts; block = inner })) ≡ node name.items line (map argument_of args.items) (tests_of ts) (block_as inner)
 seen name line args ts None = fold-roll-Command Node command_step (record { name = name; line = line; args = args; tests = ts; block = None })
 seen name line args ts (Some v) = fold-roll-Command Node command_step (record { name = name; line = line; args = args; tests = ts; block = Some v })
 

@@ -18,6 +18,7 @@ use crate::row::{Role, Row};
 use crate::shape::row_expected;
 use crate::table::{command_named, test_named};
 use crate::tree::{Argument, Command, Part, Test, Tests, Text};
+use sieve_syntax::Name;
 use std::alloc::{AllocError, Global};
 
 /// The parts of a string in its role: one literal.
@@ -84,7 +85,7 @@ fn parted_argument(
             line: *line,
         }),
         sieve_syntax::Argument::Tag { name, line } => Ok(Argument::Tag {
-            name: Vec::from_slice(alloc, name)?,
+            name: Name::from_slice(alloc, name)?,
             line: *line,
         }),
     }
@@ -164,7 +165,7 @@ fn parted_test(
 ) -> Result<Test, AllocError>
     ensures { IfOk result (λ copy. test_of copy ≡ parted_test (context_as context) (seen.test_of test.now)) }
 {
-    let name = Vec::from_slice(alloc, &test.name)?;
+    let name = Name::from_slice(alloc, &test.name)?;
     let args = test_arguments(alloc, context, &test.name, &test.args)?;
     let tests = parted_tests(alloc, context, &test.tests)?;
     Ok(Test {
@@ -230,7 +231,7 @@ fn parted_command(
 ) -> Result<Command, AllocError>
     ensures { IfOk result (λ copy. node_of copy ≡ parted_node (context_as context) (seen.node_of command.now)) }
 {
-    let name = Vec::from_slice(alloc, &command.name)?;
+    let name = Name::from_slice(alloc, &command.name)?;
     let args = command_arguments(alloc, context, &command.name, &command.args)?;
     let tests = parted_tests(alloc, context, &command.tests)?;
     match &command.block {
