@@ -3,6 +3,7 @@ use Rattle.std.proofs.Common.{◌≡◌, ℕ, Option, Some, None, List, map, ap,
 use Rattle.std.specs.declared.alloc.Global.{Global}
 use Rattle.std.specs.declared.boxed.Box.{Box}
 use Rattle.std.specs.declared.vec.Vec.{Vec}
+use Rattle.smallvec.specs.SmallVec.{SmallVec}
 use Rattle.sieve_check.specs.Tree.{Block, Node, Test, Tests, block, no_block, no_tests, node, nodes, one_test, test, test_list, tests}
 use Rattle.sieve_check.specs.view.Tree.{argument_of, command_step, node_of, test_of, test_step, tests_of, tests_step}
 use Rattle.sieve_check.specs.declared.tree.Argument as arguments
@@ -44,7 +45,7 @@ abbrev pub block_of : Option (Vec commands.Command Global) → Block
 block_of None = no_block
 block_of (Some v) = block (nodes (map node_of v.items))
 
-seen : (name : Vec ℕ Global) (line : ℕ) (args : Vec arguments.Argument Global) (ts : test_variants.the_data) (inner : Option (Vec commands.Command Global)) → node_of (command_views.roll-Command (record { name = name; line = line; args = args; tests = ts; block = inner })) ≡ node name.items line (map argument_of args.items) (tests_of ts) (block_of inner)
+seen : (name : SmallVec ℕ) (line : ℕ) (args : Vec arguments.Argument Global) (ts : test_variants.the_data) (inner : Option (Vec commands.Command Global)) → node_of (command_views.roll-Command (record { name = name; line = line; args = args; tests = ts; block = inner })) ≡ node name.items line (map argument_of args.items) (tests_of ts) (block_of inner)
 seen name line args ts None = command_folds.fold-roll-Command Node command_step (record { name = name; line = line; args = args; tests = ts; block = None })
 seen name line args ts (Some v) = command_folds.fold-roll-Command Node command_step (record { name = name; line = line; args = args; tests = ts; block = Some v })
 
