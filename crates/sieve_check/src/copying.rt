@@ -18,7 +18,7 @@ use crate::row::{Role, Row};
 use crate::shape::row_expected;
 use crate::table::{command_named, test_named};
 use crate::tree::{Argument, Command, Part, Test, Tests, Text};
-use sieve_syntax::Name;
+use sieve_syntax::SmallOctets;
 use std::alloc::{AllocError, Global};
 
 /// The parts of a string in its role: one literal.
@@ -31,7 +31,7 @@ fn parts_of(
     ensures { IfOk result (λ parts. map part_of parts.items ≡ parts_of (context_as context) role octets.now) }
 {
     let mut parts = Vec::with_capacity(alloc, 1)?;
-    parts.push(Part::Literal(Vec::from_slice(alloc, octets)?))?;
+    parts.push(Part::Literal(SmallOctets::from_slice(alloc, octets)?))?;
     Ok(parts)
 }
 
@@ -85,7 +85,7 @@ fn parted_argument(
             line: *line,
         }),
         sieve_syntax::Argument::Tag { name, line } => Ok(Argument::Tag {
-            name: Name::from_slice(alloc, name)?,
+            name: SmallOctets::from_slice(alloc, name)?,
             line: *line,
         }),
     }
@@ -165,7 +165,7 @@ fn parted_test(
 ) -> Result<Test, AllocError>
     ensures { IfOk result (λ copy. test_of copy ≡ parted_test (context_as context) (seen.test_of test.now)) }
 {
-    let name = Name::from_slice(alloc, &test.name)?;
+    let name = SmallOctets::from_slice(alloc, &test.name)?;
     let args = test_arguments(alloc, context, &test.name, &test.args)?;
     let tests = parted_tests(alloc, context, &test.tests)?;
     Ok(Test {
@@ -231,7 +231,7 @@ fn parted_command(
 ) -> Result<Command, AllocError>
     ensures { IfOk result (λ copy. node_of copy ≡ parted_node (context_as context) (seen.node_of command.now)) }
 {
-    let name = Name::from_slice(alloc, &command.name)?;
+    let name = SmallOctets::from_slice(alloc, &command.name)?;
     let args = command_arguments(alloc, context, &command.name, &command.args)?;
     let tests = parted_tests(alloc, context, &command.tests)?;
     match &command.block {

@@ -26,6 +26,7 @@ pub use checked::Checked;
 pub use judged::{FaultKind, JudgeFault, Judged, judge};
 pub use reading::{Ask, CommandReading, Leaf, MatchType, TestReading};
 pub use rule::Rule;
+pub use sieve_syntax::SmallOctets;
 pub use table::{CommandKind, TestKind};
 pub use tree::{Argument, Command, Part, Test, Tests, Text};
 pub use validator::{CheckFault, check};

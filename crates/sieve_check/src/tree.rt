@@ -1,13 +1,13 @@
 //! The tree of a checked script. It has the shape of the text's tree (RFC 5228, section 8.2), with each string cut into
 //! parts. A line is one plus the number of LF before it.
 
-use sieve_syntax::Name;
+use sieve_syntax::SmallOctets;
 
 /// A piece of a string.
 #[derive(Debug, Drop)]
 pub enum Part {
     /// These octets.
-    Literal(Vec<u8>),
+    Literal(SmallOctets),
 }
 
 /// A string: what it is made of, and the line where it begins.
@@ -27,7 +27,7 @@ pub enum Argument {
     /// A number with its unit multiplied in, and its line. A checked script has no number past `u64::MAX`.
     Number { value: Option<u64>, line: u64 },
     /// A tag without its colon, as it is written, and the line of the colon.
-    Tag { name: Name, line: u64 },
+    Tag { name: SmallOctets, line: u64 },
 }
 
 /// A test, with its arguments and its own tests (RFC 5228, section 5).
@@ -35,7 +35,7 @@ pub enum Argument {
 #[cycle(tests)]
 pub struct Test {
     /// The identifier, as it is written. Case doesn't matter.
-    pub name: Name,
+    pub name: SmallOctets,
     /// The line of the identifier.
     pub line: u64,
     /// The arguments in the order of the text.
@@ -60,7 +60,7 @@ pub enum Tests {
 #[derive(Debug, Drop)]
 pub struct Command {
     /// The identifier, as it is written. Case doesn't matter.
-    pub name: Name,
+    pub name: SmallOctets,
     /// The line of the identifier.
     pub line: u64,
     /// The arguments in the order of the text.

@@ -6,7 +6,7 @@ ghost use Rattle.sieve_code.specs.Operation.{asks, acts};
 ghost use Rattle.sieve_code.specs.view.Op.{op_as, parts_of, strings_of};
 
 use crate::op::Op;
-use sieve_check::{Ask, Leaf, Part, Text};
+use sieve_check::{Ask, Leaf, Part, SmallOctets, Text};
 use std::alloc::{AllocError, Global};
 
 /// A copy of a part.
@@ -14,7 +14,7 @@ fn copied_part(alloc: Global, part: &Part) -> Result<Part, AllocError>
     ensures { IfOk result (λ copy. part_of copy ≡ part_of part.now) }
 {
     match part {
-        Part::Literal(octets) => Ok(Part::Literal(Vec::from_slice(alloc, octets)?)),
+        Part::Literal(octets) => Ok(Part::Literal(SmallOctets::from_slice(alloc, octets)?)),
     }
 }
 

@@ -5,12 +5,12 @@ ghost use Rattle.sieve_syntax.specs.Machine.{node_with, test_with};
 ghost use Rattle.sieve_syntax.specs.view.Reader.{block_of, head_value};
 ghost use Rattle.sieve_syntax.specs.view.Tree.{node_of, test_of, tests_of};
 
-use crate::tree::{Argument, Command, Name, Test, Tests, Text};
+use crate::tree::{Argument, Command, SmallOctets, Test, Tests, Text};
 
 /// A command or a test whose arguments are being read.
 #[derive(Debug, Drop)]
 pub(crate) struct Head {
-    pub(crate) name: Name,
+    pub(crate) name: SmallOctets,
     pub(crate) line: u64,
     pub(crate) args: Vec<Argument>,
 }

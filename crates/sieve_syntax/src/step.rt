@@ -9,7 +9,7 @@ ghost use Rattle.sieve_syntax.specs.view.Tree.{argument_of, test_of, tests_of, t
 ghost use Rattle.sieve_syntax.specs.declared.step.Stop.TheVariants.{NoMemory};
 
 use crate::reader::{Head, Level, Open, Outer, State, command_with, finished_test};
-use crate::tree::{Argument, Name, Test, Tests, Text};
+use crate::tree::{Argument, SmallOctets, Test, Tests, Text};
 use crate::word::Word;
 use sieve_base::limits::{MAX_OPEN_BLOCKS, MAX_TEST_DEPTH};
 use std::alloc::{AllocError, AllocFailed, Global};
@@ -55,7 +55,7 @@ fn between(alloc: Global, outer: Outer, word: Word) -> Result<State, Stop>
 }
 
 /// A command or a test of which only the identifier is read.
-fn make_head(alloc: Global, name: Name, line: u64) -> Head
+fn make_head(alloc: Global, name: SmallOctets, line: u64) -> Head
     ensures { head_value result ≡ bare_head name.items line }
 {
     Head {
@@ -144,7 +144,7 @@ fn open_test(
     outer: Outer,
     levels: Vec<Level>,
     head: Head,
-    name: Name,
+    name: SmallOctets,
     line: u64,
 ) -> Result<State, Stop>
     ensures { Advances result (if nat_lt (length (levels_value levels.items)) test_depth then Some (Machine.in_arguments (outer_value outer) (for_one (head_value head) ∷ levels_value levels.items) (bare_head name.items line)) else None) }

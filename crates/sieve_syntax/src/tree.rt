@@ -2,8 +2,8 @@
 
 use smallvec::SmallVec;
 
-/// An identifier, or a tag without its colon. Those that Sieve has are short, and take no memory of their own.
-pub type Name = SmallVec<u8, 16>;
+/// Octets that lie in the value itself where they are sixteen or fewer, as most names and strings of scripts are.
+pub type SmallOctets = SmallVec<u8, 16>;
 
 /// A whole script: its commands in the order of the text.
 #[derive(Debug, Drop)]
@@ -15,7 +15,7 @@ pub struct Script {
 #[derive(Debug, Drop)]
 pub struct Command {
     /// The identifier, as it is written. Case doesn't matter to Sieve.
-    pub name: Name,
+    pub name: SmallOctets,
     /// The line of the identifier.
     pub line: u64,
     pub args: Vec<Argument>,
@@ -29,7 +29,7 @@ pub struct Command {
 #[cycle(tests)]
 pub struct Test {
     /// The identifier, as it is written. Case doesn't matter to Sieve.
-    pub name: Name,
+    pub name: SmallOctets,
     /// The line of the identifier.
     pub line: u64,
     pub args: Vec<Argument>,
@@ -54,12 +54,12 @@ pub enum Argument {
     /// A number with its unit multiplied in, or `None` where it is past `u64::MAX`, and its line.
     Number { value: Option<u64>, line: u64 },
     /// A tag without its colon, as it is written, and the line of the colon.
-    Tag { name: Name, line: u64 },
+    Tag { name: SmallOctets, line: u64 },
 }
 
 /// A string: the octets that it stands for, and the line where it begins.
 #[derive(Debug, Drop)]
 pub struct Text {
-    pub octets: Vec<u8>,
+    pub octets: SmallOctets,
     pub line: u64,
 }

@@ -7,6 +7,7 @@ ghost use Rattle.sieve_syntax.specs.Value.{is_changed, is_protector, kept_octet,
 
 use crate::line::{is_dot_line, line_length};
 use crate::octet::is_digit;
+use crate::tree::SmallOctets;
 use std::alloc::{AllocError, Global};
 
 /// What a unit stands for.
@@ -109,19 +110,19 @@ fn has_changed(octets: &[u8]) -> bool
 
 /// What a quoted string stands for: each LF that lacks a CR gets one, and then a backslash and an octet give that octet.
 #[tactic(auto, unfolding(crate::specs::Value::quoted_octets), using(crate::proofs::Values::quoted_steps))]
-pub(crate) fn quoted_octets(alloc: Global, word: &[u8]) -> Result<Vec<u8>, AllocError>
+pub(crate) fn quoted_octets(alloc: Global, word: &[u8]) -> Result<SmallOctets, AllocError>
     ensures { IfOk result (λ octets. octets.items ≡ quoted_octets word.now) }
 {
     if word.len() < 2 {
-        return Ok(Vec::new(alloc));
+        return Ok(SmallOctets::new(alloc));
     }
     let octets = &word[1..word.len() - 1];
     if !has_changed(octets) {
-        return octets.to_vec(alloc);
+        return SmallOctets::from_slice(alloc, octets);
     }
     let mut ended = Vec::new(alloc);
     push_with_cr(&mut ended, octets)?;
-    unprotected(alloc, &ended)
+    Ok(SmallOctets::from_vec(unprotected(alloc, &ended)?))
 }
 
 /// The line without the first of two dots that begin it.

@@ -6,17 +6,17 @@ ghost use Rattle.sieve_syntax.specs.Token.{IsInside};
 ghost use Rattle.sieve_syntax.specs.Word.{word_of};
 
 use crate::token::{Token, TokenKind};
-use crate::tree::Name;
+use crate::tree::SmallOctets;
 use crate::value::{multi_line_octets, number_of, quoted_octets};
 use std::alloc::{AllocError, Global};
 
 /// A token without its place.
 #[derive(Debug, Drop)]
 pub(crate) enum Word {
-    Identifier { name: Name, line: u64 },
-    Tag { name: Name, line: u64 },
+    Identifier { name: SmallOctets, line: u64 },
+    Tag { name: SmallOctets, line: u64 },
     Number { value: Option<u64>, line: u64 },
-    String { octets: Vec<u8>, line: u64 },
+    String { octets: SmallOctets, line: u64 },
     Semicolon,
     OpenBrace,
     CloseBrace,
@@ -38,11 +38,11 @@ pub(crate) fn read_word(alloc: Global, text: &[u8], token: Token) -> Result<Word
     let line = token.line;
     match token.kind {
         TokenKind::Identifier => Ok(Word::Identifier {
-            name: Name::from_slice(alloc, octets)?,
+            name: SmallOctets::from_slice(alloc, octets)?,
             line,
         }),
         TokenKind::Tag => Ok(Word::Tag {
-            name: Name::from_slice(alloc, &octets[1..])?,
+            name: SmallOctets::from_slice(alloc, &octets[1..])?,
             line,
         }),
         TokenKind::Number => Ok(Word::Number {
@@ -54,7 +54,7 @@ pub(crate) fn read_word(alloc: Global, text: &[u8], token: Token) -> Result<Word
             line,
         }),
         TokenKind::MultiLine => Ok(Word::String {
-            octets: multi_line_octets(alloc, octets)?,
+            octets: SmallOctets::from_vec(multi_line_octets(alloc, octets)?),
             line,
         }),
         TokenKind::Semicolon => Ok(Word::Semicolon),
