@@ -1,14 +1,19 @@
 //! Prints the code of a script.
-ghost use Rattle.std.specs.Prelude.{◌≡◌, OnErr, OnOk};
+ghost use Rattle.std.specs.Prelude.{◌≡◌, ◌≤◌, IfOk, OnErr, OnOk, false, length};
+ghost use Rattle.sieve_base.specs.Limits.{text_limit};
 ghost use Rattle.sieve_base.specs.Writers.{Wrote, WroteFront};
+ghost use Rattle.sieve_check.specs.Judgement.{judgement_of};
 ghost use Rattle.sieve_code.specs.view.Code.{ops_of};
 ghost use Rattle.sieve_run.specs.Library.{Lookup};
 ghost use Rattle.sieve_run.specs.view.Found.{FoundAs};
-ghost use Rattle.sievebench.specs.Dump.{code_text, dump_reply};
+ghost use Rattle.sievebench.specs.Dump.{DumpEnds, code_text, dump_end_of, dump_reply, dump_text_of, is_too_large};
 
-use sieve_base::{Sink, WriteFault, write_out};
+use crate::report_lines::write_script;
+use crate::status::TestEnd;
+use sieve_base::{MAX_NAME, MAX_TEXT, Octets, Sink, WriteFault, write_out};
 use sieve_code::Code;
-use sieve_run::Found;
+use sieve_run::{Found, Script, ScriptName};
+use std::alloc::{AllocError, Global};
 
 /// Writes the lines of code.
 fn write_code<W: Sink>(code: &Code, writer: &mut W) -> Result<(), WriteFault>
@@ -32,5 +37,57 @@ pub(crate) fn write_dump<W: Sink>(found: Found<'_>, writer: &mut W) -> Result<()
             write_code(code, writer)?;
             write_out(b"ok\n", writer)
         }
+    }
+}
+
+/// Writes the code of a script, or its line of a report where it has a fault.
+fn write_judged<W: Sink>(name: &ScriptName, script: &Script, writer: &mut W) -> TestEnd
+    ensures { DumpEnds result false (dump_end_of (judgement_of script.now))
+        (Wrote W.contents W.fault_count writer.old writer.new (dump_text_of name.now script.now (judgement_of script.now)))
+        (WroteFront W.contents W.fault_count writer.old writer.new (dump_text_of name.now script.now (judgement_of script.now)))
+        ⊥ }
+{
+    match script.found() {
+        Found::Present(code) => match write_code(code, writer) {
+            Ok(()) => TestEnd::Clean,
+            Err(_) => TestEnd::Write,
+        },
+        Found::Invalid => match write_script(name, script, writer) {
+            Ok(()) => TestEnd::Faulty,
+            Err(_) => TestEnd::Write,
+        },
+        Found::Missing => unreachable!("the script is there"),
+    }
+}
+
+/// The script of a text.
+fn script_of(alloc: Global, text: &[u8]) -> Result<Script, AllocError>
+    requires { length text.now ≤ text_limit }
+    ensures { IfOk result (λ script. script ≡ text.now) }
+{
+    Script::new(alloc, Octets::copied(alloc, text)?)
+}
+
+/// Writes the code of a script's text, one operation a line, or the script's line of a report where the text has a fault.
+///
+/// `Clean` says that the code was written, and `Faulty` that the line was. `TooLarge`: the text has more than 1,048,576 octets, or the name
+/// more than 1,024; nothing was written. `Write`: the writer failed, and a front was written. `NoMemory`: nothing was written.
+pub fn dump_text<W: Sink>(
+    alloc: Global,
+    name: &ScriptName,
+    text: &[u8],
+    writer: &mut W,
+) -> TestEnd
+    ensures { DumpEnds result (is_too_large name.now text.now) (dump_end_of (judgement_of text.now))
+        (Wrote W.contents W.fault_count writer.old writer.new (dump_text_of name.now text.now (judgement_of text.now)))
+        (WroteFront W.contents W.fault_count writer.old writer.new (dump_text_of name.now text.now (judgement_of text.now)))
+        (writer.new ≡ writer.old) }
+{
+    if name.name.len() > MAX_NAME || text.len() > MAX_TEXT {
+        return TestEnd::TooLarge;
+    }
+    match script_of(alloc, text) {
+        Ok(script) => write_judged(name, &script, writer),
+        Err(_) => TestEnd::NoMemory,
     }
 }

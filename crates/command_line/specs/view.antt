@@ -1,0 +1,2 @@
+-- What the program's types stand for in contracts.
+pub mod Job
