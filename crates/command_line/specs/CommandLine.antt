@@ -6,6 +6,8 @@ use Rattle.clap.specs.Simple.{new_rule, new_shape, on_top}
 use Rattle.clap.specs.Walk.{Rule, first_of}
 use Rattle.clap.specs.declared.error.kind.ErrorKind.{ErrorKind}
 use Rattle.clap.specs.declared.error.kind.ErrorKind.TheVariants.{DisplayHelp, DisplayVersion, OutOfMemory}
+use Rattle.command_line.specs.declared.words.Job.{Job}
+use Rattle.command_line.specs.declared.words.Job.TheVariants as job
 use Rattle.command_line.specs.declared.words.UsageFault.{UsageFault}
 use Rattle.command_line.specs.declared.words.UsageFault.TheVariants.{Usage, NoMemory}
 
@@ -13,7 +15,7 @@ use Rattle.command_line.specs.declared.words.UsageFault.TheVariants.{Usage, NoMe
 unfoldable pub session_shape : Shape
 session_shape = new_shape (codes "session")
 
--- the path of a script: one word, which must be there
+-- the path of a script, which must be there; help calls its one value by one name
 unfoldable pub script_rule : Rule
 script_rule = record (new_rule (codes "script")) { value_names = 1; required = true }
 
@@ -29,35 +31,30 @@ top_app = on_top (λ s. record s { subcommand_required = true; arg_required_else
 unfoldable pub the_app : App
 the_app = with_subcommand (with_subcommand top_app session_shape) dump_shape
 
--- the value of an argument
+-- the value of an argument that must be there: where nothing is wrong it has one, and the empty text stands for none
 abbrev pub value_in : List Row → Text → Text
 value_in rows argument = unwrap_or (first_of argument rows) []
 
--- what the program is asked to do: to serve a session, or to dump the script in the file at a path
-pub data Work : Type 0 where
-  session : Work
-  dump : (path : Text) → Work
-
--- the work of a subcommand of this name with these matches
-abbrev pub work_named : Text → List Row → Option Work
-work_named name rows =
-    if bytes_eq name (codes "session") then Some session
-    else if bytes_eq name (codes "dump") then Some (dump (value_in rows (codes "script")))
+-- the job of a subcommand of this name with these matches
+abbrev pub job_named : Text → List Row → Option Job
+job_named name rows =
+    if bytes_eq name (codes "session") then Some job.Session
+    else if bytes_eq name (codes "dump") then Some (job.Dump (value_in rows (codes "script")))
     else None
 
--- the work of the subcommand that was met
-abbrev pub work_of : Option (Text × List Row) → Option Work
-work_of None = None
-work_of (Some (name, rows)) = work_named name rows
+-- the job of the subcommand that was met
+abbrev pub job_of : Option (Text × List Row) → Option Job
+job_of None = None
+job_of (Some (name, rows)) = job_named name rows
 
--- work that is named counts where nothing is wrong
-abbrev pub where_taken : Kinds → Option Work → Option Work
-where_taken [] work = work
-where_taken (fault ∷ faults) work = None
+-- a job that is named counts where nothing is wrong
+abbrev pub where_taken : Kinds → Option Job → Option Job
+where_taken [] job = job
+where_taken (fault ∷ faults) job = None
 
--- the work that the words name, where the program takes them; the first word is the program's name
-unfoldable pub named_work : List Text → Option Work
-named_work words = where_taken (fault_of the_app words) (work_of (subcommand_of the_app words))
+-- the job that the words name, where the program takes them; the first word is the program's name
+unfoldable pub named_job : List Text → Option Job
+named_job words = where_taken (fault_of the_app words) (job_of (subcommand_of the_app words))
 
 -- whether an answer of this kind is what was asked for, and no mistake
 abbrev pub is_help : ErrorKind → Bool

@@ -1,26 +1,26 @@
 //! What the words of a command line ask for.
-ghost use Rattle.std.specs.Prelude.{◌≡◌, ◌↔◌, IfOk, IfErr, IfSome, Some, false, true, map, IsTrue, option_map, IsSome, IsOkUnless, codes, string_bytes};
+ghost use Rattle.std.specs.Prelude.{◌≡◌, ◌↔◌, IfOk, IfErr, IfSome, Some, false, true, map, IsTrue, option_map, IsSome, IsOkUnless, codes};
 ghost use Rattle.clap.specs.Words.{app_of, fault_of, kind_of, rows_of, shape_of, subcommand_rows_of};
 ghost use Rattle.clap.specs.Matches.{found_of};
 ghost use Rattle.clap.specs.Walk.{rule_of};
 ghost use Rattle.clap.specs.declared.builder.command.Command.TheViews.{out-Command};
-ghost use Rattle.command_line.specs.CommandLine.{the_app, top_app, dump_shape, script_rule, session_shape, named_work, value_in, work_named, work_of, IsFaultFor, IsRefusalFor};
-ghost use Rattle.command_line.specs.view.Job.{job_as};
+ghost use Rattle.command_line.specs.CommandLine.{the_app, top_app, dump_shape, script_rule, session_shape, job_named, job_of, named_job, value_in, IsFaultFor, IsRefusalFor};
 
+use crate::argument::Argument;
 use clap::error::ErrorKind;
 use clap::{Arg, ArgMatches, Command, Error};
 use std::alloc::{AllocError, Global};
 use std::convert::AsStr;
 
 /// What the program is to do.
-#[derive(Debug, Drop, PartialEq, Eq)]
+#[derive(Debug, Drop)]
 pub enum Job {
     /// To read a session from standard input and write its replies to standard output.
     Session,
     /// To print the code of the script in a file.
     Dump {
         /// The file's path.
-        script: String,
+        script: Argument,
     },
 }
 
@@ -115,10 +115,10 @@ fn usage_fault(alloc: Global, error: &Error) -> UsageFault
 }
 
 // The path of a script among the words of a subcommand, which requires it.
-fn script_in(alloc: Global, matches: &ArgMatches<'_>) -> Result<String, AllocError>
-    ensures { IfOk result (λ script. string_bytes script ≡ value_in (rows_of (found_of matches.now)) (codes "script")) }
+fn script_in(alloc: Global, matches: &ArgMatches<'_>) -> Result<Argument, AllocError>
+    ensures { IfOk result (λ script. script ≡ value_in (rows_of (found_of matches.now)) (codes "script")) }
 {
-    String::from_str(alloc, matches.get_str("script").unwrap_or(""))
+    Argument::copied(alloc, matches.get_str("script").unwrap_or(""))
 }
 
 // The job of a subcommand of that name with these matches.
@@ -127,7 +127,7 @@ fn job_named(
     name: &str,
     matches: &ArgMatches<'_>,
 ) -> Result<Option<Job>, AllocError>
-    ensures { IfOk result (λ job. option_map job_as job ≡ work_named name.now (rows_of (found_of matches.now))) }
+    ensures { IfOk result (λ job. job ≡ job_named name.now (rows_of (found_of matches.now))) }
 {
     match name {
         "session" => Ok(Some(Job::Session)),
@@ -140,7 +140,7 @@ fn job_named(
 
 // The job of the subcommand that was met.
 fn job_in(alloc: Global, matches: &ArgMatches<'_>) -> Result<Option<Job>, AllocError>
-    ensures { IfOk result (λ job. option_map job_as job ≡ work_of (subcommand_rows_of matches.now)) }
+    ensures { IfOk result (λ job. job ≡ job_of (subcommand_rows_of matches.now)) }
 {
     match matches.subcommand() {
         Some((name, words)) => job_named(alloc, name, words),
@@ -152,9 +152,9 @@ fn job_in(alloc: Global, matches: &ArgMatches<'_>) -> Result<Option<Job>, AllocE
 /// `Usage` is for a mistake in the words, or for the help that they ask for; `NoMemory` is for want of memory.
 pub fn command_of<'a, S: AsStr>(alloc: Global, words: &'a [S]) -> Result<Job, UsageFault>
     // The job is the one that the words name.
-    ensures ok { IfOk result (λ job. named_work (map S.text words.entry.now) ≡ Some (job_as job)) }
+    ensures ok { IfOk result (λ job. named_job (map S.text words.entry.now) ≡ Some job) }
     // Words that name a job are refused only for want of memory.
-    ensures named { IsSome (named_work (map S.text words.entry.now)) → IsOkUnless result UsageFault.NoMemory }
+    ensures named { IsSome (named_job (map S.text words.entry.now)) → IsOkUnless result UsageFault.NoMemory }
     // Any other refusal is for a mistake in the words, or it is the help that they ask for.
     ensures refused { IfErr result (IsRefusalFor (fault_of the_app (map S.text words.entry.now))) }
 {

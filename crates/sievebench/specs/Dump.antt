@@ -1,7 +1,7 @@
 -- Code as it is printed, and what is replied to `dump`.
 use Rattle.std.specs.Prelude.{◌≡◌, ℕ, ◌+◌, Bool, true, false, ◌||◌, nat_lt, List, [], ◌∷◌, ◌++◌, codes, length}
 use Rattle.sieve_base.specs.Limits.{name_limit, text_limit}
-use Rattle.sieve_check.specs.Judgement.{Judgement, sound, faulty}
+use Rattle.sieve_check.specs.Judgement.{Judgement, judgement_of, sound, faulty}
 use Rattle.sieve_code.specs.Choice.{code_of}
 use Rattle.sieve_code.specs.Dump.{line_text}
 use Rattle.sieve_code.specs.Operation.{Operation}
@@ -37,22 +37,25 @@ dump_of content name = dump_reply (found_at (λ other. lookup_of (text_at conten
 abbrev pub is_too_large : ScriptName → List ℕ → Bool
 is_too_large name text = nat_lt name_limit (length name.name) || nat_lt text_limit (length text)
 
+abbrev pub dump_text_by : ScriptName → List ℕ → Judgement → List ℕ
+dump_text_by name text (sound tree) = code_text (code_of tree)
+dump_text_by name text (faulty line kind) = script_line (name, text)
+
 -- what is printed of a text under a name: its code, or its script's line of a report where it has a fault
-abbrev pub dump_text_of : ScriptName → List ℕ → Judgement → List ℕ
-dump_text_of name text (sound tree) = code_text (code_of tree)
-dump_text_of name text (faulty line kind) = script_line (name, text)
+abbrev pub dump_text_of : ScriptName → List ℕ → List ℕ
+dump_text_of name text = dump_text_by name text (judgement_of text)
 
 -- how the printing of a text ends
 abbrev pub dump_end_of : Judgement → TestEnd
 dump_end_of (sound tree) = test.Clean
 dump_end_of (faulty line kind) = test.Faulty
 
--- What an end of it says: that name or text is too large and `nothing` was written; that memory was refused and `nothing` was; that a `front` was; or that the
--- `whole` was, with the end that is due.
-abbrev pub DumpEnds : TestEnd → Bool → TestEnd → Type 0 → Type 0 → Type 0 → Type 0
-DumpEnds test.Clean large due whole front nothing = (large ≡ false) × (due ≡ test.Clean) × whole
-DumpEnds test.Faulty large due whole front nothing = (large ≡ false) × (due ≡ test.Faulty) × whole
-DumpEnds test.TooLarge large due whole front nothing = (large ≡ true) × nothing
-DumpEnds test.Full large due whole front nothing = ⊥
-DumpEnds test.Write large due whole front nothing = (large ≡ false) × front
-DumpEnds test.NoMemory large due whole front nothing = (large ≡ false) × nothing
+-- What an end says, where `whole` says that a text was written, `front` that a front of it was, and `nothing` that nothing was: that this was so of the
+-- text of the dump, and the end is the due one; that name or text is too large; or that the writer failed, or memory was refused. `Full` is no end of a dump.
+abbrev pub DumpEnds : TestEnd → ScriptName → List ℕ → (List ℕ → Type 0) → (List ℕ → Type 0) → Type 0 → Type 0
+DumpEnds test.Clean name text whole front nothing = (is_too_large name text ≡ false) × (dump_end_of (judgement_of text) ≡ test.Clean) × whole (dump_text_of name text)
+DumpEnds test.Faulty name text whole front nothing = (is_too_large name text ≡ false) × (dump_end_of (judgement_of text) ≡ test.Faulty) × whole (dump_text_of name text)
+DumpEnds test.TooLarge name text whole front nothing = (is_too_large name text ≡ true) × nothing
+DumpEnds test.Full name text whole front nothing = ⊥
+DumpEnds test.Write name text whole front nothing = (is_too_large name text ≡ false) × front (dump_text_of name text)
+DumpEnds test.NoMemory name text whole front nothing = (is_too_large name text ≡ false) × nothing

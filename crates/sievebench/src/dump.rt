@@ -1,5 +1,5 @@
 //! Prints the code of a script.
-ghost use Rattle.std.specs.Prelude.{◌≡◌, ◌≤◌, IfOk, OnErr, OnOk, false, length};
+ghost use Rattle.std.specs.Prelude.{◌≡◌, ◌≤◌, IfOk, OnErr, OnOk, length};
 ghost use Rattle.sieve_base.specs.Limits.{text_limit};
 ghost use Rattle.sieve_base.specs.Writers.{Wrote, WroteFront};
 ghost use Rattle.sieve_check.specs.Judgement.{judgement_of};
@@ -10,7 +10,8 @@ ghost use Rattle.sievebench.specs.Dump.{DumpEnds, code_text, dump_end_of, dump_r
 
 use crate::report_lines::write_script;
 use crate::status::TestEnd;
-use sieve_base::{MAX_NAME, MAX_TEXT, Octets, Sink, WriteFault, write_out};
+use sieve_base::limits::{MAX_NAME, MAX_TEXT};
+use sieve_base::{Octets, Sink, WriteFault, write_out};
 use sieve_code::Code;
 use sieve_run::{Found, Script, ScriptName};
 use std::alloc::{AllocError, Global};
@@ -41,22 +42,27 @@ pub(crate) fn write_dump<W: Sink>(found: Found<'_>, writer: &mut W) -> Result<()
 }
 
 /// Writes the code of a script, or its line of a report where it has a fault.
-fn write_judged<W: Sink>(name: &ScriptName, script: &Script, writer: &mut W) -> TestEnd
-    ensures { DumpEnds result false (dump_end_of (judgement_of script.now))
-        (Wrote W.contents W.fault_count writer.old writer.new (dump_text_of name.now script.now (judgement_of script.now)))
-        (WroteFront W.contents W.fault_count writer.old writer.new (dump_text_of name.now script.now (judgement_of script.now)))
-        ⊥ }
+fn write_judged<W: Sink>(
+    name: &ScriptName,
+    script: &Script,
+    writer: &mut W,
+) -> Result<(), WriteFault>
+    ensures ok { OnOk result (Wrote W.contents W.fault_count writer.old writer.new (dump_text_of name.now script.now)) }
+    ensures err { OnErr result (WroteFront W.contents W.fault_count writer.old writer.new (dump_text_of name.now script.now)) }
 {
     match script.found() {
-        Found::Present(code) => match write_code(code, writer) {
-            Ok(()) => TestEnd::Clean,
-            Err(_) => TestEnd::Write,
-        },
-        Found::Invalid => match write_script(name, script, writer) {
-            Ok(()) => TestEnd::Faulty,
-            Err(_) => TestEnd::Write,
-        },
-        Found::Missing => unreachable!("the script is there"),
+        Found::Present(code) => write_code(code, writer),
+        Found::Missing | Found::Invalid => write_script(name, script, writer),
+    }
+}
+
+/// The end that is due for a script.
+fn due_end(script: &Script) -> TestEnd
+    ensures { result ≡ dump_end_of (judgement_of script.now) }
+{
+    match script.fault() {
+        None => TestEnd::Clean,
+        Some(_) => TestEnd::Faulty,
     }
 }
 
@@ -71,23 +77,24 @@ fn script_of(alloc: Global, text: &[u8]) -> Result<Script, AllocError>
 /// Writes the code of a script's text, one operation a line, or the script's line of a report where the text has a fault.
 ///
 /// `Clean` says that the code was written, and `Faulty` that the line was. `TooLarge`: the text has more than 1,048,576 octets, or the name
-/// more than 1,024; nothing was written. `Write`: the writer failed, and a front was written. `NoMemory`: nothing was written.
+/// more than 1,024; nothing was written. `Write`: the writer failed, and a front was written. `NoMemory`: nothing was written. Never `Full`.
 pub fn dump_text<W: Sink>(
     alloc: Global,
     name: &ScriptName,
     text: &[u8],
     writer: &mut W,
 ) -> TestEnd
-    ensures { DumpEnds result (is_too_large name.now text.now) (dump_end_of (judgement_of text.now))
-        (Wrote W.contents W.fault_count writer.old writer.new (dump_text_of name.now text.now (judgement_of text.now)))
-        (WroteFront W.contents W.fault_count writer.old writer.new (dump_text_of name.now text.now (judgement_of text.now)))
-        (writer.new ≡ writer.old) }
+    ensures { DumpEnds result name.now text.now (Wrote W.contents W.fault_count writer.old writer.new)
+        (WroteFront W.contents W.fault_count writer.old writer.new) (writer.new ≡ writer.old) }
 {
-    if name.name.len() > MAX_NAME || text.len() > MAX_TEXT {
+    if name.name.as_slice().len() > MAX_NAME || text.len() > MAX_TEXT {
         return TestEnd::TooLarge;
     }
-    match script_of(alloc, text) {
-        Ok(script) => write_judged(name, &script, writer),
-        Err(_) => TestEnd::NoMemory,
+    let Ok(script) = script_of(alloc, text) else {
+        return TestEnd::NoMemory;
+    };
+    match write_judged(name, &script, writer) {
+        Ok(()) => due_end(&script),
+        Err(_) => TestEnd::Write,
     }
 }

@@ -1,13 +1,12 @@
 -- What `clap` says of the program's command, read at the program that the definition names.
-use Rattle.std.proofs.Common.{◌≡◌, ◌∙◌, true, List, [], ◌∷◌, map, Option, Some, None, IsSome, is_some, option_map, refl, sym, ap, subst, inl, inr}
+use Rattle.std.proofs.Common.{◌≡◌, ◌∙◌, true, List, [], ◌∷◌, map, Option, Some, None, IsSome, is_some, refl, sym, ap, subst, inl, inr}
 use Rattle.clap.specs.Words.{App, HasKind, HasMatchesOf, Row, Kinds, Text, fault_of, is_simple, is_simple_and_free, kind_of, subcommand_of, subcommand_rows_of}
 use Rattle.clap.specs.declared.error.Error.{Error}
 use Rattle.clap.specs.declared.parser.matches.ArgMatches.{ArgMatches}
 use Rattle.clap.specs.declared.error.kind.ErrorKind.TheVariants.{OutOfMemory}
 use Rattle.clap.proofs.OnLiterals.{clap_on_literals}
-use Rattle.command_line.specs.CommandLine.{IsFaultFor, IsRefusalFor, Work, dump_shape, named_work, script_rule, session_shape, the_app, top_app, where_taken, work_of}
+use Rattle.command_line.specs.CommandLine.{IsFaultFor, IsRefusalFor, dump_shape, job_of, named_job, script_rule, session_shape, the_app, top_app, where_taken}
 use Rattle.command_line.specs.declared.words.Job.{Job}
-use Rattle.command_line.specs.view.Job.{job_as}
 use Rattle.command_line.specs.declared.words.UsageFault.{UsageFault}
 use Rattle.command_line.specs.declared.words.UsageFault.TheVariants.{Usage, NoMemory}
 use Rattle.command_line.proofs.Named.{always_named}
@@ -21,10 +20,10 @@ simple_and_free : is_simple_and_free the_app ≡ true
 unfolding the_app top_app session_shape dump_shape script_rule clap_on_literals
 simple_and_free = refl
 
--- words that name some work have no fault
-none_where_named : (kinds : Kinds) (work : Option Work) → IsSome (where_taken kinds work) → kinds ≡ []
-none_where_named [] work named = refl
-none_where_named (kind ∷ kinds) work named = absurd (cc)
+-- words that name a job have no fault
+none_where_named : (kinds : Kinds) (job : Option Job) → IsSome (where_taken kinds job) → kinds ≡ []
+none_where_named [] job named = refl
+none_where_named (kind ∷ kinds) job named = absurd (cc)
 
 -- with no other kind, memory ran out
 only_memory : (kinds : Kinds) (e : Error) → kinds ≡ [] → HasKind kinds e → kind_of e ≡ OutOfMemory
@@ -37,21 +36,21 @@ refusal kinds e NoMemory has answers = tt
 refusal kinds e (Usage help text) (inl memory) answers = absurd (answers.0 memory)
 refusal kinds e (Usage help text) (inr among) answers = (kind_of e, among, answers.1)
 
-named_none : (words : List Text) → IsSome (named_work words) → fault_of the_app words ≡ []
-unfolding named_work
+named_none : (words : List Text) → IsSome (named_job words) → fault_of the_app words ≡ []
+unfolding named_job
 named_none words named = none_where_named (fault_of the_app words) _ named
 
 named_from : (words : List Text) (met : Option (Text × List Row)) (job : Option Job) (one : Job) → fault_of the_app words ≡ []
-    → met ≡ subcommand_of the_app words → option_map job_as job ≡ work_of met → job ≡ Some one → named_work words ≡ Some (job_as one)
-unfolding named_work
-named_from words met job one none is_met is_work is_one =
-    ap (λ kinds. where_taken kinds (work_of (subcommand_of the_app words))) none ∙ ap work_of (sym is_met) ∙ sym is_work ∙ ap (option_map job_as) is_one
+    → met ≡ subcommand_of the_app words → job ≡ job_of met → job ≡ Some one → named_job words ≡ Some one
+unfolding named_job
+named_from words met job one none is_met is_job is_one =
+    ap (λ kinds. where_taken kinds (job_of (subcommand_of the_app words))) none ∙ ap job_of (sym is_met) ∙ sym is_job ∙ is_one
 
--- no job was met, though the words name some work
-none_met : (met : Option (Text × List Row)) (job : Option Job) → option_map job_as job ≡ work_of met → job ≡ None → is_some (work_of met) ≡ true → ⊥
-none_met met None is_work is_none named =
-    let bad : is_some (option_map job_as None) ≡ true = ap is_some is_work ∙ named in absurd (cc)
-none_met met (Some job) is_work is_none named = absurd (cc)
+-- no job was met, though the words name one
+none_met : (met : Option (Text × List Row)) (job : Option Job) → job ≡ job_of met → job ≡ None → is_some (job_of met) ≡ true → ⊥
+none_met met None is_job is_none named =
+    let bad : is_some {T = Job} None ≡ true = ap is_some is_job ∙ named in absurd (cc)
+none_met met (Some job) is_job is_none named = absurd (cc)
 
 -- what is said of an app, at the program
 kind_at : (a : App) (words : List Text) (e : Error) → a ≡ the_app → (is_simple_and_free a ≡ true → HasKind (fault_of a words) e)
@@ -84,7 +83,7 @@ unreachable-requires g c =
     let is_met : subcommand_rows_of c.in-Ok.matches ≡ subcommand_of the_app words = met_at _ words _ is_program c.in-Ok.ensures.matches in
     let is_named = always_named words (none_at _ words is_program c.in-Ok.ensures.kinds) in
     none_met (subcommand_rows_of c.in-Ok.matches) c.in_ok-job.field-0 c.in_ok-job.ensures c.in-None.is
-    (ap (λ met. is_some (work_of met)) is_met ∙ is_named)
+    (ap (λ met. is_some (job_of met)) is_met ∙ is_named)
 
 pub returns-clause-ok : goal.returns-clause-ok
 returns-clause-ok g c =

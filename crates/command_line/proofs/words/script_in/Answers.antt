@@ -13,4 +13,4 @@ text_or (Some text) other = refl
 pub returns : goal.returns
 returns c =
     let value = ap (λ (t : Option Text). unwrap_or t []) (c.get_str.ensures ∙ first_value-rows (found_of c.args.matches.now) _) in
-    IfOk-weaker c.from_str.result _ _ (λ script is. is ∙ ap (λ (s : Bor Text). s.now) c.unwrap_or.ensures ∙ text_or c.get_str.result _ ∙ value) c.from_str.ensures.ok
+    IfOk-weaker c.copied.result _ _ (λ script is. is ∙ ap (λ (s : Bor Text). s.now) c.unwrap_or.ensures ∙ text_or c.get_str.result _ ∙ value) c.copied.ensures

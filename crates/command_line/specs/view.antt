@@ -1,2 +1,0 @@
--- What the program's types stand for in contracts.
-pub mod Job
