@@ -47,12 +47,14 @@ fn write_judged<W: Sink>(
     script: &Script,
     writer: &mut W,
 ) -> Result<(), WriteFault>
+    requires { length script.now ≤ text_limit }
     ensures ok { OnOk result (Wrote W.contents W.fault_count writer.old writer.new (dump_text_of name.now script.now)) }
     ensures err { OnErr result (WroteFront W.contents W.fault_count writer.old writer.new (dump_text_of name.now script.now)) }
 {
     match script.found() {
         Found::Present(code) => write_code(code, writer),
-        Found::Missing | Found::Invalid => write_script(name, script, writer),
+        Found::Invalid => write_script(name, script, writer),
+        Found::Missing => unreachable!("the script is there"),
     }
 }
 
