@@ -11,7 +11,7 @@ use Rattle.clap.specs.Simple.{argument_words, built, entered, label_of, names_of
 use Rattle.clap.specs.Faults.{built_fault, check_fault, defaults_fault, entered_fault, settle_fault}
 use Rattle.clap.specs.Facts.{explicit_source}
 use Rattle.clap.specs.Takes.{is_given}
-use Rattle.command_line.specs.CommandLine.{job_of, session_shape, the_app, top_app}
+use Rattle.command_line.specs.CommandLine.{dump_shape, script_rule, session_shape, job_of, the_app, top_app, value_in}
 use Rattle.command_line.specs.declared.words.Job.TheVariants as job
 use Rattle.clap.specs.Lexer.{long_of}
 use Rattle.clap.specs.declared.error.kind.ErrorKind.{ErrorKind}
@@ -156,37 +156,44 @@ not_answering name other answers =
     let is_help : codes "help" ≡ name = (bytes_eq-Decides (codes "help") name).0 (or_false _ answers) in
     false≢true (sym other ∙ ap (λ n. bytes_eq n (codes "help")) (sym is_help))
 
--- of two subcommands the first was met, where the second was not
-first_met : (x y : Bool) (first second : Shape) (rest : List Text) → (y ≡ true → ⊥) → bytes_eq first.name (codes "session") ≡ true
-    → is_some (option_map (λ s. rows_at s rest) (cond x (Some first) (cond y (Some second) None))) ≡ true
-    → job_of (option_map (λ s. rows_at s rest) (cond x (Some first) (cond y (Some second) None))) ≡ Some job.Session
-first_met true y first second rest other named met = ap (λ b. cond b (Some job.Session) None) named
-first_met false true first second rest other named met = absurd (other refl)
-first_met false false first second rest other named met = absurd (cc)
+-- of three subcommands one of the first two was met, where the third was not
+one_met : (x y z : Bool) (first second third : Shape) (rest : List Text) → (z ≡ true → ⊥) → bytes_eq first.name (codes "session") ≡ true
+    → bytes_eq second.name (codes "session") ≡ false → bytes_eq second.name (codes "dump") ≡ true
+    → is_some (option_map (λ s. rows_at s rest) (cond x (Some first) (cond y (Some second) (cond z (Some third) None)))) ≡ true
+    → is_some (job_of (option_map (λ s. rows_at s rest) (cond x (Some first) (cond y (Some second) (cond z (Some third) None))))) ≡ true
+one_met true y z first second third rest other is_session not_session is_dump met =
+    let value = value_in (rows_at first rest).1 (codes "script") in
+    ap (λ b. is_some (cond b (Some job.Session) (cond (bytes_eq first.name (codes "dump")) (Some (job.Dump value)) None))) is_session
+one_met false true z first second third rest other is_session not_session is_dump met =
+    let value = value_in (rows_at second rest).1 (codes "script") in
+    ap₂ (λ a b. is_some (cond a (Some job.Session) (cond b (Some (job.Dump value)) None))) not_session is_dump
+one_met false false true first second third rest other is_session not_session is_dump met = absurd (other refl)
+one_met false false false first second third rest other is_session not_session is_dump met = absurd (cc)
 
-session_met : (first second : Shape) (top : Shape) (stop : Option (Text × List Text)) → first.name ≡ codes "session" → second.name ≡ codes "help"
-    → second.aliases ≡ [] → StopsElsewhere stop
-    → is_some (entered record { top = top; subs = first ∷ second ∷ [] } stop) ≡ true
-    → job_of (entered record { top = top; subs = first ∷ second ∷ [] } stop) ≡ Some job.Session
-session_met first second top None is_first is_second no_alias elsewhere met = absurd (cc)
-session_met first second top (Some p) is_first is_second no_alias elsewhere met =
-    first_met (answers_to p.0 (label_of first)) (answers_to p.0 (label_of second)) first second p.1
-    (λ answers. not_answering p.0 elsewhere (sym (ap₂ (λ (n : Text) (alias : List Text). answers_to p.0 (n, alias)) is_second no_alias) ∙ answers))
-    (ap (λ n. bytes_eq n (codes "session")) is_first) met
+job_met : (first second third : Shape) (top : Shape) (stop : Option (Text × List Text)) → first.name ≡ codes "session" → second.name ≡ codes "dump"
+    → third.name ≡ codes "help" → third.aliases ≡ [] → StopsElsewhere stop
+    → is_some (entered record { top = top; subs = first ∷ second ∷ third ∷ [] } stop) ≡ true
+    → is_some (job_of (entered record { top = top; subs = first ∷ second ∷ third ∷ [] } stop)) ≡ true
+job_met first second third top None is_first is_second is_third no_alias elsewhere met = absurd (cc)
+job_met first second third top (Some p) is_first is_second is_third no_alias elsewhere met =
+    one_met (answers_to p.0 (label_of first)) (answers_to p.0 (label_of second)) (answers_to p.0 (label_of third)) first second third p.1
+    (λ answers. not_answering p.0 elsewhere (sym (ap₂ (λ (n : Text) (alias : List Text). answers_to p.0 (n, alias)) is_third no_alias) ∙ answers))
+    (ap (λ n. bytes_eq n (codes "session")) is_first) (ap (λ n. bytes_eq n (codes "session")) is_second)
+    (ap (λ n. bytes_eq n (codes "dump")) is_second) met
 
--- the same of a program that has these two
-session_named : (a : App) (first second : Shape) (stop : Option (Text × List Text)) → a.subs ≡ first ∷ second ∷ [] → first.name ≡ codes "session"
-    → second.name ≡ codes "help" → second.aliases ≡ [] → StopsElsewhere stop → is_some (entered a stop) ≡ true
-    → job_of (entered a stop) ≡ Some job.Session
-session_named a first second stop both is_first is_second no_alias elsewhere =
-    let Named : List Shape → Type 0 = λ subs. is_some (entered record { top = a.top; subs = subs } stop) ≡ true
-    → job_of (entered record { top = a.top; subs = subs } stop) ≡ Some job.Session in
-    subst Named (sym both) (session_met first second a.top stop is_first is_second no_alias elsewhere)
+-- the same of a program that has these three
+job_in : (a : App) (first second third : Shape) (stop : Option (Text × List Text)) → a.subs ≡ first ∷ second ∷ third ∷ [] → first.name ≡ codes "session"
+    → second.name ≡ codes "dump" → third.name ≡ codes "help" → third.aliases ≡ [] → StopsElsewhere stop → is_some (entered a stop) ≡ true
+    → is_some (job_of (entered a stop)) ≡ true
+job_in a first second third stop all is_first is_second is_third no_alias elsewhere =
+    let IsNamed : List Shape → Type 0 = λ subs. is_some (entered record { top = a.top; subs = subs } stop) ≡ true
+    → is_some (job_of (entered record { top = a.top; subs = subs } stop)) ≡ true in
+    subst IsNamed (sym all) (job_met first second third a.top stop is_first is_second is_third no_alias elsewhere)
 
 -- where the program takes the words, they name a job
-pub always_named : (words : List Text) → fault_of the_app words ≡ [] → job_of (subcommand_of the_app words) ≡ Some job.Session
-unfolding the_app top_app session_shape
+pub always_named : (words : List Text) → fault_of the_app words ≡ [] → is_some (job_of (subcommand_of the_app words)) ≡ true
+unfolding the_app top_app session_shape dump_shape script_rule
 always_named words none =
-    session_named (built the_app) _ _ (stop_in (built the_app) (argument_words the_app words)) refl refl refl refl
+    job_in (built the_app) _ _ _ (stop_in (built the_app) (argument_words the_app words)) refl refl refl refl refl
     (built_stops (built the_app) (argument_words the_app words) refl none)
     (built_enters (built the_app) (argument_words the_app words) refl none)

@@ -1,8 +1,9 @@
 -- What the words of a command line ask for.
-use Rattle.std.specs.Prelude.{◌≡◌, ◌≢◌, Bool, true, false, List, [], ◌∷◌, Option, Some, None, codes, if◌then◌else◌}
+use Rattle.std.specs.Prelude.{◌≡◌, ◌≢◌, Bool, true, false, List, [], ◌∷◌, Option, Some, None, codes, if◌then◌else◌, unwrap_or}
 use Rattle.std.specs.Str.{bytes_eq}
 use Rattle.clap.specs.Words.{App, IsAmong, Kinds, Row, Shape, Text, fault_of, new_app, subcommand_of, with_subcommand}
-use Rattle.clap.specs.Simple.{new_shape, on_top}
+use Rattle.clap.specs.Simple.{new_rule, new_shape, on_top}
+use Rattle.clap.specs.Walk.{Rule, first_of}
 use Rattle.clap.specs.declared.error.kind.ErrorKind.{ErrorKind}
 use Rattle.clap.specs.declared.error.kind.ErrorKind.TheVariants.{DisplayHelp, DisplayVersion, OutOfMemory}
 use Rattle.command_line.specs.declared.words.Job.{Job}
@@ -14,18 +15,37 @@ use Rattle.command_line.specs.declared.words.UsageFault.TheVariants.{Usage, NoMe
 unfoldable pub session_shape : Shape
 session_shape = new_shape (codes "session")
 
+-- the path of a script, which must be there; help calls its one value by one name
+unfoldable pub script_rule : Rule
+script_rule = record (new_rule (codes "script")) { value_names = 1; required = true }
+
+-- `dump SCRIPT`
+unfoldable pub dump_shape : Shape
+dump_shape = record (new_shape (codes "dump")) { rules = script_rule ∷ [] }
+
 -- the program, which wants a subcommand
 unfoldable pub top_app : App
 top_app = on_top (λ s. record s { subcommand_required = true; arg_required_else_help = true }) (new_app (codes "sievebench"))
 
 -- the program and its subcommands
 unfoldable pub the_app : App
-the_app = with_subcommand top_app session_shape
+the_app = with_subcommand (with_subcommand top_app session_shape) dump_shape
 
--- the job of a subcommand with its matches
+-- the value of an argument that must be there: where nothing is wrong it has one, and the empty text stands for none
+abbrev pub value_in : List Row → Text → Text
+value_in rows argument = unwrap_or (first_of argument rows) []
+
+-- the job of a subcommand of this name with these matches
+abbrev pub job_named : Text → List Row → Option Job
+job_named name rows =
+    if bytes_eq name (codes "session") then Some job.Session
+    else if bytes_eq name (codes "dump") then Some (job.Dump (value_in rows (codes "script")))
+    else None
+
+-- the job of the subcommand that was met
 abbrev pub job_of : Option (Text × List Row) → Option Job
 job_of None = None
-job_of (Some (name, rows)) = if bytes_eq name (codes "session") then Some job.Session else None
+job_of (Some (name, rows)) = job_named name rows
 
 -- a job that is named counts where nothing is wrong
 abbrev pub where_taken : Kinds → Option Job → Option Job

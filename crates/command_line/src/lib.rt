@@ -1,6 +1,8 @@
 //! What the words of the program's command line ask for.
 #![tactic(auto)]
 
+mod argument;
 mod words;
 
+pub use argument::Argument;
 pub use words::{Job, UsageFault, command_of};

@@ -1,19 +1,27 @@
 //! What the words of a command line ask for.
-ghost use Rattle.std.specs.Prelude.{◌≡◌, ◌↔◌, IfOk, IfErr, IfSome, Some, false, true, map, IsTrue, option_map, IsSome, IsOkUnless};
+ghost use Rattle.std.specs.Prelude.{◌≡◌, ◌↔◌, IfOk, IfErr, IfSome, Some, false, true, map, IsTrue, option_map, IsSome, IsOkUnless, codes};
 ghost use Rattle.clap.specs.Words.{app_of, fault_of, kind_of, rows_of, shape_of, subcommand_rows_of};
+ghost use Rattle.clap.specs.Matches.{found_of};
+ghost use Rattle.clap.specs.Walk.{rule_of};
 ghost use Rattle.clap.specs.declared.builder.command.Command.TheViews.{out-Command};
-ghost use Rattle.command_line.specs.CommandLine.{the_app, top_app, session_shape, named_job, job_of, IsFaultFor, IsRefusalFor};
+ghost use Rattle.command_line.specs.CommandLine.{the_app, top_app, dump_shape, script_rule, session_shape, job_named, job_of, named_job, value_in, IsFaultFor, IsRefusalFor};
 
+use crate::argument::Argument;
 use clap::error::ErrorKind;
-use clap::{ArgMatches, Command, Error};
+use clap::{Arg, ArgMatches, Command, Error};
 use std::alloc::{AllocError, Global};
 use std::convert::AsStr;
 
 /// What the program is to do.
-#[derive(Clone, Copy, Debug, PartialEq, Eq, Hash)]
+#[derive(Debug, Drop)]
 pub enum Job {
     /// To read a session from standard input and write its replies to standard output.
     Session,
+    /// To print the code of the script in a file.
+    Dump {
+        /// The file's path.
+        script: Argument,
+    },
 }
 
 /// Why a command line names no job.
@@ -48,6 +56,27 @@ fn session_command<'a>(alloc: Global) -> Command<'a>
     )
 }
 
+// The path of a script.
+fn script_argument<'a>(alloc: Global) -> Arg<'a>
+    ensures rule { rule_of result ≡ script_rule }
+    ensures local { result.global ≡ false }
+{
+    Arg::new(alloc, "script")
+        .value_name("SCRIPT")
+        .help("The file that the script is in")
+        .required(true)
+}
+
+// The subcommand `dump`.
+fn dump_command<'a>(alloc: Global) -> Result<Command<'a>, AllocError>
+    ensures shape { IfOk result (λ command. shape_of command ≡ dump_shape) }
+    ensures local { IfOk result (λ command. (out-Command command).has_globals ≡ false) }
+{
+    Command::new(alloc, "dump")
+        .about("Prints the code that a script is compiled to, or the line of its first fault")
+        .arg(script_argument(alloc))
+}
+
 // The program, which wants a subcommand. Its usage has this name, whatever its file is called.
 fn top_command<'a>(alloc: Global) -> Result<Command<'a>, AllocError>
     ensures { IfOk result (λ command. app_of command ≡ top_app) }
@@ -63,7 +92,9 @@ fn top_command<'a>(alloc: Global) -> Result<Command<'a>, AllocError>
 fn program<'a>(alloc: Global) -> Result<Command<'a>, AllocError>
     ensures { IfOk result (λ command. app_of command ≡ the_app) }
 {
-    top_command(alloc)?.subcommand(session_command(alloc))
+    top_command(alloc)?
+        .subcommand(session_command(alloc))?
+        .subcommand(dump_command(alloc)?)
 }
 
 // What `clap` answers in place of matches, for the user.
@@ -83,13 +114,37 @@ fn usage_fault(alloc: Global, error: &Error) -> UsageFault
     }
 }
 
-// The job of the subcommand that was met.
-fn job_in(matches: &ArgMatches<'_>) -> Option<Job>
-    ensures { result ≡ job_of (subcommand_rows_of matches.now) }
+// The path of a script among the words of a subcommand, which requires it.
+fn script_in(alloc: Global, matches: &ArgMatches<'_>) -> Result<Argument, AllocError>
+    ensures { IfOk result (λ script. script ≡ value_in (rows_of (found_of matches.now)) (codes "script")) }
 {
-    match matches.subcommand_name() {
-        Some("session") => Some(Job::Session),
-        _ => None,
+    Argument::copied(alloc, matches.get_str("script").unwrap_or(""))
+}
+
+// The job of a subcommand of that name with these matches.
+fn job_named(
+    alloc: Global,
+    name: &str,
+    matches: &ArgMatches<'_>,
+) -> Result<Option<Job>, AllocError>
+    ensures { IfOk result (λ job. job ≡ job_named name.now (rows_of (found_of matches.now))) }
+{
+    match name {
+        "session" => Ok(Some(Job::Session)),
+        "dump" => Ok(Some(Job::Dump {
+            script: script_in(alloc, matches)?,
+        })),
+        _ => Ok(None),
+    }
+}
+
+// The job of the subcommand that was met.
+fn job_in(alloc: Global, matches: &ArgMatches<'_>) -> Result<Option<Job>, AllocError>
+    ensures { IfOk result (λ job. job ≡ job_of (subcommand_rows_of matches.now)) }
+{
+    match matches.subcommand() {
+        Some((name, words)) => job_named(alloc, name, words),
+        None => Ok(None),
     }
 }
 
@@ -107,7 +162,7 @@ pub fn command_of<'a, S: AsStr>(alloc: Global, words: &'a [S]) -> Result<Job, Us
         Ok(matches) => matches,
         Err(error) => return Err(usage_fault(alloc, &error)),
     };
-    match job_in(&matches) {
+    match job_in(alloc, &matches)? {
         Some(job) => Ok(job),
         None => unreachable!("a subcommand is required"),
     }

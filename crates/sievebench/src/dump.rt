@@ -1,14 +1,20 @@
 //! Prints the code of a script.
-ghost use Rattle.std.specs.Prelude.{◌≡◌, OnErr, OnOk};
+ghost use Rattle.std.specs.Prelude.{◌≡◌, ◌≤◌, IfOk, OnErr, OnOk, length};
+ghost use Rattle.sieve_base.specs.Limits.{text_limit};
 ghost use Rattle.sieve_base.specs.Writers.{Wrote, WroteFront};
+ghost use Rattle.sieve_check.specs.Judgement.{judgement_of};
 ghost use Rattle.sieve_code.specs.view.Code.{ops_of};
 ghost use Rattle.sieve_run.specs.Library.{Lookup};
 ghost use Rattle.sieve_run.specs.view.Found.{FoundAs};
-ghost use Rattle.sievebench.specs.Dump.{code_text, dump_reply};
+ghost use Rattle.sievebench.specs.Dump.{DumpEnds, code_text, dump_end_of, dump_reply, dump_text_of, is_too_large};
 
-use sieve_base::{Sink, WriteFault, write_out};
+use crate::report_lines::write_script;
+use crate::status::TestEnd;
+use sieve_base::limits::{MAX_NAME, MAX_TEXT};
+use sieve_base::{Octets, Sink, WriteFault, write_out};
 use sieve_code::Code;
-use sieve_run::Found;
+use sieve_run::{Found, Script, ScriptName};
+use std::alloc::{AllocError, Global};
 
 /// Writes the lines of code.
 fn write_code<W: Sink>(code: &Code, writer: &mut W) -> Result<(), WriteFault>
@@ -32,5 +38,65 @@ pub(crate) fn write_dump<W: Sink>(found: Found<'_>, writer: &mut W) -> Result<()
             write_code(code, writer)?;
             write_out(b"ok\n", writer)
         }
+    }
+}
+
+/// Writes the code of a script, or its line of a report where it has a fault.
+fn write_judged<W: Sink>(
+    name: &ScriptName,
+    script: &Script,
+    writer: &mut W,
+) -> Result<(), WriteFault>
+    requires { length script.now ≤ text_limit }
+    ensures ok { OnOk result (Wrote W.contents W.fault_count writer.old writer.new (dump_text_of name.now script.now)) }
+    ensures err { OnErr result (WroteFront W.contents W.fault_count writer.old writer.new (dump_text_of name.now script.now)) }
+{
+    match script.found() {
+        Found::Present(code) => write_code(code, writer),
+        Found::Invalid => write_script(name, script, writer),
+        Found::Missing => unreachable!("the script is there"),
+    }
+}
+
+/// The end that is due for a script.
+fn due_end(script: &Script) -> TestEnd
+    ensures { result ≡ dump_end_of (judgement_of script.now) }
+{
+    match script.fault() {
+        None => TestEnd::Clean,
+        Some(_) => TestEnd::Faulty,
+    }
+}
+
+/// The script of a text.
+fn script_of(alloc: Global, text: &[u8]) -> Result<Script, AllocError>
+    requires { length text.now ≤ text_limit }
+    ensures { IfOk result (λ script. script ≡ text.now) }
+{
+    Script::new(alloc, Octets::copied(alloc, text)?)
+}
+
+/// Writes the code of a script's text, one operation a line, or the script's line of a report where the text has a fault.
+///
+/// `Clean` says that the code was written, and `Faulty` that the line was. `TooLarge`: the text has more than 1,048,576 octets, or the name
+/// more than 1,024; nothing was written. `Write`: the writer failed, and a front was written. `NoMemory`: nothing was written. Never `Full`.
+pub fn dump_text<W: Sink>(
+    alloc: Global,
+    name: &ScriptName,
+    text: &[u8],
+    writer: &mut W,
+) -> TestEnd
+    ensures { DumpEnds result name.now text.now (Wrote W.contents W.fault_count writer.old writer.new)
+        (WroteFront W.contents W.fault_count writer.old writer.new) (writer.new ≡ writer.old) }
+{
+    if name.name.as_slice().len() > MAX_NAME || text.len() > MAX_TEXT {
+        return TestEnd::TooLarge;
+    }
+    let Ok(script) = script_of(alloc, text) else {
+        return TestEnd::NoMemory;
+    };
+    match write_judged(name, &script, writer) {
+        Ok(()) => due_end(&script),
+        Err(_) => TestEnd::Write,
     }
 }

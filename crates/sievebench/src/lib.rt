@@ -17,6 +17,7 @@ mod task;
 
 pub use bench::Bench;
 pub use command_line::{Job, UsageFault, command_of};
+pub use dump::dump_text;
 pub use fault::{EditFault, ReportFault};
 pub use server::session;
 pub use sieve_base::{Counted, Faults, Octets, Place, Sink, Source};

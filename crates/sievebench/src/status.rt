@@ -32,7 +32,7 @@ pub enum TestEnd {
     TooLarge = 2,
     /// There are more scripts than a bench holds.
     Full = 3,
-    /// The report could not be written.
+    /// The report, or the dump, could not be written.
     Write = 4,
     /// Memory ran out.
     NoMemory = 5,

@@ -1,17 +1,20 @@
 //! `sievebench`: runs Sieve scripts against sample messages and prints what would happen.
 #![tactic(auto)]
 
+mod dump;
+mod files;
 mod streams;
 #[cfg(test)]
 mod tests;
 
+use dump::run_dump;
 use sieve_base::Counted;
 use sievebench::{Bench, End, Job, Meter, SessionEnd, UsageFault, command_of, session, status_of};
 use std::alloc::Global;
 use std::cell::RefCell;
 use std::io::{BufWriter, ErrorKind, Read, Write};
 use std::process::ExitCode;
-use std::rt::Env;
+use std::rt::{Env, Files};
 use std::{env, io};
 use streams::{Replies, Requests};
 
@@ -31,7 +34,7 @@ fn main(rt: HostRuntime) -> ExitCode {
 }
 
 // Does what the command line asks for, and answers the status of the process.
-fn run(rt: &(impl Env + AllocGlobal + Input + Print + Eprint)) -> u8 {
+fn run(rt: &(impl Env + AllocGlobal + Input + Print + Eprint + Files)) -> u8 {
     match asked_job(rt) {
         Ok(Job::Session) => {
             let end = run_session(rt);
@@ -40,6 +43,7 @@ fn run(rt: &(impl Env + AllocGlobal + Input + Print + Eprint)) -> u8 {
             }
             status_of(End::Session(end))
         }
+        Ok(Job::Dump { script }) => run_dump(rt, script.as_str()),
         Err(fault) => answer_usage(rt, fault),
     }
 }

@@ -1,4 +1,6 @@
 //! The program over words, input, output and standard error that are made.
 
+mod disk;
+mod dumps;
 mod machine;
 mod program;

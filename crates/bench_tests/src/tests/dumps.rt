@@ -1,7 +1,8 @@
-//! The code of a bench's scripts, as sessions print it.
+//! The code of a bench's scripts, as sessions print it, and of a text by itself.
 
-use super::check_rows;
-use sievebench::SessionEnd;
+use super::{check_rows, personal};
+use sievebench::{Counted, Faults, SessionEnd, TestEnd, dump_text};
+use std::process::Abort;
 use std::test::Fail;
 
 #[test]
@@ -25,4 +26,47 @@ fn scripts_are_dumped(rt: HostRuntime) -> Result<(), Fail> {
             (b"dump personal a b\n", b"no syntax\n", SessionEnd::Syntax),
         ],
     )
+}
+
+/// Dumps a text under a personal name, and compares what is written and how it ends.
+fn check_text(
+    rt: &(impl AllocGlobal + Abort),
+    name: &[u8],
+    text: &[u8],
+    output: &[u8],
+    wanted: TestEnd,
+) -> Result<(), Fail> {
+    let mut writer = Counted::new(Vec::new(rt.alloc()));
+    let name = personal(rt.alloc(), name)?;
+    let end = dump_text(rt.alloc(), &name, text, &mut writer);
+    assert_eq!(rt; (end, writer.into_inner().as_slice()), (wanted, output));
+    Ok(())
+}
+
+#[test]
+fn texts_are_dumped(rt: HostRuntime) -> Result<(), Fail> {
+    let script = b"if anyof (header :contains \"Subject\" \"[list]\", size :over 1M) {\nkeep;\n} else {\ndiscard;\n}\n";
+    let code = b"0: header contains casemap [\"Subject\"] [\"[list]\"]\n1: jump-if-true 3\n2: size over 1048576\n3: jump-if-false 6\n4: keep internal @2\n5: jump 7\n6: discard @4\n";
+    let line = b"script personal \"a\" line 1 unknown-command\n";
+    check_text(&rt, b"a", script, code, TestEnd::Clean)?;
+    check_text(&rt, b"a", b"", b"", TestEnd::Clean)?;
+    check_text(&rt, b"a", b"kep;", line, TestEnd::Faulty)?;
+    let spaces = vec![in rt.alloc(); b' '; 1_048_577]?;
+    check_text(&rt, b"a", &spaces, b"", TestEnd::TooLarge)?;
+    check_text(&rt, b"a", &spaces[..1_048_576], b"", TestEnd::Clean)?;
+    check_text(&rt, &spaces[..1_025], b"kep;", b"", TestEnd::TooLarge)?;
+    check_text(&rt, &spaces[..1_024], b"keep;", b"0: keep internal @1\n", TestEnd::Clean)
+}
+
+/// A writer without room takes a front of the dump.
+#[test]
+fn a_dump_that_cannot_be_written_is_told(rt: HostRuntime) -> Result<(), Fail> {
+    let name = personal(rt.alloc(), b"a")?;
+    for text in [b"discard;".as_slice(), b"kep;"] {
+        let mut room = [0; 7];
+        let mut writer = Counted::new(room.as_mut_slice());
+        let end = dump_text(rt.alloc(), &name, text, &mut writer);
+        assert_eq!(rt; (end, writer.faults()), (TestEnd::Write, 1));
+    }
+    Ok(())
 }

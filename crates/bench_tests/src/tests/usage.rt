@@ -26,13 +26,26 @@ fn each_end_has_its_status(rt: HostRuntime) {
     }
 }
 
-#[test]
-fn a_session_is_named(rt: HostRuntime) -> Result<(), Fail> {
-    assert_eq!(rt;
-        command_of(rt.alloc(), &["sievebench", "session"])?,
-        Job::Session
-    );
+/// Compares the job that words name, and the path of a script in it.
+fn check_job(
+    rt: &(impl AllocGlobal + Abort),
+    words: &[&str],
+    wanted: Option<&str>,
+) -> Result<(), Fail> {
+    match command_of(rt.alloc(), words)? {
+        Job::Session => assert!(rt; wanted.is_none(), "at {words:?}"),
+        Job::Dump { script } => assert_eq!(rt; Some(script.as_str()), wanted, "at {words:?}"),
+    }
     Ok(())
+}
+
+#[test]
+fn jobs_are_named(rt: HostRuntime) -> Result<(), Fail> {
+    check_job(&rt, &["sievebench", "session"], None)?;
+    check_job(&rt, &["sievebench", "dump", "a.sieve"], Some("a.sieve"))?;
+    check_job(&rt, &["x", "dump", "--", "--help"], Some("--help"))?;
+    check_job(&rt, &["x", "dump", "session"], Some("session"))?;
+    check_job(&rt, &["x", "dump", ""], Some(""))
 }
 
 /// Compares whether a text is for help, and looks for a part of it.
@@ -58,7 +71,8 @@ fn check_usage(rt: &(impl AllocGlobal + Abort), words: &[&str], wanted: bool, pa
 fn mistakes_and_calls_for_help_have_a_text(rt: HostRuntime) {
     let about = "Runs Sieve scripts against sample messages and prints what would happen";
     let session = "Reads a session from standard input and writes its replies to standard output";
-    let rows: [(&[&str], bool, &str); 10] = [
+    let dump = "Prints the code that a script is compiled to, or the line of its first fault";
+    let rows: [(&[&str], bool, &str); 15] = [
         (&["other"], false, "Usage: sievebench <COMMAND>"),
         (&[], false, "Usage: sievebench <COMMAND>"),
         (
@@ -84,6 +98,23 @@ fn mistakes_and_calls_for_help_have_a_text(rt: HostRuntime) {
             &["sievebench", "help", "session"],
             true,
             "Usage: sievebench session",
+        ),
+        (&["sievebench", "dump"], false, "<SCRIPT>"),
+        (
+            &["sievebench", "dump", "a", "b"],
+            false,
+            "unexpected argument 'b' found",
+        ),
+        (
+            &["sievebench", "dump", "-x"],
+            false,
+            "unexpected argument '-x' found",
+        ),
+        (&["sievebench", "dump", "--help"], true, dump),
+        (
+            &["sievebench", "help", "dump"],
+            true,
+            "Usage: sievebench dump <SCRIPT>",
         ),
     ];
     for (words, wanted, part) in rows {

@@ -38,12 +38,27 @@ pub(crate) struct Given<'a> {
     pub fails: bool,
 }
 
-/// A system with these words, this input, and an output of so much room.
+impl Given<'_> {
+    /// Gives the next octets, or fails behind the last.
+    pub(crate) fn give(&mut self, buf: &mut [u8]) -> io::Result<usize> {
+        if self.octets.is_empty() && self.fails {
+            return Err(io::Error::from(ErrorKind::ConnectionReset));
+        }
+        let octets = self.octets;
+        let len = octets.len().min(self.piece).min(buf.len());
+        buf[..len].copy_from_slice(&octets[..len]);
+        self.octets = &octets[len..];
+        Ok(len)
+    }
+}
+
+/// A system with these words, this input, these files, and an output of so much room.
 #[derive(Drop)]
 pub(crate) struct Machine<'a> {
     pub alloc: Global,
     pub words: &'a [&'a [u8]],
     pub input: Given<'a>,
+    pub files: &'a [(&'a str, Given<'a>)],
     pub room: usize,
     pub written: &'a Written,
 }
@@ -122,14 +137,7 @@ impl Read for Reader<'_> {
     fn read(&mut self, buf: &mut [u8]) -> io::Result<usize> {
         let taken = self.written.output.try_borrow()?.len();
         self.written.before_reads.try_borrow_mut()?.push(taken)?;
-        let octets = self.input.octets;
-        if octets.is_empty() && self.input.fails {
-            return Err(io::Error::from(ErrorKind::ConnectionReset));
-        }
-        let len = octets.len().min(self.input.piece).min(buf.len());
-        buf[..len].copy_from_slice(&octets[..len]);
-        self.input.octets = &octets[len..];
-        Ok(len)
+        self.input.give(buf)
     }
 }
 

@@ -20,7 +20,7 @@ const REPLIES: &[u8] =
     b"ok\nok\nok\nmain personal \"main\"\nenvelope \"\" \"\" mailbox \"INBOX\"\nscript personal \"main\" ok\nmessage \"m1\"\n  discard\n  read personal \"main\"\ntotal 1 messages 0 errors\n";
 
 /// Octets that come at once, and then end.
-fn whole(octets: &[u8]) -> Given<'_> {
+pub(crate) fn whole(octets: &[u8]) -> Given<'_> {
     Given {
         octets,
         piece: 65_536,
@@ -40,6 +40,7 @@ fn status_with(
         alloc,
         words,
         input,
+        files: &[],
         room,
         written,
     };
@@ -47,7 +48,7 @@ fn status_with(
 }
 
 /// Compares what is kept in a cell.
-fn check_kept<T: Debug + PartialEq>(
+pub(crate) fn check_kept<T: Debug + PartialEq>(
     rt: &impl Abort,
     kept: &RefCell<Vec<T>>,
     wanted: &[T],
@@ -277,6 +278,7 @@ fn want_of_memory_is_told(rt: HostRuntime) -> Result<(), Fail> {
         alloc: rt.alloc(),
         words: SESSION_WORDS,
         input: whole(b""),
+        files: &[],
         room: 1_000,
         written: &written,
     };

@@ -1,12 +1,11 @@
 -- What `clap` says of the program's command, read at the program that the definition names.
-use Rattle.std.proofs.Common.{◌≡◌, ◌∙◌, true, List, [], ◌∷◌, map, Option, Some, None, IsSome, refl, sym, ap, subst, inl, inr}
+use Rattle.std.proofs.Common.{◌≡◌, ◌∙◌, true, List, [], ◌∷◌, map, Option, Some, None, IsSome, is_some, refl, sym, ap, subst, inl, inr}
 use Rattle.clap.specs.Words.{App, HasKind, HasMatchesOf, Row, Kinds, Text, fault_of, is_simple, is_simple_and_free, kind_of, subcommand_of, subcommand_rows_of}
 use Rattle.clap.specs.declared.error.Error.{Error}
 use Rattle.clap.specs.declared.parser.matches.ArgMatches.{ArgMatches}
-use Rattle.command_line.specs.declared.words.Job.TheVariants as job
 use Rattle.clap.specs.declared.error.kind.ErrorKind.TheVariants.{OutOfMemory}
 use Rattle.clap.proofs.OnLiterals.{clap_on_literals}
-use Rattle.command_line.specs.CommandLine.{IsFaultFor, IsRefusalFor, job_of, named_job, session_shape, the_app, top_app, where_taken}
+use Rattle.command_line.specs.CommandLine.{IsFaultFor, IsRefusalFor, dump_shape, job_of, named_job, script_rule, session_shape, the_app, top_app, where_taken}
 use Rattle.command_line.specs.declared.words.Job.{Job}
 use Rattle.command_line.specs.declared.words.UsageFault.{UsageFault}
 use Rattle.command_line.specs.declared.words.UsageFault.TheVariants.{Usage, NoMemory}
@@ -14,11 +13,11 @@ use Rattle.command_line.proofs.Named.{always_named}
 use Rattle.command_line.proofs.words.command_of.Goals as goal
 
 simple : is_simple the_app ≡ true
-unfolding the_app top_app session_shape clap_on_literals
+unfolding the_app top_app session_shape dump_shape script_rule clap_on_literals
 simple = refl
 
 simple_and_free : is_simple_and_free the_app ≡ true
-unfolding the_app top_app session_shape clap_on_literals
+unfolding the_app top_app session_shape dump_shape script_rule clap_on_literals
 simple_and_free = refl
 
 -- words that name a job have no fault
@@ -41,11 +40,17 @@ named_none : (words : List Text) → IsSome (named_job words) → fault_of the_a
 unfolding named_job
 named_none words named = none_where_named (fault_of the_app words) _ named
 
-named_from : (words : List Text) (met : Option (Text × List Row)) (job : Job) → fault_of the_app words ≡ [] → met ≡ subcommand_of the_app words
-    → Some job ≡ job_of met → named_job words ≡ Some job
+named_from : (words : List Text) (met : Option (Text × List Row)) (job : Option Job) (one : Job) → fault_of the_app words ≡ []
+    → met ≡ subcommand_of the_app words → job ≡ job_of met → job ≡ Some one → named_job words ≡ Some one
 unfolding named_job
-named_from words met job none is_met is_job =
-    ap (λ kinds. where_taken kinds (job_of (subcommand_of the_app words))) none ∙ ap job_of (sym is_met) ∙ sym is_job
+named_from words met job one none is_met is_job is_one =
+    ap (λ kinds. where_taken kinds (job_of (subcommand_of the_app words))) none ∙ ap job_of (sym is_met) ∙ sym is_job ∙ is_one
+
+-- no job was met, though the words name one
+none_met : (met : Option (Text × List Row)) (job : Option Job) → job ≡ job_of met → job ≡ None → is_some (job_of met) ≡ true → ⊥
+none_met met None is_job is_none named =
+    let bad : is_some {T = Job} None ≡ true = ap is_some is_job ∙ named in absurd (cc)
+none_met met (Some job) is_job is_none named = absurd (cc)
 
 -- what is said of an app, at the program
 kind_at : (a : App) (words : List Text) (e : Error) → a ≡ the_app → (is_simple_and_free a ≡ true → HasKind (fault_of a words) e)
@@ -77,12 +82,12 @@ unreachable-requires g c =
     let is_program = c.in_ok-program.ensures in
     let is_met : subcommand_rows_of c.in-Ok.matches ≡ subcommand_of the_app words = met_at _ words _ is_program c.in-Ok.ensures.matches in
     let is_named = always_named words (none_at _ words is_program c.in-Ok.ensures.kinds) in
-    let bad : None ≡ Some job.Session = c.in-None.ensures ∙ ap job_of is_met ∙ is_named in
-    absurd (cc)
+    none_met (subcommand_rows_of c.in-Ok.matches) c.in_ok-job.field-0 c.in_ok-job.ensures c.in-None.is
+    (ap (λ met. is_some (job_of met)) is_met ∙ is_named)
 
 pub returns-clause-ok : goal.returns-clause-ok
 returns-clause-ok g c =
     let words = map g.S.AsStr.text c.args.words.now in
     let is_program = c.in_ok-program.ensures in
-    named_from words (subcommand_rows_of c.in-Ok.matches) c.in-Some.job (none_at _ words is_program c.in-Ok.ensures.kinds)
-    (met_at _ words _ is_program c.in-Ok.ensures.matches) c.in-Some.ensures
+    named_from words (subcommand_rows_of c.in-Ok.matches) c.in_ok-job.field-0 c.in-Some.job (none_at _ words is_program c.in-Ok.ensures.kinds)
+    (met_at _ words _ is_program c.in-Ok.ensures.matches) c.in_ok-job.ensures c.in-Some.is

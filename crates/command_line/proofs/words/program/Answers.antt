@@ -1,4 +1,4 @@
--- The program with its subcommand is the one that the definition names.
+-- The program with its subcommands is the one that the definition names.
 use Rattle.std.proofs.Common.{ap₂, ◌∙◌}
 use Rattle.std.proofs.lemmas.Result.{IfOk-weaker}
 use Rattle.clap.specs.Simple.{with_subcommand}
@@ -7,6 +7,8 @@ use Rattle.command_line.proofs.words.program.Goals as goal
 
 pub returns : goal.returns
 unfolding the_app
-returns c = IfOk-weaker c.subcommand.result _ _
-    (λ r added. added.shape c.session_command.ensures.local ∙ ap₂ with_subcommand c.in_ok-top_command.ensures c.session_command.ensures.shape)
-    c.subcommand.ensures
+returns c = IfOk-weaker c.subcommand-2.result _ _
+    (λ r added. added.shape c.in_ok-dump_command.ensures.local ∙ ap₂ with_subcommand
+    (c.in_ok-subcommand.ensures.shape c.session_command.ensures.local ∙ ap₂ with_subcommand c.in_ok-top_command.ensures c.session_command.ensures.shape)
+    c.in_ok-dump_command.ensures.shape)
+    c.subcommand-2.ensures

@@ -1,0 +1,13 @@
+-- The subcommand with its argument is the one that the definition names.
+use Rattle.std.proofs.Common.{ap, ap₂, ◌∙◌}
+use Rattle.std.proofs.lemmas.Result.{IfOk-weaker}
+use Rattle.clap.specs.Simple.{App, app_of_fields, with_rule}
+use Rattle.command_line.specs.CommandLine.{dump_shape}
+use Rattle.command_line.proofs.words.dump_command.Goals as goal
+
+pub returns-clause-shape : goal.returns-clause-shape
+unfolding dump_shape
+returns-clause-shape c = IfOk-weaker c.arg.result _ _
+    (λ r added. ap (λ (a : App). a.top) (added.shape c.script_argument.ensures.local
+    ∙ ap₂ with_rule (ap app_of_fields c.about.ensures ∙ c.new.ensures.app) c.script_argument.ensures.rule))
+    c.arg.ensures

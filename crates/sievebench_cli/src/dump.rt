@@ -1,0 +1,79 @@
+//! Prints the code of the script in a file.
+
+use crate::files::{octets_in, script_name};
+use crate::{REPLY_ROOM, complain};
+use sieve_base::limits::MAX_TEXT;
+use sieve_base::{Counted, write_quoted};
+use sievebench::{End, Place, ScriptName, SessionEnd, TestEnd, dump_text, status_of};
+use std::alloc::{AllocError, Global};
+use std::io;
+use std::io::{BufWriter, ErrorKind, Write};
+use std::rt::Files;
+
+/// Prints the code of the script in the file at a path, or the script's line of a report where it has a fault. The script is personal,
+/// under the name of its file. Answers the status of the process.
+pub(crate) fn run_dump(
+    rt: &(impl AllocGlobal + Files + Print + Eprint),
+    path: &str,
+) -> u8 {
+    let text = match octets_in(rt, path, MAX_TEXT) {
+        Ok(text) => text,
+        Err(e) if e.kind() == ErrorKind::OutOfMemory => return end_with(rt, path, TestEnd::NoMemory),
+        Err(_) => {
+            complain_of(rt, "cannot read", path);
+            return status_of(End::Session(SessionEnd::Read));
+        }
+    };
+    let end = dump_over(rt.alloc(), path, &text, io::writer(rt));
+    end_with(rt, path, end)
+}
+
+/// Says on standard error what went wrong, and answers the status.
+fn end_with(rt: &(impl AllocGlobal + Eprint), path: &str, end: TestEnd) -> u8 {
+    match end {
+        TestEnd::TooLarge => complain_of(rt, "too large", path),
+        TestEnd::Write => complain(rt, "cannot write"),
+        TestEnd::NoMemory => complain(rt, "out of memory"),
+        TestEnd::Clean | TestEnd::Faulty | TestEnd::Full => {}
+    }
+    status_of(End::Test(end))
+}
+
+/// Writes the dump of a text, and writes out what is left of it.
+fn dump_over<W: Write + Drop>(alloc: Global, path: &str, text: &[u8], output: W) -> TestEnd {
+    let Ok(name) = named(alloc, path) else {
+        return TestEnd::NoMemory;
+    };
+    let Ok(held) = BufWriter::with_capacity(alloc, REPLY_ROOM, output) else {
+        return TestEnd::NoMemory;
+    };
+    let mut writer = Counted::new(held);
+    let end = dump_text(alloc, &name, text, &mut writer);
+    match writer.into_inner().flush() {
+        Ok(()) => end,
+        Err(_) => TestEnd::Write,
+    }
+}
+
+/// The name of the script at a path.
+fn named(alloc: Global, path: &str) -> Result<ScriptName, AllocError> {
+    let name = Vec::from_slice(alloc, script_name(path).as_bytes())?;
+    Ok(ScriptName::new(Place::Personal, name))
+}
+
+/// Says on standard error what is wrong with a file.
+fn complain_of(rt: &(impl AllocGlobal + Eprint), complaint: &str, path: &str) {
+    match quoted(rt.alloc(), path) {
+        Some(path) => {
+            let _ = eprintln!(rt; "sievebench: {complaint} {path}");
+        }
+        None => complain(rt, complaint),
+    }
+}
+
+/// A text in quotes, in visible characters of ASCII, if there is memory for it.
+fn quoted(alloc: Global, text: &str) -> Option<String> {
+    let mut writer = Counted::new(Vec::new(alloc));
+    write_quoted(text.as_bytes(), &mut writer).ok()?;
+    String::from_utf8(writer.into_inner()).ok()
+}

@@ -1,0 +1,108 @@
+//! Files that are made, and can be read and nothing else.
+
+use super::machine::{Given, Machine};
+use std::alloc::Allocator;
+use std::fs::{Metadata, OpenFile, OpenOptions};
+use std::io;
+use std::io::{ErrorKind, Read, Seek, SeekFrom, Write};
+use std::rt::Files;
+
+/// What a file does that can be read alone.
+fn unsupported<T>() -> io::Result<T> {
+    Err(io::Error::from(ErrorKind::Unsupported))
+}
+
+/// An open file.
+#[derive(Drop)]
+pub(crate) struct Opened<'a> {
+    given: Given<'a>,
+}
+
+impl Read for Opened<'_> {
+    fn read(&mut self, buf: &mut [u8]) -> io::Result<usize> {
+        self.given.give(buf)
+    }
+}
+
+impl Write for Opened<'_> {
+    fn write(&mut self, _buf: &[u8]) -> io::Result<usize> {
+        unsupported()
+    }
+
+    fn flush(&mut self) -> io::Result<()> {
+        unsupported()
+    }
+}
+
+impl Seek for Opened<'_> {
+    fn seek(&mut self, _place: SeekFrom) -> io::Result<u64> {
+        unsupported()
+    }
+}
+
+impl OpenFile for Opened<'_> {
+    fn metadata(&self) -> io::Result<Metadata> {
+        unsupported()
+    }
+
+    fn set_len(&self, _size: u64) -> io::Result<()> {
+        unsupported()
+    }
+
+    fn sync_all(&self) -> io::Result<()> {
+        unsupported()
+    }
+
+    fn sync_data(&self) -> io::Result<()> {
+        unsupported()
+    }
+}
+
+impl<'a> Files for Machine<'a> {
+    type File = Opened<'a>;
+
+    type Dir = Opened<'a>;
+
+    fn open_file(&self, _how: &OpenOptions, path: &str) -> io::Result<Opened<'a>> {
+        match self.files.iter().find(|file| file.0 == path) {
+            Some((_, given)) => Ok(Opened { given: *given }),
+            None => Err(io::Error::from(ErrorKind::NotFound)),
+        }
+    }
+
+    fn open_dir(&self, _path: &str) -> io::Result<Opened<'a>> {
+        unsupported()
+    }
+
+    fn metadata(&self, _path: &str) -> io::Result<Metadata> {
+        unsupported()
+    }
+
+    fn symlink_metadata(&self, _path: &str) -> io::Result<Metadata> {
+        unsupported()
+    }
+
+    fn copy(&self, _from: &str, _to: &str) -> io::Result<u64> {
+        unsupported()
+    }
+
+    fn rename(&self, _from: &str, _to: &str) -> io::Result<()> {
+        unsupported()
+    }
+
+    fn remove_file(&self, _path: &str) -> io::Result<()> {
+        unsupported()
+    }
+
+    fn create_dir(&self, _path: &str) -> io::Result<()> {
+        unsupported()
+    }
+
+    fn remove_dir(&self, _path: &str) -> io::Result<()> {
+        unsupported()
+    }
+
+    fn remove_dir_all<B: Allocator>(&self, _alloc: B, _path: &str) -> io::Result<()> {
+        unsupported()
+    }
+}
