@@ -1,7 +1,8 @@
 //! Reads a session's octets in large pieces, and hands them out as lines and counted octets.
-ghost use Rattle.std.specs.Prelude.{◌≡◌, false, ◌<◌, ◌≤◌, ◌+◌, ℕ, [], List, length, take, drop, ◌-◌, slice_range, IfOk, OnErr, MatchResult};
+ghost use Rattle.std.specs.Prelude.{◌≡◌, false, ◌<◌, ◌≤◌, ◌+◌, ℕ, [], List, length, take, drop, ◌-◌, slice_range, IfOk, OnErr, MatchResult, vec_len};
 ghost use Rattle.std.specs.Io.KnownBytes.{Keeps, Consumes, IsAtEnd};
 ghost use Rattle.sieve_base.specs.Devices.{HasRisen};
+ghost use Rattle.session_text.specs.view.Input.{capacity};
 
 use sieve_base::Source;
 use std::alloc::{AllocError, Global};
@@ -47,6 +48,13 @@ pub(crate) enum Filled {
     Failed,
     /// No more reads may be made.
     Spent,
+}
+
+/// The places for what is read.
+fn places(alloc: Global) -> Result<Vec<u8>, AllocError>
+    ensures { IfOk result (λ places. vec_len places ≡ capacity) }
+{
+    vec![in alloc; 0; CAPACITY]
 }
 
 /// Makes one read into the places of a buffer from one on.
@@ -97,7 +105,7 @@ impl Input {
         ensures { IfOk result (λ input. input ≡ record { pending = []; turns = turns; ended = false }) }
     {
         Ok(Input {
-            buffer: vec![in alloc; 0; CAPACITY]?,
+            buffer: places(alloc)?,
             start: 0,
             end: 0,
             turns,

@@ -13,25 +13,25 @@ use Rattle.sieve_check.specs.Parted.{parted_labelled, parted_test, parted_test_l
 use Rattle.sieve_check.specs.Readable.{Joins, test_takes}
 use Rattle.sieve_check.specs.Reading.{Ask, collation_by, exists_ask, exists_by, has_tag, header_by, header_from, in_role, labels_in, match_type_of, number_in, over_ask, part_shape, reads_ask, size_by, size_from, test_reading_by, texts_in, under_ask}
 use Rattle.sieve_check.specs.Role.{same_role}
-use Rattle.sieve_check.specs.Table.{tag_row, test_row}
+use Rattle.sieve_table.specs.Table.{tag_row, test_row}
 use Rattle.sieve_check.specs.Tree.{Part, Argument, Test, Tests, TestList, no_tests, one_test, test_list}
 use Rattle.sieve_check.specs.Use.{has_repeated, is_of_kind, tests_fit}
 use Rattle.sieve_check.specs.declared.label.Label.{Label}
 use Rattle.sieve_check.specs.declared.label.Label.TheVariants.{Tagged, OtherTag, Own, InSlot, Unfit}
 use Rattle.sieve_check.specs.declared.reading.MatchType.{MatchType}
-use Rattle.sieve_check.specs.declared.row.Form.{Form}
-use Rattle.sieve_check.specs.declared.row.Form.TheVariants as form
-use Rattle.sieve_check.specs.declared.row.Inner.TheVariants as inner
-use Rattle.sieve_check.specs.declared.row.Role.{Role}
-use Rattle.sieve_check.specs.declared.row.Role.TheVariants as role
-use Rattle.sieve_check.specs.declared.row.Slot.{Slot}
-use Rattle.sieve_check.specs.declared.row.TagKind.TheVariants as tag_kind
-use Rattle.sieve_check.specs.declared.rule.Rule.{Rule}
-use Rattle.sieve_check.specs.declared.rule.Rule.TheVariants.{BadArguments, BadTag, UnknownCommand}
-use Rattle.sieve_check.specs.declared.table.Tag.{Tag}
-use Rattle.sieve_check.specs.declared.table.Tag.TheVariants as tag
-use Rattle.sieve_check.specs.declared.table.TestKind.{TestKind}
-use Rattle.sieve_check.specs.declared.table.TestKind.TheVariants as kind
+use Rattle.sieve_table.specs.declared.row.Form.{Form}
+use Rattle.sieve_table.specs.declared.row.Form.TheVariants as form
+use Rattle.sieve_table.specs.declared.row.Inner.TheVariants as inner
+use Rattle.sieve_table.specs.declared.row.Role.{Role}
+use Rattle.sieve_table.specs.declared.row.Role.TheVariants as role
+use Rattle.sieve_table.specs.declared.row.Slot.{Slot}
+use Rattle.sieve_table.specs.declared.row.TagKind.TheVariants as tag_kind
+use Rattle.sieve_table.specs.declared.rule.Rule.{Rule}
+use Rattle.sieve_table.specs.declared.rule.Rule.TheVariants.{BadArguments, BadTag, UnknownCommand}
+use Rattle.sieve_table.specs.declared.table.Tag.{Tag}
+use Rattle.sieve_table.specs.declared.table.Tag.TheVariants as tag
+use Rattle.sieve_table.specs.declared.table.TestKind.{TestKind}
+use Rattle.sieve_table.specs.declared.table.TestKind.TheVariants as kind
 use Rattle.sieve_check.proofs.Filled.{AsRowSays, as_parted, collation_good, collation_read, number_good, number_read, takes, text_good, texts_read}
 use Rattle.sieve_check.proofs.Roles.{AllKeep, AllTake, MayTake, is_to_come, never_both, not_both, role_fits, role_found}
 

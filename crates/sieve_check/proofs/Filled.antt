@@ -15,17 +15,17 @@ use Rattle.sieve_check.specs.Readable.{row_takes}
 use Rattle.sieve_check.specs.Reading.{collation_by, number_in, part_shape, text_value, texts_in}
 use Rattle.sieve_check.specs.Role.{first_role, has_role}
 use Rattle.sieve_check.specs.Shape.{row_labels, shape_of, shapes_of, texts_shape}
-use Rattle.sieve_check.specs.Table.{Row}
+use Rattle.sieve_table.specs.Table.{Row}
 use Rattle.sieve_check.specs.Tree.{Argument, strings, number, tag}
 use Rattle.sieve_check.specs.Use.{block_fits, has_bad_arguments, has_bad_tag, lacks_kind, lacks_own, tests_fit}
 use Rattle.sieve_check.specs.declared.label.Label.{Label}
 use Rattle.sieve_check.specs.declared.label.Shape.{Shape}
 use Rattle.sieve_check.specs.declared.label.Shape.TheVariants as shape
-use Rattle.sieve_check.specs.declared.row.Form.TheVariants as form
-use Rattle.sieve_check.specs.declared.row.Role.{Role}
-use Rattle.sieve_check.specs.declared.row.Role.TheVariants as role
-use Rattle.sieve_check.specs.declared.rule.Rule.TheVariants.{NumberTooLarge, UnknownComparator}
-use Rattle.sieve_check.specs.declared.table.Tag.{Tag}
+use Rattle.sieve_table.specs.declared.row.Form.TheVariants as form
+use Rattle.sieve_table.specs.declared.row.Role.{Role}
+use Rattle.sieve_table.specs.declared.row.Role.TheVariants as role
+use Rattle.sieve_table.specs.declared.rule.Rule.TheVariants.{NumberTooLarge, UnknownComparator}
+use Rattle.sieve_table.specs.declared.table.Tag.{Tag}
 use Rattle.sieve_check.proofs.Roles.{AllKeep, Keeps, NameComparators, none_or, never_both, not_both}
 use Rattle.sieve_check.proofs.Unbroken.{keeps, none_in_both, none_in_front}
 

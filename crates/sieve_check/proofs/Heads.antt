@@ -12,15 +12,15 @@ use Rattle.sieve_check.specs.Breach.{Breach, all_rules, breach_if, breaches_at, 
 use Rattle.sieve_check.specs.CheckFault.{IsFirst}
 use Rattle.sieve_check.specs.Context.{Context, behind, behind_kind, inside, is_require, continues_if}
 use Rattle.sieve_check.specs.Element.{the_command, the_test, test_arguments, command_arguments, test_elements, tests_elements, test_list_elements, node_elements, nodes_elements, block_elements}
-use Rattle.sieve_check.specs.Table as table
-use Rattle.sieve_check.specs.Table.{Row, command_row, test_row}
+use Rattle.sieve_table.specs.Table as table
+use Rattle.sieve_table.specs.Table.{Row, command_row, test_row}
 use Rattle.sieve_check.specs.Use.{has_block}
 use Rattle.sieve_check.specs.view.Finds.{Finds, FindsIn}
 use Rattle.sieve_check.specs.view.Head.{block_as, test_head, command_head, kind_found}
 use Rattle.sieve_check.specs.view.Use.{row_found}
-use Rattle.sieve_check.specs.declared.rule.Rule.TheVariants.{RequirePlace, ElsePlace, UnknownCommand}
-use Rattle.sieve_check.specs.declared.table.CommandKind.{CommandKind}
-use Rattle.sieve_check.specs.declared.table.TestKind.{TestKind}
+use Rattle.sieve_table.specs.declared.rule.Rule.TheVariants.{RequirePlace, ElsePlace, UnknownCommand}
+use Rattle.sieve_table.specs.declared.table.CommandKind.{CommandKind}
+use Rattle.sieve_table.specs.declared.table.TestKind.{TestKind}
 use Rattle.sieve_check.specs.declared.validator.CheckFault.{CheckFault}
 use Rattle.sieve_check.specs.declared.validator.CheckFault.TheVariants as faults
 use Rattle.sieve_check.proofs.Searches.{first_stops, front_stops, front_passes, finds_past, none_in, cons_in}

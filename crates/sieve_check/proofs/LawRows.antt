@@ -9,7 +9,7 @@ use Rattle.sieve_check.specs.Parted.{parted}
 use Rattle.sieve_check.specs.Readable.{IsReadable, ReadsBlock, ReadsNode, ReadsNodes, act_mark, block_marks, choice_mark, marks, node_marks, nodes_marks, stop_mark}
 use Rattle.sieve_check.specs.Reading.{discard_leaf, keep_leaf}
 use Rattle.sieve_check.specs.Script.{always, block_commands, chain_of, condition_of, conditions_in, never, node_before, script_of}
-use Rattle.sieve_check.specs.Table.{command_named, test_named}
+use Rattle.sieve_table.specs.Table.{command_named, test_named}
 use Rattle.sieve_check.specs.Tree.{nodes}
 use Rattle.sieve_check.proofs.Readable.{is_readable}
 use Rattle.sieve_check.proofs.Roles.{not_both}

@@ -4,7 +4,7 @@ use Rattle.std.specs.List.{flat_map}
 use Rattle.sieve_syntax.specs.Tree.{Node}
 use Rattle.sieve_check.specs.Breach.{Breach, all_rules, breach_if, breaches_at, breaches_by, breaches_in, breaches_of, breaks, first_breach, line_of, IsLeast, IsLeastBreach}
 use Rattle.sieve_check.specs.Element.{Element, elements_of}
-use Rattle.sieve_check.specs.declared.rule.Rule.{Rule}
+use Rattle.sieve_table.specs.declared.rule.Rule.{Rule}
 
 -- the breaches of an element, by some of the rules
 abbrev broken_by : Element → List Rule → List Breach

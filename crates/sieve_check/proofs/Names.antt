@@ -1,10 +1,10 @@
 -- The names of the table.
 use Rattle.std.proofs.Common.{◌≡◌, Some, refl}
-use Rattle.sieve_check.specs.Table.{command_named, command_row, test_named, test_row}
-use Rattle.sieve_check.specs.declared.table.CommandKind.{CommandKind}
-use Rattle.sieve_check.specs.declared.table.CommandKind.TheVariants as command
-use Rattle.sieve_check.specs.declared.table.TestKind.{TestKind}
-use Rattle.sieve_check.specs.declared.table.TestKind.TheVariants as test
+use Rattle.sieve_table.specs.Table.{command_named, command_row, test_named, test_row}
+use Rattle.sieve_table.specs.declared.table.CommandKind.{CommandKind}
+use Rattle.sieve_table.specs.declared.table.CommandKind.TheVariants as command
+use Rattle.sieve_table.specs.declared.table.TestKind.{TestKind}
+use Rattle.sieve_table.specs.declared.table.TestKind.TheVariants as test
 
 pub command_found : (kind : CommandKind) → command_named (command_row kind).name ≡ Some kind
 unfolding command_named

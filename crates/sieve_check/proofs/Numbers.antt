@@ -1,15 +1,15 @@
 -- The numbers of the rules, of the roles and of the kinds of tags.
 use Rattle.std.proofs.Common.{◌≡◌, ◌-◌, Some, refl, slice_get}
 use Rattle.sieve_check.specs.Breach.{all_rules}
-use Rattle.sieve_check.specs.Rule.{rule_number}
+use Rattle.sieve_table.specs.Rule.{rule_number}
 use Rattle.sieve_check.specs.Role.{all_roles, role_number}
 use Rattle.sieve_check.specs.Use.{all_kinds, kind_number}
-use Rattle.sieve_check.specs.declared.row.Role.{Role}
-use Rattle.sieve_check.specs.declared.row.Role.TheVariants as role
-use Rattle.sieve_check.specs.declared.row.TagKind.{TagKind}
-use Rattle.sieve_check.specs.declared.row.TagKind.TheVariants as kind
-use Rattle.sieve_check.specs.declared.rule.Rule.{Rule}
-use Rattle.sieve_check.specs.declared.rule.Rule.TheVariants.{RequirePlace, UnknownCapability, UnknownCommand, NotRequired, ElsePlace, BadTag, BadArguments, UnknownComparator, BadVariableName, GlobalAfterSet, BadNamespace, MatchIndex, NumberTooLarge, BadEnvelopePart, NotAddressHeader, TooManyVariables}
+use Rattle.sieve_table.specs.declared.row.Role.{Role}
+use Rattle.sieve_table.specs.declared.row.Role.TheVariants as role
+use Rattle.sieve_table.specs.declared.row.TagKind.{TagKind}
+use Rattle.sieve_table.specs.declared.row.TagKind.TheVariants as kind
+use Rattle.sieve_table.specs.declared.rule.Rule.{Rule}
+use Rattle.sieve_table.specs.declared.rule.Rule.TheVariants.{RequirePlace, UnknownCapability, UnknownCommand, NotRequired, ElsePlace, BadTag, BadArguments, UnknownComparator, BadVariableName, GlobalAfterSet, BadNamespace, MatchIndex, NumberTooLarge, BadEnvelopePart, NotAddressHeader, TooManyVariables}
 
 pub rule_at : (rule : Rule) → slice_get all_rules (rule_number rule - 1) ≡ Some rule
 rule_at RequirePlace = refl

@@ -7,13 +7,13 @@ use Rattle.sieve_check.specs.Element.{block_elements, command_arguments, node_el
 use Rattle.sieve_check.specs.Parted.{command_labels, parted, parted_block, parted_labelled, parted_node, parted_nodes, parted_test, parted_test_list, parted_tests}
 use Rattle.sieve_check.specs.Readable.{IsReadable, ReadsBlock, ReadsNode, ReadsNodes, ReadsTest, ReadsTestList, ReadsTests, Stands, command_takes, may_go_on}
 use Rattle.sieve_check.specs.Reading.{command_reading, command_reading_by}
-use Rattle.sieve_check.specs.Table.{command_named, command_row, test_named}
+use Rattle.sieve_table.specs.Table.{command_named, command_row, test_named}
 use Rattle.sieve_check.specs.Tree.{Nodes, end_nodes, more_nodes, no_block, block, items, nodes}
 use Rattle.sieve_check.specs.Use.{block_fits, has_block, tests_fit}
-use Rattle.sieve_check.specs.declared.rule.Rule.{Rule}
-use Rattle.sieve_check.specs.declared.rule.Rule.TheVariants.{BadArguments, BadTag, ElsePlace, UnknownCommand}
-use Rattle.sieve_check.specs.declared.table.CommandKind.{CommandKind}
-use Rattle.sieve_check.specs.declared.table.CommandKind.TheVariants as command
+use Rattle.sieve_table.specs.declared.rule.Rule.{Rule}
+use Rattle.sieve_table.specs.declared.rule.Rule.TheVariants.{BadArguments, BadTag, ElsePlace, UnknownCommand}
+use Rattle.sieve_table.specs.declared.table.CommandKind.{CommandKind}
+use Rattle.sieve_table.specs.declared.table.CommandKind.TheVariants as command
 use Rattle.sieve_check.proofs.Asked.{none_fit, one_fits, test_is_read}
 use Rattle.sieve_check.proofs.Filled.{as_parted, takes}
 use Rattle.sieve_check.proofs.Roles.{never_both, not_both}

@@ -7,17 +7,17 @@ use Rattle.sieve_check.specs.Breach.{is_comparator_name}
 use Rattle.sieve_check.specs.Label.{Expected, expected_behind, fits, is_unfit, label_at, labels_from, no_slots, slot_label, slots_left, value_label, value_slots}
 use Rattle.sieve_check.specs.Reading.{in_role, part_shape, text_value}
 use Rattle.sieve_check.specs.Role.{first_role, has_role, role_of, same_role}
-use Rattle.sieve_check.specs.Table.{tag_row}
+use Rattle.sieve_table.specs.Table.{tag_row}
 use Rattle.sieve_check.specs.Tree.{Text, Argument, strings, number, tag}
 use Rattle.sieve_check.specs.declared.label.Label.{Label}
 use Rattle.sieve_check.specs.declared.label.Label.TheVariants.{Own, InSlot, Unfit}
 use Rattle.sieve_check.specs.declared.label.Shape.{Shape}
 use Rattle.sieve_check.specs.declared.label.Shape.TheVariants as shape
-use Rattle.sieve_check.specs.declared.row.Form.{Form}
-use Rattle.sieve_check.specs.declared.row.Role.{Role}
-use Rattle.sieve_check.specs.declared.row.Role.TheVariants as role
-use Rattle.sieve_check.specs.declared.row.Slot.{Slot}
-use Rattle.sieve_check.specs.declared.table.Tag.{Tag}
+use Rattle.sieve_table.specs.declared.row.Form.{Form}
+use Rattle.sieve_table.specs.declared.row.Role.{Role}
+use Rattle.sieve_table.specs.declared.row.Role.TheVariants as role
+use Rattle.sieve_table.specs.declared.row.Slot.{Slot}
+use Rattle.sieve_table.specs.declared.table.Tag.{Tag}
 
 pub not_both : false ≡ true → ⊥
 not_both e = cc

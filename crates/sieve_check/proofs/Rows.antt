@@ -8,15 +8,15 @@ use Rattle.sieve_check.specs.Label.{labels_of}
 use Rattle.sieve_check.specs.Parted.{parted}
 use Rattle.sieve_check.specs.Reading.{keep_leaf, discard_leaf, header_ask}
 use Rattle.sieve_check.specs.Script.{no_commands, stops, acts, chooses, always, asks, script_of, chain_of, node_before, block_commands, condition_of, conditions_in}
-use Rattle.sieve_check.specs.Table.{Row, slot, bare, command_named, test_named}
+use Rattle.sieve_table.specs.Table.{Row, slot, bare, command_named, test_named}
 use Rattle.sieve_check.specs.Tree.{literal}
 use Rattle.sieve_check.specs.declared.label.Label.TheVariants as label
 use Rattle.sieve_check.specs.declared.label.Shape.TheVariants as shape
-use Rattle.sieve_check.specs.declared.row.Form.TheVariants as form
-use Rattle.sieve_check.specs.declared.row.Role.TheVariants as role
-use Rattle.sieve_check.specs.declared.table.Tag.TheVariants as tag
+use Rattle.sieve_table.specs.declared.row.Form.TheVariants as form
+use Rattle.sieve_table.specs.declared.row.Role.TheVariants as role
+use Rattle.sieve_table.specs.declared.table.Tag.TheVariants as tag
 use Rattle.sieve_check.specs.declared.reading.MatchType.TheVariants.{Is, Contains}
-use Rattle.sieve_check.specs.declared.rule.Rule.TheVariants.{RequirePlace, UnknownCapability, UnknownCommand, ElsePlace, BadTag, BadArguments, UnknownComparator, NumberTooLarge}
+use Rattle.sieve_table.specs.declared.rule.Rule.TheVariants.{RequirePlace, UnknownCapability, UnknownCommand, ElsePlace, BadTag, BadArguments, UnknownComparator, NumberTooLarge}
 
 -- a string on line 1, a string without brackets as an argument, and a tag
 abbrev text : List ℕ → syntax.Text

@@ -12,7 +12,7 @@ use Rattle.sieve_check.specs.Element.{Element, text_elements, the_text, argument
 use Rattle.sieve_check.specs.Role.{first_role}
 use Rattle.sieve_check.specs.view.Finds.{Finds, FindsIn}
 use Rattle.sieve_check.specs.declared.label.Label.{Label}
-use Rattle.sieve_check.specs.declared.row.Role.{Role}
+use Rattle.sieve_table.specs.declared.row.Role.{Role}
 use Rattle.sieve_check.specs.declared.validator.CheckFault.{CheckFault}
 use Rattle.sieve_check.specs.declared.validator.CheckFault.TheVariants as faults
 

@@ -5,8 +5,8 @@ use Rattle.std.specs.List.{All}
 use Rattle.sieve_syntax.specs.Tree.{Node}
 use Rattle.sieve_check.specs.Breach.{Breach, all_rules, breach_if, breaches_at, breaches_by, breaches_in, breaches_of, breaks, first_breach, line_of}
 use Rattle.sieve_check.specs.Element.{Element, elements_of}
-use Rattle.sieve_check.specs.declared.rule.Rule.{Rule}
-use Rattle.sieve_check.specs.declared.rule.Rule.TheVariants.{RequirePlace, UnknownCapability, UnknownCommand, NotRequired, ElsePlace, BadTag, BadArguments, UnknownComparator, BadVariableName, GlobalAfterSet, BadNamespace, MatchIndex, NumberTooLarge, BadEnvelopePart, NotAddressHeader, TooManyVariables}
+use Rattle.sieve_table.specs.declared.rule.Rule.{Rule}
+use Rattle.sieve_table.specs.declared.rule.Rule.TheVariants.{RequirePlace, UnknownCapability, UnknownCommand, NotRequired, ElsePlace, BadTag, BadArguments, UnknownComparator, BadVariableName, GlobalAfterSet, BadNamespace, MatchIndex, NumberTooLarge, BadEnvelopePart, NotAddressHeader, TooManyVariables}
 use Rattle.sieve_check.proofs.Searches.{in_turn, cons_in}
 
 -- none of some rules is broken

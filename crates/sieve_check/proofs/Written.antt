@@ -12,12 +12,12 @@ use Rattle.sieve_check.specs.Element.{Element, argument_elements, block_elements
 use Rattle.sieve_check.specs.Order.{writes_element, written_by}
 use Rattle.sieve_check.specs.Role.{first_role}
 use Rattle.sieve_check.specs.Shape.{shapes_of}
-use Rattle.sieve_check.specs.Table.{command_named, command_row, test_named, test_row}
+use Rattle.sieve_table.specs.Table.{command_named, command_row, test_named, test_row}
 use Rattle.sieve_check.specs.Use.{has_block, is_well_used}
 use Rattle.sieve_check.specs.declared.label.Label.{Label}
-use Rattle.sieve_check.specs.declared.row.Role.{Role}
-use Rattle.sieve_check.specs.declared.table.CommandKind.{CommandKind}
-use Rattle.sieve_check.specs.declared.table.TestKind.{TestKind}
+use Rattle.sieve_table.specs.declared.row.Role.{Role}
+use Rattle.sieve_table.specs.declared.table.CommandKind.{CommandKind}
+use Rattle.sieve_table.specs.declared.table.TestKind.{TestKind}
 
 -- these elements are written by those among these words that write elements
 abbrev AreWritten : List Element → List Word → Type 0

@@ -3,19 +3,19 @@ use Rattle.std.specs.Prelude.{◌≡◌, ℕ, Bool, true, false, not, ◌&&◌, 
 use Rattle.std.specs.List.{flat_map}
 use lib.Pointwise.{pointwise}
 use Rattle.sieve_syntax.specs.Tree.{Node, Block, Tests, Argument}
-use Rattle.sieve_check.specs.Capability.{is_capability}
+use Rattle.sieve_table.specs.Capability.{is_capability}
 use Rattle.sieve_check.specs.Context.{Context, is_require, continues_if}
 use Rattle.sieve_check.specs.Element.{Element, the_command, the_test, the_text, the_number, elements_of}
 use Rattle.sieve_check.specs.Role.{has_role}
 use Rattle.sieve_check.specs.Shape.{row_labels, shapes_of}
-use Rattle.sieve_check.specs.Table.{Row, command_named, test_named, command_row, test_row}
+use Rattle.sieve_table.specs.Table.{Row, command_named, test_named, command_row, test_row}
 use Rattle.sieve_check.specs.Use.{has_bad_tag, has_bad_arguments, has_block}
-use Rattle.sieve_check.specs.declared.row.Role.{Role}
-use Rattle.sieve_check.specs.declared.row.Role.TheVariants.{Capabilities, ComparatorName}
-use Rattle.sieve_check.specs.declared.rule.Rule.{Rule}
-use Rattle.sieve_check.specs.declared.rule.Rule.TheVariants.{RequirePlace, UnknownCapability, UnknownCommand, NotRequired, ElsePlace, BadTag, BadArguments, UnknownComparator, BadVariableName, GlobalAfterSet, BadNamespace, MatchIndex, NumberTooLarge, BadEnvelopePart, NotAddressHeader, TooManyVariables}
-use Rattle.sieve_check.specs.declared.table.CommandKind.{CommandKind}
-use Rattle.sieve_check.specs.declared.table.TestKind.{TestKind}
+use Rattle.sieve_table.specs.declared.row.Role.{Role}
+use Rattle.sieve_table.specs.declared.row.Role.TheVariants.{Capabilities, ComparatorName}
+use Rattle.sieve_table.specs.declared.rule.Rule.{Rule}
+use Rattle.sieve_table.specs.declared.rule.Rule.TheVariants.{RequirePlace, UnknownCapability, UnknownCommand, NotRequired, ElsePlace, BadTag, BadArguments, UnknownComparator, BadVariableName, GlobalAfterSet, BadNamespace, MatchIndex, NumberTooLarge, BadEnvelopePart, NotAddressHeader, TooManyVariables}
+use Rattle.sieve_table.specs.declared.table.CommandKind.{CommandKind}
+use Rattle.sieve_table.specs.declared.table.TestKind.{TestKind}
 
 -- a rule that is broken, and the line where
 pub record Breach : Type 0 where

@@ -1,9 +1,9 @@
 -- What stands before a command in its text, as far as rules ask.
 use Rattle.std.specs.Prelude.{Bool, true, false, ◌&&◌, Option, Some, None}
 use Rattle.sieve_syntax.specs.Tree.{Node, node}
-use Rattle.sieve_check.specs.Table.{command_named}
-use Rattle.sieve_check.specs.declared.table.CommandKind.{CommandKind}
-use Rattle.sieve_check.specs.declared.table.CommandKind.TheVariants.{Require, If, Elsif, Else, Keep, Discard, Stop}
+use Rattle.sieve_table.specs.Table.{command_named}
+use Rattle.sieve_table.specs.declared.table.CommandKind.{CommandKind}
+use Rattle.sieve_table.specs.declared.table.CommandKind.TheVariants.{Require, If, Elsif, Else, Keep, Discard, Stop}
 
 pub record Context : Type 0 where
   -- only requires stand before it in the script (RFC 5228, section 3.2)

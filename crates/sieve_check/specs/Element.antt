@@ -5,12 +5,12 @@ use Rattle.sieve_syntax.specs.Tree.{Node, node, Nodes, end_nodes, more_nodes, no
 use Rattle.sieve_check.specs.Context.{Context, script_start, inside, behind}
 use Rattle.sieve_check.specs.Role.{first_role}
 use Rattle.sieve_check.specs.Shape.{row_labels, shapes_of}
-use Rattle.sieve_check.specs.Table.{Row, command_named, test_named, command_row, test_row}
+use Rattle.sieve_table.specs.Table.{Row, command_named, test_named, command_row, test_row}
 use Rattle.sieve_check.specs.Use.{is_well_used, has_block}
 use Rattle.sieve_check.specs.declared.label.Label.{Label}
-use Rattle.sieve_check.specs.declared.row.Role.{Role}
-use Rattle.sieve_check.specs.declared.table.CommandKind.{CommandKind}
-use Rattle.sieve_check.specs.declared.table.TestKind.{TestKind}
+use Rattle.sieve_table.specs.declared.row.Role.{Role}
+use Rattle.sieve_table.specs.declared.table.CommandKind.{CommandKind}
+use Rattle.sieve_table.specs.declared.table.TestKind.{TestKind}
 
 -- a command, a test, a string in its role, or a number. A string has no role where its argument isn't what some slot or tag
 -- takes, or where its command or test isn't used as its row says, so that the string isn't judged.

@@ -2,14 +2,14 @@
 -- arguments, each by its slot. The rules, the parts of strings and the readings go by these labels alone.
 use Rattle.std.specs.Prelude.{Bool, true, false, not, ◌&&◌, List, [], ◌∷◌, Option, Some, None, drop, if◌then◌else◌}
 use Rattle.std.specs.List.{list_any}
-use Rattle.sieve_check.specs.Table.{Row, tag_row}
+use Rattle.sieve_table.specs.Table.{Row, tag_row}
 use Rattle.sieve_check.specs.declared.label.Label.{Label}
 use Rattle.sieve_check.specs.declared.label.Label.TheVariants.{Tagged, OtherTag, Own, InSlot, Unfit}
 use Rattle.sieve_check.specs.declared.label.Shape.{Shape}
 use Rattle.sieve_check.specs.declared.label.Shape.TheVariants as shape
-use Rattle.sieve_check.specs.declared.row.Form.{Form}
-use Rattle.sieve_check.specs.declared.row.Form.TheVariants as form
-use Rattle.sieve_check.specs.declared.row.Slot.{Slot}
+use Rattle.sieve_table.specs.declared.row.Form.{Form}
+use Rattle.sieve_table.specs.declared.row.Form.TheVariants as form
+use Rattle.sieve_table.specs.declared.row.Slot.{Slot}
 
 -- whether an argument of that shape can stand where that form is taken; a list may be one string (RFC 5228, section 2.4.2.1)
 abbrev pub fits : Form → Shape → Bool

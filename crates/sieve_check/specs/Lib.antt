@@ -1,5 +1,4 @@
 pub mod Breach
-pub mod Capability
 pub mod CheckFault
 pub mod Context
 pub mod Element
@@ -11,10 +10,8 @@ pub mod Parted
 pub mod Readable
 pub mod Reading
 pub mod Role
-pub mod Rule
 pub mod Script
 pub mod Shape
-pub mod Table
 pub mod Tree
 pub mod Use
 pub mod view

@@ -5,12 +5,12 @@ use Rattle.sieve_syntax.specs.Tree as syntax
 use Rattle.sieve_check.specs.Context.{Context, script_start, inside, behind}
 use Rattle.sieve_check.specs.Role.{first_role}
 use Rattle.sieve_check.specs.Shape.{row_labels}
-use Rattle.sieve_check.specs.Table.{command_named, test_named, command_row, test_row}
+use Rattle.sieve_table.specs.Table.{command_named, test_named, command_row, test_row}
 use Rattle.sieve_check.specs.Tree.{Part, literal, Text, Argument, strings, number, tag, Test, test, Tests, no_tests, one_test, test_list, TestList, end_tests, more_tests, Node, node, Block, no_block, block, Nodes, end_nodes, more_nodes, items}
 use Rattle.sieve_check.specs.declared.label.Label.{Label}
-use Rattle.sieve_check.specs.declared.row.Role.{Role}
-use Rattle.sieve_check.specs.declared.table.CommandKind.{CommandKind}
-use Rattle.sieve_check.specs.declared.table.TestKind.{TestKind}
+use Rattle.sieve_table.specs.declared.row.Role.{Role}
+use Rattle.sieve_table.specs.declared.table.CommandKind.{CommandKind}
+use Rattle.sieve_table.specs.declared.table.TestKind.{TestKind}
 
 -- the parts of a string
 abbrev pub parts_of : Context → Option Role → List ℕ → List Part

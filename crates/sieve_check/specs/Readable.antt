@@ -5,12 +5,12 @@ use Rattle.sieve_check.specs.Label.{labels_of, is_filled}
 use Rattle.sieve_check.specs.Reading as reading
 use Rattle.sieve_check.specs.Reading.{TestReading, reads_always, reads_never, reads_ask, reads_all, reads_any, reads_not, CommandReading, Leaf, part_shape, test_reading, command_reading}
 use Rattle.sieve_check.specs.Script.{Commands, no_commands, stops, acts, chooses, Condition, branch_condition, conditions_in, script_of}
-use Rattle.sieve_check.specs.Table.{Row, command_named, test_named, command_row, test_row}
+use Rattle.sieve_table.specs.Table.{Row, command_named, test_named, command_row, test_row}
 use Rattle.sieve_check.specs.Tree.{Argument, Test, test, Tests, no_tests, one_test, test_list, TestList, end_tests, more_tests, Node, node, Block, no_block, block, Nodes, end_nodes, more_nodes, nodes}
 use Rattle.sieve_check.specs.Use.{has_bad_tag, lacks_own, lacks_kind}
 use Rattle.sieve_check.specs.declared.label.Shape.{Shape}
-use Rattle.sieve_check.specs.declared.table.CommandKind.{CommandKind}
-use Rattle.sieve_check.specs.declared.table.TestKind.{TestKind}
+use Rattle.sieve_table.specs.declared.table.CommandKind.{CommandKind}
+use Rattle.sieve_table.specs.declared.table.TestKind.{TestKind}
 
 -- the tests that a test of such a reading has in it: a list, one, or none (RFC 5228, sections 5.2, 5.3 and 5.8)
 abbrev pub Joins : Option TestReading → Tests → Type 0

@@ -9,7 +9,7 @@ use Rattle.match_text.specs.declared.comparators.Collation.TheVariants.{Octet, C
 use Rattle.sieve_check.specs.Label.{labels_of}
 use Rattle.sieve_check.specs.Role.{has_role, first_role}
 use Rattle.sieve_check.specs.Shape.{texts_shape}
-use Rattle.sieve_check.specs.Table.{Row, command_named, test_named, tag_named, test_row}
+use Rattle.sieve_table.specs.Table.{Row, command_named, test_named, tag_named, test_row}
 use Rattle.sieve_check.specs.Tree.{Part, literal, Argument, strings, number, tag, Test, test, Node, node}
 use Rattle.sieve_check.specs.declared.label.Label.{Label}
 use Rattle.sieve_check.specs.declared.label.Label.TheVariants.{Tagged, OtherTag, Own, InSlot, Unfit}
@@ -17,14 +17,14 @@ use Rattle.sieve_check.specs.declared.label.Shape.{Shape}
 use Rattle.sieve_check.specs.declared.label.Shape.TheVariants as shape
 use Rattle.sieve_check.specs.declared.reading.MatchType.{MatchType}
 use Rattle.sieve_check.specs.declared.reading.MatchType.TheVariants.{Is, Contains}
-use Rattle.sieve_check.specs.declared.row.Role.{Role}
-use Rattle.sieve_check.specs.declared.row.Role.TheVariants as role
-use Rattle.sieve_check.specs.declared.table.CommandKind.{CommandKind}
-use Rattle.sieve_check.specs.declared.table.CommandKind.TheVariants as command
-use Rattle.sieve_check.specs.declared.table.Tag.{Tag}
-use Rattle.sieve_check.specs.declared.table.Tag.TheVariants as tag
-use Rattle.sieve_check.specs.declared.table.TestKind.{TestKind}
-use Rattle.sieve_check.specs.declared.table.TestKind.TheVariants as kind
+use Rattle.sieve_table.specs.declared.row.Role.{Role}
+use Rattle.sieve_table.specs.declared.row.Role.TheVariants as role
+use Rattle.sieve_table.specs.declared.table.CommandKind.{CommandKind}
+use Rattle.sieve_table.specs.declared.table.CommandKind.TheVariants as command
+use Rattle.sieve_table.specs.declared.table.Tag.{Tag}
+use Rattle.sieve_table.specs.declared.table.Tag.TheVariants as tag
+use Rattle.sieve_table.specs.declared.table.TestKind.{TestKind}
+use Rattle.sieve_table.specs.declared.table.TestKind.TheVariants as kind
 
 -- a test without tests in it, which looks at the message (RFC 5228, section 5); a string is its parts
 pub data Ask : Type 0 where

@@ -2,11 +2,11 @@
 use Rattle.std.specs.Prelude.{ℕ, Bool, not, ◌&&◌, List, map, length, nat_eq, if◌then◌else◌}
 use Rattle.sieve_syntax.specs.Tree.{Argument, strings, number, tag}
 use Rattle.sieve_check.specs.Label.{labels_of}
-use Rattle.sieve_check.specs.Table.{Row, tag_named}
+use Rattle.sieve_table.specs.Table.{Row, tag_named}
 use Rattle.sieve_check.specs.declared.label.Label.{Label}
 use Rattle.sieve_check.specs.declared.label.Shape.{Shape}
 use Rattle.sieve_check.specs.declared.label.Shape.TheVariants as shape
-use Rattle.sieve_check.specs.declared.table.Tag.{Tag}
+use Rattle.sieve_table.specs.declared.table.Tag.{Tag}
 
 -- one string without brackets, or a list (RFC 5228, section 2.4.2.1)
 abbrev pub texts_shape : ℕ → Bool → Shape

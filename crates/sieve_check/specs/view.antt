@@ -5,6 +5,5 @@ pub mod Finds
 pub mod Head
 pub mod Judged
 pub mod Reading
-pub mod Row
 pub mod Tree
 pub mod Use

@@ -5,19 +5,17 @@ ghost use Rattle.sieve_check.specs.Breach.{breaches_at, is_comparator_name};
 ghost use Rattle.sieve_check.specs.Element.{argument_elements, labelled_elements, text_elements, the_number, the_text};
 ghost use Rattle.sieve_check.specs.view.Context.{context_as};
 ghost use Rattle.sieve_check.specs.view.Finds.{Finds, FindsIn};
-ghost use Rattle.sieve_check.specs.view.Row.{row_as};
+ghost use Rattle.sieve_table.specs.view.Row.{row_as};
 ghost use Rattle.sieve_check.specs.view.Use.{row_found};
 
-use crate::capability::is_capability;
 use crate::context::Context;
 use crate::label::Label;
 use crate::role::{behind_first, first_role, has_role};
-use crate::row::{Role, Row};
-use crate::rule::Rule;
 use crate::shape::row_labels;
 use crate::usage::{has_bad_arguments, has_bad_tag};
 use crate::validator::CheckFault;
 use sieve_syntax::{Argument, Tests, Text};
+use sieve_table::{Role, Row, Rule, is_capability};
 use std::alloc::Global;
 
 /// Whether there is such a comparator (RFC 4790).

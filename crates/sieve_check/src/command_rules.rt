@@ -5,18 +5,17 @@ ghost use Rattle.sieve_syntax.specs.view.Tree.{node_of};
 ghost use Rattle.sieve_syntax.specs.declared.tree.Command.{out-Command};
 ghost use Rattle.sieve_check.specs.Context.{behind, behind_kind, continues_if, is_require};
 ghost use Rattle.sieve_check.specs.Element.{node_elements, nodes_elements};
-ghost use Rattle.sieve_check.specs.Table.{command_named};
+ghost use Rattle.sieve_table.specs.Table.{command_named};
 ghost use Rattle.sieve_check.specs.view.Context.{context_as};
 ghost use Rattle.sieve_check.specs.view.Finds.{Finds, FindsIn};
 ghost use Rattle.sieve_check.specs.view.Head.{command_head, kind_found};
 
 use crate::arguments::check_use;
 use crate::context::{Context, continues_if, is_require};
-use crate::rule::Rule;
-use crate::table::{CommandKind, command_named};
 use crate::test_rules::check_tests;
 use crate::validator::CheckFault;
 use sieve_syntax::Command;
+use sieve_table::{CommandKind, Rule, command_named};
 use std::alloc::Global;
 
 /// Whether a `require` of this kind stands where none may.

@@ -3,7 +3,7 @@ ghost use Rattle.std.specs.Prelude.{◌≡◌};
 ghost use Rattle.sieve_check.specs.Context.{allows_else, behind_kind, continues_if, inside, is_require, script_start};
 ghost use Rattle.sieve_check.specs.view.Context.{context_as};
 
-use crate::table::CommandKind;
+use sieve_table::CommandKind;
 
 /// What stands before a command.
 #[derive(Clone, Copy)]

@@ -5,20 +5,19 @@ ghost use Rattle.sieve_syntax.specs.view.Tree as seen;
 ghost use Rattle.sieve_check.specs.Context.{behind};
 ghost use Rattle.sieve_check.specs.Parted.{command_labels, parted, parted_argument, parted_labelled, parted_node, parted_nodes, parted_test, parted_tests, parted_text, parts_of, test_labels};
 ghost use Rattle.sieve_check.specs.Shape.{row_labels};
-ghost use Rattle.sieve_check.specs.Table as table;
+ghost use Rattle.sieve_table.specs.Table as table;
 ghost use Rattle.sieve_check.specs.Tree.{items};
 ghost use Rattle.sieve_check.specs.view.Context.{context_as};
-ghost use Rattle.sieve_check.specs.view.Row.{row_as};
+ghost use Rattle.sieve_table.specs.view.Row.{row_as};
 ghost use Rattle.sieve_check.specs.view.Tree.{argument_of, node_of, part_of, test_of, tests_of, text_of};
 
 use crate::context::Context;
 use crate::label::Shaped;
 use crate::role::role_of;
-use crate::row::{Role, Row};
 use crate::shape::row_expected;
-use crate::table::{command_named, test_named};
 use crate::tree::{Argument, Command, Part, Test, Tests, Text};
 use sieve_syntax::SmallOctets;
+use sieve_table::{Role, Row, command_named, test_named};
 use std::alloc::{AllocError, Global};
 
 /// The parts of a string in its role: one literal.

@@ -2,10 +2,9 @@
 ghost use Rattle.std.specs.Prelude.{◌≡◌, None, Some, IfOk, drop, map, slice_get};
 ghost use Rattle.sieve_check.specs.Label.{expected_behind, expecting, fills, fits, label_at, labels_from, labels_of, slot_label, slots_of, value_label, value_slots, is_filled, is_unfit};
 ghost use Rattle.sieve_check.specs.view.Expected.{expected_as, in_front, own_slot};
-ghost use Rattle.sieve_check.specs.view.Row.{row_as};
+ghost use Rattle.sieve_table.specs.view.Row.{row_as};
 
-use crate::row::{Form, Row, Slot};
-use crate::table::{Tag, tag_named};
+use sieve_table::{Form, Row, Slot, Tag, tag_named};
 use std::alloc::{AllocError, Global};
 
 /// What an argument looks like, where some tags are taken.
@@ -166,7 +165,7 @@ impl<'a> Expected<'a> {
 pub(crate) trait Shaped {
     ghost use Rattle.std.specs.Prelude.{◌≡◌, List};
     ghost use Rattle.sieve_check.specs.declared.label.Shape.{Shape};
-    ghost use Rattle.sieve_check.specs.declared.table.Tag.{Tag};
+    ghost use Rattle.sieve_table.specs.declared.table.Tag.{Tag};
 
     // its shape, where some tags are taken
     ghost shape_in: { List Tag → Self → Shape };

@@ -4,15 +4,14 @@ ghost use Rattle.std.specs.Option.{option_map};
 ghost use Rattle.sieve_check.specs.Label.{expecting, slots_of};
 ghost use Rattle.sieve_check.specs.Reading.{has_tag, in_role, is_tagged, labels_in, part_shape, tag_number};
 ghost use Rattle.sieve_check.specs.view.Expected.{expected_as};
-ghost use Rattle.sieve_check.specs.view.Row.{row_as};
+ghost use Rattle.sieve_table.specs.view.Row.{row_as};
 ghost use Rattle.sieve_check.specs.view.Tree.{argument_of};
 
 use crate::label::{Expected, Label, Shape, Shaped, expected_of};
 use crate::role::{has_role, role_of};
-use crate::row::{Role, Row};
 use crate::shape::texts_shape;
-use crate::table::{Tag, tag_named};
 use crate::tree::Argument;
+use sieve_table::{Role, Row, Tag, tag_named};
 
 impl Shaped for Argument {
     ghost shape_in = { λ tags a. part_shape tags (argument_of a) };

@@ -13,15 +13,15 @@ ghost use Rattle.sieve_check.specs.Order.{IsInTextOrder};
 ghost use Rattle.sieve_check.specs.Parted.{parted};
 ghost use Rattle.sieve_check.specs.Readable.{IsReadable, DoesAll};
 ghost use Rattle.sieve_check.specs.Role.{all_roles, role_number};
-ghost use Rattle.sieve_check.specs.Rule.{rule_number};
-ghost use Rattle.sieve_check.specs.Table.{command_named, command_row, test_named, test_row};
+ghost use Rattle.sieve_table.specs.Rule.{rule_number};
+ghost use Rattle.sieve_table.specs.Table.{command_named, command_row, test_named, test_row};
 ghost use Rattle.sieve_check.specs.Tree as checked;
 ghost use Rattle.sieve_check.specs.Use.{all_kinds, kind_number};
-ghost use Rattle.sieve_check.specs.declared.row.Role.{Role};
-ghost use Rattle.sieve_check.specs.declared.row.TagKind.{TagKind};
-ghost use Rattle.sieve_check.specs.declared.rule.Rule.{Rule};
-ghost use Rattle.sieve_check.specs.declared.table.CommandKind.{CommandKind};
-ghost use Rattle.sieve_check.specs.declared.table.TestKind.{TestKind};
+ghost use Rattle.sieve_table.specs.declared.row.Role.{Role};
+ghost use Rattle.sieve_table.specs.declared.row.TagKind.{TagKind};
+ghost use Rattle.sieve_table.specs.declared.rule.Rule.{Rule};
+ghost use Rattle.sieve_table.specs.declared.table.CommandKind.{CommandKind};
+ghost use Rattle.sieve_table.specs.declared.table.TestKind.{TestKind};
 
 /// The breaches of a script are those of its elements (its commands, tests, strings and numbers in the order of the text),
 /// each with the rules that it breaks in the order of their numbers. So the first breach is the least.

@@ -2,7 +2,6 @@
 #![tactic(auto)]
 
 mod arguments;
-mod capability;
 mod checked;
 mod command_rules;
 mod context;
@@ -13,10 +12,7 @@ mod labelled;
 pub mod laws;
 mod reading;
 mod role;
-mod row;
-mod rule;
 mod shape;
-mod table;
 mod test_rules;
 mod tree;
 mod usage;
@@ -25,8 +21,7 @@ mod validator;
 pub use checked::Checked;
 pub use judged::{FaultKind, JudgeFault, Judged, judge};
 pub use reading::{Ask, CommandReading, Leaf, MatchType, TestReading};
-pub use rule::Rule;
 pub use sieve_syntax::SmallOctets;
-pub use table::{CommandKind, TestKind};
+pub use sieve_table::{CommandKind, Rule, TestKind};
 pub use tree::{Argument, Command, Part, Test, Tests, Text};
 pub use validator::{CheckFault, check};

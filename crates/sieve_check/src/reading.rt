@@ -5,14 +5,13 @@ ghost use Rattle.std.specs.List.{flat_map, starts_with};
 ghost use lib.Pointwise.{pointwise};
 ghost use Rattle.sieve_check.specs.Reading.{collation_by, collation_named, command_reading, command_reading_by, exists_by, has_tag, header_by, in_role, kind_of, labels_in, match_type_of, number_in, part_value, reads_ask, size_by, test_reading, test_reading_by, text_value, texts_in};
 ghost use Rattle.sieve_check.specs.view.Reading.{ask_as, command_reading_as, test_reading_as, texts_as};
-ghost use Rattle.sieve_check.specs.view.Row.{row_as};
+ghost use Rattle.sieve_table.specs.view.Row.{row_as};
 ghost use Rattle.sieve_check.specs.view.Tree.{argument_of, node_of, part_of, test_of, text_of};
 
 use crate::labelled::{argument_in, has_tag};
-use crate::row::{Role, Row};
-use crate::table::{CommandKind, Tag, TestKind, command_named, test_named};
 use crate::tree::{Argument, Command, Part, Test, Text};
 use match_text::Collation;
+use sieve_table::{CommandKind, Role, Row, Tag, TestKind, command_named, test_named};
 
 /// How a test compares values with keys (RFC 5228, section 2.7.1).
 #[derive(Clone, Copy, Debug, PartialEq, Eq)]

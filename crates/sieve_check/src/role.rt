@@ -3,7 +3,7 @@ ghost use Rattle.std.specs.Prelude.{◌≡◌, drop};
 ghost use Rattle.sieve_check.specs.Role.{first_role, has_role, role_number, role_of, same_role};
 
 use crate::label::Label;
-use crate::row::Role;
+use sieve_table::Role;
 
 /// The number that tells a role.
 fn role_number(role: Role) -> u8

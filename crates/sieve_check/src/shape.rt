@@ -4,12 +4,11 @@ ghost use Rattle.sieve_syntax.specs.view.Tree.{argument_of};
 ghost use Rattle.sieve_check.specs.Shape.{shape_of, shapes_of, texts_shape};
 ghost use Rattle.sieve_check.specs.Label.{expecting, is_filled, labels_of, slots_of};
 ghost use Rattle.sieve_check.specs.view.Expected.{expected_as};
-ghost use Rattle.sieve_check.specs.view.Row.{row_as};
+ghost use Rattle.sieve_table.specs.view.Row.{row_as};
 
 use crate::label::{Expected, Label, Shape, Shaped, expected_of, is_filled, labels_of};
-use crate::row::Row;
-use crate::table::{Tag, tag_named};
 use sieve_syntax::Argument;
+use sieve_table::{Row, Tag, tag_named};
 use std::alloc::{AllocError, Global};
 
 /// One string without brackets, or a list.

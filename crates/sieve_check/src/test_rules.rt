@@ -9,10 +9,9 @@ ghost use Rattle.sieve_check.specs.view.Head.{test_head};
 
 use crate::arguments::check_use;
 use crate::context::Context;
-use crate::rule::Rule;
-use crate::table::test_named;
 use crate::validator::CheckFault;
 use sieve_syntax::{Test, Tests};
+use sieve_table::{Rule, test_named};
 use std::alloc::Global;
 
 /// Checks a test apart from the tests in it.

@@ -5,12 +5,12 @@ ghost use Rattle.sieve_syntax.specs.view.Tree.{argument_of, tests_of};
 ghost use Rattle.sieve_check.specs.Label.{is_filled};
 ghost use Rattle.sieve_check.specs.Shape.{shapes_of};
 ghost use Rattle.sieve_check.specs.Use.{are_bad, awaits, begins_own, has_bad_tag, has_late_tag, has_repeated, is_of_kind, is_other_tag, is_positional, is_repeated, is_tag, lacks_kind, lacks_own, same_kind, tests_fit};
-ghost use Rattle.sieve_check.specs.view.Row.{row_as};
+ghost use Rattle.sieve_table.specs.view.Row.{row_as};
 
 use crate::label::Label;
-use crate::row::{Inner, Row, TagKind};
 use crate::shape::row_is_filled;
 use sieve_syntax::{Argument, Tests};
+use sieve_table::{Inner, Row, TagKind};
 
 /// Whether it is a tag that isn't taken.
 fn is_other_tag(label: Label) -> bool

@@ -11,8 +11,8 @@ use crate::checked::Checked;
 use crate::command_rules::check_commands;
 use crate::context::Context;
 use crate::copying::parted;
-use crate::rule::Rule;
 use sieve_syntax::Script;
+use sieve_table::Rule;
 use std::alloc::{AllocError, Global};
 use thiserror::Error;
 

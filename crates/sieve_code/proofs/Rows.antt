@@ -6,7 +6,7 @@ use Rattle.sieve_base.specs.Writers.{quoted}
 use Rattle.sieve_check.specs.Reading.{Ask, header_ask, over_ask, keep_leaf, discard_leaf}
 use Rattle.sieve_check.specs.Script as script
 use Rattle.sieve_check.specs.Script.{chain_of, condition_of, conditions_in, conditions, block_commands}
-use Rattle.sieve_check.specs.Table.{command_named, test_named}
+use Rattle.sieve_table.specs.Table.{command_named, test_named}
 use Rattle.sieve_check.specs.Tree.{literal, Argument, strings, number, tag, Test, test, no_tests, one_test, test_list, tests, Node, node, Block, no_block, block, nodes}
 use Rattle.sieve_check.specs.declared.reading.MatchType.TheVariants.{Contains}
 use Rattle.sieve_code.specs.Choice.{code_of, placed, test_before, tests_before, list_before, first_before, node_before, block_before, nodes_before}

@@ -5,7 +5,7 @@ use Rattle.match_text.specs.declared.comparators.Collation.TheVariants.{Octet, C
 use Rattle.message_text.specs.Fields.{fields_of, field_groups}
 use Rattle.sieve_check.specs.Reading.{Ask, header_ask, exists_ask, over_ask, under_ask, keep_leaf, discard_leaf}
 use Rattle.sieve_check.specs.Script.{Condition, always, never, asks, negated, both, either, Commands, no_commands, stops, acts, chooses, chain_of, node_before, block_commands, conditions_in}
-use Rattle.sieve_check.specs.Table.{command_named}
+use Rattle.sieve_table.specs.Table.{command_named}
 use Rattle.sieve_check.specs.Tree.{Part, literal, node, no_tests, no_block}
 use Rattle.sieve_check.specs.declared.reading.MatchType.{MatchType}
 use Rattle.sieve_check.specs.declared.reading.MatchType.TheVariants.{Is, Contains}

@@ -16,7 +16,6 @@ mod status;
 mod task;
 
 pub use bench::Bench;
-pub use command_line::{Job, UsageFault, command_of};
 pub use dump::dump_text;
 pub use fault::{EditFault, ReportFault};
 pub use server::session;

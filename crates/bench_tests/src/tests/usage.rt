@@ -1,6 +1,7 @@
 //! The words of the command line, and the status of each end.
 
-use sievebench::{End, Job, SessionEnd, TestEnd, UsageFault, command_of, status_of};
+use command_line::{Job, UsageFault, command_of};
+use sievebench::{End, SessionEnd, TestEnd, status_of};
 use std::process::Abort;
 use std::test::Fail;
 

@@ -3,7 +3,7 @@ use Rattle.std.specs.Prelude.{List, ◌∷◌, Option, Some, None, if◌then◌e
 use Rattle.sieve_check.specs.Label.{Expected, fits}
 use Rattle.sieve_check.specs.declared.label.Expected as expected
 use Rattle.sieve_check.specs.declared.label.Shape.{Shape}
-use Rattle.sieve_check.specs.declared.row.Slot.{Slot}
+use Rattle.sieve_table.specs.declared.row.Slot.{Slot}
 
 abbrev pub in_front : Option Slot → List Slot → List Slot
 in_front None slots = slots

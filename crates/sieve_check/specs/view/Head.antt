@@ -9,8 +9,8 @@ use Rattle.sieve_syntax.specs.declared.tree.Test as one_tests
 use Rattle.sieve_check.specs.Breach.{Breach, all_rules, breaches_by, breaches_in, command_breaks}
 use Rattle.sieve_check.specs.Context.{Context}
 use Rattle.sieve_check.specs.Element.{Element, the_command, the_test, command_arguments, test_arguments}
-use Rattle.sieve_check.specs.Table.{command_named, test_named}
-use Rattle.sieve_check.specs.declared.table.CommandKind.{CommandKind}
+use Rattle.sieve_table.specs.Table.{command_named, test_named}
+use Rattle.sieve_table.specs.declared.table.CommandKind.{CommandKind}
 
 abbrev pub block_as : Option (Vec commands.Command Global) → Block
 block_as None = no_block

@@ -2,7 +2,8 @@
 
 use super::machine::{Given, Machine, Written};
 use crate::{answer_usage, complaint_of, run};
-use sievebench::{SessionEnd, UsageFault};
+use command_line::UsageFault;
+use sievebench::SessionEnd;
 use std::alloc::Global;
 use std::cell::RefCell;
 use std::fmt::Debug;

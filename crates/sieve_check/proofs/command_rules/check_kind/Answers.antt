@@ -1,6 +1,6 @@
 use Rattle.std.proofs.Common.{◌∙◌, refl, sym}
 use Rattle.sieve_check.specs.view.Context.{context_as}
-use Rattle.sieve_check.specs.view.Row.{row_as}
+use Rattle.sieve_table.specs.view.Row.{row_as}
 use Rattle.sieve_check.proofs.Heads.{kind_placed}
 use Rattle.sieve_check.proofs.command_rules.check_kind.Goals as goal
 

@@ -5,7 +5,7 @@ use Rattle.sieve_check.specs.Parted.{parted_labelled}
 use Rattle.sieve_check.specs.Shape.{row_labels, shapes_of}
 use Rattle.sieve_check.specs.view.Context.{context_as}
 use Rattle.sieve_check.specs.view.Expected.{expected_as}
-use Rattle.sieve_check.specs.view.Row.{row_as}
+use Rattle.sieve_table.specs.view.Row.{row_as}
 use Rattle.sieve_check.specs.view.Tree.{argument_of}
 use Rattle.sieve_check.proofs.copying.parted_by_row.Given as goal
 

@@ -2,7 +2,7 @@ use Rattle.std.proofs.Common.{◌≡◌, drop, map}
 use Rattle.sieve_check.specs.Label.{labels_from}
 use Rattle.sieve_check.specs.Reading.{in_role, labels_in, part_shape}
 use Rattle.sieve_check.specs.view.Expected.{expected_as}
-use Rattle.sieve_check.specs.view.Row.{row_as}
+use Rattle.sieve_table.specs.view.Row.{row_as}
 use Rattle.sieve_check.specs.view.Tree.{argument_of}
 use Rattle.sieve_check.proofs.labelled.argument_in.Given as goal
 

@@ -1,7 +1,7 @@
 use Rattle.std.proofs.Common.{Some, ◌∙◌, ap, map, sym}
 use Rattle.std.specs.Option.{option_map}
 use Rattle.sieve_check.specs.Reading.{exists_by, header_by, labels_in, reads_ask, size_by, test_reading_by}
-use Rattle.sieve_check.specs.Table.{test_row}
+use Rattle.sieve_table.specs.Table.{test_row}
 use Rattle.sieve_check.specs.view.Tree.{argument_of}
 use Rattle.sieve_check.proofs.reading.test_reading_by.Goals as goal
 

@@ -1,6 +1,6 @@
 use Rattle.std.proofs.Common.{refl}
 use Rattle.sieve_check.specs.view.Context.{context_as}
-use Rattle.sieve_check.specs.view.Row.{row_as}
+use Rattle.sieve_table.specs.view.Row.{row_as}
 use Rattle.sieve_check.proofs.Heads.{test_known}
 use Rattle.sieve_check.proofs.test_rules.check_test_head.Goals as goal
 

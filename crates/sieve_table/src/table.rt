@@ -1,7 +1,7 @@
 //! The table: a row for each command, test and tag that there is.
 ghost use Rattle.std.specs.Prelude.{◌≡◌, find};
-ghost use Rattle.sieve_check.specs.Table.{bare, bare_tag, command_named, command_row, is_named, tag_named, tag_row, test_named, test_row};
-ghost use Rattle.sieve_check.specs.view.Row.{row_as, tag_row_as};
+ghost use Rattle.sieve_table.specs.Table.{bare, bare_tag, command_named, command_row, is_named, tag_named, tag_row, test_named, test_row};
+ghost use Rattle.sieve_table.specs.view.Row.{row_as, tag_row_as};
 
 use crate::row::{Form, Inner, Role, Row, Slot, TagKind, TagRow};
 
@@ -47,7 +47,7 @@ pub enum TestKind {
 
 /// A tag that there is.
 #[derive(Clone, Copy)]
-pub(crate) enum Tag {
+pub enum Tag {
     /// `:comparator`, which takes the string behind it (RFC 5228, section 2.7.3).
     Comparator,
     /// `:is` (RFC 5228, section 2.7.1).
@@ -113,7 +113,7 @@ const fn bare_tag(name: &'static [u8], kind: TagKind) -> TagRow
 
 impl Tag {
     /// The tag's row.
-    pub(crate) fn row(self) -> TagRow
+    pub fn row(self) -> TagRow
         ensures { tag_row_as result ≡ tag_row self }
     {
         match self {
@@ -131,7 +131,7 @@ impl Tag {
 
 impl CommandKind {
     /// The command's row.
-    pub(crate) fn row(self) -> Row
+    pub fn row(self) -> Row
         ensures { row_as result ≡ command_row self }
     {
         match self {
@@ -180,7 +180,7 @@ const KEYS: Slot = Slot {
 
 impl TestKind {
     /// The test's row.
-    pub(crate) fn row(self) -> Row
+    pub fn row(self) -> Row
         ensures { row_as result ≡ test_row self }
     {
         match self {
@@ -249,7 +249,7 @@ fn find_test(kinds: &[TestKind], written: &[u8]) -> Option<TestKind>
 }
 
 /// The tag of that name among some.
-pub(crate) fn tag_named(tags: &[Tag], written: &[u8]) -> Option<Tag>
+pub fn tag_named(tags: &[Tag], written: &[u8]) -> Option<Tag>
     ensures { result ≡ tag_named tags.now written.now }
 {
     tags.iter()
@@ -259,7 +259,7 @@ pub(crate) fn tag_named(tags: &[Tag], written: &[u8]) -> Option<Tag>
 
 /// The command of that name.
 #[tactic(auto, unfolding(crate::specs::Table::command_named))]
-pub(crate) fn command_named(written: &[u8]) -> Option<CommandKind>
+pub fn command_named(written: &[u8]) -> Option<CommandKind>
     ensures { result ≡ command_named written.now }
 {
     find_command(&COMMANDS, written)
@@ -267,7 +267,7 @@ pub(crate) fn command_named(written: &[u8]) -> Option<CommandKind>
 
 /// The test of that name.
 #[tactic(auto, unfolding(crate::specs::Table::test_named))]
-pub(crate) fn test_named(written: &[u8]) -> Option<TestKind>
+pub fn test_named(written: &[u8]) -> Option<TestKind>
     ensures { result ≡ test_named written.now }
 {
     find_test(&TESTS, written)

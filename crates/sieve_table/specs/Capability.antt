@@ -2,8 +2,8 @@
 use Rattle.std.specs.Prelude.{ℕ, Bool, List, [], ◌∷◌, nat_eq, codes}
 use Rattle.std.specs.List.{list_any}
 use lib.Pointwise.{pointwise}
-use Rattle.sieve_check.specs.declared.capability.Capability.{Capability}
-use Rattle.sieve_check.specs.declared.capability.Capability.TheVariants.{Fileinto, Envelope, Variables, Imap4flags, Include, OctetComparator, CasemapComparator}
+use Rattle.sieve_table.specs.declared.capability.Capability.{Capability}
+use Rattle.sieve_table.specs.declared.capability.Capability.TheVariants.{Fileinto, Envelope, Variables, Imap4flags, Include, OctetComparator, CasemapComparator}
 
 -- the string that names one in a `require` (RFC 5228, sections 4.1 and 5.4; RFC 5229, section 1; RFC 5232, section 1; RFC
 -- 6609, section 3.1). The two comparators of RFC 5228, section 2.7.3, may be required, and need not be.

@@ -1,7 +1,7 @@
 -- The rows of the program's table.
-use Rattle.sieve_check.specs.Table.{Row, TagRow}
-use Rattle.sieve_check.specs.declared.row.Row as rows
-use Rattle.sieve_check.specs.declared.row.TagRow as tag_rows
+use Rattle.sieve_table.specs.Table.{Row, TagRow}
+use Rattle.sieve_table.specs.declared.row.Row as rows
+use Rattle.sieve_table.specs.declared.row.TagRow as tag_rows
 
 abbrev pub row_as : rows.Row → Row
 row_as r = record {

@@ -1,5 +1,5 @@
 ghost use Rattle.std.specs.Prelude.{◌≡◌};
-ghost use Rattle.sieve_check.specs.Rule.{rule_number, rule_word};
+ghost use Rattle.sieve_table.specs.Rule.{rule_number, rule_word};
 
 /// A rule that a script without a syntax fault can break. The numbers are in the order in which the rules are
 /// reported where two are broken at one place.

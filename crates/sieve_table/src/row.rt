@@ -1,13 +1,13 @@
 //! What a row of the table says.
 ghost use Rattle.std.specs.Prelude.{◌≡◌, None};
-ghost use Rattle.sieve_check.specs.Table.{slot};
+ghost use Rattle.sieve_table.specs.Table.{slot};
 
 use crate::capability::Capability;
 use crate::table::Tag;
 
 /// How an argument is written.
 #[derive(Clone, Copy)]
-pub(crate) enum Form {
+pub enum Form {
     /// One string without brackets.
     One,
     /// A list of strings, or one string.
@@ -18,7 +18,7 @@ pub(crate) enum Form {
 
 /// What an argument is for. By this its strings are judged and read.
 #[derive(Clone, Copy)]
-pub(crate) enum Role {
+pub enum Role {
     /// Capabilities (RFC 5228, section 3.2).
     Capabilities,
     /// A comparator (RFC 5228, section 2.7.3).
@@ -53,11 +53,11 @@ pub(crate) enum Role {
 
 /// An argument that is taken.
 #[derive(Clone, Copy)]
-pub(crate) struct Slot {
-    pub(crate) form: Form,
-    pub(crate) role: Role,
+pub struct Slot {
+    pub form: Form,
+    pub role: Role,
     /// What has to be required where it is given.
-    pub(crate) needs: Option<Capability>,
+    pub needs: Option<Capability>,
 }
 
 impl Slot {
@@ -75,7 +75,7 @@ impl Slot {
 
 /// The kinds of tags. Two of one kind don't stand together.
 #[derive(Clone, Copy)]
-pub(crate) enum TagKind {
+pub enum TagKind {
     /// The comparator (RFC 5228, section 2.7.3).
     Comparator,
     /// The match types (RFC 5228, section 2.7.1).
@@ -104,19 +104,19 @@ pub(crate) enum TagKind {
 
 /// What is said of a tag.
 #[derive(Clone, Copy)]
-pub(crate) struct TagRow {
+pub struct TagRow {
     /// Its identifier without the colon, in lower case.
-    pub(crate) name: &'static [u8],
-    pub(crate) kind: TagKind,
+    pub name: &'static [u8],
+    pub kind: TagKind,
     /// The argument that it takes itself, directly behind it.
-    pub(crate) takes: Option<Slot>,
+    pub takes: Option<Slot>,
     /// What has to be required where it is given.
-    pub(crate) needs: Option<Capability>,
+    pub needs: Option<Capability>,
 }
 
 /// Which tests a command or a test takes.
 #[derive(Clone, Copy)]
-pub(crate) enum Inner {
+pub enum Inner {
     None,
     /// One, without parentheses.
     One,
@@ -126,20 +126,20 @@ pub(crate) enum Inner {
 
 /// What a command or a test takes (RFC 5228, section 2.6).
 #[derive(Clone, Copy)]
-pub(crate) struct Row {
+pub struct Row {
     /// Its identifier, in lower case.
-    pub(crate) name: &'static [u8],
+    pub name: &'static [u8],
     /// Its tags, which may stand in any order.
-    pub(crate) tags: &'static [Tag],
+    pub tags: &'static [Tag],
     /// The kind of which exactly one tag is there.
-    pub(crate) one_of: Option<TagKind>,
+    pub one_of: Option<TagKind>,
     /// A positional argument that may stand before the others.
-    pub(crate) front: Option<Slot>,
+    pub front: Option<Slot>,
     /// The positional arguments in order.
-    pub(crate) slots: &'static [Slot],
-    pub(crate) tests: Inner,
+    pub slots: &'static [Slot],
+    pub tests: Inner,
     /// Whether it ends by a block, and not by a semicolon.
-    pub(crate) has_block: bool,
+    pub has_block: bool,
     /// What has to be required for it.
-    pub(crate) needs: &'static [Capability],
+    pub needs: &'static [Capability],
 }

@@ -1,22 +1,22 @@
 -- The table: a row for each command, test and tag that there is says what it takes.
 use Rattle.std.specs.Prelude.{ℕ, Bool, true, false, List, [], ◌∷◌, Option, Some, None, find, codes}
 use Rattle.std.specs.Str.{str_eq_ignore_ascii_case}
-use Rattle.sieve_check.specs.declared.capability.Capability.{Capability}
-use Rattle.sieve_check.specs.declared.row.Form.{Form}
-use Rattle.sieve_check.specs.declared.row.Form.TheVariants as form
-use Rattle.sieve_check.specs.declared.row.Inner.{Inner}
-use Rattle.sieve_check.specs.declared.row.Inner.TheVariants as inner
-use Rattle.sieve_check.specs.declared.row.Role.{Role}
-use Rattle.sieve_check.specs.declared.row.Role.TheVariants as role
-use Rattle.sieve_check.specs.declared.row.Slot.{Slot}
-use Rattle.sieve_check.specs.declared.row.TagKind.{TagKind}
-use Rattle.sieve_check.specs.declared.row.TagKind.TheVariants as kind
-use Rattle.sieve_check.specs.declared.table.CommandKind.{CommandKind}
-use Rattle.sieve_check.specs.declared.table.CommandKind.TheVariants as command
-use Rattle.sieve_check.specs.declared.table.Tag.{Tag}
-use Rattle.sieve_check.specs.declared.table.Tag.TheVariants as tag
-use Rattle.sieve_check.specs.declared.table.TestKind.{TestKind}
-use Rattle.sieve_check.specs.declared.table.TestKind.TheVariants as test
+use Rattle.sieve_table.specs.declared.capability.Capability.{Capability}
+use Rattle.sieve_table.specs.declared.row.Form.{Form}
+use Rattle.sieve_table.specs.declared.row.Form.TheVariants as form
+use Rattle.sieve_table.specs.declared.row.Inner.{Inner}
+use Rattle.sieve_table.specs.declared.row.Inner.TheVariants as inner
+use Rattle.sieve_table.specs.declared.row.Role.{Role}
+use Rattle.sieve_table.specs.declared.row.Role.TheVariants as role
+use Rattle.sieve_table.specs.declared.row.Slot.{Slot}
+use Rattle.sieve_table.specs.declared.row.TagKind.{TagKind}
+use Rattle.sieve_table.specs.declared.row.TagKind.TheVariants as kind
+use Rattle.sieve_table.specs.declared.table.CommandKind.{CommandKind}
+use Rattle.sieve_table.specs.declared.table.CommandKind.TheVariants as command
+use Rattle.sieve_table.specs.declared.table.Tag.{Tag}
+use Rattle.sieve_table.specs.declared.table.Tag.TheVariants as tag
+use Rattle.sieve_table.specs.declared.table.TestKind.{TestKind}
+use Rattle.sieve_table.specs.declared.table.TestKind.TheVariants as test
 
 -- WHAT A ROW SAYS
 

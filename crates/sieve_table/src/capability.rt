@@ -1,10 +1,10 @@
 //! The capabilities that a script can require.
 ghost use Rattle.std.specs.Prelude.{◌≡◌};
-ghost use Rattle.sieve_check.specs.Capability.{capability_name, is_capability, is_name_of};
+ghost use Rattle.sieve_table.specs.Capability.{capability_name, is_capability, is_name_of};
 
 /// What a command, a test, a tag or an argument may need (RFC 5228, section 2.10.5).
 #[derive(Clone, Copy)]
-pub(crate) enum Capability {
+pub enum Capability {
     /// `fileinto` (RFC 5228, section 4.1).
     Fileinto,
     /// `envelope` (RFC 5228, section 5.4).
@@ -49,7 +49,7 @@ fn is_name_of(name: &[u8], capability: Capability) -> bool
 }
 
 /// Whether a string names a capability that there is.
-pub(crate) fn is_capability(name: &[u8]) -> bool
+pub fn is_capability(name: &[u8]) -> bool
     ensures { result ≡ is_capability name.now }
 {
     CAPABILITIES

@@ -1,0 +1,4 @@
+pub mod Capability
+pub mod Rule
+pub mod Table
+pub mod view

@@ -1,0 +1,13 @@
+//! What Sieve scripts are made of (RFC 5228): a row for each command, test and tag says what it takes, and the
+//! rules that a use of it can break have their numbers and words.
+#![tactic(auto)]
+
+mod capability;
+mod row;
+mod rule;
+mod table;
+
+pub use capability::{Capability, is_capability};
+pub use row::{Form, Inner, Role, Row, Slot, TagKind, TagRow};
+pub use rule::Rule;
+pub use table::{CommandKind, Tag, TestKind, command_named, tag_named, test_named};
