@@ -1,8 +1,7 @@
 //! Laws over the definitions. Each of these functions does nothing: its contract is the law.
-ghost use Rattle.std.specs.Prelude.{◌≡◌, Bool, List, length};
+ghost use Rattle.std.specs.Prelude.{◌≡◌, List, length};
 ghost use Rattle.sieve_check.specs.Tree.{Node};
 ghost use Rattle.sieve_code.specs.Choice.{AllGoForward, code_of};
-ghost use Rattle.sieve_code.specs.Operation.{Operation};
 ghost use Rattle.sieve_code.specs.Walk.{IsWhole, code_walk, tree_walk};
 
 /// Whatever the tree: its code does what it does, in at most as many operations as the code has, and each jump goes forward.

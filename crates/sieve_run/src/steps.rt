@@ -75,9 +75,9 @@ fn carry_out(
         StepsTo delivery.now.message.now delivery.now.envelope.now (op_as op.now) behind register (state_of state.old) step (state_of state.new)) }
 {
     match op {
-        Op::True => Ok(with(true, behind)),
-        Op::False => Ok(with(false, behind)),
-        Op::Not => Ok(with(!register, behind)),
+        Op::True => Ok(proceed(true, behind)),
+        Op::False => Ok(proceed(false, behind)),
+        Op::Not => Ok(proceed(!register, behind)),
         Op::Header {
             match_type,
             collation,
@@ -92,24 +92,24 @@ fn carry_out(
                 names,
                 keys,
             )?;
-            Ok(with(truth, behind))
+            Ok(proceed(truth, behind))
         }
         Op::Exists { names } => {
             let truth = exists(delivery.alloc, delivery.message, names)?;
-            Ok(with(truth, behind))
+            Ok(proceed(truth, behind))
         }
-        Op::SizeOver(limit) => Ok(with(is_over(delivery.message, *limit), behind)),
-        Op::SizeUnder(limit) => Ok(with(is_under(delivery.message, *limit), behind)),
-        Op::Jump(target) => Ok(with(register, *target)),
-        Op::JumpIfFalse(target) => Ok(with(register, chosen(register, behind, *target))),
-        Op::JumpIfTrue(target) => Ok(with(register, chosen(register, *target, behind))),
+        Op::SizeOver(limit) => Ok(proceed(is_over(delivery.message, *limit), behind)),
+        Op::SizeUnder(limit) => Ok(proceed(is_under(delivery.message, *limit), behind)),
+        Op::Jump(target) => Ok(proceed(register, *target)),
+        Op::JumpIfFalse(target) => Ok(proceed(register, chosen(register, behind, *target))),
+        Op::JumpIfTrue(target) => Ok(proceed(register, chosen(register, *target, behind))),
         Op::Keep(_) => {
             state.store(delivery.alloc, delivery.envelope.mailbox.as_slice())?;
-            Ok(with(register, behind))
+            Ok(proceed(register, behind))
         }
         Op::Discard(_) => {
             state.discard()?;
-            Ok(with(register, behind))
+            Ok(proceed(register, behind))
         }
         Op::Stop => Ok(Step::Stopped),
     }
@@ -123,7 +123,7 @@ fn chosen(truth: bool, there: usize, otherwise: usize) -> usize
 }
 
 /// On at a place, with a truth in the register.
-fn with(register: bool, place: usize) -> Step
+fn proceed(register: bool, place: usize) -> Step
     ensures { result ≡ Next place register }
 {
     Step::Next { place, register }
