@@ -51,11 +51,14 @@ fn texts_are_dumped(rt: HostRuntime) -> Result<(), Fail> {
     check_text(&rt, b"a", script, code, TestEnd::Clean)?;
     check_text(&rt, b"a", b"", b"", TestEnd::Clean)?;
     check_text(&rt, b"a", b"kep;", line, TestEnd::Faulty)?;
-    let spaces = vec![in rt.alloc(); b' '; 1_048_577]?;
-    check_text(&rt, b"a", &spaces, b"", TestEnd::TooLarge)?;
-    check_text(&rt, b"a", &spaces[..1_048_576], b"", TestEnd::Clean)?;
-    check_text(&rt, &spaces[..1_025], b"kep;", b"", TestEnd::TooLarge)?;
-    check_text(&rt, &spaces[..1_024], b"keep;", b"0: keep internal @1\n", TestEnd::Clean)
+    let text = vec![in rt.alloc(); b' '; 1_048_576]?;
+    let large = vec![in rt.alloc(); b' '; 1_048_577]?;
+    check_text(&rt, b"a", &text, b"", TestEnd::Clean)?;
+    check_text(&rt, b"a", &large, b"", TestEnd::TooLarge)?;
+    let name = vec![in rt.alloc(); b' '; 1_024]?;
+    let long = vec![in rt.alloc(); b' '; 1_025]?;
+    check_text(&rt, &name, b"keep;", b"0: keep internal @1\n", TestEnd::Clean)?;
+    check_text(&rt, &long, b"kep;", b"", TestEnd::TooLarge)
 }
 
 /// A writer without room takes a front of the dump.

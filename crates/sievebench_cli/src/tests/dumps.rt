@@ -91,14 +91,14 @@ fn code_and_complaints_are_written(rt: HostRuntime) -> Result<(), Fail> {
 /// A file is read to one octet past the limit, where this one fails.
 #[test]
 fn large_files_are_refused(rt: HostRuntime) -> Result<(), Fail> {
-    let octets = vec![in rt.alloc(); b' '; 1_048_577]?;
+    let text = vec![in rt.alloc(); b' '; 1_048_576]?;
+    let large = vec![in rt.alloc(); b' '; 1_048_577]?;
     let failing = Given {
-        octets: octets.as_slice(),
+        octets: large.as_slice(),
         piece: 65_536,
         fails: true,
     };
-    let largest = whole(&octets[..1_048_576]);
-    let files = [("a", failing), ("b", largest)];
+    let files = [("a", failing), ("b", whole(text.as_slice()))];
     check_dump(&rt, "a", &files, 1_000, 2, b"", b"sievebench: too large \"a\"\n")?;
     check_dump(&rt, "b", &files, 1_000, 0, b"", b"")
 }
