@@ -26,7 +26,7 @@ impl Read for Opened<'_> {
 
 impl Write for Opened<'_> {
     fn write(&mut self, _buf: &[u8]) -> io::Result<usize> {
-        unsupported()
+        Err(io::Error::from(ErrorKind::Unsupported))
     }
 
     fn flush(&mut self) -> io::Result<()> {

@@ -1,4 +1,5 @@
 //! A system whose words, input, output and standard error are made.
+ghost use Rattle.std.specs.Io.{ReadsAtMost};
 
 use std::alloc::{Allocator, Global};
 use std::cell::RefCell;
@@ -40,7 +41,9 @@ pub(crate) struct Given<'a> {
 
 impl Given<'_> {
     /// Gives the next octets, or fails behind the last.
-    pub(crate) fn give(&mut self, buf: &mut [u8]) -> io::Result<usize> {
+    pub(crate) fn give(&mut self, buf: &mut [u8]) -> io::Result<usize>
+        ensures { ReadsAtMost result buf.new }
+    {
         if self.octets.is_empty() && self.fails {
             return Err(io::Error::from(ErrorKind::ConnectionReset));
         }

@@ -272,17 +272,22 @@ fn standard_error_says_what_went_wrong(rt: HostRuntime) {
     }
 }
 
-#[test]
-fn want_of_memory_is_told(rt: HostRuntime) -> Result<(), Fail> {
-    let written = Written::new(rt.alloc());
+/// Says that the words could not be read for want of memory: the status.
+fn status_without_memory(alloc: Global, written: &Written) -> u8 {
     let machine = Machine {
-        alloc: rt.alloc(),
+        alloc,
         words: SESSION_WORDS,
         input: whole(b""),
         files: &[],
         room: 1_000,
-        written: &written,
+        written,
     };
-    assert_eq!(rt; answer_usage(&machine, UsageFault::NoMemory), 4);
+    answer_usage(&machine, UsageFault::NoMemory)
+}
+
+#[test]
+fn want_of_memory_is_told(rt: HostRuntime) -> Result<(), Fail> {
+    let written = Written::new(rt.alloc());
+    assert_eq!(rt; status_without_memory(rt.alloc(), &written), 4);
     check_kept(&rt, &written.errors, b"sievebench: out of memory\n")
 }
