@@ -122,11 +122,7 @@ fn script_in(alloc: Global, matches: &ArgMatches<'_>) -> Result<Argument, AllocE
 }
 
 // The job of a subcommand of that name with these matches.
-fn job_named(
-    alloc: Global,
-    name: &str,
-    matches: &ArgMatches<'_>,
-) -> Result<Option<Job>, AllocError>
+fn job_named(alloc: Global, name: &str, matches: &ArgMatches<'_>) -> Result<Option<Job>, AllocError>
     ensures { IfOk result (λ job. job ≡ job_named name.now (rows_of (found_of matches.now))) }
 {
     match name {

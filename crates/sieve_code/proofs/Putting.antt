@@ -1,6 +1,6 @@
 -- What single steps of the compiler put in front of a tail.
 use Rattle.std.proofs.Common.{◌≡◌, ℕ, suc, ◌+◌, ◌-◌, ◌<◌, ◌≤◌, Bool, true, false, not, nat_lt, List, [], ◌∷◌, ◌++◌, length, length-append, length-drop, map, get_or, drop, if◌then◌else◌, Option, Some, None, Result, OnOk, refl, sym, ap, ◌∙◌, subst, arith}
-use Rattle.std.proofs.lemmas.List.{at_drop_all, at_drop_more, drop-map, length-map}
+use Rattle.std.proofs.lemmas.List.{at_drop_all, at_drop_more}
 use borrow.Author.Tests.{ltb-true, ltb-false}
 use Rattle.std.specs.declared.alloc.Global.{Global}
 use Rattle.std.specs.declared.boxed.Box.{Box}

@@ -1,5 +1,5 @@
 -- What it is for operations to be the code of a tree.
-use Rattle.std.specs.Prelude.{ℕ, ◌≡◌, List, length}
+use Rattle.std.specs.Prelude.{◌≡◌, List, length}
 use Rattle.sieve_check.specs.Tree.{Node}
 use Rattle.sieve_code.specs.Choice.{code_of}
 use Rattle.sieve_code.specs.Operation.{Operation}

@@ -8,7 +8,7 @@ use Rattle.sieve_code.specs.Walk as walk
 use Rattle.sieve_code.specs.Walk.{Walk, at_limit, code_walk, walk_from}
 use Rattle.sieve_run.specs.Matching.{truth_of}
 use Rattle.sieve_run.specs.Perform.{perform}
-use Rattle.sieve_run.specs.Run.{RunState, Ending, goes_on, act_of, answer_of, chosen, is_discard, is_store_into, with_action}
+use Rattle.sieve_run.specs.Run.{RunState, goes_on, chosen, is_discard, is_store_into, with_action}
 use Rattle.sieve_run.specs.declared.envelope.Envelope.{Envelope}
 use Rattle.sieve_run.specs.declared.outcome.Action.TheVariants.{Discard, Store}
 use Rattle.sieve_run.specs.declared.steps.Step.{Step}

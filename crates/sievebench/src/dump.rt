@@ -80,12 +80,7 @@ fn script_of(alloc: Global, text: &[u8]) -> Result<Script, AllocError>
 ///
 /// `Clean` says that the code was written, and `Faulty` that the line was. `TooLarge`: the text has more than 1,048,576 octets, or the name
 /// more than 1,024; nothing was written. `Write`: the writer failed, and a front was written. `NoMemory`: nothing was written. Never `Full`.
-pub fn dump_text<W: Sink>(
-    alloc: Global,
-    name: &ScriptName,
-    text: &[u8],
-    writer: &mut W,
-) -> TestEnd
+pub fn dump_text<W: Sink>(alloc: Global, name: &ScriptName, text: &[u8], writer: &mut W) -> TestEnd
     ensures { DumpEnds result name.now text.now (Wrote W.contents W.fault_count writer.old writer.new)
         (WroteFront W.contents W.fault_count writer.old writer.new) (writer.new ≡ writer.old) }
 {

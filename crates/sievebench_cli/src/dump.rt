@@ -12,13 +12,14 @@ use std::rt::Files;
 
 /// Prints the code of the script in the file at a path, or the script's line of a report where it has a fault. The script is personal,
 /// under the name of its file. Answers the status of the process.
-pub(crate) fn run_dump(
-    rt: &(impl AllocGlobal + Files + Print + Eprint),
-    path: &str,
-) -> u8 {
+pub(crate) fn run_dump(rt: &(impl AllocGlobal + Files + Print + Eprint), path: &str) -> u8 {
     let text = match octets_in(rt, path, MAX_TEXT) {
         Ok(text) => text,
-        Err(e) if e.kind() == ErrorKind::OutOfMemory => return end_with(rt, path, TestEnd::NoMemory),
+        Err(e) if e.kind() == ErrorKind::OutOfMemory => return end_with(
+            rt,
+            path,
+            TestEnd::NoMemory,
+        ),
         Err(_) => {
             complain_of(rt, "cannot read", path);
             return status_of(End::Session(SessionEnd::Read));

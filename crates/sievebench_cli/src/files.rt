@@ -1,9 +1,8 @@
 //! Files that the command line names.
 
-use std::fs;
-use std::io;
 use std::io::Read;
 use std::rt::Files;
+use std::{fs, io};
 
 /// What a script's file is named behind its script's name.
 const SCRIPT_END: &str = ".sieve";

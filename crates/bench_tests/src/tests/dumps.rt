@@ -45,8 +45,10 @@ fn check_text(
 
 #[test]
 fn texts_are_dumped(rt: HostRuntime) -> Result<(), Fail> {
-    let script = b"if anyof (header :contains \"Subject\" \"[list]\", size :over 1M) {\nkeep;\n} else {\ndiscard;\n}\n";
-    let code = b"0: header contains casemap [\"Subject\"] [\"[list]\"]\n1: jump-if-true 3\n2: size over 1048576\n3: jump-if-false 6\n4: keep internal @2\n5: jump 7\n6: discard @4\n";
+    let script =
+        b"if anyof (header :contains \"Subject\" \"[list]\", size :over 1M) {\nkeep;\n} else {\ndiscard;\n}\n";
+    let code =
+        b"0: header contains casemap [\"Subject\"] [\"[list]\"]\n1: jump-if-true 3\n2: size over 1048576\n3: jump-if-false 6\n4: keep internal @2\n5: jump 7\n6: discard @4\n";
     let line = b"script personal \"a\" line 1 unknown-command\n";
     check_text(&rt, b"a", script, code, TestEnd::Clean)?;
     check_text(&rt, b"a", b"", b"", TestEnd::Clean)?;
@@ -57,7 +59,13 @@ fn texts_are_dumped(rt: HostRuntime) -> Result<(), Fail> {
     check_text(&rt, b"a", &large, b"", TestEnd::TooLarge)?;
     let name = vec![in rt.alloc(); b' '; 1_024]?;
     let long = vec![in rt.alloc(); b' '; 1_025]?;
-    check_text(&rt, &name, b"keep;", b"0: keep internal @1\n", TestEnd::Clean)?;
+    check_text(
+        &rt,
+        &name,
+        b"keep;",
+        b"0: keep internal @1\n",
+        TestEnd::Clean,
+    )?;
     check_text(&rt, &long, b"kep;", b"", TestEnd::TooLarge)
 }
 

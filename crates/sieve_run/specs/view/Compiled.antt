@@ -1,5 +1,5 @@
 -- What is kept of a text's judgement.
-use Rattle.std.specs.Prelude.{◌≡◌, ℕ, List}
+use Rattle.std.specs.Prelude.{◌≡◌, List}
 use Rattle.sieve_check.specs.Judgement.{Judgement, sound, faulty}
 use Rattle.sieve_code.specs.Compiles.{Compiles}
 use Rattle.sieve_code.specs.Operation.{Operation}

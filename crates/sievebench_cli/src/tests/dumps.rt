@@ -99,6 +99,14 @@ fn large_files_are_refused(rt: HostRuntime) -> Result<(), Fail> {
         fails: true,
     };
     let files = [("a", failing), ("b", whole(text.as_slice()))];
-    check_dump(&rt, "a", &files, 1_000, 2, b"", b"sievebench: too large \"a\"\n")?;
+    check_dump(
+        &rt,
+        "a",
+        &files,
+        1_000,
+        2,
+        b"",
+        b"sievebench: too large \"a\"\n",
+    )?;
     check_dump(&rt, "b", &files, 1_000, 0, b"", b"")
 }

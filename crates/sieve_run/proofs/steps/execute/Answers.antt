@@ -1,4 +1,4 @@
-use Rattle.std.proofs.Common.{◌≡◌, ◌∙◌, ◌<◌, ◌≤◌, ◌+◌, ◌-◌, length, sym, ap, subst}
+use Rattle.std.proofs.Common.{◌∙◌, ◌<◌, ◌≤◌, ◌+◌, ◌-◌, length, sym, ap, subst}
 use Rattle.sieve_code.specs.Walk.{walk_from}
 use Rattle.sieve_code.specs.view.Code.{ops_of}
 use Rattle.sieve_code.specs.view.Op.{op_as}
