@@ -1,6 +1,6 @@
 //! The table: a row for each command, test and tag that there is.
 ghost use Rattle.std.specs.Prelude.{◌≡◌, find};
-ghost use Rattle.sieve_table.specs.Table.{bare, bare_tag, command_named, command_row, is_named, tag_named, tag_row, test_named, test_row};
+ghost use Rattle.sieve_table.specs.Table.{command_named, command_row, is_named, tag_named, tag_row, test_named, test_row};
 ghost use Rattle.sieve_table.specs.view.Row.{row_as, tag_row_as};
 
 use crate::row::{Form, Inner, Role, Row, Slot, TagKind, TagRow};
@@ -83,33 +83,25 @@ const TESTS: [TestKind; 8] = [
     TestKind::False,
 ];
 
-/// What takes nothing.
-const fn bare(name: &'static [u8]) -> Row
-    ensures { row_as result ≡ bare name.now }
-{
-    Row {
-        name,
-        tags: &[],
-        one_of: None,
-        front: None,
-        slots: &[],
-        tests: Inner::None,
-        has_block: false,
-        needs: &[],
-    }
-}
+/// What takes nothing, and has no name yet.
+const BARE: Row = Row {
+    name: b"",
+    tags: &[],
+    one_of: None,
+    front: None,
+    slots: &[],
+    tests: Inner::None,
+    has_block: false,
+    needs: &[],
+};
 
-/// A tag that takes nothing.
-const fn bare_tag(name: &'static [u8], kind: TagKind) -> TagRow
-    ensures { tag_row_as result ≡ bare_tag name.now kind }
-{
-    TagRow {
-        name,
-        kind,
-        takes: None,
-        needs: None,
-    }
-}
+/// A tag that takes nothing, and has no name yet.
+const BARE_TAG: TagRow = TagRow {
+    name: b"",
+    kind: TagKind::MatchType,
+    takes: None,
+    needs: None,
+};
 
 impl Tag {
     /// The tag's row.
@@ -118,13 +110,31 @@ impl Tag {
     {
         match self {
             Tag::Comparator => TagRow {
+                name: b"comparator",
+                kind: TagKind::Comparator,
                 takes: Some(Slot::new(Form::One, Role::ComparatorName)),
-                ..bare_tag(b"comparator", TagKind::Comparator)
+                ..BARE_TAG
             },
-            Tag::Is => bare_tag(b"is", TagKind::MatchType),
-            Tag::Contains => bare_tag(b"contains", TagKind::MatchType),
-            Tag::Over => bare_tag(b"over", TagKind::Bound),
-            Tag::Under => bare_tag(b"under", TagKind::Bound),
+            Tag::Is => TagRow {
+                name: b"is",
+                kind: TagKind::MatchType,
+                ..BARE_TAG
+            },
+            Tag::Contains => TagRow {
+                name: b"contains",
+                kind: TagKind::MatchType,
+                ..BARE_TAG
+            },
+            Tag::Over => TagRow {
+                name: b"over",
+                kind: TagKind::Bound,
+                ..BARE_TAG
+            },
+            Tag::Under => TagRow {
+                name: b"under",
+                kind: TagKind::Bound,
+                ..BARE_TAG
+            },
         }
     }
 }
@@ -136,30 +146,43 @@ impl CommandKind {
     {
         match self {
             CommandKind::Require => Row {
+                name: b"require",
                 slots: &[Slot {
                     form: Form::List,
                     role: Role::Capabilities,
                     needs: None,
                 }],
-                ..bare(b"require")
+                ..BARE
             },
             CommandKind::If => Row {
+                name: b"if",
                 tests: Inner::One,
                 has_block: true,
-                ..bare(b"if")
+                ..BARE
             },
             CommandKind::Elsif => Row {
+                name: b"elsif",
                 tests: Inner::One,
                 has_block: true,
-                ..bare(b"elsif")
+                ..BARE
             },
             CommandKind::Else => Row {
+                name: b"else",
                 has_block: true,
-                ..bare(b"else")
+                ..BARE
             },
-            CommandKind::Keep => bare(b"keep"),
-            CommandKind::Discard => bare(b"discard"),
-            CommandKind::Stop => bare(b"stop"),
+            CommandKind::Keep => Row {
+                name: b"keep",
+                ..BARE
+            },
+            CommandKind::Discard => Row {
+                name: b"discard",
+                ..BARE
+            },
+            CommandKind::Stop => Row {
+                name: b"stop",
+                ..BARE
+            },
         }
     }
 }
@@ -185,15 +208,18 @@ impl TestKind {
     {
         match self {
             TestKind::Header => Row {
+                name: b"header",
                 tags: &[Tag::Comparator, Tag::Is, Tag::Contains],
                 slots: &[FIELD_NAMES, KEYS],
-                ..bare(b"header")
+                ..BARE
             },
             TestKind::Exists => Row {
+                name: b"exists",
                 slots: &[FIELD_NAMES],
-                ..bare(b"exists")
+                ..BARE
             },
             TestKind::Size => Row {
+                name: b"size",
                 tags: &[Tag::Over, Tag::Under],
                 one_of: Some(TagKind::Bound),
                 slots: &[Slot {
@@ -201,22 +227,31 @@ impl TestKind {
                     role: Role::Limit,
                     needs: None,
                 }],
-                ..bare(b"size")
+                ..BARE
             },
             TestKind::AllOf => Row {
+                name: b"allof",
                 tests: Inner::List,
-                ..bare(b"allof")
+                ..BARE
             },
             TestKind::AnyOf => Row {
+                name: b"anyof",
                 tests: Inner::List,
-                ..bare(b"anyof")
+                ..BARE
             },
             TestKind::Not => Row {
+                name: b"not",
                 tests: Inner::One,
-                ..bare(b"not")
+                ..BARE
             },
-            TestKind::True => bare(b"true"),
-            TestKind::False => bare(b"false"),
+            TestKind::True => Row {
+                name: b"true",
+                ..BARE
+            },
+            TestKind::False => Row {
+                name: b"false",
+                ..BARE
+            },
         }
     }
 }
