@@ -16,6 +16,7 @@ mod status;
 mod task;
 
 pub use bench::Bench;
+pub use command_line::{Argument, Job, UsageFault, command_of};
 pub use dump::dump_text;
 pub use fault::{EditFault, ReportFault};
 pub use server::session;

@@ -7,10 +7,9 @@ mod streams;
 #[cfg(test)]
 mod tests;
 
-use command_line::{Job, UsageFault, command_of};
 use dump::run_dump;
 use sieve_base::Counted;
-use sievebench::{Bench, End, Meter, SessionEnd, session, status_of};
+use sievebench::{Bench, End, Job, Meter, SessionEnd, UsageFault, command_of, session, status_of};
 use std::alloc::Global;
 use std::cell::RefCell;
 use std::io::{BufWriter, ErrorKind, Read, Write};

@@ -2,8 +2,7 @@
 //!
 //! A refusal with fields has no number of its own: its variants are listed in the order of their numbers.
 
-use command_line::UsageFault;
-use sievebench::{EditFault, ReportFault, SessionEnd, TestEnd};
+use sievebench::{EditFault, ReportFault, SessionEnd, TestEnd, UsageFault};
 use std::fmt::Display;
 use std::process::Abort;
 use std::test::Fail;

@@ -1,7 +1,6 @@
 //! The words of the command line, and the status of each end.
 
-use command_line::{Job, UsageFault, command_of};
-use sievebench::{End, SessionEnd, TestEnd, status_of};
+use sievebench::{End, Job, SessionEnd, TestEnd, UsageFault, command_of, status_of};
 use std::process::Abort;
 use std::test::Fail;
 

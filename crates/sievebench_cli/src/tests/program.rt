@@ -2,8 +2,7 @@
 
 use super::machine::{Given, Machine, Written};
 use crate::{answer_usage, complaint_of, run};
-use command_line::UsageFault;
-use sievebench::SessionEnd;
+use sievebench::{SessionEnd, UsageFault};
 use std::alloc::Global;
 use std::cell::RefCell;
 use std::fmt::Debug;
