@@ -1,6 +1,7 @@
 pub mod Count
 pub mod Lines
 pub mod Ranges
+pub mod Reading
 pub mod Taking
 pub mod Unread
 pub mod Words

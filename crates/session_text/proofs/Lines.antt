@@ -1,10 +1,10 @@
 -- Where lines end.
-use Rattle.std.proofs.Common.{◌≡◌, ◌≢◌, ℕ, ◌+◌, ◌<◌, ◌≤◌, List, [], ◌∷◌, ◌++◌, length, get_or, take, drop, sym, ap, ◌∙◌, refl, arith, Option, None, Some, Bool, true, false, eqb, suc, cond, take-append-drop, length-take, get_or-take, append-nil, length-append, ◌⊎◌, inl, inr}
+use Rattle.std.proofs.Common.{◌≡◌, ◌≢◌, ℕ, ◌+◌, ◌<◌, ◌≤◌, List, [], ◌∷◌, ◌++◌, length, get_or, take, drop, sym, ap, ◌∙◌, refl, arith, Option, None, Some, Bool, true, false, eqb, suc, cond, take-append-drop, length-take, get_or-take, append_assoc, append-nil, length-append, ◌⊎◌, inl, inr}
 use Rattle.std.specs.Option.{option_map}
 use Rattle.std.proofs.lemmas.Bool.Decides.{nat_tests}
 use Rattle.std.proofs.lemmas.List.{drop_more, take_more, take_all}
 use Rattle.sieve_base.specs.Limits.{line_limit}
-use Rattle.session_text.specs.SessionLine.{cut_line, in_front, without_cr, first_line, line_from}
+use Rattle.session_text.specs.SessionLine.{cut_line, in_front, without_cr, first_line, line_from, is_long_so_far}
 
 -- a cut with these octets in front of its line
 abbrev behind : List ℕ → List ℕ × List ℕ → List ℕ × List ℕ
@@ -89,6 +89,13 @@ cut_line-at bs i within before here =
     ap cut_line (sym (take-append-drop i bs) ∙ ap (λ l. take i bs ++ l) (drop_more bs i 0 within ∙ ap (λ b. b ∷ drop (i + 1) bs) here))
     ∙ cut_line-front (take i bs) (drop (i + 1) bs) (λ k below. let under : k < i = omega (arith, length-take i bs) in rw get_or-take (before k under))
 
+-- what follows the first LF doesn't matter to the line that it ends
+pub cut_line-within : (bs : List ℕ) (i : ℕ) → i < length bs → ((k : ℕ) → k < i → get_or bs k 0 ≢ 10) → get_or bs i 0 ≡ 10 → (more : List ℕ) → cut_line (take (i + 1) bs ++ more) ≡ Some (take i bs, more)
+cut_line-within bs i within before here more =
+    ap (λ l. cut_line (l ++ more)) (take_more bs i 0 within ∙ ap (λ b. take i bs ++ b ∷ []) here)
+    ∙ ap cut_line (append_assoc (take i bs) (10 ∷ []) more)
+    ∙ cut_line-front (take i bs) more (λ k below. let under : k < i = omega (arith, length-take i bs) in rw get_or-take (before k under))
+
 -- a CR at the end is dropped, and no other octet
 pub without_cr-last : (bs : List ℕ) (b : ℕ) → without_cr (bs ++ b ∷ []) ≡ cond (eqb b 13) bs (bs ++ b ∷ [])
 without_cr-last [] b = refl
@@ -124,6 +131,28 @@ length-without_cr (b ∷ []) = one (eqb b 13)
     one true = omega arith
     one false = omega arith
 length-without_cr (b ∷ c ∷ bs) = omega (arith, length-without_cr (c ∷ bs))
+
+-- nothing is added
+length-without_cr-le : (bs : List ℕ) → length (without_cr bs) ≤ length bs
+length-without_cr-le [] = omega arith
+length-without_cr-le (b ∷ []) = one (eqb b 13)
+  where
+    one : (v : Bool) → length (cond v [] (b ∷ [])) ≤ length (b ∷ [])
+    one true = omega arith
+    one false = omega arith
+length-without_cr-le (b ∷ c ∷ bs) = omega (arith, length-without_cr-le (c ∷ bs))
+
+-- octets that may still become a line
+pub may_be_line : (bs : List ℕ) → (length bs ≤ line_limit) ⊎ ((length bs ≡ line_limit + 1) × (get_or bs line_limit 0 ≡ 13)) → is_long_so_far bs ≡ false
+may_be_line bs (inl few) =
+    let less : length (without_cr bs) ≤ line_limit = omega (arith, length-without_cr-le bs, few) in
+    grind (arith, nat_tests, less)
+may_be_line bs (inr h) =
+    let step : without_cr (take (line_limit + 1) bs) ≡ cond (eqb (get_or bs line_limit 0) 13) (take line_limit bs) (take (line_limit + 1) bs) = without_cr-take bs line_limit (omega (arith, h.0)) in
+    let whole : take (line_limit + 1) bs ≡ bs = take_all (line_limit + 1) bs (omega (arith, h.0)) in
+    let cut : without_cr bs ≡ take line_limit bs = ap without_cr (sym whole) ∙ step ∙ rw h.1 refl in
+    let less : length (without_cr bs) ≤ line_limit = omega (arith, ap length cut, length-take line_limit bs) in
+    grind (arith, nat_tests, less)
 
 -- the line that an LF ends
 pub first_line-found : (bs line rest more : List ℕ) → cut_line bs ≡ Some (line, rest) → first_line (bs ++ more) ≡ (without_cr line, rest ++ more)

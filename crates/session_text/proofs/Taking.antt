@@ -1,9 +1,9 @@
 -- How octets are taken, some at a time.
-use Rattle.std.proofs.Common.{◌≡◌, ℕ, ◌+◌, ◌<◌, ◌≤◌, List, [], ◌++◌, length, take, drop, sym, ap, ◌∙◌, refl, arith, Option, None, Some, length-append, length-drop, IfSome}
+use Rattle.std.proofs.Common.{◌≡◌, ℕ, ◌+◌, ◌<◌, ◌≤◌, List, [], ◌++◌, length, take, drop, sym, ap, ◌∙◌, refl, arith, Option, None, Some, length-append, length-drop, length-take, take-append-drop, IfSome}
 use Rattle.std.specs.Io.KnownBytes.{Keeps, IsAtEnd, prepend_known}
 use Rattle.std.proofs.Math.Seq.{take-add}
 use Rattle.std.proofs.lemmas.List.{drop-drop, drop-append-le, take-append-le}
-use Rattle.session_text.specs.view.Payload.{Takes, Grows, FallsShort}
+use Rattle.session_text.specs.view.Payload.{BreaksOff, Takes, Grows, FallsShort}
 
 -- nothing is taken in the beginning
 pub takes_nothing : (a kept : Option (List ℕ)) → Grows (Some []) kept [] → Takes 0 a a kept
@@ -49,4 +49,16 @@ takes-short taken count (Some xs) (Some ys) pending kept less none end so_far =
     let size : length pending + length ys ≡ length (drop taken xs) = sym (length-append pending ys) ∙ ap length so_far.1 in
     (omega (arith, length-drop taken xs, size, ap length none, ap length end, so_far.0), end)
 
-pub ruleset taking = (takes_nothing, takes-kept, takes-more, takes-short)
+-- no more of them can be read before all are taken
+pub takes-broken : (taken count : ℕ) (a rest : Option (List ℕ)) (pending : List ℕ) (kept : Option (List ℕ)) → taken < count → pending ≡ []
+    → Takes taken a (prepend_known pending rest) kept → BreaksOff count a rest
+takes-broken taken count None rest pending kept less none so_far = tt
+takes-broken taken count (Some xs) None pending kept less none so_far = absurd so_far
+takes-broken taken count (Some xs) (Some ys) pending kept less none so_far =
+    let back : ys ≡ drop taken xs = ap (λ l. l ++ ys) (sym none) ∙ so_far.1 in (
+      take taken xs,
+      sym (take-append-drop taken xs) ∙ ap (λ l. take taken xs ++ l) (sym back),
+      omega (arith, length-take taken xs, so_far.0, less),
+    )
+
+pub ruleset taking = (takes_nothing, takes-kept, takes-more, takes-short, takes-broken)

@@ -1,10 +1,11 @@
 -- The lines of a session: where they end, and what they say.
-use Rattle.std.specs.Prelude.{ℕ, suc, ◌+◌, ◌-◌, ◌*◌, Bool, true, false, ◌&&◌, ◌||◌, ◌==◌, not, nat_le, if◌then◌else◌, List, [], ◌∷◌, length, filter, Option, None, Some, codes, nat_eq}
+use Rattle.std.specs.Prelude.{ℕ, suc, ◌+◌, ◌-◌, ◌*◌, Bool, true, false, ◌&&◌, ◌||◌, ◌==◌, not, nat_le, nat_lt, if◌then◌else◌, List, [], ◌∷◌, length, filter, Option, None, Some, codes, nat_eq}
 use Rattle.std.specs.List.{list_all}
 use Rattle.std.specs.Option.{option_map, option_and_then}
 use lib.Pointwise.{pointwise}
 use Rattle.sieve_base.specs.declared.place.Place.{Place}
 use Rattle.sieve_base.specs.declared.place.Place.TheVariants.{Personal, Global}
+use Rattle.sieve_base.specs.Limits.{line_limit}
 use Rattle.sieve_base.specs.Octet.{octet_of, is_between, is_digit, is_visible}
 
 -- a line with an octet in front of it, and what follows
@@ -29,6 +30,18 @@ line_from stream (Some cut) = (without_cr cut.0, cut.1)
 
 unfoldable pub first_line : List ℕ → List ℕ × List ℕ
 first_line stream = line_from stream (cut_line stream)
+
+-- the line that ends at an LF, and what follows it
+abbrev pub ended_line : List ℕ × List ℕ → List ℕ × List ℕ
+ended_line (line, rest) = (without_cr line, rest)
+
+-- the first line of octets that others may follow, and what is behind it, where its LF is among them
+unfoldable pub line_so_far : List ℕ → Option (List ℕ × List ℕ)
+line_so_far read = option_map ended_line (cut_line read)
+
+-- whether octets without an LF are too long for a line, whatever follows: a CR at their end may belong to the line's end
+abbrev pub is_long_so_far : List ℕ → Bool
+is_long_so_far read = nat_lt line_limit (length (without_cr read))
 
 -- an octet of a line: a visible one of ASCII, or a space
 abbrev pub is_plain : ℕ → Bool

@@ -1,5 +1,5 @@
 //! Reads a session's octets in large pieces, and hands them out as lines and counted octets.
-ghost use Rattle.std.specs.Prelude.{◌≡◌, false, ◌<◌, ◌≤◌, ◌+◌, ℕ, [], List, length, take, drop, ◌-◌, slice_range, IfOk, OnErr, MatchResult, vec_len};
+ghost use Rattle.std.specs.Prelude.{◌≡◌, false, true, ◌<◌, ◌≤◌, ◌+◌, ℕ, [], List, length, take, drop, ◌-◌, slice_range, IfOk, OnErr, MatchResult, vec_len};
 ghost use Rattle.std.specs.Io.KnownBytes.{Keeps, Consumes, IsAtEnd};
 ghost use Rattle.sieve_base.specs.Devices.{HasRisen};
 ghost use Rattle.session_text.specs.view.Input.{capacity};
@@ -67,6 +67,7 @@ fn read_behind<R: Source>(buffer: &mut [u8], from: usize, reader: &mut R) -> io:
         (λ _. Keeps (R.remaining reader.old) (R.remaining reader.new)) }
     ensures faults { R.fault_count reader.old ≤ R.fault_count reader.new }
     ensures failed { OnErr result (HasRisen (R.fault_count reader.old) (R.fault_count reader.new)) }
+    ensures calls { R.call_count reader.new ≤ R.call_count reader.old + 1 }
 {
     reader.read_some(&mut buffer[from..])
 }
@@ -88,6 +89,7 @@ fn refill<R: Source>(
         (λ _. Keeps (R.remaining reader.old) (R.remaining reader.new)) }
     ensures faults { R.fault_count reader.old ≤ R.fault_count reader.new }
     ensures failed { OnErr result (HasRisen (R.fault_count reader.old) (R.fault_count reader.new)) }
+    ensures calls { R.call_count reader.new ≤ R.call_count reader.old + 1 }
 {
     if start > 0 {
         buffer.copy_within(start..end, 0);
@@ -96,7 +98,7 @@ fn refill<R: Source>(
 }
 
 impl Input {
-    ghost use Rattle.session_text.specs.view.Input.{capacity, unread, fuel, Knows};
+    ghost use Rattle.session_text.specs.view.Input.{capacity, unread, fuel, Knows, Reads, TurnsGave};
     ghost use Rattle.session_text.specs.view.Filled.{MatchFilled};
 
     /// Nothing is read yet, and `turns` reads may be made. A buffer of 65,536 octets is allocated, which never grows.
@@ -142,6 +144,10 @@ impl Input {
             (λ count. (length self.new.pending ≡ length self.old.pending + count) × (count ≡ 0 → (self.new.pending ≡ self.old.pending) × IsAtEnd (R.remaining reader.new)))
             (λ _. (self.new.pending ≡ self.old.pending) × HasRisen (R.fault_count reader.old) (R.fault_count reader.new)) }
         ensures faults { R.fault_count reader.old ≤ R.fault_count reader.new }
+        ensures calls { R.call_count reader.new + self.new.turns ≤ R.call_count reader.old + self.old.turns }
+        ensures gave { MatchResult result
+            (λ count. 0 < count → TurnsGave self.old.turns self.new.turns (R.remaining reader.old) (R.remaining reader.new) (R.fault_count reader.old) (R.fault_count reader.new))
+            (λ _. TurnsGave self.old.turns self.new.turns (R.remaining reader.old) (R.remaining reader.new) (R.fault_count reader.old) (R.fault_count reader.new)) }
     {
         let used = self.end - self.start;
         let read = refill(&mut self.buffer, self.start, self.end, reader);
@@ -160,18 +166,19 @@ impl Input {
     /// Reads more octets behind those that are not used, of which there must be room for one more. A read that was
     /// interrupted is tried again, at most 1,000 times in a row, and each try counts as a read. None is
     /// made where one has come to the end.
+    #[tactic(auto, using(crate::proofs::Reading::reading))]
     pub(crate) fn fill<R: Source>(&mut self, reader: &mut R) -> Filled
         requires room { length self.old.pending < capacity }
         requires known { Knows self.old (R.remaining reader.old) }
         ensures known { Knows self.new (R.remaining reader.new) }
         ensures keeps { Keeps (unread self.old (R.remaining reader.old)) (unread self.new (R.remaining reader.new)) }
         ensures fuel { fuel self.new ≤ fuel self.old }
-        ensures faults { R.fault_count reader.old ≤ R.fault_count reader.new }
+        ensures reads { Reads R.remaining R.fault_count R.call_count self.old self.new reader.old reader.new }
         ensures filled { MatchFilled result
             ((fuel self.new < fuel self.old) × (0 < length self.new.pending))
-            ((self.new.pending ≡ self.old.pending) × IsAtEnd (R.remaining reader.new))
-            (HasRisen (R.fault_count reader.old) (R.fault_count reader.new))
-            (self.new.turns ≡ 0) }
+            ((self.new.pending ≡ self.old.pending) × (self.new.ended ≡ true) × IsAtEnd (R.remaining reader.new))
+            ((self.new.pending ≡ self.old.pending) × (self.new.ended ≡ false) × HasRisen (R.fault_count reader.old) (R.fault_count reader.new))
+            ((self.new.pending ≡ self.old.pending) × (self.new.ended ≡ false) × (self.new.turns ≡ 0)) }
     {
         if self.ended {
             return Filled::Ended;
@@ -197,17 +204,18 @@ impl Input {
     }
 
     /// Reads more octets if all are used.
+    #[tactic(auto, using(crate::proofs::Reading::reading))]
     pub(crate) fn refresh<R: Source>(&mut self, reader: &mut R) -> Filled
         requires known { Knows self.old (R.remaining reader.old) }
         ensures known { Knows self.new (R.remaining reader.new) }
         ensures keeps { Keeps (unread self.old (R.remaining reader.old)) (unread self.new (R.remaining reader.new)) }
         ensures fuel { fuel self.new ≤ fuel self.old }
-        ensures faults { R.fault_count reader.old ≤ R.fault_count reader.new }
+        ensures reads { Reads R.remaining R.fault_count R.call_count self.old self.new reader.old reader.new }
         ensures filled { MatchFilled result
             (0 < length self.new.pending)
             ((self.new.pending ≡ []) × IsAtEnd (R.remaining reader.new))
-            (HasRisen (R.fault_count reader.old) (R.fault_count reader.new))
-            (self.new.turns ≡ 0) }
+            ((self.new.pending ≡ []) × (self.new.ended ≡ false) × HasRisen (R.fault_count reader.old) (R.fault_count reader.new))
+            ((self.new.pending ≡ []) × (self.new.ended ≡ false) × (self.new.turns ≡ 0)) }
     {
         if self.pending().is_empty() {
             self.fill(reader)

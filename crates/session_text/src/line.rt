@@ -1,10 +1,10 @@
 //! The lines of a session's input.
-ghost use Rattle.std.specs.Prelude.{◌≡◌, ◌<◌, ◌≤◌, ◌+◌, ℕ, List, [], None, Some, length, take, drop, false, ⊤, MatchOption, IfSome, IsTrue};
+ghost use Rattle.std.specs.Prelude.{◌≡◌, ◌<◌, ◌≤◌, ◌+◌, ◌++◌, ℕ, List, [], None, Some, length, take, drop, false, ⊤, MatchOption, IfSome, IsTrue};
 ghost use Rattle.std.specs.Io.KnownBytes.{Keeps, IsAtEnd};
 ghost use Rattle.sieve_base.specs.Devices.{HasRisen};
 ghost use Rattle.sieve_base.specs.Limits.{line_limit};
 ghost use Rattle.session_text.specs.SessionLine.{cut_line, without_cr};
-ghost use Rattle.session_text.specs.view.Input.{unread, fuel, Knows};
+ghost use Rattle.session_text.specs.view.Input.{unread, fuel, Knows, Reads};
 
 use crate::input::{Filled, Input};
 use sieve_base::Source;
@@ -13,7 +13,8 @@ use sieve_base::limits::MAX_LINE;
 /// Where the first LF is.
 fn find_lf(octets: &[u8]) -> Option<usize>
     ensures { MatchOption result (cut_line octets.now ≡ None)
-        (λ at. (at < length octets.now) × (cut_line octets.now ≡ Some (take at octets.now, drop (at + 1) octets.now))) }
+        (λ at. (at < length octets.now) × (cut_line octets.now ≡ Some (take at octets.now, drop (at + 1) octets.now))
+        × ((more : List ℕ) → cut_line (take (at + 1) octets.now ++ more) ≡ Some (take at octets.now, more))) }
 {
     for (i, octet) in octets.iter().enumerate() {
         if *octet == b'\n' {
@@ -53,13 +54,15 @@ pub enum Line {
 }
 
 impl Line {
-    ghost use Rattle.session_text.specs.view.Line.{IsLine, IsWithin, MatchEnd};
+    ghost use Rattle.session_text.specs.view.Line.{IsCutOff, IsEnded, IsLine, IsWithin, MatchEnd};
 
     /// The line that ends at an LF, the first one.
     fn before(pending: &[u8], at: usize) -> Line
         requires within { at < length pending.now }
         requires first { cut_line pending.now ≡ Some (take at pending.now, drop (at + 1) pending.now) }
+        requires alone { (more : List ℕ) → cut_line (take (at + 1) pending.now ++ more) ≡ Some (take at pending.now, more) }
         ensures line { (left : List ℕ) → IsLine result pending.now left }
+        ensures ended { IsEnded result pending.now }
         ensures within { IsWithin result pending.now }
         ensures kind { MatchEnd result ⊥ ⊥ ⊥ }
     {
@@ -95,6 +98,7 @@ impl Line {
         requires { cut_line pending.now ≡ None }
         ensures yes { IsTrue result → (left : List ℕ) → IsLine Line.TooLong pending.now left }
         ensures no { result ≡ false → length pending.now ≤ line_limit + 1 }
+        ensures may { result ≡ false → IsCutOff pending.now }
         ensures some { IsTrue result → 0 < length pending.now }
     {
         pending.len() > MAX_LINE + 1 || pending.len() == MAX_LINE + 1 && pending[MAX_LINE] != b'\r'
@@ -103,14 +107,19 @@ impl Line {
     /// The next line of the input, which reads as much as it takes to find its end, and uses nothing. An LF ends a
     /// line, and so does the end of the input; a CR before the LF is no part of the line. A line that is too long is
     /// told as soon as that is known, whether its end has been read or not.
+    #[tactic(auto, using(crate::proofs::Reading::reading))]
     pub fn next<R: Source>(input: &mut Input, reader: &mut R) -> Line
         requires known { Knows input.old (R.remaining reader.old) }
         ensures known { Knows input.new (R.remaining reader.new) }
         ensures keeps { Keeps (unread input.old (R.remaining reader.old)) (unread input.new (R.remaining reader.new)) }
         ensures fuel { fuel input.new ≤ fuel input.old }
         ensures line { IfSome (R.remaining reader.new) (IsLine result input.new.pending) }
+        ensures ended { input.new.ended ≡ false → IsEnded result input.new.pending }
         ensures within { IsWithin result input.new.pending }
-        ensures end { MatchEnd result (IsAtEnd (R.remaining reader.new)) (HasRisen (R.fault_count reader.old) (R.fault_count reader.new)) (input.new.turns ≡ 0) }
+        ensures reads { Reads R.remaining R.fault_count R.call_count input.old input.new reader.old reader.new }
+        ensures end { MatchEnd result (IsAtEnd (R.remaining reader.new))
+            ((input.new.ended ≡ false) × HasRisen (R.fault_count reader.old) (R.fault_count reader.new))
+            ((input.new.ended ≡ false) × (input.new.turns ≡ 0)) }
     {
         loop {
             let pending = input.pending();

@@ -1,9 +1,9 @@
 //! The counted octets of a session's input.
-ghost use Rattle.std.specs.Prelude.{◌≡◌, ◌≤◌, ◌++◌, [], IfSome};
+ghost use Rattle.std.specs.Prelude.{◌≡◌, false, ◌≤◌, ◌++◌, [], IfSome};
 ghost use Rattle.std.specs.Option.{option_map};
 ghost use Rattle.sieve_base.specs.Devices.{HasRisen};
-ghost use Rattle.session_text.specs.view.Input.{unread, fuel, Knows};
-ghost use Rattle.session_text.specs.view.Payload.{MatchTaken, Grows, Takes, FallsShort, octets_kept};
+ghost use Rattle.session_text.specs.view.Input.{unread, fuel, Knows, Reads};
+ghost use Rattle.session_text.specs.view.Payload.{BreaksOff, MatchTaken, Grows, Takes, FallsShort, octets_kept};
 
 use crate::input::{Filled, Input};
 use sieve_base::Source;
@@ -46,7 +46,7 @@ fn room_for(alloc: Global, count: usize, keep: bool) -> Option<Vec<u8>>
 
 /// Uses the next `count` octets of the input, and keeps a copy of them where `keep` is true. Where memory is refused for
 /// the copy, the octets are used all the same, and none are kept.
-#[tactic(auto, using(crate::proofs::Taking::taking))]
+#[tactic(auto, using(crate::proofs::Taking::taking, crate::proofs::Reading::reading))]
 pub fn take_octets<R: Source>(
     alloc: Global,
     input: &mut Input,
@@ -60,8 +60,9 @@ pub fn take_octets<R: Source>(
     ensures taken { MatchTaken result
         (λ kept. Takes count (unread input.old (R.remaining reader.old)) (unread input.new (R.remaining reader.new)) (option_map octets_kept kept))
         (FallsShort count (unread input.old (R.remaining reader.old)) (R.remaining reader.new))
-        (HasRisen (R.fault_count reader.old) (R.fault_count reader.new))
-        (input.new.turns ≡ 0) }
+        (BreaksOff count (unread input.old (R.remaining reader.old)) (R.remaining reader.new) × (input.new.ended ≡ false) × HasRisen (R.fault_count reader.old) (R.fault_count reader.new))
+        (BreaksOff count (unread input.old (R.remaining reader.old)) (R.remaining reader.new) × (input.new.ended ≡ false) × (input.new.turns ≡ 0)) }
+    ensures reads { Reads R.remaining R.fault_count R.call_count input.old input.new reader.old reader.new }
 {
     let mut kept = room_for(alloc, count, keep);
     let mut left = count;

@@ -1,12 +1,13 @@
 -- A session: the replies to a stream of octets, and what the bench holds in the end.
-use Rattle.std.specs.Prelude.{◌≡◌, ⊤, ℕ, Bool, true, false, ◌⊎◌, List, [], ◌∷◌, ◌++◌, length, take, drop, Option, None, Some, Result, Ok, Err, nat_lt, if◌then◌else◌, codes}
+use Rattle.std.specs.Prelude.{◌≡◌, ⊤, ℕ, ◌+◌, ◌-◌, ◌^◌, ◌≤◌, Bool, true, false, ◌⊎◌, List, [], ◌∷◌, ◌++◌, length, take, drop, Option, None, Some, Result, Ok, Err, nat_lt, if◌then◌else◌, codes}
 use Rattle.std.specs.Io.KnownBytes.{Appends}
 use Rattle.sieve_base.specs.Limits.{line_limit}
+use Rattle.sievebench.specs.Bench.{BenchState}
 use Rattle.sievebench.specs.Content.{Content, Edit, put_script, put_message, set_main, rename_script, remove_script, remove_message, clear_main, set_envelope, set_mailbox, after}
 use Rattle.sievebench.specs.Dump.{dump_of}
 use Rattle.sievebench.specs.Report.{report_text}
 use Rattle.sieve_run.specs.declared.name.ScriptName.{ScriptName}
-use Rattle.session_text.specs.SessionLine.{Command, nothing, script, message, main, no_main, rename, drop_script, drop_message, envelope, mailbox, report, dump, first_line, command_of_line}
+use Rattle.session_text.specs.SessionLine.{Command, nothing, script, message, main, no_main, rename, drop_script, drop_message, envelope, mailbox, report, dump, first_line, command_of_line, is_long_so_far, line_so_far}
 use Rattle.sievebench.specs.declared.fault.EditFault.{EditFault}
 use Rattle.sievebench.specs.declared.fault.EditFault.TheVariants.{NoSuchScript, NameTaken, NoSuchMessage, Full, TooLarge, NoMemory}
 use Rattle.sievebench.specs.declared.status.SessionEnd.{SessionEnd}
@@ -46,9 +47,19 @@ request_by (Some (dump place name)) rest = dumps (record { place = place; name =
 abbrev pub request_at : List ℕ × List ℕ → Request
 request_at (line, rest) = if nat_lt line_limit (length line) then unreadable else request_by (command_of_line line) rest
 
+-- what a stream asks for
 unfoldable pub request_of : List ℕ → Request
 request_of [] = over
 request_of (octet ∷ octets) = request_at (first_line (octet ∷ octets))
+
+-- octets without the end of a line are cut off, unless they are too long for one already
+abbrev pub request_behind : List ℕ → Option (List ℕ × List ℕ) → Request
+request_behind read None = if is_long_so_far read then unreadable else truncated
+request_behind read (Some cut) = request_at cut
+
+-- what the octets ask for that are read, where more may come: neither their end nor the end of a line that has no LF is known
+unfoldable pub request_so_far : List ℕ → Request
+request_so_far read = request_behind read (line_so_far read)
 
 -- the words of the refusals
 abbrev pub refusal_line : EditFault → List ℕ
@@ -71,25 +82,25 @@ takes_memory clear_main = false
 takes_memory (set_envelope from to) = true
 takes_memory (set_mailbox box) = true
 
--- the reply to an edit, and the content after it; where memory is refused nothing changes
-abbrev pub Replies : Bool → Result Content EditFault → Content → List ℕ → Content → Type 0
-Replies takes (Ok content) old reply new = ((reply ≡ codes "ok\n") × (new ≡ content)) ⊎ ((takes ≡ true) × (reply ≡ refusal_line NoMemory) × (new ≡ old))
+-- the reply to an edit, and the bench after it; where memory is refused nothing changes
+abbrev pub Replies : Bool → Result Content EditFault → BenchState → List ℕ → BenchState → Type 0
+Replies takes (Ok content) old reply new = ((reply ≡ codes "ok\n") × (new.content ≡ content)) ⊎ ((takes ≡ true) × (reply ≡ refusal_line NoMemory) × (new ≡ old))
 Replies takes (Err fault) old reply new = ((reply ≡ refusal_line fault) ⊎ ((takes ≡ true) × (reply ≡ refusal_line NoMemory))) × (new ≡ old)
 
--- One command: its reply, the content after it, and what is left of the stream.
-abbrev pub Step : Content → Request → List ℕ → Content → List ℕ → Type 0
+-- One command: its reply, the bench after it, and what is left of the stream.
+abbrev pub Step : BenchState → Request → List ℕ → BenchState → List ℕ → Type 0
 Step old over reply new left = ⊥
 Step old unreadable reply new left = ⊥
 Step old truncated reply new left = ⊥
 Step old (idle rest) reply new left = (reply ≡ []) × (new ≡ old) × (left ≡ rest)
-Step old (edits edit rest) reply new left = Replies (takes_memory edit) (after old edit) old reply new × (left ≡ rest)
-Step old (reports rest) reply new left = ((reply ≡ report_text old) ⊎ (reply ≡ refusal_line NoMemory)) × (new ≡ old) × (left ≡ rest)
-Step old (dumps name rest) reply new left = ((reply ≡ dump_of old name) ⊎ (reply ≡ refusal_line NoMemory)) × (new ≡ old) × (left ≡ rest)
+Step old (edits edit rest) reply new left = Replies (takes_memory edit) (after old.content edit) old reply new × (left ≡ rest)
+Step old (reports rest) reply new left = ((reply ≡ report_text old.content) ⊎ (reply ≡ refusal_line NoMemory)) × (new.content ≡ old.content) × (left ≡ rest)
+Step old (dumps name rest) reply new left = ((reply ≡ dump_of old.content name) ⊎ (reply ≡ refusal_line NoMemory)) × (new ≡ old) × (left ≡ rest)
 
--- some commands in turn: their replies, the content after them, and what is left of the stream
-pub data Steps (old : Content) (stream : List ℕ) : List ℕ → Content → List ℕ → Type 0 where
-  none_yet : Steps old stream [] old stream
-  one_more : (replies reply : List ℕ) (mid new : Content) (rest left : List ℕ) → Steps old stream replies mid rest → Step mid (request_of rest) reply new left → Steps old stream (replies ++ reply) new left
+-- some commands in turn, each what the octets then ask for: their replies, the bench after them, and the octets behind them
+pub data Steps (request : List ℕ → Request) (old : BenchState) (stream : List ℕ) : List ℕ → BenchState → List ℕ → Type 0 where
+  none_yet : Steps request old stream [] old stream
+  one_more : (replies reply : List ℕ) (mid new : BenchState) (rest left : List ℕ) → Steps request old stream replies mid rest → Step mid (request rest) reply new left → Steps request old stream (replies ++ reply) new left
 
 -- how a session ends at a stream, and its last reply
 abbrev pub Ends : Request → SessionEnd → List ℕ → Type 0
@@ -101,31 +112,85 @@ Ends (edits edit rest) end reply = ⊥
 Ends (reports rest) end reply = ⊥
 Ends (dumps name rest) end reply = ⊥
 
--- the text of a session over a stream, its end, and the content that its commands leave
-pub record SessionText (old : Content) (stream : List ℕ) (text : List ℕ) (end : SessionEnd) (new : Content) : Type 0 where
+-- the text of a session over a stream, its end, and the bench that its commands leave
+pub record SessionText (old : BenchState) (stream : List ℕ) (text : List ℕ) (end : SessionEnd) (new : BenchState) : Type 0 where
   pub replies : List ℕ
   pub last : List ℕ
   pub rest : List ℕ
-  pub steps : Steps old stream replies new rest
+  pub steps : Steps request_of old stream replies new rest
   pub ends : Ends (request_of rest) end last
   pub whole : text ≡ replies ++ last
+
+-- the text of a session of which no more could be read: the replies to the commands that are whole in what was read, and the bench
+-- that these leave; a command that follows them is cut off
+pub record UnreadSession (old : BenchState) (read : List ℕ) (text : List ℕ) (new : BenchState) : Type 0 where
+  pub rest : List ℕ
+  pub steps : Steps request_so_far old read text new rest
+  pub breaks : request_so_far rest ≡ truncated
+
+-- the reply to what a stream asks for next, whether the session goes on or ends, and the bench after it
+abbrev pub Answered : BenchState → Request → List ℕ → BenchState → Type 0
+Answered old request reply new = ((left : List ℕ) × Step old request reply new left) ⊎ ((end : SessionEnd) × Ends request end reply × (new ≡ old))
+
+-- the text of a session of which no more could be written: the replies to some commands, and a front of the next reply; and the bench
+-- that all these commands leave
+pub record UnwrittenSession (old : BenchState) (stream : List ℕ) (text : List ℕ) (new : BenchState) : Type 0 where
+  pub replies : List ℕ
+  pub mid : BenchState
+  pub rest : List ℕ
+  pub reply : List ℕ
+  pub front : List ℕ
+  pub back : List ℕ
+  pub steps : Steps request_of old stream replies mid rest
+  pub answered : Answered mid (request_of rest) reply new
+  pub cut : front ++ back ≡ reply
+  pub whole : text ≡ replies ++ front
 
 -- OVER DEVICES
 
 -- The whole session is carried out, and its text written, where the reader tells which octets it has.
-abbrev pub SessionFrom : SessionEnd → Content → Option (List ℕ) → Option (List ℕ) → Content → Option (List ℕ) → Type 0
+abbrev pub SessionFrom : SessionEnd → BenchState → Option (List ℕ) → Option (List ℕ) → BenchState → Option (List ℕ) → Type 0
 SessionFrom end old None before new after = ⊤
 SessionFrom end old (Some stream) before new after = (text : List ℕ) × SessionText old stream text end new × Appends before after text
 
--- a fact for the ends that the octets ask for, none for the faults of the devices, and one for want of memory at the start
-abbrev pub MatchSessionEnd : SessionEnd → Type 0 → Type 0 → Type 0
-MatchSessionEnd ends.Done P Q = P
-MatchSessionEnd ends.Syntax P Q = P
-MatchSessionEnd ends.Truncated P Q = P
-MatchSessionEnd ends.Read P Q = ⊤
-MatchSessionEnd ends.Write P Q = ⊤
-MatchSessionEnd ends.NoMemory P Q = Q
-MatchSessionEnd ends.TurnLimit P Q = ⊤
+-- What was read is carried out, and its text written. What is left is what the reader still has.
+abbrev pub UnreadFrom : BenchState → Option (List ℕ) → Option (List ℕ) → BenchState → Option (List ℕ) → Option (List ℕ) → Type 0
+UnreadFrom old None before new left after = ⊤
+UnreadFrom old (Some stream) before new None after = ⊥
+UnreadFrom old (Some stream) before new (Some left) after = (read text : List ℕ) × (stream ≡ read ++ left) × UnreadSession old read text new × Appends before after text
+
+-- The session is carried out up to and with a command whose reply is cut.
+abbrev pub UnwrittenFrom : BenchState → Option (List ℕ) → Option (List ℕ) → BenchState → Option (List ℕ) → Type 0
+UnwrittenFrom old None before new after = ⊤
+UnwrittenFrom old (Some stream) before new after = (text : List ℕ) × UnwrittenSession old stream text new × Appends before after text
+
+-- a fact for the ends that the octets ask for, one where no more could be read, one where no more could be written, and one for want
+-- of memory at the start
+abbrev pub MatchSessionEnd : SessionEnd → Type 0 → Type 0 → Type 0 → Type 0 → Type 0
+MatchSessionEnd ends.Done P Q R S = P
+MatchSessionEnd ends.Syntax P Q R S = P
+MatchSessionEnd ends.Truncated P Q R S = P
+MatchSessionEnd ends.Read P Q R S = Q
+MatchSessionEnd ends.TurnLimit P Q R S = Q
+MatchSessionEnd ends.Write P Q R S = R
+MatchSessionEnd ends.NoMemory P Q R S = S
+
+-- a fact where the reader failed, one where the writer did, and one where the reads came to an end
+abbrev pub MatchFault : SessionEnd → Type 0 → Type 0 → Type 0 → Type 0
+MatchFault ends.Done P Q R = ⊤
+MatchFault ends.Syntax P Q R = ⊤
+MatchFault ends.Truncated P Q R = ⊤
+MatchFault ends.Read P Q R = P
+MatchFault ends.Write P Q R = Q
+MatchFault ends.NoMemory P Q R = ⊤
+MatchFault ends.TurnLimit P Q R = R
+
+-- There are no more turns than octets that were read and faults that were counted of the reader, where it tells what it has left. A
+-- count that stands at the greatest u64 counts no more.
+abbrev pub TurnsAreSpent : ℕ → Option (List ℕ) → Option (List ℕ) → ℕ → ℕ → Type 0
+TurnsAreSpent turns None left faults faults' = ⊤
+TurnsAreSpent turns (Some stream) None faults faults' = ⊥
+TurnsAreSpent turns (Some stream) (Some left) faults faults' = (turns ≤ (length stream - length left) + (faults' - faults)) ⊎ (2 ^ 64 - 1 ≤ faults')
 
 -- a fact at the ends that come with the end of the input
 abbrev pub AtLastEnd : SessionEnd → Type 0 → Type 0

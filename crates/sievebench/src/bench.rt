@@ -39,11 +39,12 @@ pub struct Bench {
 }
 
 impl Model for Bench {
+    ghost use Rattle.sievebench.specs.Bench.{BenchState};
     ghost use Rattle.sievebench.specs.Content.{Content};
 
-    ghost Value = { Content };
+    ghost Value = { BenchState };
 
-    ghost view = { λ b. record { main = b.main; envelope = b.envelope; scripts = b.scripts; messages = b.messages.entries } };
+    ghost view = { λ b. record { content = record { main = b.main; envelope = b.envelope; scripts = b.scripts; messages = b.messages.entries } } };
 }
 
 /// Where among the messages the one of a word's id is. Takes no memory, since the word isn't copied.
@@ -69,7 +70,7 @@ impl Bench {
 
     /// What a run finds at a name.
     pub(crate) fn found(&self, name: &ScriptName) -> Found<'_>
-        ensures { FoundAs result (found_at (λ other. lookup_of (text_at self.now.scripts other)) name.now) }
+        ensures { FoundAs result (found_at (λ other. lookup_of (text_at self.now.content.scripts other)) name.now) }
     {
         if is_long(&name.name) {
             Found::Missing
@@ -80,9 +81,9 @@ impl Bench {
 
     /// Keeps a script's text at a name, neither of which needs to be copied.
     pub(crate) fn keep_script(&mut self, name: ScriptName, text: Octets) -> Result<(), EditFault>
-        ensures ok { OnOk result (after self.old (put_script name text) ≡ Ok self.new) }
+        ensures ok { OnOk result (after self.old.content (put_script name text) ≡ Ok self.new.content) }
         ensures err { OnErr result (self.new ≡ self.old) }
-        ensures refused { Refuses (after self.old (put_script name text)) result }
+        ensures refused { Refuses (after self.old.content (put_script name text)) result }
     {
         if let Some(fault) = refuse_script(&self.scripts, &name, text.as_slice()) {
             return Err(fault);
@@ -93,9 +94,9 @@ impl Bench {
 
     /// Keeps a message's octets at an id, neither of which needs to be copied.
     pub(crate) fn keep_message(&mut self, id: Octets, bytes: Octets) -> Result<(), EditFault>
-        ensures ok { OnOk result (after self.old (put_message id bytes) ≡ Ok self.new) }
+        ensures ok { OnOk result (after self.old.content (put_message id bytes) ≡ Ok self.new.content) }
         ensures err { OnErr result (self.new ≡ self.old) }
-        ensures refused { Refuses (after self.old (put_message id bytes)) result }
+        ensures refused { Refuses (after self.old.content (put_message id bytes)) result }
     {
         if let Some(fault) = refuse_message(&self.messages, &id, bytes.as_slice()) {
             return Err(fault);
@@ -109,7 +110,7 @@ impl Bench {
 
     /// A bench with no scripts, no messages, no main script, an empty envelope, and the mailbox `INBOX`.
     pub fn new(alloc: Global) -> Result<Bench, AllocError>
-        ensures { IfOk result (λ bench. bench ≡ new_content) }
+        ensures { IfOk result (λ bench. bench.content ≡ new_content) }
     {
         let envelope = Envelope {
             from: Octets::from_vec(Vec::new(alloc)),
@@ -129,9 +130,9 @@ impl Bench {
 
     /// Puts a script's text at a name, in place of the one there. A text with a fault is kept, and reported.
     pub fn put_script(&mut self, name: &ScriptName, text: &[u8]) -> Result<(), EditFault>
-        ensures ok { OnOk result (after self.old (put_script name.now text.now) ≡ Ok self.new) }
+        ensures ok { OnOk result (after self.old.content (put_script name.now text.now) ≡ Ok self.new.content) }
         ensures err { OnErr result (self.new ≡ self.old) }
-        ensures refused { Refuses (after self.old (put_script name.now text.now)) result }
+        ensures refused { Refuses (after self.old.content (put_script name.now text.now)) result }
     {
         if let Some(fault) = refuse_script(&self.scripts, name, text) {
             return Err(fault);
@@ -143,9 +144,9 @@ impl Bench {
 
     /// Puts a message's octets at an id: a new id goes last, a present one keeps its place.
     pub fn put_message(&mut self, id: &Octets, bytes: &[u8]) -> Result<(), EditFault>
-        ensures ok { OnOk result (after self.old (put_message id.now bytes.now) ≡ Ok self.new) }
+        ensures ok { OnOk result (after self.old.content (put_message id.now bytes.now) ≡ Ok self.new.content) }
         ensures err { OnErr result (self.new ≡ self.old) }
-        ensures refused { Refuses (after self.old (put_message id.now bytes.now)) result }
+        ensures refused { Refuses (after self.old.content (put_message id.now bytes.now)) result }
     {
         if let Some(fault) = refuse_message(&self.messages, id, bytes) {
             return Err(fault);
@@ -157,9 +158,9 @@ impl Bench {
 
     /// Makes a script main, whether or not it is there.
     pub fn set_main(&mut self, name: &ScriptName) -> Result<(), EditFault>
-        ensures ok { OnOk result (after self.old (set_main name.now) ≡ Ok self.new) }
+        ensures ok { OnOk result (after self.old.content (set_main name.now) ≡ Ok self.new.content) }
         ensures err { OnErr result (self.new ≡ self.old) }
-        ensures refused { Refuses (after self.old (set_main name.now)) result }
+        ensures refused { Refuses (after self.old.content (set_main name.now)) result }
     {
         if let Some(fault) = refuse_main(name) {
             return Err(fault);
@@ -171,9 +172,9 @@ impl Bench {
 
     /// Renames a script to a name that no script has. The main script's name stays as it is.
     pub fn rename_script(&mut self, from: &ScriptName, to: &ScriptName) -> Result<(), EditFault>
-        ensures ok { OnOk result (after self.old (rename_script from.now to.now) ≡ Ok self.new) }
+        ensures ok { OnOk result (after self.old.content (rename_script from.now to.now) ≡ Ok self.new.content) }
         ensures err { OnErr result (self.new ≡ self.old) }
-        ensures refused { Refuses (after self.old (rename_script from.now to.now)) result }
+        ensures refused { Refuses (after self.old.content (rename_script from.now to.now)) result }
     {
         if let Some(fault) = refuse_rename(&self.scripts, from, to) {
             return Err(fault);
@@ -184,9 +185,9 @@ impl Bench {
 
     /// Removes a script. Takes no memory.
     pub fn remove_script(&mut self, name: &ScriptName) -> Result<(), EditFault>
-        ensures ok { OnOk result (after self.old (remove_script name.now) ≡ Ok self.new) }
+        ensures ok { OnOk result (after self.old.content (remove_script name.now) ≡ Ok self.new.content) }
         ensures err { OnErr result (self.new ≡ self.old) }
-        ensures refused { Answers (after self.old (remove_script name.now)) result }
+        ensures refused { Answers (after self.old.content (remove_script name.now)) result }
     {
         if let Some(fault) = refuse_remove_script(&self.scripts, name) {
             return Err(fault);
@@ -197,9 +198,9 @@ impl Bench {
 
     /// Removes a message. The others stay in their order. Takes no memory.
     pub fn remove_message(&mut self, id: &Octets) -> Result<(), EditFault>
-        ensures ok { OnOk result (after self.old (remove_message id.now) ≡ Ok self.new) }
+        ensures ok { OnOk result (after self.old.content (remove_message id.now) ≡ Ok self.new.content) }
         ensures err { OnErr result (self.new ≡ self.old) }
-        ensures refused { Answers (after self.old (remove_message id.now)) result }
+        ensures refused { Answers (after self.old.content (remove_message id.now)) result }
     {
         self.drop_sought(Sought {
             octets: id.as_slice(),
@@ -249,16 +250,16 @@ impl Bench {
 
     /// Leaves no script main. Takes no memory.
     pub fn clear_main(&mut self)
-        ensures { after self.old clear_main ≡ Ok self.new }
+        ensures { after self.old.content clear_main ≡ Ok self.new.content }
     {
         self.main = None;
     }
 
     /// Sets the addresses of the sender and of the recipient.
     pub fn set_envelope(&mut self, from: &[u8], to: &[u8]) -> Result<(), EditFault>
-        ensures ok { OnOk result (after self.old (set_envelope from.now to.now) ≡ Ok self.new) }
+        ensures ok { OnOk result (after self.old.content (set_envelope from.now to.now) ≡ Ok self.new.content) }
         ensures err { OnErr result (self.new ≡ self.old) }
-        ensures refused { Refuses (after self.old (set_envelope from.now to.now)) result }
+        ensures refused { Refuses (after self.old.content (set_envelope from.now to.now)) result }
     {
         if let Some(fault) = refuse_envelope(from, to) {
             return Err(fault);
@@ -272,9 +273,9 @@ impl Bench {
 
     /// Sets the mailbox that mail is kept in.
     pub fn set_mailbox(&mut self, mailbox: &[u8]) -> Result<(), EditFault>
-        ensures ok { OnOk result (after self.old (set_mailbox mailbox.now) ≡ Ok self.new) }
+        ensures ok { OnOk result (after self.old.content (set_mailbox mailbox.now) ≡ Ok self.new.content) }
         ensures err { OnErr result (self.new ≡ self.old) }
-        ensures refused { Refuses (after self.old (set_mailbox mailbox.now)) result }
+        ensures refused { Refuses (after self.old.content (set_mailbox mailbox.now)) result }
     {
         if let Some(fault) = refuse_mailbox(mailbox) {
             return Err(fault);
@@ -288,15 +289,15 @@ impl Bench {
     /// nothing; one whose writer fails has written a front of the report. The scripts, the messages and the settings
     /// stay as they are.
     pub fn report<W: Sink>(&mut self, meter: &mut Meter, writer: &mut W) -> Result<(), ReportFault>
-        ensures ok { OnOk result (Wrote W.contents W.fault_count writer.old writer.new (report_text self.old)) }
+        ensures ok { OnOk result (Wrote W.contents W.fault_count writer.old writer.new (report_text self.old.content)) }
         // Nothing is written where memory is refused, and a front of the report where the writer fails.
         ensures err { IfErr result (λ fault. MatchReportFault fault (writer.new ≡ writer.old)
-            (WroteFront W.contents W.fault_count writer.old writer.new (report_text self.old))) }
+            (WroteFront W.contents W.fault_count writer.old writer.new (report_text self.old.content))) }
         ensures content { self.new ≡ self.old }
         // Each message was run once, unless memory was refused.
-        ensures runs { OnOk result (meter.new ≡ runs_after (length self.old.messages) meter.old) }
+        ensures runs { OnOk result (meter.new ≡ runs_after (length self.old.content.messages) meter.old) }
         ensures runs_at_fault { IfErr result (λ fault. MatchReportFault fault ⊤
-            (meter.new ≡ runs_after (length self.old.messages) meter.old)) }
+            (meter.new ≡ runs_after (length self.old.content.messages) meter.old)) }
     {
         let main = self.main.as_ref();
         let Ok(reported) = run_all(

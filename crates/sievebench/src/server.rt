@@ -1,14 +1,15 @@
 //! A session: commands in, replies out.
-ghost use Rattle.std.specs.Prelude.{◌≡◌, true, ◌≤◌, ◌<◌, ℕ, List, Option, OnOk, OnErr, Ok, codes, nat_lt, if◌then◌else◌};
-ghost use Rattle.sieve_base.specs.Writers.{Wrote};
-ghost use Rattle.sievebench.specs.Content.{Content, Edit, after, remove_message, Refuses};
-ghost use Rattle.session_text.specs.view.Input.{unread, fuel, Knows};
-ghost use Rattle.sievebench.specs.Session.{SessionFrom, MatchSessionEnd, AtLastEnd, with_octets, request_by, request_of, dumps, edits, reports, takes_memory};
+ghost use Rattle.std.specs.Prelude.{◌≡◌, false, ◌≤◌, ◌<◌, ◌+◌, ℕ, List, Option, OnOk, OnErr, Ok, codes, nat_lt, if◌then◌else◌};
+ghost use Rattle.sieve_base.specs.Devices.{HasRisen};
+ghost use Rattle.sieve_base.specs.Writers.{Wrote, WroteFront};
+ghost use Rattle.sievebench.specs.Bench.{BenchState};
+ghost use Rattle.sievebench.specs.Content.{after, remove_message, Refuses};
+ghost use Rattle.session_text.specs.view.Input.{unread, fuel, Knows, Reads};
+ghost use Rattle.sievebench.specs.Session.{Request, SessionFrom, UnreadFrom, UnwrittenFrom, MatchSessionEnd, MatchFault, TurnsAreSpent, AtLastEnd, with_octets, request_by, dumps, edits, reports, takes_memory};
 ghost use Rattle.session_text.specs.SessionLine as line;
 ghost use Rattle.std.specs.Io.KnownBytes.{IsAtEnd};
-ghost use Rattle.sieve_run.specs.declared.name.ScriptName as names;
 ghost use Rattle.sievebench.specs.view.Task.{Tasks, Drops, edit_by, edit_of};
-ghost use Rattle.sievebench.specs.view.Turn.{TurnsFrom, RefusesIf, Continues, EndsBy, OnContinues, AtLast, reply_line};
+ghost use Rattle.sievebench.specs.view.Turn.{TurnsFrom, Serves, RefusesIf, Continues, EndsBy, MatchTurn, OnContinues, AtLast, MayBeRefused, reply_line};
 
 use crate::bench::Bench;
 use crate::dump::write_dump;
@@ -46,7 +47,7 @@ fn reply_line(outcome: Result<(), EditFault>) -> &'static [u8]
 
 /// Writes the reply to an edit.
 fn answer<W: Sink>(outcome: Result<(), EditFault>, writer: &mut W) -> Turn
-    ensures { Continues result (Wrote W.contents W.fault_count writer.old writer.new (reply_line outcome)) }
+    ensures { Continues result (Wrote W.contents W.fault_count writer.old writer.new (reply_line outcome)) (WroteFront W.contents W.fault_count writer.old writer.new (reply_line outcome)) }
 {
     match write_out(reply_line(outcome), writer) {
         Ok(()) => Turn::Continues,
@@ -56,7 +57,7 @@ fn answer<W: Sink>(outcome: Result<(), EditFault>, writer: &mut W) -> Turn
 
 /// Writes the last reply where a line says nothing that there is.
 fn refuse_line<W: Sink>(writer: &mut W) -> Turn
-    ensures { EndsBy SessionEnd.Syntax result (Wrote W.contents W.fault_count writer.old writer.new (codes "no syntax\n")) }
+    ensures { EndsBy SessionEnd.Syntax result (Wrote W.contents W.fault_count writer.old writer.new (codes "no syntax\n")) (WroteFront W.contents W.fault_count writer.old writer.new (codes "no syntax\n")) }
 {
     match write_out(b"no syntax\n", writer) {
         Ok(()) => Turn::Ends(SessionEnd::Syntax),
@@ -66,7 +67,7 @@ fn refuse_line<W: Sink>(writer: &mut W) -> Turn
 
 /// Writes the last reply where octets end too early.
 fn refuse_octets<W: Sink>(writer: &mut W) -> Turn
-    ensures { EndsBy SessionEnd.Truncated result (Wrote W.contents W.fault_count writer.old writer.new (codes "no truncated\n")) }
+    ensures { EndsBy SessionEnd.Truncated result (Wrote W.contents W.fault_count writer.old writer.new (codes "no truncated\n")) (WroteFront W.contents W.fault_count writer.old writer.new (codes "no truncated\n")) }
 {
     match write_out(b"no truncated\n", writer) {
         Ok(()) => Turn::Ends(SessionEnd::Truncated),
@@ -76,9 +77,9 @@ fn refuse_octets<W: Sink>(writer: &mut W) -> Turn
 
 /// Puts octets at a name or an id.
 fn keep(bench: &mut Bench, subject: Subject, octets: Vec<u8>) -> Result<(), EditFault>
-    ensures ok { OnOk result (after bench.old (edit_of subject octets.items) ≡ Ok bench.new) }
+    ensures ok { OnOk result (after bench.old.content (edit_of subject octets.items) ≡ Ok bench.new.content) }
     ensures err { OnErr result (bench.new ≡ bench.old) }
-    ensures refused { Refuses (after bench.old (edit_of subject octets.items)) result }
+    ensures refused { Refuses (after bench.old.content (edit_of subject octets.items)) result }
 {
     let octets = Octets::from_vec(octets);
     match subject {
@@ -89,9 +90,9 @@ fn keep(bench: &mut Bench, subject: Subject, octets: Vec<u8>) -> Result<(), Edit
 
 /// Makes an edit that no octets follow.
 fn carry_out(bench: &mut Bench, change: Change) -> Result<(), EditFault>
-    ensures ok { OnOk result (after bench.old (edit_by change) ≡ Ok bench.new) }
+    ensures ok { OnOk result (after bench.old.content (edit_by change) ≡ Ok bench.new.content) }
     ensures err { OnErr result (bench.new ≡ bench.old) }
-    ensures refused { RefusesIf (takes_memory (edit_by change)) (after bench.old (edit_by change)) result }
+    ensures refused { RefusesIf (takes_memory (edit_by change)) (after bench.old.content (edit_by change)) result }
 {
     match change {
         Change::Main { name } => bench.set_main(&name),
@@ -131,8 +132,11 @@ fn serve_put<R: Source, W: Sink>(
     ensures known { Knows input.new (R.remaining reader.new) }
     ensures turn { TurnsFrom (λ rest. with_octets count rest (edit_of subject)) result
         bench.old (unread input.old (R.remaining reader.old)) (W.contents writer.old)
-        bench.new (unread input.new (R.remaining reader.new)) (W.contents writer.new) }
+        bench.new (unread input.new (R.remaining reader.new)) (R.remaining reader.new) (W.contents writer.new) }
     ensures fuel { fuel input.new ≤ fuel input.old }
+    ensures reads { Reads R.remaining R.fault_count R.call_count input.old input.new reader.old reader.new }
+    ensures faults { MatchTurn result (W.fault_count writer.old ≤ W.fault_count writer.new) ((input.new.ended ≡ false) × HasRisen (R.fault_count reader.old) (R.fault_count reader.new))
+        (HasRisen (W.fault_count writer.old) (W.fault_count writer.new)) ((input.new.ended ≡ false) × (input.new.turns ≡ 0)) }
     ensures end { AtLast result (IsAtEnd (R.remaining reader.new)) }
 {
     let limit = limit_of(&subject);
@@ -162,16 +166,13 @@ fn serve_forgotten<R: Source, W: Sink>(
 ) -> Turn
     requires known { Knows input.old (R.remaining reader.old) }
     ensures known { Knows input.new (R.remaining reader.new) }
-    ensures put { (content : Content) (edit : List ℕ → Edit) → ((octets : List ℕ) → takes_memory (edit octets) ≡ true) → TurnsFrom (λ rest. with_octets count rest edit) result
-        content (unread input.old (R.remaining reader.old)) (W.contents writer.old)
-        content (unread input.new (R.remaining reader.new)) (W.contents writer.new) }
-    ensures other { count ≡ 0 → (content : Content) (edit : Edit) → takes_memory edit ≡ true → TurnsFrom (λ rest. edits edit rest) result
-        content (unread input.old (R.remaining reader.old)) (W.contents writer.old)
-        content (unread input.new (R.remaining reader.new)) (W.contents writer.new) }
-    ensures dump { count ≡ 0 → (content : Content) (name : names.ScriptName) → TurnsFrom (λ rest. dumps name rest) result
-        content (unread input.old (R.remaining reader.old)) (W.contents writer.old)
-        content (unread input.new (R.remaining reader.new)) (W.contents writer.new) }
+    ensures turn { (old : BenchState) (request : List ℕ → Request) → MayBeRefused count request → TurnsFrom request result
+        old (unread input.old (R.remaining reader.old)) (W.contents writer.old)
+        old (unread input.new (R.remaining reader.new)) (R.remaining reader.new) (W.contents writer.new) }
     ensures fuel { fuel input.new ≤ fuel input.old }
+    ensures reads { Reads R.remaining R.fault_count R.call_count input.old input.new reader.old reader.new }
+    ensures faults { MatchTurn result (W.fault_count writer.old ≤ W.fault_count writer.new) ((input.new.ended ≡ false) × HasRisen (R.fault_count reader.old) (R.fault_count reader.new))
+        (HasRisen (W.fault_count writer.old) (W.fault_count writer.new)) ((input.new.ended ≡ false) × (input.new.turns ≡ 0)) }
     ensures end { AtLast result (IsAtEnd (R.remaining reader.new)) }
 {
     match take_octets(alloc, input, reader, count as usize, false) {
@@ -185,8 +186,9 @@ fn serve_forgotten<R: Source, W: Sink>(
 /// Makes an edit that no octets follow, and replies.
 #[tactic(auto, using(crate::proofs::Serving::serving))]
 fn serve_change<W: Sink>(bench: &mut Bench, writer: &mut W, change: Change) -> Turn
-    ensures turn { (unread : Option (List ℕ)) → TurnsFrom (λ rest. edits (edit_by change) rest) result
-        bench.old unread (W.contents writer.old) bench.new unread (W.contents writer.new) }
+    ensures turn { (unread rest : Option (List ℕ)) → TurnsFrom (λ rest. edits (edit_by change) rest) result
+        bench.old unread (W.contents writer.old) bench.new unread rest (W.contents writer.new) }
+    ensures faults { MatchTurn result (W.fault_count writer.old ≤ W.fault_count writer.new) ⊥ (HasRisen (W.fault_count writer.old) (W.fault_count writer.new)) ⊥ }
     ensures end { AtLast result ⊥ }
 {
     answer(carry_out(bench, change), writer)
@@ -195,8 +197,9 @@ fn serve_change<W: Sink>(bench: &mut Bench, writer: &mut W, change: Change) -> T
 /// Replies to an edit that is made already.
 #[tactic(auto, using(crate::proofs::Serving::serving))]
 fn serve_dropped<W: Sink>(outcome: Result<(), EditFault>, writer: &mut W) -> Turn
-    ensures turn { (old new : Content) (id : List ℕ) (unread : Option (List ℕ)) → Drops id outcome old new → TurnsFrom (λ rest. edits (remove_message id) rest) result
-        old unread (W.contents writer.old) new unread (W.contents writer.new) }
+    ensures turn { (old new : BenchState) (id : List ℕ) (unread rest : Option (List ℕ)) → Drops id outcome old new → TurnsFrom (λ rest. edits (remove_message id) rest) result
+        old unread (W.contents writer.old) new unread rest (W.contents writer.new) }
+    ensures faults { MatchTurn result (W.fault_count writer.old ≤ W.fault_count writer.new) ⊥ (HasRisen (W.fault_count writer.old) (W.fault_count writer.new)) ⊥ }
     ensures end { AtLast result ⊥ }
 {
     answer(outcome, writer)
@@ -205,8 +208,9 @@ fn serve_dropped<W: Sink>(outcome: Result<(), EditFault>, writer: &mut W) -> Tur
 /// Reports, or replies that memory was refused.
 #[tactic(auto, using(crate::proofs::Serving::serving))]
 fn serve_report<W: Sink>(bench: &mut Bench, meter: &mut Meter, writer: &mut W) -> Turn
-    ensures turn { (unread : Option (List ℕ)) → TurnsFrom (λ rest. reports rest) result
-        bench.old unread (W.contents writer.old) bench.new unread (W.contents writer.new) }
+    ensures turn { (unread rest : Option (List ℕ)) → TurnsFrom (λ rest. reports rest) result
+        bench.old unread (W.contents writer.old) bench.new unread rest (W.contents writer.new) }
+    ensures faults { MatchTurn result (W.fault_count writer.old ≤ W.fault_count writer.new) ⊥ (HasRisen (W.fault_count writer.old) (W.fault_count writer.new)) ⊥ }
     ensures end { AtLast result ⊥ }
 {
     match bench.report(meter, writer) {
@@ -219,8 +223,9 @@ fn serve_report<W: Sink>(bench: &mut Bench, meter: &mut Meter, writer: &mut W) -
 /// Prints the code of a script, or replies why not.
 #[tactic(auto, using(crate::proofs::Serving::serving))]
 fn serve_dump<W: Sink>(bench: &Bench, writer: &mut W, name: &ScriptName) -> Turn
-    ensures turn { (unread : Option (List ℕ)) → TurnsFrom (λ rest. dumps name.now rest) result
-        bench.now unread (W.contents writer.old) bench.now unread (W.contents writer.new) }
+    ensures turn { (unread rest : Option (List ℕ)) → TurnsFrom (λ rest. dumps name.now rest) result
+        bench.now unread (W.contents writer.old) bench.now unread rest (W.contents writer.new) }
+    ensures faults { MatchTurn result (W.fault_count writer.old ≤ W.fault_count writer.new) ⊥ (HasRisen (W.fault_count writer.old) (W.fault_count writer.new)) ⊥ }
     ensures end { AtLast result ⊥ }
 {
     match write_dump(bench.found(name), writer) {
@@ -241,10 +246,13 @@ fn perform<R: Source, W: Sink>(
 ) -> Turn
     requires known { Knows input.old (R.remaining reader.old) }
     ensures known { Knows input.new (R.remaining reader.new) }
-    ensures turn { (command : Option line.Command) (old : Content) → Tasks task command old bench.old → TurnsFrom (request_by command) result
+    ensures turn { (command : Option line.Command) (old : BenchState) → Tasks task command old bench.old → TurnsFrom (request_by command) result
         old (unread input.old (R.remaining reader.old)) (W.contents writer.old)
-        bench.new (unread input.new (R.remaining reader.new)) (W.contents writer.new) }
+        bench.new (unread input.new (R.remaining reader.new)) (R.remaining reader.new) (W.contents writer.new) }
     ensures fuel { fuel input.new ≤ fuel input.old }
+    ensures reads { Reads R.remaining R.fault_count R.call_count input.old input.new reader.old reader.new }
+    ensures faults { MatchTurn result (W.fault_count writer.old ≤ W.fault_count writer.new) ((input.new.ended ≡ false) × HasRisen (R.fault_count reader.old) (R.fault_count reader.new))
+        (HasRisen (W.fault_count writer.old) (W.fault_count writer.new)) ((input.new.ended ≡ false) × (input.new.turns ≡ 0)) }
     ensures end { AtLast result (IsAtEnd (R.remaining reader.new)) }
 {
     match task {
@@ -272,10 +280,13 @@ fn serve<R: Source, W: Sink>(
 ) -> Turn
     requires known { Knows input.old (R.remaining reader.old) }
     ensures known { Knows input.new (R.remaining reader.new) }
-    ensures turn { TurnsFrom request_of result
+    ensures turn { Serves input.new.ended result
         bench.old (unread input.old (R.remaining reader.old)) (W.contents writer.old)
-        bench.new (unread input.new (R.remaining reader.new)) (W.contents writer.new) }
+        bench.new (unread input.new (R.remaining reader.new)) (R.remaining reader.new) (W.contents writer.new) }
     ensures fuel { OnContinues result (fuel input.new < fuel input.old) }
+    ensures reads { Reads R.remaining R.fault_count R.call_count input.old input.new reader.old reader.new }
+    ensures faults { MatchTurn result (W.fault_count writer.old ≤ W.fault_count writer.new) ((input.new.ended ≡ false) × HasRisen (R.fault_count reader.old) (R.fault_count reader.new))
+        (HasRisen (W.fault_count writer.old) (W.fault_count writer.new)) ((input.new.ended ≡ false) × (input.new.turns ≡ 0)) }
     ensures end { AtLast result (IsAtEnd (R.remaining reader.new)) }
 {
     match Line::next(input, reader) {
@@ -303,12 +314,22 @@ pub fn session<R: Source, W: Sink>(
     turns: u64,
 ) -> SessionEnd
     // At the ends that the octets ask for, what was written is the text of a session of the reader's octets with that
-    // end, and the bench holds what its commands leave. Where memory is refused at the start, nothing has changed.
+    // end, and the bench holds what its commands leave. At `Read` and `TurnLimit` it is the replies to the commands that were
+    // whole in what was read, and at `Write` a front of the text, up to a reply that was cut; the bench holds what these
+    // commands leave. Where memory is refused at the start, nothing has changed.
     ensures session { MatchSessionEnd result
         (SessionFrom result bench.old (R.remaining reader.old) (W.contents writer.old) bench.new (W.contents writer.new))
+        (UnreadFrom bench.old (R.remaining reader.old) (W.contents writer.old) bench.new (R.remaining reader.new) (W.contents writer.new))
+        (UnwrittenFrom bench.old (R.remaining reader.old) (W.contents writer.old) bench.new (W.contents writer.new))
         ((bench.new ≡ bench.old) × (reader.new ≡ reader.old) × (writer.new ≡ writer.old)) }
     // At the end of the input none of the octets is unread.
     ensures end { AtLastEnd result (IsAtEnd (R.remaining reader.new)) }
+    // A fault is told only where the device counted one, and the end of the turns only where each gave an octet or a fault.
+    ensures faults { MatchFault result
+        (HasRisen (R.fault_count reader.old) (R.fault_count reader.new))
+        (HasRisen (W.fault_count writer.old) (W.fault_count writer.new))
+        (TurnsAreSpent turns (R.remaining reader.old) (R.remaining reader.new) (R.fault_count reader.old) (R.fault_count reader.new)) }
+    ensures calls { R.call_count reader.new ≤ R.call_count reader.old + turns }
 {
     let Ok(mut input) = Input::new(bench.allocator(), turns) else {
         return SessionEnd::NoMemory;

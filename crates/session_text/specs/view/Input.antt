@@ -1,5 +1,5 @@
 -- What a session has read and not yet used.
-use Rattle.std.specs.Prelude.{ℕ, Bool, IsTrue, ◌+◌, ◌*◌, List, length, Option}
+use Rattle.std.specs.Prelude.{◌≡◌, ⊤, ℕ, Bool, false, IsTrue, ◌+◌, ◌-◌, ◌*◌, ◌^◌, ◌≤◌, ◌⊎◌, List, length, Option, None, Some}
 use Rattle.std.specs.Io.KnownBytes.{prepend_known, IsAtEnd}
 
 -- the octets that are read and not used, how many reads may still be made, and whether a read has come to the end
@@ -23,3 +23,19 @@ Knows input remaining = IsTrue input.ended → IsAtEnd remaining
 -- It falls with each octet that is used, and with each read.
 abbrev pub fuel : Input → ℕ
 fuel input = input.turns * (capacity + 1) + length input.pending
+
+-- Each turn that was taken gave an octet or counted a fault, where the device tells what it has left. A count that stands at the
+-- greatest u64 counts no more.
+abbrev pub TurnsGave : ℕ → ℕ → Option (List ℕ) → Option (List ℕ) → ℕ → ℕ → Type 0
+TurnsGave before after None left faults faults' = ⊤
+TurnsGave before after (Some stream) None faults faults' = ⊥
+TurnsGave before after (Some stream) (Some left) faults faults' =
+    (length left ≤ length stream) × ((before + length left + faults ≤ after + length stream + faults') ⊎ (2 ^ 64 - 1 ≤ faults'))
+
+-- Between two states of an input and of the device that it reads, each read took a turn, and each turn, where none has come to the end,
+-- gave an octet or counted a fault.
+pub record Reads {S : Type 0} (remaining : S → Option (List ℕ)) (fault_count call_count : S → ℕ) (before after : Input) (old new : S) : Type 0 where
+  pub faults_kept : fault_count old ≤ fault_count new
+  pub calls_counted : call_count new + after.turns ≤ call_count old + before.turns
+  pub stays_ended : after.ended ≡ false → before.ended ≡ false
+  pub turns_gave : after.ended ≡ false → TurnsGave before.turns after.turns (remaining old) (remaining new) (fault_count old) (fault_count new)

@@ -1,9 +1,13 @@
 -- What the program says of the next line.
-use Rattle.std.specs.Prelude.{◌≡◌, ⊤, ℕ, ◌<◌, ◌≤◌, List, [], ◌++◌, length, take, drop}
+use Rattle.std.specs.Prelude.{◌≡◌, ⊤, ℕ, false, ◌<◌, ◌≤◌, List, [], ◌++◌, length, take, drop, None, Some}
 use Rattle.sieve_base.specs.Limits.{line_limit}
-use Rattle.session_text.specs.SessionLine.{first_line}
+use Rattle.session_text.specs.SessionLine.{cut_line, first_line, is_long_so_far, line_so_far}
 use Rattle.session_text.specs.declared.line.Line.{Line}
 use Rattle.session_text.specs.declared.line.Line.TheVariants.{Over, Whole, TooLong, Failed, Spent}
+
+-- the octets have no LF, and may still become a line
+abbrev pub IsCutOff : List ℕ → Type 0
+IsCutOff pending = (cut_line pending ≡ None) × (is_long_so_far pending ≡ false)
 
 -- that it is so, of the octets that are read and not used, and those that are left in the input
 abbrev pub IsLine : Line → List ℕ → List ℕ → Type 0
@@ -13,13 +17,21 @@ IsLine TooLong pending left = line_limit < length (first_line (pending ++ left))
 IsLine Failed pending left = ⊤
 IsLine Spent pending left = ⊤
 
--- that the line lies in the octets that are read, and is within the limit
+-- that the line lies in the octets that are read, and is within the limit; and where it can't be read, what there is of it
 abbrev pub IsWithin : Line → List ℕ → Type 0
 IsWithin Over pending = ⊤
 IsWithin (Whole len skip) pending = (len ≤ line_limit) × (len ≤ length pending) × (0 < skip) × (skip ≤ length pending)
 IsWithin TooLong pending = 0 < length pending
-IsWithin Failed pending = ⊤
-IsWithin Spent pending = ⊤
+IsWithin Failed pending = IsCutOff pending
+IsWithin Spent pending = IsCutOff pending
+
+-- that the line ends at an LF, whatever follows it
+abbrev pub IsEnded : Line → List ℕ → Type 0
+IsEnded Over pending = ⊤
+IsEnded (Whole len skip) pending = (more : List ℕ) → line_so_far (take skip pending ++ more) ≡ Some (take len pending, more)
+IsEnded TooLong pending = ⊤
+IsEnded Failed pending = ⊤
+IsEnded Spent pending = ⊤
 
 -- a fact for the end, and one for each fault
 abbrev pub MatchEnd : Line → Type 0 → Type 0 → Type 0 → Type 0

@@ -26,6 +26,12 @@ abbrev pub FallsShort : ℕ → Option (List ℕ) → Option (List ℕ) → Type
 FallsShort count None new = IsAtEnd new
 FallsShort count (Some xs) new = (length xs < count) × IsAtEnd new
 
+-- what was read of them ends before all are there
+abbrev pub BreaksOff : ℕ → Option (List ℕ) → Option (List ℕ) → Type 0
+BreaksOff count None left = ⊤
+BreaksOff count (Some xs) None = ⊥
+BreaksOff count (Some xs) (Some ys) = (read : List ℕ) × (xs ≡ read ++ ys) × (length read < count)
+
 -- a fact for each way that taking octets may go
 abbrev pub MatchTaken : Taken → (Option (Vec ℕ Global) → Type 0) → Type 0 → Type 0 → Type 0 → Type 0
 MatchTaken (Whole kept) P Q R S = P kept

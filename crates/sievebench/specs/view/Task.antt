@@ -2,7 +2,8 @@
 use Rattle.std.specs.Prelude.{◌≡◌, ℕ, List, Option, Some, None, Result, Ok, Err, OnOk, OnErr}
 use Rattle.sieve_base.specs.Limits.{text_limit, message_limit}
 use Rattle.session_text.specs.SessionLine.{Command, nothing, script, message, main, no_main, rename, drop_script, drop_message, envelope, mailbox, report, dump}
-use Rattle.sievebench.specs.Content.{Content, Edit, put_script, put_message, set_main, rename_script, remove_script, remove_message, clear_main, set_envelope, set_mailbox, after, Answers}
+use Rattle.sievebench.specs.Bench.{BenchState}
+use Rattle.sievebench.specs.Content.{Edit, put_script, put_message, set_main, rename_script, remove_script, remove_message, clear_main, set_envelope, set_mailbox, after, Answers}
 use Rattle.sievebench.specs.declared.task.Subject.{Subject}
 use Rattle.sievebench.specs.declared.task.Subject.TheVariants as subjects
 use Rattle.sievebench.specs.declared.task.Change.{Change}
@@ -64,11 +65,11 @@ change_task (Ok change) = tasks.Change change
 change_task (Err refused) = tasks.Forgotten 0
 
 -- a message is removed, or it is said why not
-abbrev pub Drops : List ℕ → Result Unit EditFault → Content → Content → Type 0
-Drops id outcome old new = OnOk outcome (after old (remove_message id) ≡ Ok new) × OnErr outcome (new ≡ old) × Answers (after old (remove_message id)) outcome
+abbrev pub Drops : List ℕ → Result Unit EditFault → BenchState → BenchState → Type 0
+Drops id outcome old new = OnOk outcome (after old.content (remove_message id) ≡ Ok new.content) × OnErr outcome (new ≡ old) × Answers (after old.content (remove_message id)) outcome
 
 -- the task is to do what a line asks for, or that is done already
-abbrev pub Tasks : Task → Option Command → Content → Content → Type 0
+abbrev pub Tasks : Task → Option Command → BenchState → BenchState → Type 0
 Tasks (tasks.Dropped outcome) command old new = (id : List ℕ) × (command ≡ Some (drop_message id)) × Drops id outcome old new
 Tasks tasks.Idle command old new = IsTask tasks.Idle command × (new ≡ old)
 Tasks (tasks.Put subject count) command old new = IsTask (tasks.Put subject count) command × (new ≡ old)

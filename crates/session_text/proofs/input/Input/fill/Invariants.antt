@@ -1,7 +1,7 @@
-use Rattle.std.proofs.Common.{◌≡◌, false, ◌+◌, ◌<◌, ◌≤◌}
+use Rattle.std.proofs.Common.{◌≡◌, false, ◌+◌, ◌<◌}
 use Rattle.std.specs.Io.KnownBytes.{Keeps}
 use Rattle.sieve_base.specs.Devices.{HasRisen}
-use Rattle.session_text.specs.view.Input.{unread}
+use Rattle.session_text.specs.view.Input.{Reads, unread}
 use Rattle.session_text.proofs.input.Input.fill.Given as goal
 
 -- nothing was read, and each try has counted a fault
@@ -11,5 +11,5 @@ invariant-loop-retry g l =
     × (l.self.ended ≡ false)
     × Keeps (unread l.fn.self (g.R.Source.remaining l.fn.reader)) (unread l.self (g.R.Source.remaining l.reader))
     × (l.self.turns + l._retry ≡ l.fn.self.turns)
-    × (g.R.Faults.fault_count l.fn.reader ≤ g.R.Faults.fault_count l.reader)
+    × Reads g.R.Source.remaining g.R.Faults.fault_count g.R.Source.call_count l.fn.self l.self l.fn.reader l.reader
     × (0 < l._retry → HasRisen (g.R.Faults.fault_count l.fn.reader) (g.R.Faults.fault_count l.reader))

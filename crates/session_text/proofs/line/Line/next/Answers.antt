@@ -16,4 +16,4 @@ pub returns-in-Some-clause-end : goal.returns-in-Some-clause-end
 returns-in-Some-clause-end g c = at_end c.before-in-Some.result ⊥ ⊥ ⊥ _ _ _ c.before-in-Some.ensures.kind (λ no. absurd no) (λ no. absurd no) (λ no. absurd no)
 
 pub returns-in-Ended-clause-end : goal.returns-in-Ended-clause-end
-returns-in-Ended-clause-end g c = at_end c.last.result ⊤ ⊥ ⊥ _ _ _ c.last.ensures.kind (λ _. c.in-Ended.ensures.filled.1) (λ no. absurd no) (λ no. absurd no)
+returns-in-Ended-clause-end g c = at_end c.last.result ⊤ ⊥ ⊥ _ _ _ c.last.ensures.kind (λ _. c.in-Ended.ensures.filled.2) (λ no. absurd no) (λ no. absurd no)
