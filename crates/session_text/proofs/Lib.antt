@@ -3,5 +3,5 @@ pub mod Lines
 pub mod Ranges
 pub mod Reading
 pub mod Taking
-pub mod Unread
+pub mod Unused
 pub mod Words

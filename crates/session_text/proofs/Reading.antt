@@ -2,8 +2,8 @@
 use Rattle.std.proofs.Common.{◌≡◌, ℕ, ◌+◌, ◌-◌, ◌^◌, ◌<◌, ◌≤◌, ◌⊎◌, inl, inr, Bool, false, List, length, length-append, ap, sym, arith, Option, None, Some, true, ◌∙◌}
 use Rattle.std.proofs.lemmas.Bool.{cases_lt}
 use Rattle.std.specs.Io.KnownBytes.{Consumes, Keeps}
-use Rattle.sieve_base.specs.Devices.{HasRisen}
-use Rattle.session_text.specs.view.Input.{Input, Reads, TurnsGave}
+use Rattle.sieve_base.specs.Devices.{HasRisen, next_count}
+use Rattle.session_text.specs.view.Input.{CallsMade, Input, Reads, TurnsGave}
 
 -- no turn is taken
 gave_nothing : (t : ℕ) (r : Option (List ℕ)) (f : ℕ) → TurnsGave t t r r f f
@@ -43,11 +43,29 @@ gave_fault t u (Some xs) (Some ys) f g same one risen =
     counted (inl less) = inl (omega (arith, ap length same, one, risen, less))
     counted (inr more) = inr (omega (arith, risen, more))
 
+-- some calls, and then others
+calls_both : (t u v c d e : ℕ) → CallsMade t u c d → CallsMade u v d e → CallsMade t v c e
+calls_both t u v c d e first second = (omega (arith, first.0, second.0), omega (arith, first.1, second.1), either first.2 second.2)
+  where
+    either : (c + t ≤ d + u) ⊎ (2 ^ 64 - 1 ≤ d) → (d + u ≤ e + v) ⊎ (2 ^ 64 - 1 ≤ e) → (c + t ≤ e + v) ⊎ (2 ^ 64 - 1 ≤ e)
+    either (inl p) (inl q) = inl (omega (arith, p, q))
+    either (inl p) (inr q) = inr q
+    either (inr p) (inl q) = inr (omega (arith, p, q, second.0))
+    either (inr p) (inr q) = inr q
+
+-- one call
+pub call_made : (t u c d : ℕ) → u + 1 ≡ t → d ≡ next_count c → CallsMade t u c d
+call_made t u c d one counted = (omega (arith, one), omega (arith, one, counted), by_room (cases_lt c (2 ^ 64 - 1)))
+  where
+    by_room : (c < 2 ^ 64 - 1) ⊎ (2 ^ 64 - 1 ≤ c) → (c + t ≤ d + u) ⊎ (2 ^ 64 - 1 ≤ d)
+    by_room (inl less) = inl (omega (arith, one, counted, less))
+    by_room (inr more) = inr (omega (arith, counted, more))
+
 -- nothing is read
 pub reads_nothing : {S : Type 0} (remaining : S → Option (List ℕ)) (fault_count call_count : S → ℕ) (i : Input) (s : S) → Reads remaining fault_count call_count i i s s
 reads_nothing remaining fault_count call_count i s = record {
   faults_kept = omega arith;
-  calls_counted = omega arith;
+  calls_made = (omega arith, omega arith, inl (omega arith));
   stays_ended = λ is. is;
   turns_gave = λ is. gave_nothing i.turns (remaining s) (fault_count s);
 }
@@ -57,7 +75,7 @@ pub reads_both : {S : Type 0} (remaining : S → Option (List ℕ)) (fault_count
     → Reads remaining fault_count call_count i j s t → Reads remaining fault_count call_count j k t u → Reads remaining fault_count call_count i k s u
 reads_both remaining fault_count call_count i j k s t u first second = record {
   faults_kept = omega (arith, first.faults_kept, second.faults_kept);
-  calls_counted = omega (arith, first.calls_counted, second.calls_counted);
+  calls_made = calls_both i.turns j.turns k.turns (call_count s) (call_count t) (call_count u) first.calls_made second.calls_made;
   stays_ended = λ is. first.stays_ended (second.stays_ended is);
   turns_gave = λ is. gave_both i.turns j.turns k.turns (remaining s) (remaining t) (remaining u) (fault_count s) (fault_count t) (fault_count u) second.faults_kept (first.turns_gave (second.stays_ended is)) (second.turns_gave is);
 }
@@ -67,7 +85,7 @@ pub reads_used : {S : Type 0} (remaining : S → Option (List ℕ)) (fault_count
     → Reads remaining fault_count call_count i j s t → k.turns ≡ j.turns → k.ended ≡ j.ended → Reads remaining fault_count call_count i k s t
 reads_used remaining fault_count call_count i j k s t reads turns ended = record {
   faults_kept = reads.faults_kept;
-  calls_counted = omega (arith, reads.calls_counted, turns);
+  calls_made = rw turns reads.calls_made;
   stays_ended = λ is. reads.stays_ended (sym ended ∙ is);
   turns_gave = λ is. rw turns (reads.turns_gave (sym ended ∙ is));
 }
@@ -77,21 +95,21 @@ both b is not = cc
 
 -- a read that came to the end
 pub reads_end : {S : Type 0} (remaining : S → Option (List ℕ)) (fault_count call_count : S → ℕ) (i j : Input) (s t : S)
-    → fault_count s ≤ fault_count t → call_count t + j.turns ≤ call_count s + i.turns → j.ended ≡ true → Reads remaining fault_count call_count i j s t
+    → fault_count s ≤ fault_count t → CallsMade i.turns j.turns (call_count s) (call_count t) → j.ended ≡ true → Reads remaining fault_count call_count i j s t
 reads_end remaining fault_count call_count i j s t kept calls ended = record {
   faults_kept = kept;
-  calls_counted = calls;
+  calls_made = calls;
   stays_ended = λ is. absurd (both j.ended ended is);
   turns_gave = λ is. absurd (both j.ended ended is);
 }
 
 -- a read that gave octets, or counted a fault
 pub reads_one : {S : Type 0} (remaining : S → Option (List ℕ)) (fault_count call_count : S → ℕ) (i j : Input) (s t : S)
-    → fault_count s ≤ fault_count t → call_count t + j.turns ≤ call_count s + i.turns → j.ended ≡ i.ended
+    → fault_count s ≤ fault_count t → CallsMade i.turns j.turns (call_count s) (call_count t) → j.ended ≡ i.ended
     → TurnsGave i.turns j.turns (remaining s) (remaining t) (fault_count s) (fault_count t) → Reads remaining fault_count call_count i j s t
 reads_one remaining fault_count call_count i j s t kept calls ended gave = record {
   faults_kept = kept;
-  calls_counted = calls;
+  calls_made = calls;
   stays_ended = λ is. sym ended ∙ is;
   turns_gave = λ is. gave;
 }

@@ -1,7 +1,7 @@
 //! Reads a session's octets in large pieces, and hands them out as lines and counted octets.
 ghost use Rattle.std.specs.Prelude.{◌≡◌, false, true, ◌<◌, ◌≤◌, ◌+◌, ℕ, [], List, length, take, drop, ◌-◌, slice_range, IfOk, OnErr, MatchResult, vec_len};
 ghost use Rattle.std.specs.Io.KnownBytes.{Keeps, Consumes, IsAtEnd};
-ghost use Rattle.sieve_base.specs.Devices.{HasRisen};
+ghost use Rattle.sieve_base.specs.Devices.{HasRisen, next_count};
 ghost use Rattle.session_text.specs.view.Input.{capacity};
 
 use sieve_base::Source;
@@ -67,7 +67,7 @@ fn read_behind<R: Source>(buffer: &mut [u8], from: usize, reader: &mut R) -> io:
         (λ _. Keeps (R.remaining reader.old) (R.remaining reader.new)) }
     ensures faults { R.fault_count reader.old ≤ R.fault_count reader.new }
     ensures failed { OnErr result (HasRisen (R.fault_count reader.old) (R.fault_count reader.new)) }
-    ensures calls { R.call_count reader.new ≤ R.call_count reader.old + 1 }
+    ensures calls { R.call_count reader.new ≡ next_count (R.call_count reader.old) }
 {
     reader.read_some(&mut buffer[from..])
 }
@@ -89,7 +89,7 @@ fn refill<R: Source>(
         (λ _. Keeps (R.remaining reader.old) (R.remaining reader.new)) }
     ensures faults { R.fault_count reader.old ≤ R.fault_count reader.new }
     ensures failed { OnErr result (HasRisen (R.fault_count reader.old) (R.fault_count reader.new)) }
-    ensures calls { R.call_count reader.new ≤ R.call_count reader.old + 1 }
+    ensures calls { R.call_count reader.new ≡ next_count (R.call_count reader.old) }
 {
     if start > 0 {
         buffer.copy_within(start..end, 0);
@@ -98,7 +98,7 @@ fn refill<R: Source>(
 }
 
 impl Input {
-    ghost use Rattle.session_text.specs.view.Input.{capacity, unread, fuel, Knows, Reads, TurnsGave};
+    ghost use Rattle.session_text.specs.view.Input.{capacity, unused, fuel, CallsMade, Knows, Reads, TurnsGave};
     ghost use Rattle.session_text.specs.view.Filled.{MatchFilled};
 
     /// Nothing is read yet, and `turns` reads may be made. A buffer of 65,536 octets is allocated, which never grows.
@@ -136,7 +136,7 @@ impl Input {
     fn read_once<R: Source>(&mut self, reader: &mut R) -> io::Result<usize>
         requires room { length self.old.pending < capacity }
         requires turn { 0 < self.old.turns }
-        ensures keeps { Keeps (unread self.old (R.remaining reader.old)) (unread self.new (R.remaining reader.new)) }
+        ensures keeps { Keeps (unused self.old (R.remaining reader.old)) (unused self.new (R.remaining reader.new)) }
         ensures turns { self.new.turns + 1 ≡ self.old.turns }
         ensures ended { self.new.ended ≡ self.old.ended }
         ensures within { length self.new.pending ≤ capacity }
@@ -144,7 +144,7 @@ impl Input {
             (λ count. (length self.new.pending ≡ length self.old.pending + count) × (count ≡ 0 → (self.new.pending ≡ self.old.pending) × IsAtEnd (R.remaining reader.new)))
             (λ _. (self.new.pending ≡ self.old.pending) × HasRisen (R.fault_count reader.old) (R.fault_count reader.new)) }
         ensures faults { R.fault_count reader.old ≤ R.fault_count reader.new }
-        ensures calls { R.call_count reader.new + self.new.turns ≤ R.call_count reader.old + self.old.turns }
+        ensures calls { CallsMade self.old.turns self.new.turns (R.call_count reader.old) (R.call_count reader.new) }
         ensures gave { MatchResult result
             (λ count. 0 < count → TurnsGave self.old.turns self.new.turns (R.remaining reader.old) (R.remaining reader.new) (R.fault_count reader.old) (R.fault_count reader.new))
             (λ _. TurnsGave self.old.turns self.new.turns (R.remaining reader.old) (R.remaining reader.new) (R.fault_count reader.old) (R.fault_count reader.new)) }
@@ -171,7 +171,7 @@ impl Input {
         requires room { length self.old.pending < capacity }
         requires known { Knows self.old (R.remaining reader.old) }
         ensures known { Knows self.new (R.remaining reader.new) }
-        ensures keeps { Keeps (unread self.old (R.remaining reader.old)) (unread self.new (R.remaining reader.new)) }
+        ensures keeps { Keeps (unused self.old (R.remaining reader.old)) (unused self.new (R.remaining reader.new)) }
         ensures fuel { fuel self.new ≤ fuel self.old }
         ensures reads { Reads R.remaining R.fault_count R.call_count self.old self.new reader.old reader.new }
         ensures filled { MatchFilled result
@@ -208,7 +208,7 @@ impl Input {
     pub(crate) fn refresh<R: Source>(&mut self, reader: &mut R) -> Filled
         requires known { Knows self.old (R.remaining reader.old) }
         ensures known { Knows self.new (R.remaining reader.new) }
-        ensures keeps { Keeps (unread self.old (R.remaining reader.old)) (unread self.new (R.remaining reader.new)) }
+        ensures keeps { Keeps (unused self.old (R.remaining reader.old)) (unused self.new (R.remaining reader.new)) }
         ensures fuel { fuel self.new ≤ fuel self.old }
         ensures reads { Reads R.remaining R.fault_count R.call_count self.old self.new reader.old reader.new }
         ensures filled { MatchFilled result

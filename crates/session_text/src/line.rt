@@ -4,7 +4,7 @@ ghost use Rattle.std.specs.Io.KnownBytes.{Keeps, IsAtEnd};
 ghost use Rattle.sieve_base.specs.Devices.{HasRisen};
 ghost use Rattle.sieve_base.specs.Limits.{line_limit};
 ghost use Rattle.session_text.specs.SessionLine.{cut_line, without_cr};
-ghost use Rattle.session_text.specs.view.Input.{unread, fuel, Knows, Reads};
+ghost use Rattle.session_text.specs.view.Input.{unused, fuel, Knows, Reads};
 
 use crate::input::{Filled, Input};
 use sieve_base::Source;
@@ -111,7 +111,7 @@ impl Line {
     pub fn next<R: Source>(input: &mut Input, reader: &mut R) -> Line
         requires known { Knows input.old (R.remaining reader.old) }
         ensures known { Knows input.new (R.remaining reader.new) }
-        ensures keeps { Keeps (unread input.old (R.remaining reader.old)) (unread input.new (R.remaining reader.new)) }
+        ensures keeps { Keeps (unused input.old (R.remaining reader.old)) (unused input.new (R.remaining reader.new)) }
         ensures fuel { fuel input.new ≤ fuel input.old }
         ensures line { IfSome (R.remaining reader.new) (IsLine result input.new.pending) }
         ensures ended { input.new.ended ≡ false → IsEnded result input.new.pending }

@@ -2,7 +2,7 @@
 ghost use Rattle.std.specs.Prelude.{◌≡◌, false, ◌≤◌, ◌++◌, [], IfSome};
 ghost use Rattle.std.specs.Option.{option_map};
 ghost use Rattle.sieve_base.specs.Devices.{HasRisen};
-ghost use Rattle.session_text.specs.view.Input.{unread, fuel, Knows, Reads};
+ghost use Rattle.session_text.specs.view.Input.{unused, fuel, Knows, Reads};
 ghost use Rattle.session_text.specs.view.Payload.{BreaksOff, MatchTaken, Grows, Takes, FallsShort, octets_kept};
 
 use crate::input::{Filled, Input};
@@ -58,10 +58,10 @@ pub fn take_octets<R: Source>(
     ensures known { Knows input.new (R.remaining reader.new) }
     ensures fuel { fuel input.new ≤ fuel input.old }
     ensures taken { MatchTaken result
-        (λ kept. Takes count (unread input.old (R.remaining reader.old)) (unread input.new (R.remaining reader.new)) (option_map octets_kept kept))
-        (FallsShort count (unread input.old (R.remaining reader.old)) (R.remaining reader.new))
-        (BreaksOff count (unread input.old (R.remaining reader.old)) (R.remaining reader.new) × (input.new.ended ≡ false) × HasRisen (R.fault_count reader.old) (R.fault_count reader.new))
-        (BreaksOff count (unread input.old (R.remaining reader.old)) (R.remaining reader.new) × (input.new.ended ≡ false) × (input.new.turns ≡ 0)) }
+        (λ kept. Takes count (unused input.old (R.remaining reader.old)) (unused input.new (R.remaining reader.new)) (option_map octets_kept kept))
+        (FallsShort count (unused input.old (R.remaining reader.old)) (R.remaining reader.new))
+        (BreaksOff count (unused input.old (R.remaining reader.old)) (R.remaining reader.new) × (input.new.ended ≡ false) × HasRisen (R.fault_count reader.old) (R.fault_count reader.new))
+        (BreaksOff count (unused input.old (R.remaining reader.old)) (R.remaining reader.new) × (input.new.ended ≡ false) × (input.new.turns ≡ 0)) }
     ensures reads { Reads R.remaining R.fault_count R.call_count input.old input.new reader.old reader.new }
 {
     let mut kept = room_for(alloc, count, keep);

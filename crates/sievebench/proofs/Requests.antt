@@ -1,68 +1,115 @@
 -- What the lines of a session's input ask for.
-use Rattle.std.proofs.Common.{◌≡◌, ℕ, ◌<◌, ◌≤◌, inl, inr, List, [], ◌∷◌, ◌++◌, length, take, drop, sym, ap, ◌∙◌, refl, arith, Option, None, Some, Bool, true, false, nat_lt, cond, codes, IfSome, length-append, length-take, ◌+◌}
+use Rattle.std.proofs.Common.{◌≡◌, ℕ, ◌<◌, ◌≤◌, ◌⊎◌, inl, inr, List, [], ◌∷◌, ◌++◌, length, take, drop, sym, ap, ◌∙◌, refl, arith, subst, append_assoc, take-append-drop, Option, None, Some, Bool, true, false, nat_lt, cond, codes, IfSome, length-append, length-take, ◌+◌}
+use Rattle.std.proofs.lemmas.Bool.{cases_lt}
 use Rattle.std.proofs.lemmas.Bool.Decides.{nat_tests}
+use Rattle.std.proofs.Math.Seq.{drop-append_seam, take-append_seam}
 use Rattle.std.proofs.KnownBytes.{Appends-nil}
-use Rattle.std.specs.Io.KnownBytes.{Appends, Keeps, prepend_known}
+use Rattle.std.specs.Io.KnownBytes.{Keeps, prepend_known}
 use Rattle.sieve_base.specs.Limits.{line_limit}
-use Rattle.sievebench.specs.Content.{Content, Edit, put_script, put_message, set_main, rename_script, remove_script, set_envelope, set_mailbox}
-use Rattle.sieve_run.specs.declared.name.ScriptName.{ScriptName}
-use Rattle.session_text.specs.view.Line.{IsLine, IsWithin}
-use Rattle.sievebench.specs.Session.{MatchSessionEnd, Request, takes_memory, request_of, request_at, request_by, with_octets, dumps, edits, unreadable}
+use Rattle.sievebench.specs.Bench.{BenchState}
+use Rattle.sievebench.specs.Content.{Edit, put_script, put_message, set_main, rename_script, remove_script, set_envelope, set_mailbox}
+use Rattle.session_text.specs.view.Line.{IsCutOff, IsEnded, IsLine, IsWithin}
+use Rattle.sievebench.specs.Session.{Request, Step, request_behind, request_of, request_at, request_by, request_so_far, with_octets, edits, unreadable}
 use Rattle.session_text.specs.SessionLine as line
-use Rattle.session_text.specs.SessionLine.{first_line, command_of_line}
+use Rattle.session_text.specs.SessionLine.{cut_line, ended_line, first_line, command_of_line, is_long_so_far, line_so_far}
 use Rattle.sievebench.specs.view.Task.{IsFollowedBy, IsTask, command_of, edit_by, edit_of}
 use Rattle.sievebench.specs.declared.task.Change.{Change}
 use Rattle.sievebench.specs.declared.task.Change.TheVariants as changes
 use Rattle.sievebench.specs.declared.task.Subject.{Subject}
 use Rattle.sievebench.specs.declared.task.Subject.TheVariants as subjects
 use Rattle.sievebench.specs.declared.task.Task.TheVariants as tasks
-use Rattle.sievebench.specs.view.Turn.{StepFrom, EndFrom, TurnsFrom, EndsBy}
+use Rattle.sievebench.specs.view.Progress.{AsksAlone, BreakFrom, CutFrom, StepFrom, EndFrom, GoesFrom, MayBeRefused, ServesFrom}
+use Rattle.sievebench.proofs.Serving.{EndsAt, dump_refused, edit_refused, put_refused, short}
 use Rattle.session_text.specs.declared.line.Line.TheVariants.{Over, Whole, TooLong}
-use Rattle.sievebench.specs.declared.server.Turn.{Turn}
-use Rattle.sievebench.specs.declared.server.Turn.TheVariants as turns
+use Rattle.sievebench.specs.declared.server.Progress.{Progress}
 use Rattle.sievebench.specs.declared.status.SessionEnd.{SessionEnd}
 use Rattle.sievebench.specs.declared.status.SessionEnd.TheVariants as ends
 
--- what a command asks for whose words are forgotten
-pub forgotten : (command : Option line.Command) (count : ℕ) (turn : Turn) (content : Content) (unread before left after' : Option (List ℕ)) → IsFollowedBy count command
-    → ((edit : List ℕ → Edit) → ((octets : List ℕ) → takes_memory (edit octets) ≡ true) → TurnsFrom (λ rest. with_octets count rest edit) turn content unread before content left after')
-    → (count ≡ 0 → (edit : Edit) → takes_memory edit ≡ true → TurnsFrom (λ rest. edits edit rest) turn content unread before content left after')
-    → (count ≡ 0 → (name : ScriptName) → TurnsFrom (λ rest. dumps name rest) turn content unread before content left after')
-    → TurnsFrom (request_by command) turn content unread before content left after'
-forgotten None count turn content unread before left after' is put other dump = absurd is
-forgotten (Some line.nothing) count turn content unread before left after' is put other dump = absurd is
-forgotten (Some (line.script place name n)) count turn content unread before left after' is put other dump = rw is (put (put_script (record { place = place; name = name })) (λ octets. refl))
-forgotten (Some (line.message id n)) count turn content unread before left after' is put other dump = rw is (put (put_message id) (λ octets. refl))
-forgotten (Some (line.main place name)) count turn content unread before left after' is put other dump = other is (set_main (record { place = place; name = name })) refl
-forgotten (Some line.no_main) count turn content unread before left after' is put other dump = absurd is
-forgotten (Some (line.rename place name new_place new_name)) count turn content unread before left after' is put other dump = other is (rename_script (record { place = place; name = name }) (record { place = new_place; name = new_name })) refl
-forgotten (Some (line.drop_script place name)) count turn content unread before left after' is put other dump = other is (remove_script (record { place = place; name = name })) refl
-forgotten (Some (line.drop_message id)) count turn content unread before left after' is put other dump = absurd is
-forgotten (Some (line.envelope from to)) count turn content unread before left after' is put other dump = other is (set_envelope from to) refl
-forgotten (Some (line.mailbox box)) count turn content unread before left after' is put other dump = other is (set_mailbox box) refl
-forgotten (Some line.report) count turn content unread before left after' is put other dump = absurd is
-forgotten (Some (line.dump place name)) count turn content unread before left after' is put other dump = dump is (record { place = place; name = name })
+-- memory may be refused to a command whose words are forgotten
+pub forgotten : (command : Option line.Command) (count : ℕ) → IsFollowedBy count command → MayBeRefused count (request_by command)
+forgotten None count is = absurd is
+forgotten (Some line.nothing) count is = absurd is
+forgotten (Some (line.script place name n)) count is = rw is (put_refused count (put_script (record { place = place; name = name })) (λ octets. refl))
+forgotten (Some (line.message id n)) count is = rw is (put_refused count (put_message id) (λ octets. refl))
+forgotten (Some (line.main place name)) count is = rw is (edit_refused (set_main (record { place = place; name = name })) refl)
+forgotten (Some line.no_main) count is = absurd is
+forgotten (Some (line.rename place name new_place new_name)) count is = rw is (edit_refused (rename_script (record { place = place; name = name }) (record { place = new_place; name = new_name })) refl)
+forgotten (Some (line.drop_script place name)) count is = rw is (edit_refused (remove_script (record { place = place; name = name })) refl)
+forgotten (Some (line.drop_message id)) count is = absurd is
+forgotten (Some (line.envelope from to)) count is = rw is (edit_refused (set_envelope from to) refl)
+forgotten (Some (line.mailbox box)) count is = rw is (edit_refused (set_mailbox box) refl)
+forgotten (Some line.report) count is = absurd is
+forgotten (Some (line.dump place name)) count is = rw is (dump_refused (record { place = place; name = name }))
 
--- a turn of a put
-pub put_turn : (subject : Subject) (count : ℕ) (command : Option line.Command) (turn : Turn) (old new : Content) (unread before left after' : Option (List ℕ)) → IsTask (tasks.Put subject count) command
-    → TurnsFrom (λ rest. with_octets count rest (edit_of subject)) turn old unread before new left after' → TurnsFrom (request_by command) turn old unread before new left after'
-put_turn (subjects.Script name) count command turn old new unread before left after' is turned = rw is turned
-put_turn (subjects.Message id) count command turn old new unread before left after' is turned = rw is turned
+-- a put
+pub put_goes : (subject : Subject) (count : ℕ) (command : Option line.Command) (way : Progress) (old new : BenchState) (unused before left rest after' : Option (List ℕ)) → IsTask (tasks.Put subject count) command
+    → GoesFrom (λ rest. with_octets count rest (edit_of subject)) way old unused before new left rest after' → GoesFrom (request_by command) way old unused before new left rest after'
+put_goes (subjects.Script name) count command way old new unused before left rest after' is goes = rw is goes
+put_goes (subjects.Message id) count command way old new unused before left rest after' is goes = rw is goes
 
 -- a line of no words
-pub idle_step : (content : Content) (unread written : Option (List ℕ)) → StepFrom (request_by (Some line.nothing)) content unread written content unread written
+pub idle_step : (content : BenchState) (unused written : Option (List ℕ)) → StepFrom (request_by (Some line.nothing)) content unused written content unused written
 idle_step content None written = tt
 idle_step content (Some xs) written = ([], (refl, refl, refl), Appends-nil written)
 
--- a turn of an edit that no octets follow
-pub change_turn : (change : Change) (turn : Turn) (old new : Content) (unread before left after' : Option (List ℕ)) → TurnsFrom (λ rest. edits (edit_by change) rest) turn old unread before new left after'
-    → TurnsFrom (request_by (Some (command_of change))) turn old unread before new left after'
-change_turn (changes.Main name) turn old new unread before left after' turned = turned
-change_turn changes.NoMain turn old new unread before left after' turned = turned
-change_turn (changes.Rename from to) turn old new unread before left after' turned = turned
-change_turn (changes.DropScript name) turn old new unread before left after' turned = turned
-change_turn (changes.Envelope from to) turn old new unread before left after' turned = turned
-change_turn (changes.Mailbox box) turn old new unread before left after' turned = turned
+-- a line that asks for nothing that there is
+pub unreadable_ends : (unused : Option (List ℕ)) → EndsAt (request_by None) unused ends.Syntax (codes "no syntax\n")
+unreadable_ends None = tt
+unreadable_ends (Some xs) = (refl, refl)
+
+-- an edit that no octets follow
+pub change_goes : (change : Change) (way : Progress) (old new : BenchState) (unused before left rest after' : Option (List ℕ)) → GoesFrom (λ rest. edits (edit_by change) rest) way old unused before new left rest after'
+    → GoesFrom (request_by (Some (command_of change))) way old unused before new left rest after'
+change_goes (changes.Main name) way old new unused before left rest after' goes = goes
+change_goes changes.NoMain way old new unused before left rest after' goes = goes
+change_goes (changes.Rename from to) way old new unused before left rest after' goes = goes
+change_goes (changes.DropScript name) way old new unused before left rest after' goes = goes
+change_goes (changes.Envelope from to) way old new unused before left rest after' goes = goes
+change_goes (changes.Mailbox box) way old new unused before left rest after' goes = goes
+
+-- WHAT FOLLOWS A COMMAND DOESN'T MATTER TO IT
+
+-- what octets ask for, where they ask for it whatever follows what is left of them
+abbrev Alone : (List ℕ → Request) → BenchState → List ℕ → List ℕ → BenchState → List ℕ → Type 0
+Alone request old unused reply new left = (used : List ℕ) × (unused ≡ used ++ left) × ((more : List ℕ) → Step old (request (used ++ more)) reply new more)
+
+put_of : (octets more : List ℕ) (edit : List ℕ → Edit) → with_octets (length octets) (octets ++ more) edit ≡ edits (edit octets) more
+put_of octets more edit =
+    let size : length octets + length more ≡ length (octets ++ more) = sym (length-append octets more) in
+    let some : nat_lt (length (octets ++ more)) (length octets) ≡ false = grind (arith, nat_tests, size) in
+    rw some (rw (take-append_seam octets more) (rw (drop-append_seam octets more) refl))
+
+put_alone : (count : ℕ) (edit : List ℕ → Edit) (old new : BenchState) (xs ys reply : List ℕ) → Step old (with_octets count xs edit) reply new ys → Alone (λ rest. with_octets count rest edit) old xs reply new ys
+put_alone count edit old new xs ys reply step = by_room (cases_lt (length xs) count)
+  where
+    by_room : (length xs < count) ⊎ (count ≤ length xs) → Alone (λ rest. with_octets count rest edit) old xs reply new ys
+    by_room (inl less) = absurd (rw (short count edit xs less) at step)
+    by_room (inr within) =
+        let size : length (take count xs) ≡ count = omega (arith, length-take count xs, within) in
+        let there : xs ≡ take count xs ++ drop count xs = sym (take-append-drop count xs) in
+        let some : nat_lt (length xs) count ≡ false = grind (arith, nat_tests, within) in
+        let step' : Step old (edits (edit (take count xs)) (drop count xs)) reply new ys = rw some at step in (
+          take count xs,
+          there ∙ ap (λ l. take count xs ++ l) (sym step'.1),
+          λ more. subst (λ n. Step old (with_octets n (take count xs ++ more) edit) reply new more) size (rw (put_of (take count xs) more edit) (step'.0, refl)),
+        )
+
+step_alone : (command : Option line.Command) (old new : BenchState) (xs ys reply : List ℕ) → Step old (request_by command xs) reply new ys → Alone (request_by command) old xs reply new ys
+step_alone None old new xs ys reply step = absurd step
+step_alone (Some line.nothing) old new xs ys reply step = ([], sym step.2, λ more. (step.0, step.1, refl))
+step_alone (Some (line.script place name n)) old new xs ys reply step = put_alone n (put_script (record { place = place; name = name })) old new xs ys reply step
+step_alone (Some (line.message id n)) old new xs ys reply step = put_alone n (put_message id) old new xs ys reply step
+step_alone (Some (line.main place name)) old new xs ys reply step = ([], sym step.1, λ more. (step.0, refl))
+step_alone (Some line.no_main) old new xs ys reply step = ([], sym step.1, λ more. (step.0, refl))
+step_alone (Some (line.rename place name new_place new_name)) old new xs ys reply step = ([], sym step.1, λ more. (step.0, refl))
+step_alone (Some (line.drop_script place name)) old new xs ys reply step = ([], sym step.1, λ more. (step.0, refl))
+step_alone (Some (line.drop_message id)) old new xs ys reply step = ([], sym step.1, λ more. (step.0, refl))
+step_alone (Some (line.envelope from to)) old new xs ys reply step = ([], sym step.1, λ more. (step.0, refl))
+step_alone (Some (line.mailbox box)) old new xs ys reply step = ([], sym step.1, λ more. (step.0, refl))
+step_alone (Some line.report) old new xs ys reply step = ([], sym step.2, λ more. (step.0, step.1, refl))
+step_alone (Some (line.dump place name)) old new xs ys reply step = ([], sym step.2, λ more. (step.0, step.1, refl))
+
+-- THE NEXT LINE
 
 -- a line within the limit
 whole_request : (stream front rest : List ℕ) → 0 < length stream → first_line stream ≡ (front, rest) → length front ≤ line_limit → request_of stream ≡ request_by (command_of_line front) rest
@@ -81,65 +128,83 @@ long_request (b ∷ bs) some long =
     ap (λ (v : Bool). cond v unreadable (request_by (command_of_line (first_line (b ∷ bs)).0) (first_line (b ∷ bs)).1)) past
 
 -- the end
-pub over_end : (old : Content) (unread rest before : Option (List ℕ)) (pending : List ℕ) → Keeps unread (prepend_known pending rest) → IfSome rest (IsLine Over pending) → EndFrom request_of ends.Done old unread before old before
+pub over_end : (old : BenchState) (unused rest before : Option (List ℕ)) (pending : List ℕ) → Keeps unused (prepend_known pending rest) → IfSome rest (IsLine Over pending) → EndFrom request_of ends.Done old unused before old before
 unfolding request_of
 over_end old None rest before pending same end = tt
 over_end old (Some xs) None before pending same end = absurd same
 over_end old (Some xs) (Some ys) before pending same end = ([], rw (sym same ∙ end) (refl, refl), Appends-nil before, refl)
 
 -- a line that is too long
-pub long_end : (turn : Turn) (old : Content) (unread rest before left after' : Option (List ℕ)) (pending : List ℕ) → Keeps unread (prepend_known pending rest) → IfSome rest (IsLine TooLong pending) → 0 < length pending
-    → EndsBy ends.Syntax turn (Appends before after' (codes "no syntax\n")) → TurnsFrom request_of turn old unread before old left after'
-long_end turns.Continues old unread rest before left after' pending same long some ended = absurd ended
-long_end (turns.Ends end) old unread rest before left after' pending same long some (inr failed) = rw failed tt
-long_end (turns.Ends end) old None rest before left after' pending same long some (inl h) = rw h.0 tt
-long_end (turns.Ends end) old (Some xs) None before left after' pending same long some (inl h) = absurd same
-long_end (turns.Ends end) old (Some xs) (Some ys) before left after' pending same long some (inl h) =
+pub long_end : (unused rest : Option (List ℕ)) (pending : List ℕ) → Keeps unused (prepend_known pending rest) → IfSome rest (IsLine TooLong pending) → 0 < length pending → EndsAt request_of unused ends.Syntax (codes "no syntax\n")
+long_end None rest pending same long some = tt
+long_end (Some xs) None pending same long some = absurd same
+long_end (Some xs) (Some ys) pending same long some =
     let size : length (pending ++ ys) ≡ length pending + length ys = length-append pending ys in
-    rw h.0 (codes "no syntax\n", rw (← same) (rw (long_request (pending ++ ys) (omega arith) long) (refl, refl)), h.1, refl)
+    rw (← same) (rw (long_request (pending ++ ys) (omega arith) long) (refl, refl))
 
--- octets that ask for the same
-abbrev pub Moves : (List ℕ → Request) → (List ℕ → Request) → Option (List ℕ) → Option (List ℕ) → Type 0
-Moves asked asked' None rest = Unit {0}
-Moves asked asked' (Some xs) None = ⊥
-Moves asked asked' (Some xs) (Some ys) = asked xs ≡ asked' ys
+-- what is read of a line of which no more can be read
+pub cut_line_break : (old : BenchState) (unused rest written : Option (List ℕ)) (pending : List ℕ) → Keeps unused (prepend_known pending rest) → IsCutOff pending → BreakFrom request_so_far old unused written old rest written
+unfolding request_so_far line_so_far
+cut_line_break old None rest written pending same cut = tt
+cut_line_break old (Some xs) None written pending same cut = absurd same
+cut_line_break old (Some xs) (Some ys) written pending same cut = (pending, sym same, rw cut.0 (rw cut.1 refl), Appends-nil written, refl)
 
--- what is behind a line is what its command is about
-pub whole_moves : (unread rest : Option (List ℕ)) (pending : List ℕ) (len skip : ℕ) → Keeps unread (prepend_known pending rest) → IfSome rest (IsLine (Whole len skip) pending) → IsWithin (Whole len skip) pending
-    → Moves request_of (request_by (command_of_line (take len pending))) unread (prepend_known (drop skip pending) rest)
-whole_moves None rest pending len skip same is within = tt
-whole_moves (Some xs) None pending len skip same is within = absurd same
-whole_moves (Some xs) (Some ys) pending len skip same is within =
+-- the octets begin with a line of a command, and ask for what that asks for behind it
+abbrev pub Begins : List ℕ → Option line.Command → Option (List ℕ) → Option (List ℕ) → Type 0
+Begins front command None behind = Unit {0}
+Begins front command (Some xs) None = ⊥
+Begins front command (Some xs) (Some ys) = (xs ≡ front ++ ys) × (request_of xs ≡ request_by command ys)
+
+-- the same, whatever follows the line
+abbrev pub BeginsAlone : List ℕ → Option line.Command → Type 0
+BeginsAlone front command = (more : List ℕ) → request_so_far (front ++ more) ≡ request_by command more
+
+pub line_begins : (unused rest : Option (List ℕ)) (pending : List ℕ) (len skip : ℕ) → Keeps unused (prepend_known pending rest) → IfSome rest (IsLine (Whole len skip) pending) → IsWithin (Whole len skip) pending
+    → Begins (take skip pending) (command_of_line (take len pending)) unused (prepend_known (drop skip pending) rest)
+line_begins None rest pending len skip same is within = tt
+line_begins (Some xs) None pending len skip same is within = absurd same
+line_begins (Some xs) (Some ys) pending len skip same is within =
     let size : length (pending ++ ys) ≡ length pending + length ys = length-append pending ys in
-    rw (← same) (whole_request (pending ++ ys) (take len pending) (drop skip pending ++ ys) (omega (arith, within)) is (omega (arith, length-take len pending, within)))
+    let cut : pending ++ ys ≡ take skip pending ++ (drop skip pending ++ ys) = ap (λ l. l ++ ys) (sym (take-append-drop skip pending)) ∙ append_assoc (take skip pending) (drop skip pending) ys in
+    rw (← same) (cut, whole_request (pending ++ ys) (take len pending) (drop skip pending ++ ys) (omega (arith, within)) is (omega (arith, length-take len pending, within)))
 
-step_moved : (asked asked' : List ℕ → Request) (old new : Content) (unread rest before left after' : Option (List ℕ)) → Moves asked asked' unread rest → StepFrom asked' old rest before new left after' → StepFrom asked old unread before new left after'
-step_moved asked asked' old new None rest before left after' same step = tt
-step_moved asked asked' old new (Some xs) None before left after' same step = absurd same
-step_moved asked asked' old new (Some xs) (Some ys) before None after' same step = step
-step_moved asked asked' old new (Some xs) (Some ys) before (Some zs) after' same step = (step.0, rw same step.1, step.2)
+pub line_alone : (pending : List ℕ) (len skip : ℕ) → IsEnded (Whole len skip) pending → IsWithin (Whole len skip) pending → BeginsAlone (take skip pending) (command_of_line (take len pending))
+unfolding request_so_far
+line_alone pending len skip ended within = λ more.
+    let few : nat_lt line_limit (length (take len pending)) ≡ false = grind (arith, nat_tests, length-take len pending, within) in
+    ap (request_behind (take skip pending ++ more)) (ended more) ∙ ap (λ (v : Bool). cond v unreadable (request_by (command_of_line (take len pending)) more)) few
 
-end_moved : (asked asked' : List ℕ → Request) (end : SessionEnd) (old new : Content) (unread rest before after' : Option (List ℕ)) → Moves asked asked' unread rest → EndFrom asked' end old rest before new after' → EndFrom asked end old unread before new after'
-end_moved asked asked' end old new None rest before after' same ended = tt
-end_moved asked asked' end old new (Some xs) None before after' same ended = absurd same
-end_moved asked asked' end old new (Some xs) (Some ys) before after' same ended = (ended.0, rw same ended.1, ended.2, ended.3)
+pub step_served : (front : List ℕ) (command : Option line.Command) (ended : Bool) (old new : BenchState) (unused behind left before after' : Option (List ℕ)) → Begins front command unused behind → (ended ≡ false → BeginsAlone front command)
+    → StepFrom (request_by command) old behind before new left after' → ServesFrom ended old unused before new left after'
+step_served front command ended old new None behind left before after' begins alone step = tt
+step_served front command ended old new (Some xs) None left before after' begins alone step = absurd begins
+step_served front command ended old new (Some xs) (Some ys) None before after' begins alone step = step
+step_served front command ended old new (Some xs) (Some ys) (Some zs) before after' begins alone step = (step.0, rw begins.1 step.1, λ is. asked (alone is), step.2)
+  where
+    asked : BeginsAlone front command → AsksAlone old xs step.0 new zs
+    asked whole =
+        let own : Alone (request_by command) old ys step.0 new zs = step_alone command old new ys zs step.0 step.1 in (
+          front ++ own.0,
+          begins.0 ∙ ap (λ l. front ++ l) own.1 ∙ sym (append_assoc front own.0 zs),
+          λ more. rw (append_assoc front own.0 more) (rw (whole (own.0 ++ more)) (own.2 more)),
+        )
 
-end_by : (end : SessionEnd) (P Q R : Type 0) → (P → Q) → MatchSessionEnd end P R → MatchSessionEnd end Q R
-end_by ends.Done P Q R f h = f h
-end_by ends.Syntax P Q R f h = f h
-end_by ends.Truncated P Q R f h = f h
-end_by ends.Read P Q R f h = tt
-end_by ends.Write P Q R f h = tt
-end_by ends.NoMemory P Q R f h = h
-end_by ends.TurnLimit P Q R f h = tt
+pub end_served : (front : List ℕ) (command : Option line.Command) (end : SessionEnd) (old new : BenchState) (unused behind before after' : Option (List ℕ)) → Begins front command unused behind
+    → EndFrom (request_by command) end old behind before new after' → EndFrom request_of end old unused before new after'
+end_served front command end old new None behind before after' begins ended = tt
+end_served front command end old new (Some xs) None before after' begins ended = absurd begins
+end_served front command end old new (Some xs) (Some ys) before after' begins ended = (ended.0, rw begins.1 ended.1, ended.2, ended.3)
 
--- a turn by the octets behind the line is one by the octets from the line on
-pub turns_moved : (asked asked' : List ℕ → Request) (turn : Turn) (old new : Content) (unread rest before left after' : Option (List ℕ)) → Moves asked asked' unread rest → TurnsFrom asked' turn old rest before new left after' → TurnsFrom asked turn old unread before new left after'
-turns_moved asked asked' turns.Continues old new unread rest before left after' same turned = step_moved asked asked' old new unread rest before left after' same turned
-turns_moved asked asked' (turns.Ends end) old new unread rest before left after' same turned = end_by end _ _ _ (end_moved asked asked' end old new unread rest before after' same) turned
+pub break_served : (front : List ℕ) (command : Option line.Command) (old new : BenchState) (unused behind rest before after' : Option (List ℕ)) → Begins front command unused behind → BeginsAlone front command
+    → BreakFrom (request_by command) old behind before new rest after' → BreakFrom request_so_far old unused before new rest after'
+break_served front command old new None behind rest before after' begins alone broken = tt
+break_served front command old new (Some xs) None rest before after' begins alone broken = absurd begins
+break_served front command old new (Some xs) (Some ys) None before after' begins alone broken = broken
+break_served front command old new (Some xs) (Some ys) (Some zs) before after' begins alone broken =
+    (front ++ broken.0, begins.0 ∙ ap (λ l. front ++ l) broken.1 ∙ sym (append_assoc front broken.0 zs), alone broken.0 ∙ broken.2, broken.3, broken.4)
 
--- what follows from a fact holds where the fact does
-pub ends_by-weaker : (wanted : SessionEnd) (turn : Turn) (P Q : Type 0) → (P → Q) → EndsBy wanted turn P → EndsBy wanted turn Q
-ends_by-weaker wanted turns.Continues P Q f h = h
-ends_by-weaker wanted (turns.Ends end) P Q f (inl h) = inl (h.0, f h.1)
-ends_by-weaker wanted (turns.Ends end) P Q f (inr h) = inr h
+pub cut_served : (front : List ℕ) (command : Option line.Command) (old new : BenchState) (unused behind before after' : Option (List ℕ)) → Begins front command unused behind
+    → CutFrom (request_by command) old behind before new after' → CutFrom request_of old unused before new after'
+cut_served front command old new None behind before after' begins cut = tt
+cut_served front command old new (Some xs) None before after' begins cut = absurd begins
+cut_served front command old new (Some xs) (Some ys) before after' begins cut = (cut.0, cut.1, cut.2, cut.3, rw begins.1 cut.4, cut.5)

@@ -1,18 +1,22 @@
 -- How the commands of a session are served.
 use Rattle.std.proofs.Common.{◌≡◌, ℕ, ◌<◌, ◌≤◌, ◌⊎◌, inl, inr, List, length, take, drop, sym, ap, refl, arith, rules, Option, None, Some, Result, Ok, Err, OnOk, OnErr, Bool, true, false, nat_lt, nat_le, ◌||◌, ◌&&◌, is_none, cond, codes, IfSome, length-take}
 use Rattle.std.proofs.lemmas.Bool.Decides.{nat_tests}
+use Rattle.std.proofs.KnownBytes.{Appends-nil}
 use Rattle.std.specs.Io.KnownBytes.{Appends}
+use Rattle.sieve_base.specs.Devices.{HasRisen}
 use Rattle.sieve_base.specs.Limits.{message_count_limit, message_limit, script_count_limit, text_limit}
-use Rattle.sievebench.specs.Content.{Content, Edit, after, Refuses, unless, is_long, is_long_id, text_at, message_at, with_script, with_message}
-use Rattle.session_text.specs.view.Payload.{Takes, FallsShort}
-use Rattle.sievebench.specs.Session.{MatchSessionEnd, Request, takes_memory, with_octets, dumps, edits, reports, truncated, Replies, refusal_line}
+use Rattle.sieve_base.specs.Writers.{Wrote, WroteFront}
+use Rattle.sievebench.specs.Bench.{BenchState}
+use Rattle.sievebench.specs.Content.{Content, Edit, after, Answers, Refuses, unless, is_long, is_long_id, text_at, message_at, with_script, with_message}
+use Rattle.session_text.specs.view.Payload.{BreaksOff, Takes, FallsShort}
+use Rattle.sievebench.specs.Session.{Ends, MatchFault, MatchSessionEnd, Request, Step, takes_memory, with_octets, dumps, edits, reports, truncated, Replies, refusal_line}
 use Rattle.sieve_run.specs.declared.name.ScriptName.{ScriptName}
 use Rattle.sievebench.specs.Dump.{dump_of}
 use Rattle.sievebench.specs.Report.{report_text}
 use Rattle.sievebench.specs.view.Task.{edit_of, limit_of}
-use Rattle.sievebench.specs.view.Turn.{RefusesIf, Continues, EndsBy, StepFrom, EndFrom, TurnsFrom, reply_line}
-use Rattle.sievebench.specs.declared.server.Turn.{Turn}
-use Rattle.sievebench.specs.declared.server.Turn.TheVariants as turns
+use Rattle.sievebench.specs.view.Progress.{RefusesIf, BreakFrom, Continues, CutFrom, EndsBy, Follows, GoesFrom, MatchProgress, MayBeRefused, StepFrom, EndFrom, reply_line}
+use Rattle.sievebench.specs.declared.server.Progress.{Progress}
+use Rattle.sievebench.specs.declared.server.Progress.TheVariants as ways
 use Rattle.sievebench.specs.declared.fault.EditFault.{EditFault}
 use Rattle.sievebench.specs.declared.fault.EditFault.TheVariants.{TooLarge, Full, NoMemory}
 use Rattle.sievebench.specs.declared.task.Subject.{Subject}
@@ -20,24 +24,121 @@ use Rattle.sievebench.specs.declared.task.Subject.TheVariants as subjects
 use Rattle.sievebench.specs.declared.status.SessionEnd.{SessionEnd}
 use Rattle.sievebench.specs.declared.status.SessionEnd.TheVariants as ends
 
+-- WHAT IS ASKED FOR, AND WHAT IS WRITTEN
+
+-- the unused octets ask for a command, this is its reply, and so much is left
+abbrev pub RepliesTo : (List ℕ → Request) → BenchState → Option (List ℕ) → List ℕ → BenchState → Option (List ℕ) → Type 0
+RepliesTo request old None reply new left = Unit {0}
+RepliesTo request old (Some unused) reply new None = ⊥
+RepliesTo request old (Some unused) reply new (Some left) = Step old (request unused) reply new left
+
+-- the unused octets end the session, and this is its last reply
+abbrev pub EndsAt : (List ℕ → Request) → Option (List ℕ) → SessionEnd → List ℕ → Type 0
+EndsAt request None end reply = Unit {0}
+EndsAt request (Some unused) end reply = Ends (request unused) end reply
+
+step_written : (request : List ℕ → Request) (old new : BenchState) (unused left before after' : Option (List ℕ)) (reply : List ℕ) → RepliesTo request old unused reply new left → Appends before after' reply
+    → StepFrom request old unused before new left after'
+step_written request old new None left before after' reply asked written = tt
+step_written request old new (Some xs) None before after' reply asked written = absurd asked
+step_written request old new (Some xs) (Some ys) before after' reply asked written = (reply, asked, written)
+
+pub step_cut : {T : Type 0} (contents : T → Option (List ℕ)) (fault_count : T → ℕ) (w w' : T) (request : List ℕ → Request) (old new : BenchState) (unused left : Option (List ℕ)) (reply : List ℕ)
+    → RepliesTo request old unused reply new left → WroteFront contents fault_count w w' reply → CutFrom request old unused (contents w) new (contents w')
+step_cut contents fault_count w w' request old new None left reply asked cut = tt
+step_cut contents fault_count w w' request old new (Some xs) None reply asked cut = absurd asked
+step_cut contents fault_count w w' request old new (Some xs) (Some ys) reply asked cut = (reply, cut.front, cut.back, cut.whole, inl (ys, asked), cut.front_appended)
+
+end_written : (request : List ℕ → Request) (end : SessionEnd) (old : BenchState) (unused before after' : Option (List ℕ)) (reply : List ℕ) → EndsAt request unused end reply → Appends before after' reply
+    → EndFrom request end old unused before old after'
+end_written request end old None before after' reply asked written = tt
+end_written request end old (Some xs) before after' reply asked written = (reply, asked, written, refl)
+
+end_cut : {T : Type 0} (contents : T → Option (List ℕ)) (fault_count : T → ℕ) (w w' : T) (request : List ℕ → Request) (end : SessionEnd) (old : BenchState) (unused : Option (List ℕ)) (reply : List ℕ)
+    → EndsAt request unused end reply → WroteFront contents fault_count w w' reply → CutFrom request old unused (contents w) old (contents w')
+end_cut contents fault_count w w' request end old None reply asked cut = tt
+end_cut contents fault_count w w' request end old (Some xs) reply asked cut = (reply, cut.front, cut.back, cut.whole, inr (end, asked, refl), cut.front_appended)
+
+-- where a reply was written, or the writer failed
+pub answered : {T : Type 0} (contents : T → Option (List ℕ)) (fault_count : T → ℕ) (w w' : T) (request : List ℕ → Request) (way : Progress) (old new : BenchState) (unused left rest : Option (List ℕ)) (reply : List ℕ)
+    → Continues way (Wrote contents fault_count w w' reply) (WroteFront contents fault_count w w' reply) → RepliesTo request old unused reply new left
+    → GoesFrom request way old unused (contents w) new left rest (contents w')
+answered contents fault_count w w' request ways.Continues old new unused left rest reply said asked = step_written request old new unused left (contents w) (contents w') reply asked said.text_appended
+answered contents fault_count w w' request (ways.Ends end) old new unused left rest reply said asked = rw said.0 (step_cut contents fault_count w w' request old new unused left reply asked said.1)
+
+-- where the last reply was written, or the writer failed; P is what is known of the end that is due
+pub ended : {T : Type 0} (contents : T → Option (List ℕ)) (fault_count : T → ℕ) (w w' : T) (request : List ℕ → Request) (wanted : SessionEnd) (way : Progress) (old : BenchState) (unused : Option (List ℕ)) (reply : List ℕ) (P R : Type 0)
+    → ((Q S : Type 0) → Q → MatchSessionEnd wanted Q R S ⊥) → EndsBy wanted way (Wrote contents fault_count w w' reply) (WroteFront contents fault_count w w' reply) → EndsAt request unused wanted reply
+    → Follows way P (λ end. EndFrom request end old unused (contents w) old (contents w')) R (CutFrom request old unused (contents w) old (contents w'))
+ended contents fault_count w w' request wanted ways.Continues old unused reply P R due said asked = absurd said
+ended contents fault_count w w' request wanted (ways.Ends end) old unused reply P R due (inl both) asked =
+    rw both.0 (due _ _ (end_written request wanted old unused (contents w) (contents w') reply asked both.1.text_appended))
+ended contents fault_count w w' request wanted (ways.Ends end) old unused reply P R due (inr failed) asked = rw failed.0 (end_cut contents fault_count w w' request wanted old unused reply asked failed.1)
+
+-- the faults that a reply tells
+pub answer_faults : {T : Type 0} (contents : T → Option (List ℕ)) (fault_count : T → ℕ) (w w' : T) (way : Progress) (reply : List ℕ) (P R : Type 0)
+    → Continues way (Wrote contents fault_count w w' reply) (WroteFront contents fault_count w w' reply)
+    → MatchProgress way (fault_count w ≤ fault_count w') P (HasRisen (fault_count w) (fault_count w')) R
+answer_faults contents fault_count w w' ways.Continues reply P R said = said.faults_kept
+answer_faults contents fault_count w w' (ways.Ends end) reply P R said = rw said.0 said.1.fault_counted
+
+-- those that a last reply tells
+pub end_faults : {T : Type 0} (contents : T → Option (List ℕ)) (fault_count : T → ℕ) (w w' : T) (wanted : SessionEnd) (way : Progress) (reply : List ℕ) (P Q R : Type 0)
+    → MatchFault wanted P (HasRisen (fault_count w) (fault_count w')) R → EndsBy wanted way (Wrote contents fault_count w w' reply) (WroteFront contents fault_count w w' reply)
+    → MatchProgress way Q P (HasRisen (fault_count w) (fault_count w')) R
+end_faults contents fault_count w w' wanted ways.Continues reply P Q R none said = absurd said
+end_faults contents fault_count w w' wanted (ways.Ends end) reply P Q R none (inl both) = rw both.0 none
+end_faults contents fault_count w w' wanted (ways.Ends end) reply P Q R none (inr failed) = rw failed.0 failed.1.fault_counted
+
+-- what follows of a fact for each way follows for the way
+pub follows_by : (way : Progress) (P P' R R' S S' : Type 0) (Q Q' : SessionEnd → Type 0) → (P → P') → ((end : SessionEnd) → Q end → Q' end) → (R → R') → (S → S') → Follows way P Q R S → Follows way P' Q' R' S'
+follows_by ways.Continues P P' R R' S S' Q Q' p q r s h = p h
+follows_by (ways.Ends ends.Done) P P' R R' S S' Q Q' p q r s h = q ends.Done h
+follows_by (ways.Ends ends.Syntax) P P' R R' S S' Q Q' p q r s h = q ends.Syntax h
+follows_by (ways.Ends ends.Truncated) P P' R R' S S' Q Q' p q r s h = q ends.Truncated h
+follows_by (ways.Ends ends.Read) P P' R R' S S' Q Q' p q r s h = r h
+follows_by (ways.Ends ends.Write) P P' R R' S S' Q Q' p q r s h = s h
+follows_by (ways.Ends ends.NoMemory) P P' R R' S S' Q Q' p q r s h = h
+follows_by (ways.Ends ends.TurnLimit) P P' R R' S S' Q Q' p q r s h = r h
+
+-- a fact that is known where no more could be read
+pub where_broken : (way : Progress) (P R S N A B G F : Type 0) (Q : SessionEnd → Type 0) → MatchProgress way G (N × A) F (N × B) → Follows way P Q R S → Follows way P Q (N × R) S
+where_broken ways.Continues P R S N A B G F Q known h = h
+where_broken (ways.Ends ends.Done) P R S N A B G F Q known h = h
+where_broken (ways.Ends ends.Syntax) P R S N A B G F Q known h = h
+where_broken (ways.Ends ends.Truncated) P R S N A B G F Q known h = h
+where_broken (ways.Ends ends.Read) P R S N A B G F Q known h = (known.0, h)
+where_broken (ways.Ends ends.Write) P R S N A B G F Q known h = h
+where_broken (ways.Ends ends.NoMemory) P R S N A B G F Q known h = h
+where_broken (ways.Ends ends.TurnLimit) P R S N A B G F Q known h = (known.0, h)
+
+-- REPLIES TO EDITS
+
 -- what an edit answers is what its definition allows
-pub replies_of : (takes : Bool) (outcome : Result Unit EditFault) (meaning : Result Content EditFault) (old new : Content) → OnOk outcome (meaning ≡ Ok new) → OnErr outcome (new ≡ old) → RefusesIf takes meaning outcome → Replies takes meaning old (reply_line outcome) new
-replies_of true (Ok done) (Ok content) old new ok err refused = inl (refl, let same : content ≡ new = cc in sym same)
+pub replies_of : (takes : Bool) (outcome : Result Unit EditFault) (meaning : Result Content EditFault) (old new : BenchState) → OnOk outcome (meaning ≡ Ok new.content) → OnErr outcome (new ≡ old) → RefusesIf takes meaning outcome → Replies takes meaning old (reply_line outcome) new
+replies_of true (Ok done) (Ok content) old new ok err refused = inl (refl, let same : content ≡ new.content = cc in sym same)
 replies_of true (Ok done) (Err fault) old new ok err refused = absurd refused
 replies_of true (Err fault) (Ok content) old new ok err refused = inr (refl, ap refusal_line refused, err)
 replies_of true (Err fault) (Err refusal) old new ok err refused = (inl (ap refusal_line refused), err)
-replies_of false (Ok done) (Ok content) old new ok err refused = inl (refl, let same : content ≡ new = cc in sym same)
+replies_of false (Ok done) (Ok content) old new ok err refused = inl (refl, let same : content ≡ new.content = cc in sym same)
 replies_of false (Ok done) (Err fault) old new ok err refused = absurd refused
 replies_of false (Err fault) (Ok content) old new ok err refused = absurd refused
 replies_of false (Err fault) (Err refusal) old new ok err refused = (inl (ap refusal_line refused), err)
 
 -- the same, where memory may be refused
-pub replies_with_memory : (takes : Bool) (outcome : Result Unit EditFault) (meaning : Result Content EditFault) (old new : Content) → takes ≡ true → OnOk outcome (meaning ≡ Ok new) → OnErr outcome (new ≡ old) → Refuses meaning outcome → Replies takes meaning old (reply_line outcome) new
+pub replies_with_memory : (takes : Bool) (outcome : Result Unit EditFault) (meaning : Result Content EditFault) (old new : BenchState) → takes ≡ true → OnOk outcome (meaning ≡ Ok new.content) → OnErr outcome (new ≡ old) → Refuses meaning outcome → Replies takes meaning old (reply_line outcome) new
 replies_with_memory true outcome meaning old new is ok err refused = replies_of true outcome meaning old new ok err refused
 replies_with_memory false outcome meaning old new is ok err refused = absurd (search rules)
 
+-- an edit that takes no memory
+pub replies_made : (takes : Bool) (outcome : Result Unit EditFault) (meaning : Result Content EditFault) (old new : BenchState) → OnOk outcome (meaning ≡ Ok new.content) → OnErr outcome (new ≡ old) → Answers meaning outcome → Replies takes meaning old (reply_line outcome) new
+replies_made takes (Ok done) (Ok content) old new ok err refused = inl (refl, let same : content ≡ new.content = cc in sym same)
+replies_made takes (Ok done) (Err fault) old new ok err refused = absurd refused
+replies_made takes (Err fault) (Ok content) old new ok err refused = absurd refused
+replies_made takes (Err fault) (Err refusal) old new ok err refused = (inl (ap refusal_line refused), err)
+
 -- memory may always be refused
-pub no_memory_replies : (takes : Bool) (meaning : Result Content EditFault) (old : Content) → takes ≡ true → Replies takes meaning old (refusal_line NoMemory) old
+pub no_memory_replies : (takes : Bool) (meaning : Result Content EditFault) (old : BenchState) → takes ≡ true → Replies takes meaning old (refusal_line NoMemory) old
 no_memory_replies true (Ok content) old is = inr (refl, refl, refl)
 no_memory_replies true (Err fault) old is = (inr (refl, refl), refl)
 no_memory_replies false meaning old is = absurd (search rules)
@@ -62,87 +163,90 @@ too_large (subjects.Message id) old octets more =
     let first : (is_long_id id || nat_lt message_limit (length octets)) ≡ true = second_holds (is_long_id id) _ past in
     ap (λ (b : Bool). unless (cond b (Some TooLarge) (cond (is_none (message_at old.messages id) && nat_le message_count_limit (length old.messages)) (Some Full) None)) (record old { messages = with_message id octets old.messages })) first
 
+-- octets that weren't kept: too many of them, or memory was refused
+pub unkept_replies : (subject : Subject) (count : ℕ) (old : BenchState) (octets : List ℕ) → length octets ≡ count → Replies (takes_memory (edit_of subject octets)) (after old.content (edit_of subject octets)) old (refusal_line (cond (nat_lt (limit_of subject) count) TooLarge NoMemory)) old
+unkept_replies subject count old octets size = by_flag (nat_lt (limit_of subject) count) refl
+  where
+    by_flag : (b : Bool) → nat_lt (limit_of subject) count ≡ b → Replies (takes_memory (edit_of subject octets)) (after old.content (edit_of subject octets)) old (refusal_line (cond b TooLarge NoMemory)) old
+    by_flag true is =
+        let more : limit_of subject < length octets = grind (arith, nat_tests) in
+        rw (too_large subject old.content octets more) (inl refl, refl)
+    by_flag false is = no_memory_replies (takes_memory (edit_of subject octets)) (after old.content (edit_of subject octets)) old (put_takes subject octets)
+
+-- COUNTED OCTETS
+
 -- where there are enough octets
 enough : (count : ℕ) (rest : List ℕ) (edit : List ℕ → Edit) → count ≤ length rest → with_octets count rest edit ≡ edits (edit (take count rest)) (drop count rest)
 enough count rest edit within = grind (arith, nat_tests)
 
 -- where there aren't
-short : (count : ℕ) (rest : List ℕ) (edit : List ℕ → Edit) → length rest < count → with_octets count rest edit ≡ truncated
-short count rest edit less = grind (arith, nat_tests)
+pub short : (count : ℕ) (edit : List ℕ → Edit) (rest : List ℕ) → length rest < count → with_octets count rest edit ≡ truncated
+short count edit rest less = grind (arith, nat_tests)
 
 -- a put of octets that came
-pub put_step : (count : ℕ) (edit : List ℕ → Edit) (old new : Content) (unread left before after' : Option (List ℕ)) (kept : Option (List ℕ)) (reply : List ℕ)
-    → Takes count unread left kept → ((octets : List ℕ) → length octets ≡ count → IfSome kept (λ k. k ≡ octets) → Replies (takes_memory (edit octets)) (after old (edit octets)) old reply new) → Appends before after' reply
-    → StepFrom (λ rest. with_octets count rest edit) old unread before new left after'
-put_step count edit old new None left before after' kept reply taken replies written = tt
-put_step count edit old new (Some xs) None before after' kept reply taken replies written = absurd taken
-put_step count edit old new (Some xs) (Some ys) before after' kept reply taken replies written =
-    (reply, rw (enough count xs edit taken.0) (replies (take count xs) (omega (arith, length-take count xs, taken.0)) taken.2, taken.1), written)
+pub put_replies : (count : ℕ) (edit : List ℕ → Edit) (old new : BenchState) (unused left kept : Option (List ℕ)) (reply : List ℕ)
+    → Takes count unused left kept → ((octets : List ℕ) → length octets ≡ count → IfSome kept (λ k. k ≡ octets) → Replies (takes_memory (edit octets)) (after old.content (edit octets)) old reply new)
+    → RepliesTo (λ rest. with_octets count rest edit) old unused reply new left
+put_replies count edit old new None left kept reply taken replies = tt
+put_replies count edit old new (Some xs) None kept reply taken replies = absurd taken
+put_replies count edit old new (Some xs) (Some ys) kept reply taken replies =
+    rw (enough count xs edit taken.0) (replies (take count xs) (omega (arith, length-take count xs, taken.0)) taken.2, taken.1)
 
 -- octets that end too early
-pub put_end : (count : ℕ) (edit : List ℕ → Edit) (old : Content) (unread rest before after' : Option (List ℕ)) → FallsShort count unread rest → Appends before after' (codes "no truncated\n")
-    → EndFrom (λ rest. with_octets count rest edit) ends.Truncated old unread before old after'
-put_end count edit old None rest before after' less written = tt
-put_end count edit old (Some xs) rest before after' less written = (codes "no truncated\n", rw (short count xs edit less.0) (refl, refl), written, refl)
+pub falls_short : (request : List ℕ → Request) (count : ℕ) (unused rest : Option (List ℕ)) → ((octets : List ℕ) → length octets < count → request octets ≡ truncated) → FallsShort count unused rest
+    → EndsAt request unused ends.Truncated (codes "no truncated\n")
+falls_short request count None rest cut less = tt
+falls_short request count (Some xs) rest cut less = rw (cut xs less.0) (refl, refl)
 
--- octets that weren't kept: too many of them, or memory was refused
-pub unkept_replies : (subject : Subject) (count : ℕ) (old : Content) (octets : List ℕ) → length octets ≡ count → Replies (takes_memory (edit_of subject octets)) (after old (edit_of subject octets)) old (refusal_line (cond (nat_lt (limit_of subject) count) TooLarge NoMemory)) old
-unkept_replies subject count old octets size = by_flag (nat_lt (limit_of subject) count) refl
-  where
-    by_flag : (b : Bool) → nat_lt (limit_of subject) count ≡ b → Replies (takes_memory (edit_of subject octets)) (after old (edit_of subject octets)) old (refusal_line (cond b TooLarge NoMemory)) old
-    by_flag true is =
-        let more : limit_of subject < length octets = grind (arith, nat_tests) in
-        rw (too_large subject old octets more) (inl refl, refl)
-    by_flag false is = no_memory_replies (takes_memory (edit_of subject octets)) (after old (edit_of subject octets)) old (put_takes subject octets)
+-- octets of which no more can be read
+pub breaks_off : (request : List ℕ → Request) (count : ℕ) (old : BenchState) (unused rest written : Option (List ℕ)) → ((octets : List ℕ) → length octets < count → request octets ≡ truncated) → BreaksOff count unused rest
+    → BreakFrom request old unused written old rest written
+breaks_off request count old None rest written cut broken = tt
+breaks_off request count old (Some xs) None written cut broken = absurd broken
+breaks_off request count old (Some xs) (Some ys) written cut broken = (broken.0, broken.1, cut broken.0 broken.2, Appends-nil written, refl)
 
--- where a reply was written, or the writer failed
-pub answered : (request : List ℕ → Request) (turn : Turn) (old new : Content) (unread left before after' : Option (List ℕ)) (P : Type 0) → Continues turn P → (P → StepFrom request old unread before new left after')
-    → TurnsFrom request turn old unread before new left after'
-answered request turns.Continues old new unread left before after' P said step = step said
-answered request (turns.Ends end) old new unread left before after' P said step = rw said tt
+-- what memory is refused to
+pub refused_replies : (count : ℕ) (request : List ℕ → Request) (old : BenchState) (unused left kept : Option (List ℕ)) → MayBeRefused count request → Takes count unused left kept → RepliesTo request old unused (refusal_line NoMemory) old left
+refused_replies count request old None left kept may taken = tt
+refused_replies count request old (Some xs) None kept may taken = absurd taken
+refused_replies count request old (Some xs) (Some ys) kept may taken = rw taken.1 (may.where_whole old xs taken.0)
 
--- where the last reply was written, or the writer failed
-pub ended : (request : List ℕ → Request) (wanted : SessionEnd) (turn : Turn) (old : Content) (unread left before after' : Option (List ℕ)) (P : Type 0) → EndsBy wanted turn P → (P → MatchSessionEnd wanted (EndFrom request wanted old unread before old after') ⊥)
-    → TurnsFrom request turn old unread before old left after'
-ended request wanted turns.Continues old unread left before after' P said step = absurd said
-ended request wanted (turns.Ends end) old unread left before after' P (inl both) step = rw both.0 (step both.1)
-ended request wanted (turns.Ends end) old unread left before after' P (inr failed) step = rw failed tt
+-- memory may be refused to a put
+pub put_refused : (count : ℕ) (edit : List ℕ → Edit) → ((octets : List ℕ) → takes_memory (edit octets) ≡ true) → MayBeRefused count (λ rest. with_octets count rest edit)
+put_refused count edit takes = record {
+  where_whole = λ old rest within. rw (enough count rest edit within) (no_memory_replies _ (after old.content (edit (take count rest))) old (takes (take count rest)), refl);
+  where_short = short count edit;
+}
 
--- no octets can't end too early
-pub none_short : (request : List ℕ → Request) (old : Content) (unread rest before after' : Option (List ℕ)) → FallsShort 0 unread rest → EndFrom request ends.Truncated old unread before old after'
-none_short request old None rest before after' less = tt
-none_short request old (Some xs) rest before after' less = absurd (omega (arith, less.0))
+-- to an edit that no octets follow
+pub edit_refused : (edit : Edit) → takes_memory edit ≡ true → MayBeRefused 0 (λ rest. edits edit rest)
+edit_refused edit takes = record {
+  where_whole = λ old rest within. (no_memory_replies _ (after old.content edit) old takes, refl);
+  where_short = λ rest less. absurd (omega (arith, less));
+}
+
+-- and to a dump
+pub dump_refused : (name : ScriptName) → MayBeRefused 0 (λ rest. dumps name rest)
+dump_refused name = record {
+  where_whole = λ old rest within. (inr refl, refl, refl);
+  where_short = λ rest less. absurd (omega (arith, less));
+}
+
+-- OTHER COMMANDS
 
 -- an edit that no octets follow
-pub edit_step : (edit : Edit) (old new : Content) (unread before after' : Option (List ℕ)) (reply : List ℕ) → Replies (takes_memory edit) (after old edit) old reply new → Appends before after' reply
-    → StepFrom (λ rest. edits edit rest) old unread before new unread after'
-edit_step edit old new None before after' reply replies written = tt
-edit_step edit old new (Some xs) before after' reply replies written = (reply, (replies, refl), written)
-
--- the same, where no octets were taken
-pub edit_step-kept : (edit : Edit) (old new : Content) (unread left before after' kept : Option (List ℕ)) (reply : List ℕ) → Takes 0 unread left kept → Replies (takes_memory edit) (after old edit) old reply new → Appends before after' reply
-    → StepFrom (λ rest. edits edit rest) old unread before new left after'
-edit_step-kept edit old new None left before after' kept reply taken replies written = tt
-edit_step-kept edit old new (Some xs) None before after' kept reply taken replies written = absurd taken
-edit_step-kept edit old new (Some xs) (Some ys) before after' kept reply taken replies written = (reply, (replies, taken.1), written)
+pub edit_replies : (edit : Edit) (old new : BenchState) (unused : Option (List ℕ)) (reply : List ℕ) → Replies (takes_memory edit) (after old.content edit) old reply new → RepliesTo (λ rest. edits edit rest) old unused reply new unused
+edit_replies edit old new None reply replies = tt
+edit_replies edit old new (Some xs) reply replies = (replies, refl)
 
 -- a report, or the reply that memory was refused
-pub report_step : (old : Content) (unread before after' : Option (List ℕ)) (reply : List ℕ) → (reply ≡ report_text old) ⊎ (reply ≡ refusal_line NoMemory) → Appends before after' reply
-    → StepFrom (λ rest. reports rest) old unread before old unread after'
-report_step old None before after' reply either written = tt
-report_step old (Some xs) before after' reply either written = (reply, (either, refl, refl), written)
+pub report_replies : (old new : BenchState) (unused : Option (List ℕ)) (reply : List ℕ) → (reply ≡ report_text old.content) ⊎ (reply ≡ refusal_line NoMemory) → new ≡ old → RepliesTo (λ rest. reports rest) old unused reply new unused
+report_replies old new None reply either same = tt
+report_replies old new (Some xs) reply either same = (either, rw same refl, refl)
 
--- the code of a script, or why there is none, or the reply that memory was refused
-pub dump_step : (name : ScriptName) (old : Content) (unread before after' : Option (List ℕ)) (reply : List ℕ) → (reply ≡ dump_of old name) ⊎ (reply ≡ refusal_line NoMemory) → Appends before after' reply
-    → StepFrom (λ rest. dumps name rest) old unread before old unread after'
-dump_step name old None before after' reply either written = tt
-dump_step name old (Some xs) before after' reply either written = (reply, (either, refl, refl), written)
+-- the code of a script, or why there is none
+pub dump_replies : (name : ScriptName) (old : BenchState) (unused : Option (List ℕ)) → RepliesTo (λ rest. dumps name rest) old unused (dump_of old.content name) old unused
+dump_replies name old None = tt
+dump_replies name old (Some xs) = (inl refl, refl, refl)
 
--- the same, where no octets were taken
-pub dump_step-kept : (name : ScriptName) (old : Content) (unread left before after' kept : Option (List ℕ)) → Takes 0 unread left kept → Appends before after' (refusal_line NoMemory)
-    → StepFrom (λ rest. dumps name rest) old unread before old left after'
-dump_step-kept name old None left before after' kept taken written = tt
-dump_step-kept name old (Some xs) None before after' kept taken written = absurd taken
-dump_step-kept name old (Some xs) (Some ys) before after' kept taken written = (refusal_line NoMemory, (inr refl, refl, taken.1), written)
-
-pub ruleset serving = (replies_of, replies_with_memory, no_memory_replies, put_takes, put_step, put_end, unkept_replies, edit_step, edit_step-kept, report_step, dump_step, dump_step-kept)
+pub ruleset serving = (answered, answer_faults, replies_of, replies_with_memory, replies_made, no_memory_replies, put_takes, put_replies, falls_short, breaks_off, unkept_replies, edit_replies, report_replies, dump_replies)

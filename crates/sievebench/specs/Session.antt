@@ -52,14 +52,18 @@ unfoldable pub request_of : List ℕ → Request
 request_of [] = over
 request_of (octet ∷ octets) = request_at (first_line (octet ∷ octets))
 
--- octets without the end of a line are cut off, unless they are too long for one already
+-- octets without the end of a line are no whole command, and may become one unless they are too long for a line already
 abbrev pub request_behind : List ℕ → Option (List ℕ × List ℕ) → Request
 request_behind read None = if is_long_so_far read then unreadable else truncated
 request_behind read (Some cut) = request_at cut
 
--- what the octets ask for that are read, where more may come: neither their end nor the end of a line that has no LF is known
+-- what the octets ask for that are read, while more may come: neither their end nor that of a line without an LF is known
 unfoldable pub request_so_far : List ℕ → Request
 request_so_far read = request_behind read (line_so_far read)
+
+-- no command is whole in these octets, while more may come
+abbrev pub NoneIsWhole : List ℕ → Type 0
+NoneIsWhole read = request_so_far read ≡ truncated
 
 -- the words of the refusals
 abbrev pub refusal_line : EditFault → List ℕ
@@ -122,11 +126,11 @@ pub record SessionText (old : BenchState) (stream : List ℕ) (text : List ℕ) 
   pub whole : text ≡ replies ++ last
 
 -- the text of a session of which no more could be read: the replies to the commands that are whole in what was read, and the bench
--- that these leave; a command that follows them is cut off
-pub record UnreadSession (old : BenchState) (read : List ℕ) (text : List ℕ) (new : BenchState) : Type 0 where
+-- that these leave
+pub record BrokenSession (old : BenchState) (read : List ℕ) (text : List ℕ) (new : BenchState) : Type 0 where
   pub rest : List ℕ
   pub steps : Steps request_so_far old read text new rest
-  pub breaks : request_so_far rest ≡ truncated
+  pub breaks : NoneIsWhole rest
 
 -- the reply to what a stream asks for next, whether the session goes on or ends, and the bench after it
 abbrev pub Answered : BenchState → Request → List ℕ → BenchState → Type 0
@@ -134,7 +138,7 @@ Answered old request reply new = ((left : List ℕ) × Step old request reply ne
 
 -- the text of a session of which no more could be written: the replies to some commands, and a front of the next reply; and the bench
 -- that all these commands leave
-pub record UnwrittenSession (old : BenchState) (stream : List ℕ) (text : List ℕ) (new : BenchState) : Type 0 where
+pub record CutSession (old : BenchState) (stream : List ℕ) (text : List ℕ) (new : BenchState) : Type 0 where
   pub replies : List ℕ
   pub mid : BenchState
   pub rest : List ℕ
@@ -154,15 +158,15 @@ SessionFrom end old None before new after = ⊤
 SessionFrom end old (Some stream) before new after = (text : List ℕ) × SessionText old stream text end new × Appends before after text
 
 -- What was read is carried out, and its text written. What is left is what the reader still has.
-abbrev pub UnreadFrom : BenchState → Option (List ℕ) → Option (List ℕ) → BenchState → Option (List ℕ) → Option (List ℕ) → Type 0
-UnreadFrom old None before new left after = ⊤
-UnreadFrom old (Some stream) before new None after = ⊥
-UnreadFrom old (Some stream) before new (Some left) after = (read text : List ℕ) × (stream ≡ read ++ left) × UnreadSession old read text new × Appends before after text
+abbrev pub BrokenSessionFrom : BenchState → Option (List ℕ) → Option (List ℕ) → BenchState → Option (List ℕ) → Option (List ℕ) → Type 0
+BrokenSessionFrom old None before new left after = ⊤
+BrokenSessionFrom old (Some stream) before new None after = ⊥
+BrokenSessionFrom old (Some stream) before new (Some left) after = (read text : List ℕ) × (stream ≡ read ++ left) × BrokenSession old read text new × Appends before after text
 
 -- The session is carried out up to and with a command whose reply is cut.
-abbrev pub UnwrittenFrom : BenchState → Option (List ℕ) → Option (List ℕ) → BenchState → Option (List ℕ) → Type 0
-UnwrittenFrom old None before new after = ⊤
-UnwrittenFrom old (Some stream) before new after = (text : List ℕ) × UnwrittenSession old stream text new × Appends before after text
+abbrev pub CutSessionFrom : BenchState → Option (List ℕ) → Option (List ℕ) → BenchState → Option (List ℕ) → Type 0
+CutSessionFrom old None before new after = ⊤
+CutSessionFrom old (Some stream) before new after = (text : List ℕ) × CutSession old stream text new × Appends before after text
 
 -- a fact for the ends that the octets ask for, one where no more could be read, one where no more could be written, and one for want
 -- of memory at the start
@@ -191,6 +195,10 @@ abbrev pub TurnsAreSpent : ℕ → Option (List ℕ) → Option (List ℕ) → �
 TurnsAreSpent turns None left faults faults' = ⊤
 TurnsAreSpent turns (Some stream) None faults faults' = ⊥
 TurnsAreSpent turns (Some stream) (Some left) faults faults' = (turns ≤ (length stream - length left) + (faults' - faults)) ⊎ (2 ^ 64 - 1 ≤ faults')
+
+-- All the reads were made that were allowed. A count that stands at the greatest u64 counts no more.
+abbrev pub ReadsAreMade : ℕ → ℕ → ℕ → Type 0
+ReadsAreMade turns calls calls' = (calls + turns ≤ calls') ⊎ (2 ^ 64 - 1 ≤ calls')
 
 -- a fact at the ends that come with the end of the input
 abbrev pub AtLastEnd : SessionEnd → Type 0 → Type 0

@@ -1,5 +1,5 @@
 ghost use Rattle.std.specs.Prelude.{◌≡◌, ⊤, ◌≤◌, IfOk, OnOk, OnErr, IfErr, Ok, length, remove, is_some, IfSome};
-ghost use Rattle.sievebench.specs.view.Task.{Drops};
+ghost use Rattle.sievebench.specs.view.Task.{Makes};
 ghost use Rattle.sieve_base.specs.Writers.{Wrote, WroteFront};
 ghost use Rattle.sieve_run.specs.Library.{found_at, lookup_of};
 ghost use Rattle.sieve_run.specs.Meter.{runs_after};
@@ -209,7 +209,7 @@ impl Bench {
 
     /// Removes the message of an id. Takes no memory.
     fn drop_sought(&mut self, sought: Sought<'_>) -> Result<(), EditFault>
-        ensures { Drops sought.entry.octets.now result self.old self.new }
+        ensures { Makes (remove_message sought.entry.octets.now) result self.old self.new }
     {
         if sought.octets.len() > MAX_ID {
             return Err(EditFault::TooLarge);
@@ -223,7 +223,7 @@ impl Bench {
 
     /// Removes the message of a word, looking at all ids. Takes no memory.
     fn drop_word(&mut self, id: &Word<'_>) -> Result<(), EditFault>
-        ensures { Drops id.now result self.old self.new }
+        ensures { Makes (remove_message id.now) result self.old self.new }
     {
         if id.len() > MAX_ID {
             return Err(EditFault::TooLarge);
@@ -240,7 +240,7 @@ impl Bench {
     /// Removes the message of a word of a session, for which no memory is taken either. A word that stands for other octets than
     /// are written is compared with all ids.
     pub(crate) fn drop_message(&mut self, id: &Word<'_>) -> Result<(), EditFault>
-        ensures { Drops id.now result self.old self.new }
+        ensures { Makes (remove_message id.now) result self.old self.new }
     {
         match id.as_written() {
             Some(octets) => self.drop_sought(Sought { octets }),

@@ -1,5 +1,5 @@
 //! Prints the code of a script.
-ghost use Rattle.std.specs.Prelude.{◌≡◌, ◌≤◌, IfOk, OnErr, OnOk, length};
+ghost use Rattle.std.specs.Prelude.{◌≡◌, ◌≤◌, ◌++◌, IfOk, OnErr, OnOk, codes, length};
 ghost use Rattle.sieve_base.specs.Limits.{text_limit};
 ghost use Rattle.sieve_base.specs.Writers.{Wrote, WroteFront};
 ghost use Rattle.sieve_check.specs.Judgement.{judgement_of};
@@ -27,17 +27,25 @@ fn write_code<W: Sink>(code: &Code, writer: &mut W) -> Result<(), WriteFault>
     Ok(())
 }
 
+/// Writes the lines of code, and `ok`.
+#[tactic(auto, using(crate::proofs::Writing::writing))]
+fn write_reply<W: Sink>(code: &Code, writer: &mut W) -> Result<(), WriteFault>
+    ensures ok { OnOk result (Wrote W.contents W.fault_count writer.old writer.new (code_text (ops_of code.now) ++ codes "ok\n")) }
+    ensures err { OnErr result (WroteFront W.contents W.fault_count writer.old writer.new (code_text (ops_of code.now) ++ codes "ok\n")) }
+{
+    write_code(code, writer)?;
+    write_out(b"ok\n", writer)
+}
+
 /// Writes the lines of what was found and `ok`, or why there are none.
 pub(crate) fn write_dump<W: Sink>(found: Found<'_>, writer: &mut W) -> Result<(), WriteFault>
     ensures ok { (lookup : Lookup) → FoundAs found.entry lookup → OnOk result (Wrote W.contents W.fault_count writer.old writer.new (dump_reply lookup)) }
+    ensures err { (lookup : Lookup) → FoundAs found.entry lookup → OnErr result (WroteFront W.contents W.fault_count writer.old writer.new (dump_reply lookup)) }
 {
     match found {
         Found::Missing => write_out(b"no no-such-script\n", writer),
         Found::Invalid => write_out(b"no invalid-script\n", writer),
-        Found::Present(code) => {
-            write_code(code, writer)?;
-            write_out(b"ok\n", writer)
-        }
+        Found::Present(code) => write_reply(code, writer),
     }
 }
 

@@ -1,15 +1,15 @@
 //! A session: commands in, replies out.
-ghost use Rattle.std.specs.Prelude.{◌≡◌, false, ◌≤◌, ◌<◌, ◌+◌, ℕ, List, Option, OnOk, OnErr, Ok, codes, nat_lt, if◌then◌else◌};
+ghost use Rattle.std.specs.Prelude.{◌≡◌, ◌≤◌, ◌<◌, ◌+◌, ℕ, List, Option, OnOk, OnErr, Ok, codes, nat_lt, if◌then◌else◌};
 ghost use Rattle.sieve_base.specs.Devices.{HasRisen};
 ghost use Rattle.sieve_base.specs.Writers.{Wrote, WroteFront};
 ghost use Rattle.sievebench.specs.Bench.{BenchState};
-ghost use Rattle.sievebench.specs.Content.{after, remove_message, Refuses};
-ghost use Rattle.session_text.specs.view.Input.{unread, fuel, Knows, Reads};
-ghost use Rattle.sievebench.specs.Session.{Request, SessionFrom, UnreadFrom, UnwrittenFrom, MatchSessionEnd, MatchFault, TurnsAreSpent, AtLastEnd, with_octets, request_by, dumps, edits, reports, takes_memory};
+ghost use Rattle.sievebench.specs.Content.{Edit, after, Refuses};
+ghost use Rattle.session_text.specs.view.Input.{unused, fuel, Knows, Reads};
+ghost use Rattle.sievebench.specs.Session.{Request, SessionFrom, BrokenSessionFrom, CutSessionFrom, MatchSessionEnd, MatchFault, ReadsAreMade, TurnsAreSpent, AtLastEnd, with_octets, request_by, dumps, edits, reports, takes_memory};
 ghost use Rattle.session_text.specs.SessionLine as line;
 ghost use Rattle.std.specs.Io.KnownBytes.{IsAtEnd};
-ghost use Rattle.sievebench.specs.view.Task.{Tasks, Drops, edit_by, edit_of};
-ghost use Rattle.sievebench.specs.view.Turn.{TurnsFrom, Serves, RefusesIf, Continues, EndsBy, MatchTurn, OnContinues, AtLast, MayBeRefused, reply_line};
+ghost use Rattle.sievebench.specs.view.Task.{Tasks, Makes, edit_by, edit_of};
+ghost use Rattle.sievebench.specs.view.Progress.{GoesFrom, Serves, RefusesIf, Continues, EndsBy, MatchProgress, OnContinues, TellsFaults, AtLast, MayBeRefused, reply_line};
 
 use crate::bench::Bench;
 use crate::dump::write_dump;
@@ -23,7 +23,7 @@ use std::alloc::Global;
 
 /// How a command went.
 #[derive(Drop)]
-pub(crate) enum Turn {
+pub(crate) enum Progress {
     /// The next command follows.
     Continues,
     /// The session ends.
@@ -46,32 +46,32 @@ fn reply_line(outcome: Result<(), EditFault>) -> &'static [u8]
 }
 
 /// Writes the reply to an edit.
-fn answer<W: Sink>(outcome: Result<(), EditFault>, writer: &mut W) -> Turn
+fn answer<W: Sink>(outcome: Result<(), EditFault>, writer: &mut W) -> Progress
     ensures { Continues result (Wrote W.contents W.fault_count writer.old writer.new (reply_line outcome)) (WroteFront W.contents W.fault_count writer.old writer.new (reply_line outcome)) }
 {
     match write_out(reply_line(outcome), writer) {
-        Ok(()) => Turn::Continues,
-        Err(_) => Turn::Ends(SessionEnd::Write),
+        Ok(()) => Progress::Continues,
+        Err(_) => Progress::Ends(SessionEnd::Write),
     }
 }
 
 /// Writes the last reply where a line says nothing that there is.
-fn refuse_line<W: Sink>(writer: &mut W) -> Turn
+fn refuse_line<W: Sink>(writer: &mut W) -> Progress
     ensures { EndsBy SessionEnd.Syntax result (Wrote W.contents W.fault_count writer.old writer.new (codes "no syntax\n")) (WroteFront W.contents W.fault_count writer.old writer.new (codes "no syntax\n")) }
 {
     match write_out(b"no syntax\n", writer) {
-        Ok(()) => Turn::Ends(SessionEnd::Syntax),
-        Err(_) => Turn::Ends(SessionEnd::Write),
+        Ok(()) => Progress::Ends(SessionEnd::Syntax),
+        Err(_) => Progress::Ends(SessionEnd::Write),
     }
 }
 
 /// Writes the last reply where octets end too early.
-fn refuse_octets<W: Sink>(writer: &mut W) -> Turn
+fn refuse_octets<W: Sink>(writer: &mut W) -> Progress
     ensures { EndsBy SessionEnd.Truncated result (Wrote W.contents W.fault_count writer.old writer.new (codes "no truncated\n")) (WroteFront W.contents W.fault_count writer.old writer.new (codes "no truncated\n")) }
 {
     match write_out(b"no truncated\n", writer) {
-        Ok(()) => Turn::Ends(SessionEnd::Truncated),
-        Err(_) => Turn::Ends(SessionEnd::Write),
+        Ok(()) => Progress::Ends(SessionEnd::Truncated),
+        Err(_) => Progress::Ends(SessionEnd::Write),
     }
 }
 
@@ -127,16 +127,15 @@ fn serve_put<R: Source, W: Sink>(
     writer: &mut W,
     subject: Subject,
     count: u64,
-) -> Turn
+) -> Progress
     requires known { Knows input.old (R.remaining reader.old) }
     ensures known { Knows input.new (R.remaining reader.new) }
-    ensures turn { TurnsFrom (λ rest. with_octets count rest (edit_of subject)) result
-        bench.old (unread input.old (R.remaining reader.old)) (W.contents writer.old)
-        bench.new (unread input.new (R.remaining reader.new)) (R.remaining reader.new) (W.contents writer.new) }
+    ensures goes { GoesFrom (λ rest. with_octets count rest (edit_of subject)) result
+        bench.old (unused input.old (R.remaining reader.old)) (W.contents writer.old)
+        bench.new (unused input.new (R.remaining reader.new)) (R.remaining reader.new) (W.contents writer.new) }
     ensures fuel { fuel input.new ≤ fuel input.old }
     ensures reads { Reads R.remaining R.fault_count R.call_count input.old input.new reader.old reader.new }
-    ensures faults { MatchTurn result (W.fault_count writer.old ≤ W.fault_count writer.new) ((input.new.ended ≡ false) × HasRisen (R.fault_count reader.old) (R.fault_count reader.new))
-        (HasRisen (W.fault_count writer.old) (W.fault_count writer.new)) ((input.new.ended ≡ false) × (input.new.turns ≡ 0)) }
+    ensures faults { TellsFaults result input.new (R.fault_count reader.old) (R.fault_count reader.new) (W.fault_count writer.old) (W.fault_count writer.new) }
     ensures end { AtLast result (IsAtEnd (R.remaining reader.new)) }
 {
     let limit = limit_of(&subject);
@@ -150,8 +149,8 @@ fn serve_put<R: Source, W: Sink>(
         Taken::Whole { kept: Some(octets) } => answer(keep(bench, subject, octets), writer),
         Taken::Whole { kept: None } => answer(Err(unkept(count, limit)), writer),
         Taken::Truncated => refuse_octets(writer),
-        Taken::Failed => Turn::Ends(SessionEnd::Read),
-        Taken::Spent => Turn::Ends(SessionEnd::TurnLimit),
+        Taken::Failed => Progress::Ends(SessionEnd::Read),
+        Taken::Spent => Progress::Ends(SessionEnd::TurnLimit),
     }
 }
 
@@ -163,32 +162,31 @@ fn serve_forgotten<R: Source, W: Sink>(
     reader: &mut R,
     writer: &mut W,
     count: u64,
-) -> Turn
+) -> Progress
     requires known { Knows input.old (R.remaining reader.old) }
     ensures known { Knows input.new (R.remaining reader.new) }
-    ensures turn { (old : BenchState) (request : List ℕ → Request) → MayBeRefused count request → TurnsFrom request result
-        old (unread input.old (R.remaining reader.old)) (W.contents writer.old)
-        old (unread input.new (R.remaining reader.new)) (R.remaining reader.new) (W.contents writer.new) }
+    ensures goes { (old : BenchState) (request : List ℕ → Request) → MayBeRefused count request → GoesFrom request result
+        old (unused input.old (R.remaining reader.old)) (W.contents writer.old)
+        old (unused input.new (R.remaining reader.new)) (R.remaining reader.new) (W.contents writer.new) }
     ensures fuel { fuel input.new ≤ fuel input.old }
     ensures reads { Reads R.remaining R.fault_count R.call_count input.old input.new reader.old reader.new }
-    ensures faults { MatchTurn result (W.fault_count writer.old ≤ W.fault_count writer.new) ((input.new.ended ≡ false) × HasRisen (R.fault_count reader.old) (R.fault_count reader.new))
-        (HasRisen (W.fault_count writer.old) (W.fault_count writer.new)) ((input.new.ended ≡ false) × (input.new.turns ≡ 0)) }
+    ensures faults { TellsFaults result input.new (R.fault_count reader.old) (R.fault_count reader.new) (W.fault_count writer.old) (W.fault_count writer.new) }
     ensures end { AtLast result (IsAtEnd (R.remaining reader.new)) }
 {
     match take_octets(alloc, input, reader, count as usize, false) {
         Taken::Whole { kept: _kept } => answer(Err(EditFault::NoMemory), writer),
         Taken::Truncated => refuse_octets(writer),
-        Taken::Failed => Turn::Ends(SessionEnd::Read),
-        Taken::Spent => Turn::Ends(SessionEnd::TurnLimit),
+        Taken::Failed => Progress::Ends(SessionEnd::Read),
+        Taken::Spent => Progress::Ends(SessionEnd::TurnLimit),
     }
 }
 
 /// Makes an edit that no octets follow, and replies.
 #[tactic(auto, using(crate::proofs::Serving::serving))]
-fn serve_change<W: Sink>(bench: &mut Bench, writer: &mut W, change: Change) -> Turn
-    ensures turn { (unread rest : Option (List ℕ)) → TurnsFrom (λ rest. edits (edit_by change) rest) result
-        bench.old unread (W.contents writer.old) bench.new unread rest (W.contents writer.new) }
-    ensures faults { MatchTurn result (W.fault_count writer.old ≤ W.fault_count writer.new) ⊥ (HasRisen (W.fault_count writer.old) (W.fault_count writer.new)) ⊥ }
+fn serve_change<W: Sink>(bench: &mut Bench, writer: &mut W, change: Change) -> Progress
+    ensures goes { (unused rest : Option (List ℕ)) → GoesFrom (λ rest. edits (edit_by change) rest) result
+        bench.old unused (W.contents writer.old) bench.new unused rest (W.contents writer.new) }
+    ensures faults { MatchProgress result (W.fault_count writer.old ≤ W.fault_count writer.new) ⊥ (HasRisen (W.fault_count writer.old) (W.fault_count writer.new)) ⊥ }
     ensures end { AtLast result ⊥ }
 {
     answer(carry_out(bench, change), writer)
@@ -196,10 +194,10 @@ fn serve_change<W: Sink>(bench: &mut Bench, writer: &mut W, change: Change) -> T
 
 /// Replies to an edit that is made already.
 #[tactic(auto, using(crate::proofs::Serving::serving))]
-fn serve_dropped<W: Sink>(outcome: Result<(), EditFault>, writer: &mut W) -> Turn
-    ensures turn { (old new : BenchState) (id : List ℕ) (unread rest : Option (List ℕ)) → Drops id outcome old new → TurnsFrom (λ rest. edits (remove_message id) rest) result
-        old unread (W.contents writer.old) new unread rest (W.contents writer.new) }
-    ensures faults { MatchTurn result (W.fault_count writer.old ≤ W.fault_count writer.new) ⊥ (HasRisen (W.fault_count writer.old) (W.fault_count writer.new)) ⊥ }
+fn serve_made<W: Sink>(outcome: Result<(), EditFault>, writer: &mut W) -> Progress
+    ensures goes { (old new : BenchState) (edit : Edit) (unused rest : Option (List ℕ)) → Makes edit outcome old new → GoesFrom (λ rest. edits edit rest) result
+        old unused (W.contents writer.old) new unused rest (W.contents writer.new) }
+    ensures faults { MatchProgress result (W.fault_count writer.old ≤ W.fault_count writer.new) ⊥ (HasRisen (W.fault_count writer.old) (W.fault_count writer.new)) ⊥ }
     ensures end { AtLast result ⊥ }
 {
     answer(outcome, writer)
@@ -207,30 +205,30 @@ fn serve_dropped<W: Sink>(outcome: Result<(), EditFault>, writer: &mut W) -> Tur
 
 /// Reports, or replies that memory was refused.
 #[tactic(auto, using(crate::proofs::Serving::serving))]
-fn serve_report<W: Sink>(bench: &mut Bench, meter: &mut Meter, writer: &mut W) -> Turn
-    ensures turn { (unread rest : Option (List ℕ)) → TurnsFrom (λ rest. reports rest) result
-        bench.old unread (W.contents writer.old) bench.new unread rest (W.contents writer.new) }
-    ensures faults { MatchTurn result (W.fault_count writer.old ≤ W.fault_count writer.new) ⊥ (HasRisen (W.fault_count writer.old) (W.fault_count writer.new)) ⊥ }
+fn serve_report<W: Sink>(bench: &mut Bench, meter: &mut Meter, writer: &mut W) -> Progress
+    ensures goes { (unused rest : Option (List ℕ)) → GoesFrom (λ rest. reports rest) result
+        bench.old unused (W.contents writer.old) bench.new unused rest (W.contents writer.new) }
+    ensures faults { MatchProgress result (W.fault_count writer.old ≤ W.fault_count writer.new) ⊥ (HasRisen (W.fault_count writer.old) (W.fault_count writer.new)) ⊥ }
     ensures end { AtLast result ⊥ }
 {
     match bench.report(meter, writer) {
-        Ok(()) => Turn::Continues,
+        Ok(()) => Progress::Continues,
         Err(ReportFault::NoMemory) => answer(Err(EditFault::NoMemory), writer),
-        Err(ReportFault::Write) => Turn::Ends(SessionEnd::Write),
+        Err(ReportFault::Write) => Progress::Ends(SessionEnd::Write),
     }
 }
 
 /// Prints the code of a script, or replies why not.
 #[tactic(auto, using(crate::proofs::Serving::serving))]
-fn serve_dump<W: Sink>(bench: &Bench, writer: &mut W, name: &ScriptName) -> Turn
-    ensures turn { (unread rest : Option (List ℕ)) → TurnsFrom (λ rest. dumps name.now rest) result
-        bench.now unread (W.contents writer.old) bench.now unread rest (W.contents writer.new) }
-    ensures faults { MatchTurn result (W.fault_count writer.old ≤ W.fault_count writer.new) ⊥ (HasRisen (W.fault_count writer.old) (W.fault_count writer.new)) ⊥ }
+fn serve_dump<W: Sink>(bench: &Bench, writer: &mut W, name: &ScriptName) -> Progress
+    ensures goes { (unused rest : Option (List ℕ)) → GoesFrom (λ rest. dumps name.now rest) result
+        bench.now unused (W.contents writer.old) bench.now unused rest (W.contents writer.new) }
+    ensures faults { MatchProgress result (W.fault_count writer.old ≤ W.fault_count writer.new) ⊥ (HasRisen (W.fault_count writer.old) (W.fault_count writer.new)) ⊥ }
     ensures end { AtLast result ⊥ }
 {
     match write_dump(bench.found(name), writer) {
-        Ok(()) => Turn::Continues,
-        Err(_) => Turn::Ends(SessionEnd::Write),
+        Ok(()) => Progress::Continues,
+        Err(_) => Progress::Ends(SessionEnd::Write),
     }
 }
 
@@ -243,23 +241,22 @@ fn perform<R: Source, W: Sink>(
     reader: &mut R,
     writer: &mut W,
     task: Task,
-) -> Turn
+) -> Progress
     requires known { Knows input.old (R.remaining reader.old) }
     ensures known { Knows input.new (R.remaining reader.new) }
-    ensures turn { (command : Option line.Command) (old : BenchState) → Tasks task command old bench.old → TurnsFrom (request_by command) result
-        old (unread input.old (R.remaining reader.old)) (W.contents writer.old)
-        bench.new (unread input.new (R.remaining reader.new)) (R.remaining reader.new) (W.contents writer.new) }
+    ensures goes { (command : Option line.Command) (old : BenchState) → Tasks task command old bench.old → GoesFrom (request_by command) result
+        old (unused input.old (R.remaining reader.old)) (W.contents writer.old)
+        bench.new (unused input.new (R.remaining reader.new)) (R.remaining reader.new) (W.contents writer.new) }
     ensures fuel { fuel input.new ≤ fuel input.old }
     ensures reads { Reads R.remaining R.fault_count R.call_count input.old input.new reader.old reader.new }
-    ensures faults { MatchTurn result (W.fault_count writer.old ≤ W.fault_count writer.new) ((input.new.ended ≡ false) × HasRisen (R.fault_count reader.old) (R.fault_count reader.new))
-        (HasRisen (W.fault_count writer.old) (W.fault_count writer.new)) ((input.new.ended ≡ false) × (input.new.turns ≡ 0)) }
+    ensures faults { TellsFaults result input.new (R.fault_count reader.old) (R.fault_count reader.new) (W.fault_count writer.old) (W.fault_count writer.new) }
     ensures end { AtLast result (IsAtEnd (R.remaining reader.new)) }
 {
     match task {
-        Task::Idle => Turn::Continues,
+        Task::Idle => Progress::Continues,
         Task::Put { subject, count } => serve_put(bench, input, reader, writer, subject, count),
         Task::Change { change } => serve_change(bench, writer, change),
-        Task::Dropped { outcome } => serve_dropped(outcome, writer),
+        Task::Made { outcome } => serve_made(outcome, writer),
         Task::Report => serve_report(bench, meter, writer),
         Task::Dump { name } => serve_dump(bench, writer, &name),
         Task::Forgotten { count } => {
@@ -277,23 +274,22 @@ fn serve<R: Source, W: Sink>(
     input: &mut Input,
     reader: &mut R,
     writer: &mut W,
-) -> Turn
+) -> Progress
     requires known { Knows input.old (R.remaining reader.old) }
     ensures known { Knows input.new (R.remaining reader.new) }
-    ensures turn { Serves input.new.ended result
-        bench.old (unread input.old (R.remaining reader.old)) (W.contents writer.old)
-        bench.new (unread input.new (R.remaining reader.new)) (R.remaining reader.new) (W.contents writer.new) }
+    ensures goes { Serves input.new.ended result
+        bench.old (unused input.old (R.remaining reader.old)) (W.contents writer.old)
+        bench.new (unused input.new (R.remaining reader.new)) (R.remaining reader.new) (W.contents writer.new) }
     ensures fuel { OnContinues result (fuel input.new < fuel input.old) }
     ensures reads { Reads R.remaining R.fault_count R.call_count input.old input.new reader.old reader.new }
-    ensures faults { MatchTurn result (W.fault_count writer.old ≤ W.fault_count writer.new) ((input.new.ended ≡ false) × HasRisen (R.fault_count reader.old) (R.fault_count reader.new))
-        (HasRisen (W.fault_count writer.old) (W.fault_count writer.new)) ((input.new.ended ≡ false) × (input.new.turns ≡ 0)) }
+    ensures faults { TellsFaults result input.new (R.fault_count reader.old) (R.fault_count reader.new) (W.fault_count writer.old) (W.fault_count writer.new) }
     ensures end { AtLast result (IsAtEnd (R.remaining reader.new)) }
 {
     match Line::next(input, reader) {
-        Line::Over => Turn::Ends(SessionEnd::Done),
+        Line::Over => Progress::Ends(SessionEnd::Done),
         Line::TooLong => refuse_line(writer),
-        Line::Failed => Turn::Ends(SessionEnd::Read),
-        Line::Spent => Turn::Ends(SessionEnd::TurnLimit),
+        Line::Failed => Progress::Ends(SessionEnd::Read),
+        Line::Spent => Progress::Ends(SessionEnd::TurnLimit),
         Line::Whole { len, skip } => {
             let (line, _) = input.pending().split_at(len);
             let task = task_of(bench, line);
@@ -319,16 +315,17 @@ pub fn session<R: Source, W: Sink>(
     // commands leave. Where memory is refused at the start, nothing has changed.
     ensures session { MatchSessionEnd result
         (SessionFrom result bench.old (R.remaining reader.old) (W.contents writer.old) bench.new (W.contents writer.new))
-        (UnreadFrom bench.old (R.remaining reader.old) (W.contents writer.old) bench.new (R.remaining reader.new) (W.contents writer.new))
-        (UnwrittenFrom bench.old (R.remaining reader.old) (W.contents writer.old) bench.new (W.contents writer.new))
+        (BrokenSessionFrom bench.old (R.remaining reader.old) (W.contents writer.old) bench.new (R.remaining reader.new) (W.contents writer.new))
+        (CutSessionFrom bench.old (R.remaining reader.old) (W.contents writer.old) bench.new (W.contents writer.new))
         ((bench.new ≡ bench.old) × (reader.new ≡ reader.old) × (writer.new ≡ writer.old)) }
     // At the end of the input none of the octets is unread.
     ensures end { AtLastEnd result (IsAtEnd (R.remaining reader.new)) }
-    // A fault is told only where the device counted one, and the end of the turns only where each gave an octet or a fault.
+    // A fault is told only where the device counted one, and the end of the turns only where all were taken, each for an octet or a fault.
     ensures faults { MatchFault result
         (HasRisen (R.fault_count reader.old) (R.fault_count reader.new))
         (HasRisen (W.fault_count writer.old) (W.fault_count writer.new))
-        (TurnsAreSpent turns (R.remaining reader.old) (R.remaining reader.new) (R.fault_count reader.old) (R.fault_count reader.new)) }
+        (ReadsAreMade turns (R.call_count reader.old) (R.call_count reader.new)
+        × TurnsAreSpent turns (R.remaining reader.old) (R.remaining reader.new) (R.fault_count reader.old) (R.fault_count reader.new)) }
     ensures calls { R.call_count reader.new ≤ R.call_count reader.old + turns }
 {
     let Ok(mut input) = Input::new(bench.allocator(), turns) else {
@@ -336,8 +333,8 @@ pub fn session<R: Source, W: Sink>(
     };
     loop {
         match serve(bench, meter, &mut input, reader, writer) {
-            Turn::Continues => {}
-            Turn::Ends(end) => return end,
+            Progress::Continues => {}
+            Progress::Ends(end) => return end,
         }
     }
 }

@@ -38,8 +38,8 @@ pub(crate) enum Task {
     Put { subject: Subject, count: u64 },
     /// To make an edit that no octets follow.
     Change { change: Change },
-    /// A message is removed already, or why it isn't.
-    Dropped { outcome: Result<(), EditFault> },
+    /// An edit is made already that takes no memory, or why it isn't.
+    Made { outcome: Result<(), EditFault> },
     Report,
     /// To print the code of a script.
     Dump { name: ScriptName },
@@ -177,7 +177,7 @@ pub(crate) fn task_of(bench: &mut Bench, line: &[u8]) -> Task
             },
         ) => change_task(rename_change(alloc, place, &name, new_place, &new_name)),
         Some(Command::DropScript { place, name }) => change_task(drop_change(alloc, place, &name)),
-        Some(Command::DropMessage { id }) => Task::Dropped {
+        Some(Command::DropMessage { id }) => Task::Made {
             outcome: bench.drop_message(&id),
         },
         Some(Command::Envelope { from, to }) => change_task(envelope_change(alloc, &from, &to)),

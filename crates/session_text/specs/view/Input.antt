@@ -13,8 +13,8 @@ abbrev pub capacity : ℕ
 capacity = 65536
 
 -- the octets that are not used, read or not, where the device tells what it has left
-abbrev pub unread : Input → Option (List ℕ) → Option (List ℕ)
-unread input remaining = prepend_known input.pending remaining
+abbrev pub unused : Input → Option (List ℕ) → Option (List ℕ)
+unused input remaining = prepend_known input.pending remaining
 
 -- where a read has come to the end, the device has nothing left
 abbrev pub Knows : Input → Option (List ℕ) → Type 0
@@ -32,10 +32,14 @@ TurnsGave before after (Some stream) None faults faults' = ⊥
 TurnsGave before after (Some stream) (Some left) faults faults' =
     (length left ≤ length stream) × ((before + length left + faults ≤ after + length stream + faults') ⊎ (2 ^ 64 - 1 ≤ faults'))
 
--- Between two states of an input and of the device that it reads, each read took a turn, and each turn, where none has come to the end,
--- gave an octet or counted a fault.
+-- Each turn that was taken is a call of the device. A count that stands at the greatest u64 counts no more.
+abbrev pub CallsMade : ℕ → ℕ → ℕ → ℕ → Type 0
+CallsMade before after calls calls' = (after ≤ before) × (calls' + after ≤ calls + before) × ((calls + before ≤ calls' + after) ⊎ (2 ^ 64 - 1 ≤ calls'))
+
+-- Between two states of an input and of the device that it reads, each turn that was taken was a call of the device, and where none has
+-- come to the end, each gave an octet or counted a fault.
 pub record Reads {S : Type 0} (remaining : S → Option (List ℕ)) (fault_count call_count : S → ℕ) (before after : Input) (old new : S) : Type 0 where
   pub faults_kept : fault_count old ≤ fault_count new
-  pub calls_counted : call_count new + after.turns ≤ call_count old + before.turns
+  pub calls_made : CallsMade before.turns after.turns (call_count old) (call_count new)
   pub stays_ended : after.ended ≡ false → before.ended ≡ false
   pub turns_gave : after.ended ≡ false → TurnsGave before.turns after.turns (remaining old) (remaining new) (fault_count old) (fault_count new)

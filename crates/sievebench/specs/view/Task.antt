@@ -3,7 +3,8 @@ use Rattle.std.specs.Prelude.{◌≡◌, ℕ, List, Option, Some, None, Result, 
 use Rattle.sieve_base.specs.Limits.{text_limit, message_limit}
 use Rattle.session_text.specs.SessionLine.{Command, nothing, script, message, main, no_main, rename, drop_script, drop_message, envelope, mailbox, report, dump}
 use Rattle.sievebench.specs.Bench.{BenchState}
-use Rattle.sievebench.specs.Content.{Edit, put_script, put_message, set_main, rename_script, remove_script, remove_message, clear_main, set_envelope, set_mailbox, after, Answers}
+use Rattle.sievebench.specs.Session.{edits, request_by}
+use Rattle.sievebench.specs.Content.{Edit, put_script, put_message, set_main, rename_script, remove_script, clear_main, set_envelope, set_mailbox, after, Answers}
 use Rattle.sievebench.specs.declared.task.Subject.{Subject}
 use Rattle.sievebench.specs.declared.task.Subject.TheVariants as subjects
 use Rattle.sievebench.specs.declared.task.Change.{Change}
@@ -53,7 +54,7 @@ IsTask tasks.Idle command = command ≡ Some nothing
 IsTask (tasks.Put (subjects.Script name) count) command = command ≡ Some (script name.place name.name count)
 IsTask (tasks.Put (subjects.Message id) count) command = command ≡ Some (message id count)
 IsTask (tasks.Change change) command = command ≡ Some (command_of change)
-IsTask (tasks.Dropped outcome) command = ⊥
+IsTask (tasks.Made outcome) command = ⊥
 IsTask tasks.Report command = command ≡ Some report
 IsTask (tasks.Dump name) command = command ≡ Some (dump name.place name.name)
 IsTask (tasks.Forgotten count) command = IsFollowedBy count command
@@ -64,13 +65,13 @@ abbrev pub change_task : Result Change AllocError → Task
 change_task (Ok change) = tasks.Change change
 change_task (Err refused) = tasks.Forgotten 0
 
--- a message is removed, or it is said why not
-abbrev pub Drops : List ℕ → Result Unit EditFault → BenchState → BenchState → Type 0
-Drops id outcome old new = OnOk outcome (after old.content (remove_message id) ≡ Ok new.content) × OnErr outcome (new ≡ old) × Answers (after old.content (remove_message id)) outcome
+-- an edit that takes no memory is made, or it is said why not
+abbrev pub Makes : Edit → Result Unit EditFault → BenchState → BenchState → Type 0
+Makes edit outcome old new = OnOk outcome (after old.content edit ≡ Ok new.content) × OnErr outcome (new ≡ old) × Answers (after old.content edit) outcome
 
--- the task is to do what a line asks for, or that is done already
+-- the task is to do what a line asks for, or the edit is made already that it asks for
 abbrev pub Tasks : Task → Option Command → BenchState → BenchState → Type 0
-Tasks (tasks.Dropped outcome) command old new = (id : List ℕ) × (command ≡ Some (drop_message id)) × Drops id outcome old new
+Tasks (tasks.Made outcome) command old new = (edit : Edit) × (request_by command ≡ (λ rest. edits edit rest)) × Makes edit outcome old new
 Tasks tasks.Idle command old new = IsTask tasks.Idle command × (new ≡ old)
 Tasks (tasks.Put subject count) command old new = IsTask (tasks.Put subject count) command × (new ≡ old)
 Tasks (tasks.Change change) command old new = IsTask (tasks.Change change) command × (new ≡ old)

@@ -1,6 +1,6 @@
 use Rattle.std.proofs.Common.{◌≤◌, ◌-◌}
 use Rattle.std.specs.Option.{option_map}
-use Rattle.session_text.specs.view.Input.{Reads, unread, fuel, Knows}
+use Rattle.session_text.specs.view.Input.{Reads, unused, fuel, Knows}
 use Rattle.session_text.specs.view.Payload.{Takes, octets_kept}
 use Rattle.session_text.proofs.payload.take_octets.Given as goal
 
@@ -8,7 +8,7 @@ use Rattle.session_text.proofs.payload.take_octets.Given as goal
 abbrev pub invariant-loop-left : goal.invariant-loop-left
 invariant-loop-left g l =
     (l.left ≤ l.count)
-    × Takes (l.count - l.left) (unread l.fn.input (g.R.Source.remaining l.fn.reader)) (unread l.input (g.R.Source.remaining l.reader)) (option_map octets_kept l.kept)
+    × Takes (l.count - l.left) (unused l.fn.input (g.R.Source.remaining l.fn.reader)) (unused l.input (g.R.Source.remaining l.reader)) (option_map octets_kept l.kept)
     × (fuel l.input ≤ fuel l.fn.input)
     × Knows l.input (g.R.Source.remaining l.reader)
     × Reads g.R.Source.remaining g.R.Faults.fault_count g.R.Source.call_count l.fn.input l.input l.fn.reader l.reader

@@ -1,4 +1,4 @@
-use Rattle.std.proofs.Common.{drop, length, ◌<◌, ◌≤◌, ◌+◌, subst}
+use Rattle.std.proofs.Common.{drop, ◌<◌, ◌≤◌, ◌+◌, subst}
 use Rattle.sieve_code.specs.Dump.{line_at}
 use Rattle.sieve_code.specs.view.Code.{ops_of}
 use Rattle.sievebench.specs.Dump.{code_text, lines_from}

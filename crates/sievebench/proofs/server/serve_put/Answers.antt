@@ -1,26 +1,34 @@
 use Rattle.std.proofs.Common.{◌≡◌}
+use Rattle.sievebench.specs.Session.{with_octets}
 use Rattle.sievebench.specs.view.Task.{edit_of}
-use Rattle.sievebench.proofs.Serving.{answered, ended, put_end, put_step, put_takes, replies_with_memory, unkept_replies}
+use Rattle.sievebench.proofs.Serving.{answered, breaks_off, end_faults, ended, falls_short, put_replies, put_takes, replies_with_memory, short, unkept_replies}
 use Rattle.sievebench.specs.declared.status.SessionEnd.TheVariants.{Truncated}
 use Rattle.sievebench.proofs.server.serve_put.Goals as goal
 
-pub returns-in-Whole-Some-clause-turn : goal.returns-in-Whole-Some-clause-turn
-returns-in-Whole-Some-clause-turn g c =
-    answered _ c.answer.result _ _ _ _ _ _ _ c.answer.ensures (λ wrote.
-    put_step c.args.count (edit_of c.args.subject) _ _ _ _ _ _ _ _ c.in-Whole-Some.ensures.taken
+pub returns-in-Whole-Some-clause-goes : goal.returns-in-Whole-Some-clause-goes
+returns-in-Whole-Some-clause-goes g c =
+    answered _ _ _ _ (λ rest. with_octets c.args.count rest (edit_of c.args.subject)) c.answer.result _ _ _ _ _ _ c.answer.ensures (
+    put_replies c.args.count (edit_of c.args.subject) _ _ _ _ _ _ c.in-Whole-Some.ensures.taken
     (λ octets size kept.
     let same : c.in-Whole-Some.octets.items ≡ octets = rw c.in-Whole-Some.kept-is at kept in
-    rw (← same) (replies_with_memory _ c.keep.result _ _ _ (put_takes c.args.subject c.in-Whole-Some.octets.items) c.keep.ensures.ok c.keep.ensures.err c.keep.ensures.refused))
-    wrote.text_appended)
+    rw (← same) (replies_with_memory _ c.keep.result _ _ _ (put_takes c.args.subject c.in-Whole-Some.octets.items) c.keep.ensures.ok c.keep.ensures.err c.keep.ensures.refused)))
 
-pub returns-in-Whole-None-clause-turn : goal.returns-in-Whole-None-clause-turn
-returns-in-Whole-None-clause-turn g c =
-    answered _ c.answer-in-Whole-None.result _ _ _ _ _ _ _ c.answer-in-Whole-None.ensures (λ wrote.
-    put_step c.args.count (edit_of c.args.subject) _ _ _ _ _ _ _ _ c.in-Whole-None.ensures.taken
-    (λ octets size kept. rw (c.unkept.ensures, c.limit_of-limit.ensures) (unkept_replies c.args.subject c.args.count c.args.bench.now octets size))
-    wrote.text_appended)
+pub returns-in-Whole-None-clause-goes : goal.returns-in-Whole-None-clause-goes
+returns-in-Whole-None-clause-goes g c =
+    answered _ _ _ _ (λ rest. with_octets c.args.count rest (edit_of c.args.subject)) c.answer-in-Whole-None.result _ _ _ _ _ _ c.answer-in-Whole-None.ensures (
+    put_replies c.args.count (edit_of c.args.subject) _ _ _ _ _ _ c.in-Whole-None.ensures.taken
+    (λ octets size kept. rw (c.unkept.ensures, c.limit_of-limit.ensures) (unkept_replies c.args.subject c.args.count c.args.bench.now octets size)))
 
-pub returns-in-Truncated-clause-turn : goal.returns-in-Truncated-clause-turn
-returns-in-Truncated-clause-turn g c =
-    ended _ Truncated c.refuse_octets.result _ _ _ _ _ _ c.refuse_octets.ensures (λ wrote.
-    put_end c.args.count (edit_of c.args.subject) _ _ _ _ _ c.in-Truncated.ensures.taken wrote.text_appended)
+pub returns-in-Truncated-clause-goes : goal.returns-in-Truncated-clause-goes
+returns-in-Truncated-clause-goes g c =
+    ended _ _ _ _ _ Truncated c.refuse_octets.result _ _ _ _ _ (λ Q S q. q) c.refuse_octets.ensures
+    (falls_short _ c.args.count _ _ (short c.args.count (edit_of c.args.subject)) c.in-Truncated.ensures.taken)
+
+pub returns-in-Truncated-clause-faults : goal.returns-in-Truncated-clause-faults
+returns-in-Truncated-clause-faults g c = end_faults _ _ _ _ Truncated c.refuse_octets.result _ _ _ _ tt c.refuse_octets.ensures
+
+pub returns-in-Failed-clause-goes : goal.returns-in-Failed-clause-goes
+returns-in-Failed-clause-goes g c = breaks_off _ c.args.count _ _ _ _ (short c.args.count (edit_of c.args.subject)) c.in-Failed.ensures.taken.0
+
+pub returns-in-Spent-clause-goes : goal.returns-in-Spent-clause-goes
+returns-in-Spent-clause-goes g c = breaks_off _ c.args.count _ _ _ _ (short c.args.count (edit_of c.args.subject)) c.in-Spent.ensures.taken.0

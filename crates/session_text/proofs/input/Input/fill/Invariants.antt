@@ -1,7 +1,7 @@
 use Rattle.std.proofs.Common.{◌≡◌, false, ◌+◌, ◌<◌}
 use Rattle.std.specs.Io.KnownBytes.{Keeps}
 use Rattle.sieve_base.specs.Devices.{HasRisen}
-use Rattle.session_text.specs.view.Input.{Reads, unread}
+use Rattle.session_text.specs.view.Input.{Reads, unused}
 use Rattle.session_text.proofs.input.Input.fill.Given as goal
 
 -- nothing was read, and each try has counted a fault
@@ -9,7 +9,7 @@ abbrev pub invariant-loop-retry : goal.invariant-loop-retry
 invariant-loop-retry g l =
     (l.self.pending ≡ l.fn.self.pending)
     × (l.self.ended ≡ false)
-    × Keeps (unread l.fn.self (g.R.Source.remaining l.fn.reader)) (unread l.self (g.R.Source.remaining l.reader))
+    × Keeps (unused l.fn.self (g.R.Source.remaining l.fn.reader)) (unused l.self (g.R.Source.remaining l.reader))
     × (l.self.turns + l._retry ≡ l.fn.self.turns)
     × Reads g.R.Source.remaining g.R.Faults.fault_count g.R.Source.call_count l.fn.self l.self l.fn.reader l.reader
     × (0 < l._retry → HasRisen (g.R.Faults.fault_count l.fn.reader) (g.R.Faults.fault_count l.reader))

@@ -1,12 +1,12 @@
 use Rattle.std.proofs.Common.{◌≤◌}
 use Rattle.std.specs.Io.KnownBytes.{Keeps}
-use Rattle.session_text.specs.view.Input.{Reads, unread, fuel, Knows}
+use Rattle.session_text.specs.view.Input.{Reads, unused, fuel, Knows}
 use Rattle.session_text.proofs.line.Line.next.Given as goal
 
 -- what was read is not used yet
 abbrev pub invariant-loop-at : goal.invariant-loop-at
 invariant-loop-at g l =
-    Keeps (unread l.fn.input (g.R.Source.remaining l.fn.reader)) (unread l.input (g.R.Source.remaining l.reader))
+    Keeps (unused l.fn.input (g.R.Source.remaining l.fn.reader)) (unused l.input (g.R.Source.remaining l.reader))
     × (fuel l.input ≤ fuel l.fn.input)
     × Reads g.R.Source.remaining g.R.Faults.fault_count g.R.Source.call_count l.fn.input l.input l.fn.reader l.reader
     × Knows l.input (g.R.Source.remaining l.reader)
