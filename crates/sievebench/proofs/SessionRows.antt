@@ -1,0 +1,51 @@
+-- Worked rows of what the octets of a session ask for, while more may come and at their end.
+use Rattle.std.proofs.Common.{◌≡◌, [], refl, codes}
+use Rattle.session_text.specs.SessionLine.{command_of_line, first_line, is_text, line_so_far, line_words, word_value}
+use Rattle.sievebench.specs.Content.{put_message}
+use Rattle.sievebench.specs.Session.{edits, idle, over, reports, request_of, request_so_far, truncated, unreadable}
+
+-- nothing is no command yet, and at the end it is none
+nothing_row : request_so_far [] ≡ truncated
+unfolding request_so_far line_so_far
+nothing_row = refl
+
+over_row : request_of [] ≡ over
+unfolding request_of
+over_row = refl
+
+-- a line without its LF may go on, and at the end it is a line
+begun_row : request_so_far (codes "report") ≡ truncated
+unfolding request_so_far line_so_far
+begun_row = refl
+
+last_row : request_of (codes "report") ≡ reports []
+unfolding request_of first_line command_of_line line_words is_text
+last_row = refl
+
+-- a CR before the LF is no part of it
+ended_row : request_so_far (codes "report\r\nre") ≡ reports (codes "re")
+unfolding request_so_far line_so_far command_of_line line_words is_text
+ended_row = refl
+
+empty_row : request_so_far (codes "\n") ≡ idle []
+unfolding request_so_far line_so_far command_of_line line_words is_text
+empty_row = refl
+
+-- octets that aren't all there may still come, and at the end they are missing
+octets_row : request_so_far (codes "message m 3\nab") ≡ truncated
+unfolding request_so_far line_so_far command_of_line line_words is_text word_value
+octets_row = refl
+
+missing_row : request_of (codes "message m 3\nab") ≡ truncated
+unfolding request_of first_line command_of_line line_words is_text word_value
+missing_row = refl
+
+-- what follows them doesn't matter
+put_row : request_so_far (codes "message m 2\nabno") ≡ edits (put_message (codes "m") (codes "ab")) (codes "no")
+unfolding request_so_far line_so_far command_of_line line_words is_text word_value
+put_row = refl
+
+-- a line that says nothing that there is is told at once where it has ended
+unknown_row : request_so_far (codes "frob\n") ≡ unreadable
+unfolding request_so_far line_so_far command_of_line line_words is_text
+unknown_row = refl
