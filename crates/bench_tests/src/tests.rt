@@ -5,6 +5,8 @@ mod calls;
 mod devices;
 mod dumps;
 mod edits;
+mod failing_reads;
+mod failing_writes;
 mod faults;
 mod limits;
 mod memory;
@@ -22,6 +24,18 @@ use std::test::Fail;
 
 /// The turns that a session of a test may take.
 const TURNS: u64 = 1_000_000;
+
+/// The session of most of these tests: 71 octets.
+const SESSION: &[u8] =
+    b"script personal main 9\ndiscard;\nmessage m1 0\nmain personal main\nreport\n";
+
+/// What it writes: 159 octets.
+const REPLIES: &[u8] =
+    b"ok\nok\nok\nmain personal \"main\"\nenvelope \"\" \"\" mailbox \"INBOX\"\nscript personal \"main\" ok\nmessage \"m1\"\n  discard\n  read personal \"main\"\ntotal 1 messages 0 errors\n";
+
+/// The report of a new bench.
+const REPORT: &[u8] =
+    b"main none\nenvelope \"\" \"\" mailbox \"INBOX\"\ntotal 0 messages 0 errors\n";
 
 /// The octets of a session on a new bench, what it must write, and how it must end.
 type Row<'a> = (&'a [u8], &'a [u8], SessionEnd);

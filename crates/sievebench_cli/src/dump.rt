@@ -1,13 +1,14 @@
 //! Prints the code of the script in a file.
 
+use crate::complain;
 use crate::files::{octets_in, script_name};
-use crate::{REPLY_ROOM, complain};
+use crate::streams::Output;
 use sieve_base::limits::MAX_TEXT;
 use sieve_base::{Counted, write_quoted};
 use sievebench::{End, Place, ScriptName, SessionEnd, TestEnd, dump_text, status_of};
 use std::alloc::{AllocError, Global};
 use std::io;
-use std::io::{BufWriter, ErrorKind, Write};
+use std::io::{ErrorKind, Write};
 use std::rt::Files;
 
 /// Prints the code of the script in the file at a path, or the script's line of a report where it has a fault. The script is personal,
@@ -45,7 +46,7 @@ fn dump_over<W: Write + Drop>(alloc: Global, path: &str, text: &[u8], output: W)
     let Ok(name) = named(alloc, path) else {
         return TestEnd::NoMemory;
     };
-    let Ok(held) = BufWriter::with_capacity(alloc, REPLY_ROOM, output) else {
+    let Ok(held) = Output::held(alloc, output) else {
         return TestEnd::NoMemory;
     };
     let mut writer = Counted::new(held);

@@ -12,17 +12,14 @@ use sieve_base::Counted;
 use sievebench::{Bench, End, Job, Meter, SessionEnd, UsageFault, command_of, session, status_of};
 use std::alloc::Global;
 use std::cell::RefCell;
-use std::io::{BufWriter, ErrorKind, Read, Write};
+use std::io::{ErrorKind, Read, Write};
 use std::process::ExitCode;
 use std::rt::{Env, Files};
 use std::{env, io};
-use streams::{Replies, Requests};
+use streams::{Output, Replies, Requests};
 
 // How many reads a session may make.
 const SESSION_TURNS: u64 = 1_000_000_000;
-
-// How many octets of replies are held before they are written.
-const REPLY_ROOM: usize = 65_536;
 
 // The status of help that was printed, and of a mistake in the words.
 const HELP_STATUS: u8 = 0;
@@ -95,12 +92,13 @@ fn run_session(rt: &(impl AllocGlobal + Input + Print)) -> SessionEnd {
     run_over(rt.alloc(), rt.reader(), io::writer(rt))
 }
 
-// Runs a session over a reader and a writer, and writes out what is left of its replies.
+// Runs a session over a reader and a writer, and writes out what is left of its replies. An output that has failed, be it before
+// a read, fails here too.
 fn run_over<R: Read + Drop, W: Write + Drop>(alloc: Global, input: R, output: W) -> SessionEnd {
     let Ok(mut bench) = Bench::new(alloc) else {
         return SessionEnd::NoMemory;
     };
-    let Ok(held) = BufWriter::with_capacity(alloc, REPLY_ROOM, output) else {
+    let Ok(held) = Output::held(alloc, output) else {
         return SessionEnd::NoMemory;
     };
     let held = RefCell::new(held);

@@ -1,18 +1,67 @@
 //! Standard input and output of a session: replies are held together, and written out before the
 //! program waits for more input.
 
+use std::alloc::Global;
 use std::cell::RefCell;
 use std::io;
-use std::io::{BufWriter, Read, Write};
+use std::io::{BufWriter, ErrorKind, Read, Write};
+
+/// How many octets are held before they are written.
+const HELD_ROOM: usize = 65_536;
+
+/// An output that is asked nothing more once it has failed: each later write and flush is an error.
+#[derive(Drop)]
+pub(crate) struct Output<W> {
+    device: W,
+    failed: bool,
+}
+
+/// An output whose octets are held together.
+pub(crate) type Held<W> = BufWriter<Output<W>>;
+
+impl<W: Write + Drop> Output<W> {
+    /// Holds the octets for an output together. An error is want of memory.
+    pub(crate) fn held(alloc: Global, device: W) -> io::Result<Held<W>> {
+        let output = Output {
+            device,
+            failed: false,
+        };
+        BufWriter::with_capacity(alloc, HELD_ROOM, output)
+    }
+}
+
+impl<W: Write> Write for Output<W> {
+    fn write(&mut self, buf: &[u8]) -> io::Result<usize> {
+        if self.failed {
+            return Err(io::Error::from(ErrorKind::BrokenPipe));
+        }
+        let answer = self.device.write(buf);
+        // An interruption is no failure: the buffer tries again.
+        self.failed = match &answer {
+            Ok(written) => *written == 0,
+            Err(e) => e.kind() != ErrorKind::Interrupted,
+        };
+        answer
+    }
+
+    fn flush(&mut self) -> io::Result<()> {
+        if self.failed {
+            return Err(io::Error::from(ErrorKind::BrokenPipe));
+        }
+        let answer = self.device.flush();
+        self.failed = answer.is_err();
+        answer
+    }
+}
 
 /// Takes replies into a buffer that it shares.
 #[derive(Drop)]
 pub(crate) struct Replies<'a, W: Write + Drop> {
-    held: &'a RefCell<BufWriter<W>>,
+    held: &'a RefCell<Held<W>>,
 }
 
 impl<'a, W: Write + Drop> Replies<'a, W> {
-    pub(crate) fn new(held: &'a RefCell<BufWriter<W>>) -> Replies<'a, W> {
+    pub(crate) fn new(held: &'a RefCell<Held<W>>) -> Replies<'a, W> {
         Replies { held }
     }
 }
@@ -28,26 +77,22 @@ impl<W: Write + Drop> Write for Replies<'_, W> {
 }
 
 /// Gives requests. Before each read the replies that are held are written out, so that whoever
-/// waits for them before the next request gets them.
+/// waits for them before the next request gets them. Where they can't be, nothing is read.
 #[derive(Drop)]
 pub(crate) struct Requests<'a, R, W: Write + Drop> {
     input: R,
-    held: &'a RefCell<BufWriter<W>>,
+    held: &'a RefCell<Held<W>>,
 }
 
 impl<'a, R: Read, W: Write + Drop> Requests<'a, R, W> {
-    pub(crate) fn new(input: R, held: &'a RefCell<BufWriter<W>>) -> Requests<'a, R, W> {
+    pub(crate) fn new(input: R, held: &'a RefCell<Held<W>>) -> Requests<'a, R, W> {
         Requests { input, held }
     }
 }
 
 impl<R: Read, W: Write + Drop> Read for Requests<'_, R, W> {
     fn read(&mut self, buf: &mut [u8]) -> io::Result<usize> {
-        // What can't be written stays held. The next write that needs room, or the flush at the
-        // end, meets the fault again and tells it as a fault of the writer, and not of the input.
-        if let Ok(mut held) = self.held.try_borrow_mut() {
-            let _ = held.flush();
-        }
+        self.held.try_borrow_mut()?.flush()?;
         self.input.read(buf)
     }
 }

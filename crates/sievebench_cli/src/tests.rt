@@ -3,4 +3,5 @@
 mod disk;
 mod dumps;
 mod machine;
+mod outputs;
 mod program;

@@ -1,24 +1,12 @@
 //! Sessions over readers that give little, interrupt or never end, and over writers that fail.
 
-use super::{TURNS, ended};
+use super::{REPLIES, REPORT, SESSION, TURNS, ended};
 use sievebench::{Counted, SessionEnd, Source};
 use std::io;
 use std::io::{ErrorKind, Read, Write};
 use std::process::Abort;
 
-/// The session of these tests.
-const SESSION: &[u8] =
-    b"script personal main 9\ndiscard;\nmessage m1 0\nmain personal main\nreport\n";
-
-/// What it writes.
-const REPLIES: &[u8] =
-    b"ok\nok\nok\nmain personal \"main\"\nenvelope \"\" \"\" mailbox \"INBOX\"\nscript personal \"main\" ok\nmessage \"m1\"\n  discard\n  read personal \"main\"\ntotal 1 messages 0 errors\n";
-
-/// The report of a new bench.
-const REPORT: &[u8] =
-    b"main none\nenvelope \"\" \"\" mailbox \"INBOX\"\ntotal 0 messages 0 errors\n";
-
-/// Two of them.
+/// Two reports of a new bench.
 const TWO_REPORTS: &[u8] =
     b"main none\nenvelope \"\" \"\" mailbox \"INBOX\"\ntotal 0 messages 0 errors\nmain none\nenvelope \"\" \"\" mailbox \"INBOX\"\ntotal 0 messages 0 errors\n";
 

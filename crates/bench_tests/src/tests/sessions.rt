@@ -1,6 +1,6 @@
 //! Sessions with the texts that they must have.
 
-use super::{check_report, check_rows, check_session};
+use super::{REPLIES, SESSION, check_report, check_row, check_rows, check_session};
 use sievebench::{Bench, SessionEnd};
 use std::test::Fail;
 
@@ -73,6 +73,31 @@ fn a_truncated_session_leaves_no_script(rt: HostRuntime) -> Result<(), Fail> {
         &mut bench,
         b"main personal \"main\"\nenvelope \"\" \"\" mailbox \"INBOX\"\ntotal 0 messages 0 errors\n",
     )
+}
+
+/// What the session of 71 octets writes where its input ends behind the first so many, and how it ends.
+fn cut_off(octets: usize) -> (&'static [u8], SessionEnd) {
+    match octets {
+        0 => (b"", SessionEnd::Done),
+        1..=21 => (b"no syntax\n", SessionEnd::Syntax),
+        22..=31 => (b"no truncated\n", SessionEnd::Truncated),
+        32 => (b"ok\n", SessionEnd::Done),
+        33..=43 => (b"ok\nno syntax\n", SessionEnd::Syntax),
+        44..=45 => (b"ok\nok\n", SessionEnd::Done),
+        46..=59 => (b"ok\nok\nno syntax\n", SessionEnd::Syntax),
+        60..=64 => (b"ok\nok\nok\n", SessionEnd::Done),
+        65..=69 => (b"ok\nok\nok\nno syntax\n", SessionEnd::Syntax),
+        _ => (REPLIES, SessionEnd::Done),
+    }
+}
+
+#[test]
+fn a_session_may_be_cut_off_anywhere(rt: HostRuntime) -> Result<(), Fail> {
+    for octets in 0..72 {
+        let (text, end) = cut_off(octets);
+        check_row(&rt, &SESSION[..SESSION.len().min(octets)], text, end)?;
+    }
+    Ok(())
 }
 
 #[test]

@@ -1,6 +1,6 @@
 //! The code of scripts in files.
 
-use super::machine::{Given, Machine, Written};
+use super::machine::{Given, Machine, Room, Written};
 use super::program::{check_kept, whole};
 use crate::run;
 use std::process::Abort;
@@ -22,7 +22,7 @@ fn check_dump(
         words: &[b"sievebench", b"dump", path.as_bytes()],
         input: whole(b""),
         files,
-        room,
+        room: Room::of(room),
         written: &written,
     };
     assert_eq!(rt; run(&machine), status, "at {path:?}");

@@ -10,7 +10,7 @@ use std::io::{BufRead, ErrorKind, Lines, Read, Write};
 use std::rt::Env;
 
 /// What a program wrote: on standard output, on standard error, how much on standard output before
-/// each read, and how much by each write there.
+/// each read, and how much by each write there: nothing by one that failed.
 #[derive(Drop)]
 pub(crate) struct Written {
     pub output: RefCell<Vec<u8>>,
@@ -55,14 +55,41 @@ impl Given<'_> {
     }
 }
 
-/// A system with these words, this input, these files, and an output of so much room.
+/// An output of so much room, of which one write may fail.
+#[derive(Clone, Copy)]
+pub(crate) struct Room {
+    pub octets: usize,
+    /// How many writes go before the one that fails, and how that fails.
+    pub failure: Option<(usize, ErrorKind)>,
+}
+
+impl Room {
+    /// So much room, and no write that fails within it.
+    pub(crate) fn of(octets: usize) -> Room {
+        Room {
+            octets,
+            failure: None,
+        }
+    }
+
+    /// How a write of so many octets fails, behind so many writes and so many octets.
+    fn failure_of(self, len: usize, writes: usize, taken: usize) -> Option<ErrorKind> {
+        match self.failure {
+            Some((before, kind)) if before == writes => Some(kind),
+            _ if taken.saturating_add(len) > self.octets => Some(ErrorKind::BrokenPipe),
+            _ => None,
+        }
+    }
+}
+
+/// A system with these words, this input, these files, and an output of this room.
 #[derive(Drop)]
 pub(crate) struct Machine<'a> {
     pub alloc: Global,
     pub words: &'a [&'a [u8]],
     pub input: Given<'a>,
     pub files: &'a [(&'a str, Given<'a>)],
-    pub room: usize,
+    pub room: Room,
     pub written: &'a Written,
 }
 
@@ -97,7 +124,7 @@ impl Alloc for Machine<'_> {
 
 impl Print for Machine<'_> {
     fn print<D: Display + Drop>(&self, value: D) -> io::Result<()> {
-        if self.room == 0 {
+        if self.room.octets == 0 {
             return Err(io::Error::from(ErrorKind::BrokenPipe));
         }
         self.written.output.try_borrow_mut()?.write_fmt(value)
@@ -110,10 +137,15 @@ impl Print for Machine<'_> {
 
     fn write_all(&self, bytes: &[u8]) -> io::Result<()> {
         let mut output = self.written.output.try_borrow_mut()?;
-        if output.len().saturating_add(bytes.len()) > self.room {
-            return Err(io::Error::from(ErrorKind::BrokenPipe));
+        let mut writes = self.written.writes.try_borrow_mut()?;
+        let failure = self
+            .room
+            .failure_of(bytes.len(), writes.len(), output.len());
+        if let Some(kind) = failure {
+            writes.push(0)?;
+            return Err(io::Error::from(kind));
         }
-        self.written.writes.try_borrow_mut()?.push(bytes.len())?;
+        writes.push(bytes.len())?;
         output.write_all(bytes)
     }
 }

@@ -1,6 +1,6 @@
 //! What the program writes, on standard error too, and its status.
 
-use super::machine::{Given, Machine, Written};
+use super::machine::{Given, Machine, Room, Written};
 use crate::{answer_usage, complaint_of, run};
 use sievebench::{SessionEnd, UsageFault};
 use std::alloc::Global;
@@ -10,7 +10,7 @@ use std::process::Abort;
 use std::test::Fail;
 
 /// The words that ask for a session.
-const SESSION_WORDS: &[&[u8]] = &[b"sievebench", b"session"];
+pub(crate) const SESSION_WORDS: &[&[u8]] = &[b"sievebench", b"session"];
 
 /// A session, and what it writes.
 const SESSION: &[u8] =
@@ -28,12 +28,12 @@ pub(crate) fn whole(octets: &[u8]) -> Given<'_> {
     }
 }
 
-/// Runs the program with these words, over an input and an output of so much room: its status.
-fn status_with(
+/// Runs the program with these words, over an input and an output of this room: its status.
+pub(crate) fn status_with(
     alloc: Global,
     words: &[&[u8]],
     input: Given<'_>,
-    room: usize,
+    room: Room,
     written: &Written,
 ) -> u8 {
     let machine = Machine {
@@ -67,7 +67,7 @@ fn check_run(
     errors: &[u8],
 ) -> Result<(), Fail> {
     let written = Written::new(rt.alloc());
-    let answer = status_with(rt.alloc(), SESSION_WORDS, input, room, &written);
+    let answer = status_with(rt.alloc(), SESSION_WORDS, input, Room::of(room), &written);
     assert_eq!(rt; answer, status);
     check_kept(rt, &written.output, output)?;
     check_kept(rt, &written.errors, errors)
@@ -164,7 +164,7 @@ fn check_reads(
         piece,
         fails: false,
     };
-    let status = status_with(rt.alloc(), SESSION_WORDS, input, 1_000, &written);
+    let status = status_with(rt.alloc(), SESSION_WORDS, input, Room::of(1_000), &written);
     assert_eq!(rt; status, 0);
     check_kept(rt, &written.before_reads, before_reads)?;
     check_kept(rt, &written.writes, writes)
@@ -195,7 +195,13 @@ fn check_words(
     errors: &[u8],
 ) -> Result<(), Fail> {
     let written = Written::new(rt.alloc());
-    let answer = status_with(rt.alloc(), words, whole(b"report\n"), room, &written);
+    let answer = status_with(
+        rt.alloc(),
+        words,
+        whole(b"report\n"),
+        Room::of(room),
+        &written,
+    );
     assert_eq!(rt; answer, status, "at {words:?}");
     check_part(rt, &written.output, output)?;
     check_part(rt, &written.errors, errors)
@@ -278,7 +284,7 @@ fn status_without_memory(alloc: Global, written: &Written) -> u8 {
         words: SESSION_WORDS,
         input: whole(b""),
         files: &[],
-        room: 1_000,
+        room: Room::of(1_000),
         written,
     };
     answer_usage(&machine, UsageFault::NoMemory)

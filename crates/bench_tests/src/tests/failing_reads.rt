@@ -1,0 +1,248 @@
+//! Sessions over readers that fail at some calls and work at every other.
+
+use super::{REPLIES, REPORT, SESSION, TURNS, check_report};
+use sievebench::{Bench, Counted, Faults, Meter, SessionEnd, Source, session};
+use std::io;
+use std::io::{ErrorKind, Read};
+use std::process::Abort;
+use std::test::Fail;
+
+/// The report once the session has put its script.
+pub(super) const SCRIPT_REPORT: &[u8] =
+    b"main none\nenvelope \"\" \"\" mailbox \"INBOX\"\nscript personal \"main\" ok\ntotal 0 messages 0 errors\n";
+
+/// The report once it has put its message too.
+pub(super) const MESSAGE_REPORT: &[u8] =
+    b"main none\nenvelope \"\" \"\" mailbox \"INBOX\"\nscript personal \"main\" ok\nmessage \"m1\"\n  implicit \"INBOX\"\ntotal 1 messages 0 errors\n";
+
+/// The report once it has made the script main.
+pub(super) const MAIN_REPORT: &[u8] =
+    b"main personal \"main\"\nenvelope \"\" \"\" mailbox \"INBOX\"\nscript personal \"main\" ok\nmessage \"m1\"\n  discard\n  read personal \"main\"\ntotal 1 messages 0 errors\n";
+
+/// The calls at which a device fails: so many in a row, behind so many at which it works.
+#[derive(Clone, Copy, Debug)]
+pub(super) struct Failures {
+    pub before: u64,
+    pub times: u64,
+}
+
+impl Failures {
+    /// Whether the next call is one of them.
+    pub(super) fn strike(&mut self) -> bool {
+        if self.before > 0 {
+            self.before -= 1;
+            return false;
+        }
+        if self.times > 0 {
+            self.times -= 1;
+            return true;
+        }
+        false
+    }
+}
+
+/// A reader that gives one octet a call.
+#[derive(Clone, Copy, Debug)]
+struct Faltering<'a> {
+    octets: &'a [u8],
+    failures: Failures,
+    kind: ErrorKind,
+}
+
+impl Read for Faltering<'_> {
+    fn read(&mut self, buf: &mut [u8]) -> io::Result<usize> {
+        if self.failures.strike() {
+            return Err(io::Error::from(self.kind));
+        }
+        match (self.octets.split_first(), buf.first_mut()) {
+            (Some((first, rest)), Some(place)) => {
+                *place = *first;
+                self.octets = rest;
+                Ok(1)
+            }
+            _ => Ok(0),
+        }
+    }
+}
+
+/// What must come of a session: its end, what it writes, the report of the bench behind it, and how many reads and faults are counted.
+#[derive(Clone, Copy, Debug)]
+struct Outcome<'a> {
+    end: SessionEnd,
+    text: &'a [u8],
+    report: &'a [u8],
+    calls: u64,
+    faults: u64,
+}
+
+/// Serves what a reader gives on a bench, and compares what comes of it.
+fn check_read_on(
+    rt: &(impl AllocGlobal + Abort),
+    bench: &mut Bench,
+    input: Faltering<'_>,
+    turns: u64,
+    wanted: Outcome<'_>,
+) -> Result<(), Fail> {
+    let Faltering { failures, kind, .. } = input;
+    let mut reader = Counted::new(input);
+    let mut writer = Counted::new(Vec::new(rt.alloc()));
+    let end = session(bench, &mut Meter::new(), &mut reader, &mut writer, turns);
+    let (calls, faults) = (reader.calls(), reader.faults());
+    assert_eq!(rt;
+        (end, calls, faults),
+        (wanted.end, wanted.calls, wanted.faults),
+        "at {failures:?}, {kind:?}"
+    );
+    assert_eq!(rt;
+        writer.into_inner().as_slice(),
+        wanted.text,
+        "at {failures:?}, {kind:?}"
+    );
+    check_report(rt, bench, wanted.report)
+}
+
+/// Serves what a reader gives on a new bench, and compares what comes of it.
+fn check_read(
+    rt: &(impl AllocGlobal + Abort),
+    input: Faltering<'_>,
+    turns: u64,
+    wanted: Outcome<'_>,
+) -> Result<(), Fail> {
+    let mut bench = Bench::new(rt.alloc())?;
+    check_read_on(rt, &mut bench, input, turns, wanted)
+}
+
+/// What the session writes once it has read so many octets, with more to come, and the report of the bench then.
+fn left_by(octets: u64) -> (&'static [u8], &'static [u8]) {
+    match octets {
+        0..=31 => (b"", REPORT),
+        32..=44 => (b"ok\n", SCRIPT_REPORT),
+        45..=63 => (b"ok\nok\n", MESSAGE_REPORT),
+        64..=70 => (b"ok\nok\nok\n", MAIN_REPORT),
+        _ => (REPLIES, MAIN_REPORT),
+    }
+}
+
+/// A run of the session, an octet a read: how many reads go before the failures, how many of these there are, and how many reads may
+/// be made; then how many octets are read, how it ends, and how many reads and faults are counted.
+type Run = (u64, u64, u64, u64, SessionEnd, u64, u64);
+
+/// Runs the session over a reader that fails in this way, and compares.
+fn check_run(
+    rt: &(impl AllocGlobal + Abort),
+    kind: ErrorKind,
+    (before, times, turns, octets, end, calls, faults): Run,
+) -> Result<(), Fail> {
+    let (text, report) = left_by(octets);
+    let input = Faltering {
+        octets: SESSION,
+        failures: Failures { before, times },
+        kind,
+    };
+    let wanted = Outcome {
+        end,
+        text,
+        report,
+        calls,
+        faults,
+    };
+    check_read(rt, input, turns, wanted)
+}
+
+/// A read that fails is the last one, and what came whole before it is answered.
+#[test]
+fn a_read_that_fails_ends_the_session(rt: HostRuntime) -> Result<(), Fail> {
+    for before in 0..72 {
+        let run = (before, 1, TURNS, before, SessionEnd::Read, before + 1, 1);
+        check_run(&rt, ErrorKind::ConnectionReset, run)?;
+        check_run(&rt, ErrorKind::WouldBlock, run)?;
+        check_run(&rt, ErrorKind::UnexpectedEof, run)?;
+    }
+    // There is no read behind that of the end.
+    let run = (72, 1, TURNS, 71, SessionEnd::Done, 72, 0);
+    check_run(&rt, ErrorKind::ConnectionReset, run)
+}
+
+/// A read that is tried again is one more read, and a fault.
+#[test]
+fn reads_run_out_among_interruptions_too(rt: HostRuntime) -> Result<(), Fail> {
+    let runs: [Run; 19] = [
+        (0, 1_000, TURNS, 71, SessionEnd::Done, 1_072, 1_000),
+        (23, 1_000, TURNS, 71, SessionEnd::Done, 1_072, 1_000),
+        (71, 1_000, TURNS, 71, SessionEnd::Done, 1_072, 1_000),
+        (0, 1_001, TURNS, 0, SessionEnd::Read, 1_001, 1_001),
+        (23, 1_001, TURNS, 23, SessionEnd::Read, 1_024, 1_001),
+        (40, 1_001, TURNS, 40, SessionEnd::Read, 1_041, 1_001),
+        (71, 1_001, TURNS, 71, SessionEnd::Read, 1_072, 1_001),
+        (0, 0, 0, 0, SessionEnd::TurnLimit, 0, 0),
+        (0, 0, 31, 31, SessionEnd::TurnLimit, 31, 0),
+        (0, 0, 32, 32, SessionEnd::TurnLimit, 32, 0),
+        (0, 0, 63, 63, SessionEnd::TurnLimit, 63, 0),
+        (0, 0, 64, 64, SessionEnd::TurnLimit, 64, 0),
+        (0, 0, 71, 71, SessionEnd::TurnLimit, 71, 0),
+        (0, 0, 72, 71, SessionEnd::Done, 72, 0),
+        (0, 1_000, 1_000, 0, SessionEnd::TurnLimit, 1_000, 1_000),
+        (0, 1_000, 1_071, 71, SessionEnd::TurnLimit, 1_071, 1_000),
+        (0, 1_000, 1_072, 71, SessionEnd::Done, 1_072, 1_000),
+        (23, 1_001, 123, 23, SessionEnd::TurnLimit, 123, 100),
+        (40, 1_000, 540, 40, SessionEnd::TurnLimit, 540, 500),
+    ];
+    for run in runs {
+        check_run(&rt, ErrorKind::Interrupted, run)?;
+    }
+    Ok(())
+}
+
+/// Serves octets of three commands and a put that is cut: by the end of the input, by too few reads, and by a read that fails.
+fn check_cut(rt: &(impl AllocGlobal + Abort), octets: &[u8]) -> Result<(), Fail> {
+    let len = octets.len() as u64;
+    let ways: [(u64, u64, SessionEnd, &[u8], u64, u64); 3] = [
+        (
+            0,
+            TURNS,
+            SessionEnd::Truncated,
+            b"ok\nok\nok\nno truncated\n",
+            1,
+            0,
+        ),
+        (0, len, SessionEnd::TurnLimit, b"ok\nok\nok\n", 0, 0),
+        (1, TURNS, SessionEnd::Read, b"ok\nok\nok\n", 1, 1),
+    ];
+    for (times, turns, end, text, last, faults) in ways {
+        let input = Faltering {
+            octets,
+            failures: Failures { before: len, times },
+            kind: ErrorKind::UnexpectedEof,
+        };
+        let wanted = Outcome {
+            end,
+            text,
+            report: b"main personal \"a\"\nenvelope \"\" \"\" mailbox \"INBOX\"\nscript personal \"a\" ok\nmessage \"m\"\n  discard\n  read personal \"a\"\ntotal 1 messages 0 errors\n",
+            calls: len.saturating_add(last),
+            faults,
+        };
+        check_read(rt, input, turns, wanted)?;
+    }
+    Ok(())
+}
+
+/// Octets that are kept and octets that are passed over, of scripts and of messages.
+#[test]
+fn a_put_that_is_cut_puts_nothing(rt: HostRuntime) -> Result<(), Fail> {
+    check_cut(
+        &rt,
+        b"script personal a 8\ndiscard;message m 0\nmain personal a\nscript personal a 5\nke",
+    )?;
+    check_cut(
+        &rt,
+        b"script personal a 8\ndiscard;message m 0\nmain personal a\nscript personal a 1048577\nke",
+    )?;
+    check_cut(
+        &rt,
+        b"script personal a 8\ndiscard;message m 0\nmain personal a\nmessage n 5\nab",
+    )?;
+    check_cut(
+        &rt,
+        b"script personal a 8\ndiscard;message m 0\nmain personal a\nmessage n 16777217\nab",
+    )
+}

@@ -1,0 +1,119 @@
+//! An output of which one write fails, and every other goes through.
+
+use super::machine::{Given, Machine, Room, Written};
+use super::program::{SESSION_WORDS, check_kept, status_with, whole};
+use crate::run;
+use std::alloc::Global;
+use std::io::ErrorKind;
+use std::process::Abort;
+use std::test::Fail;
+
+/// What standard error says where the output failed.
+const COMPLAINT: &[u8] = b"sievebench: cannot write\n";
+
+/// The report of a new bench.
+const REPORT: &[u8] =
+    b"main none\nenvelope \"\" \"\" mailbox \"INBOX\"\ntotal 0 messages 0 errors\n";
+
+/// An input, in pieces of so many octets; how many writes go before the one that fails; what is written then, how much by each write,
+/// and how much before each read.
+type Row<'a> = (&'a [u8], usize, usize, &'a [u8], &'a [usize], &'a [usize]);
+
+/// Runs a session of which one write fails, and compares what it writes and when, and its status.
+fn check_failure(
+    rt: &(impl AllocGlobal + Abort),
+    (octets, piece, before, output, writes, before_reads): Row<'_>,
+) -> Result<(), Fail> {
+    let written = Written::new(rt.alloc());
+    let input = Given {
+        octets,
+        piece,
+        fails: false,
+    };
+    let room = Room {
+        octets: 1_000,
+        failure: Some((before, ErrorKind::Other)),
+    };
+    let status = status_with(rt.alloc(), SESSION_WORDS, input, room, &written);
+    assert_eq!(rt; status, 3, "at {octets:?}, {before}");
+    check_kept(rt, &written.output, output)?;
+    check_kept(rt, &written.errors, COMPLAINT)?;
+    check_kept(rt, &written.writes, writes)?;
+    check_kept(rt, &written.before_reads, before_reads)
+}
+
+/// The write that fails is the last one, and nothing is read behind it.
+#[test]
+fn the_first_write_that_fails_ends_the_session(rt: HostRuntime) -> Result<(), Fail> {
+    let lines = b"no-main\nno-main\nno-main\n";
+    let refused = b"no-main\nfrobnicate\n";
+    // Before a read, at the end of the input, and behind the last reply.
+    check_failure(&rt, (lines, 8, 0, b"", &[0], &[0]))?;
+    check_failure(&rt, (lines, 8, 1, b"ok\n", &[3, 0], &[0, 3]))?;
+    check_failure(&rt, (lines, 8, 2, b"ok\nok\n", &[3, 3, 0], &[0, 3, 6]))?;
+    check_failure(&rt, (lines, 100, 0, b"", &[0], &[0]))?;
+    check_failure(&rt, (refused, 100, 0, b"", &[0], &[0]))?;
+    check_failure(&rt, (refused, 8, 1, b"ok\n", &[3, 0], &[0, 3, 3]))
+}
+
+/// A write that is interrupted is tried again.
+#[test]
+fn an_interrupted_write_goes_through(rt: HostRuntime) -> Result<(), Fail> {
+    let written = Written::new(rt.alloc());
+    let room = Room {
+        octets: 1_000,
+        failure: Some((0, ErrorKind::Interrupted)),
+    };
+    let input = whole(b"report\n");
+    let status = status_with(rt.alloc(), SESSION_WORDS, input, room, &written);
+    assert_eq!(rt; status, 0);
+    check_kept(&rt, &written.output, REPORT)?;
+    check_kept(&rt, &written.writes, &[0, 67])
+}
+
+/// More replies than are held, to an output of which the second write fails: those of the first one stay written.
+#[test]
+fn a_write_may_fail_among_the_replies(rt: HostRuntime) -> Result<(), Fail> {
+    let mut octets = Vec::new(rt.alloc());
+    let mut replies = Vec::new(rt.alloc());
+    for _line in 0..2_000 {
+        octets.extend_from_slice(b"report\n")?;
+        replies.extend_from_slice(REPORT)?;
+    }
+    let written = Written::new(rt.alloc());
+    let room = Room {
+        octets: 1_000_000,
+        failure: Some((1, ErrorKind::Other)),
+    };
+    let input = whole(octets.as_slice());
+    let status = status_with(rt.alloc(), SESSION_WORDS, input, room, &written);
+    assert_eq!(rt; (status, written.writes.try_borrow()?.len()), (3, 2));
+    check_kept(&rt, &written.errors, COMPLAINT)?;
+    let output = written.output.try_borrow()?;
+    assert!(rt; replies.as_slice().starts_with(output.as_slice()));
+    Ok(())
+}
+
+/// Dumps a script to an output of which the first write fails: the status.
+fn failing_dump(alloc: Global, written: &Written) -> u8 {
+    run(&Machine {
+        alloc,
+        words: &[b"sievebench", b"dump", b"a.sieve"],
+        input: whole(b""),
+        files: &[("a.sieve", whole(b"discard;"))],
+        room: Room {
+            octets: 1_000,
+            failure: Some((0, ErrorKind::Other)),
+        },
+        written,
+    })
+}
+
+#[test]
+fn a_dump_is_written_once(rt: HostRuntime) -> Result<(), Fail> {
+    let written = Written::new(rt.alloc());
+    assert_eq!(rt; failing_dump(rt.alloc(), &written), 3);
+    check_kept(&rt, &written.output, b"")?;
+    check_kept(&rt, &written.errors, COMPLAINT)?;
+    check_kept(&rt, &written.writes, &[0])
+}
