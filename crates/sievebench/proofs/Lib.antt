@@ -1,4 +1,5 @@
 pub mod Dumping
+pub mod Entries
 pub mod Lines
 pub mod Messages
 pub mod Requests
