@@ -5,4 +5,5 @@ pub mod Messages
 pub mod Requests
 pub mod Serving
 pub mod Sessions
+mod Stales
 pub mod Writing

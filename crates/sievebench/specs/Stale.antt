@@ -1,5 +1,5 @@
 -- Which messages an edit touches: those whose verdict it may change.
-use Rattle.std.specs.Prelude.{ℕ, Bool, true, false, ◌||◌, ◌&&◌, not, List, map, Option, None, Some, is_some, Result, Ok, Err, nat_eq}
+use Rattle.std.specs.Prelude.{ℕ, Bool, false, ◌||◌, ◌&&◌, not, List, Option, None, Some, is_some, Result, Ok, Err, nat_eq}
 use Rattle.std.specs.List.{list_any}
 use lib.Pointwise.{pointwise}
 use Rattle.sieve_run.specs.declared.name.ScriptName.{ScriptName}
