@@ -74,9 +74,13 @@ message_line id = codes "message " ++ quoted id ++ codes "\n"
 abbrev pub message_lines : List ℕ → List ℕ × Verdict → List ℕ
 message_lines mailbox (id, verdict) = message_line id ++ verdict_lines mailbox verdict
 
+-- the verdict on a message
+abbrev pub verdict_by : Option ScriptName → Envelope → List (ScriptName × List ℕ) → List ℕ → Verdict
+verdict_by main envelope scripts bytes = outcome_of (λ name. lookup_of (text_at scripts name)) main envelope bytes
+
 -- each message's id and the verdict on it
 unfoldable pub verdicts : Option ScriptName → Envelope → List (ScriptName × List ℕ) → List (List ℕ × List ℕ) → List (List ℕ × Verdict)
-verdicts main envelope scripts messages = map (λ e. (e.0, outcome_of (λ name. lookup_of (text_at scripts name)) main envelope e.1)) messages
+verdicts main envelope scripts messages = map (λ e. (e.0, verdict_by main envelope scripts e.1)) messages
 
 -- the last line: how many messages there are, and how many of them have an error
 unfoldable pub total_line : ℕ → ℕ → List ℕ

@@ -3,16 +3,15 @@ use Rattle.std.specs.Prelude.{ℕ, Bool, false, ◌||◌, ◌&&◌, not, List, O
 use Rattle.std.specs.List.{list_any}
 use lib.Pointwise.{pointwise}
 use Rattle.sieve_run.specs.declared.name.ScriptName.{ScriptName}
-use Rattle.sieve_run.specs.Library.{lookup_of}
 use Rattle.sieve_run.specs.Name.{name_eq}
-use Rattle.sieve_run.specs.Run.{outcome_of}
 use Rattle.sieve_run.specs.Verdict.{Verdict}
 use Rattle.sievebench.specs.declared.fault.EditFault.{EditFault}
-use Rattle.sievebench.specs.Content.{Content, Edit, put_script, put_message, set_main, rename_script, remove_script, remove_message, clear_main, set_envelope, set_mailbox, after, message_at, text_at}
+use Rattle.sievebench.specs.Content.{Content, Edit, put_script, put_message, set_main, rename_script, remove_script, remove_message, clear_main, set_envelope, set_mailbox, after, message_at}
+use Rattle.sievebench.specs.Report.{verdict_by}
 
--- the verdict on a message
+-- the verdict on a message of a content
 abbrev pub verdict_on : Content → List ℕ → Verdict
-verdict_on content bytes = outcome_of (λ name. lookup_of (text_at content.scripts name)) content.main content.envelope bytes
+verdict_on content bytes = verdict_by content.main content.envelope content.scripts bytes
 
 -- whether the run on a message looks a name up, present or missing
 abbrev pub looks_up : Content → ScriptName → List ℕ → Bool
@@ -47,10 +46,12 @@ removes clear_main id = false
 removes (set_envelope from to) id = false
 removes (set_mailbox mailbox) id = false
 
--- the stale messages after an edit, which was accepted or refused, told by their ids: those that were stale and those that it touches
+-- the stale messages behind an edit that has this meaning, told by their ids: those that were stale and those that it touches, but for the
+-- one that it removes; where it is refused, those that were
 abbrev pub stale_behind : Result Content EditFault → Content → Edit → (List ℕ → Bool) → List ℕ → Bool
 stale_behind (Ok content) old edit stale id = not (removes edit id) && (touches old edit id || stale id)
 stale_behind (Err fault) old edit stale id = stale id
 
+-- the stale messages after an edit; one that memory is refused to changes nothing
 abbrev pub stale_after : Content → Edit → (List ℕ → Bool) → List ℕ → Bool
 stale_after old edit stale id = stale_behind (after old edit) old edit stale id

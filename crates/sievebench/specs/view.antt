@@ -1,4 +1,5 @@
 -- What the program's types stand for in contracts. The other files of specs/ restate the subject.
+pub mod Entry
 pub mod Progress
 pub mod ReportFault
 pub mod Reported

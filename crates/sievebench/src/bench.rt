@@ -5,12 +5,13 @@ ghost use Rattle.sieve_run.specs.Library.{found_at, lookup_of};
 ghost use Rattle.sieve_run.specs.Meter.{runs_after};
 ghost use Rattle.sieve_run.specs.view.Found.{FoundAs};
 ghost use Rattle.sievebench.specs.Report.{report_text};
+ghost use Rattle.sievebench.specs.view.Entry.{messages_of};
 ghost use Rattle.sievebench.specs.view.ReportFault.{MatchReportFault};
 ghost use Rattle.sievebench.specs.Content.{after, Answers, message_at, new_content, Refuses, text_at, without_message};
 ghost use Rattle.sievebench.specs.Content.{put_script, put_message, set_main, rename_script, remove_script, remove_message, clear_main, set_envelope, set_mailbox};
 
 use crate::fault::{EditFault, ReportFault};
-use crate::message::message_of;
+use crate::message::{Entry, message_of};
 use crate::refusal::{
     is_long, refuse_envelope, refuse_mailbox, refuse_main, refuse_message, refuse_remove_script,
     refuse_rename, refuse_script,
@@ -22,7 +23,7 @@ use indexmap::IndexMap;
 use session_text::Word;
 use sieve_base::limits::MAX_ID;
 use sieve_base::{Octets, Sink};
-use sieve_run::{Envelope, Found, Library, Message, Meter, ScriptName};
+use sieve_run::{Envelope, Found, Library, Meter, ScriptName};
 use std::alloc::{AllocError, Global};
 use std::collections::BTreeMap;
 use std::marker::Model;
@@ -35,22 +36,24 @@ pub struct Bench {
     main: Option<ScriptName>,
     envelope: Envelope,
     scripts: Scripts,
-    messages: IndexMap<Octets, Message>,
+    messages: IndexMap<Octets, Entry>,
 }
 
 impl Model for Bench {
     ghost use Rattle.sievebench.specs.Bench.{BenchState};
     ghost use Rattle.sievebench.specs.Content.{Content};
+    ghost use Rattle.sievebench.specs.view.Entry.{messages_of};
 
     ghost Value = { BenchState };
 
-    ghost view = { λ b. record { content = record { main = b.main; envelope = b.envelope; scripts = b.scripts; messages = b.messages.entries } } };
+    ghost view = { λ b. record { content = record { main = b.main; envelope = b.envelope; scripts = b.scripts; messages = messages_of b.messages.entries } } };
 }
 
 /// Where among the messages the one of a word's id is. Takes no memory, since the word isn't copied.
-fn position_of(messages: &IndexMap<Octets, Message>, id: &Word<'_>) -> Option<usize>
-    ensures found { IfSome result (λ index. remove messages.now.entries index ≡ without_message id.now messages.now.entries) }
-    ensures is { is_some result ≡ is_some (message_at messages.now.entries id.now) }
+#[tactic(auto, using(crate::proofs::Entries::entries), unfolding(crate::specs::view::Entry::messages_of))]
+fn position_of(messages: &IndexMap<Octets, Entry>, id: &Word<'_>) -> Option<usize>
+    ensures found { IfSome result (λ index. messages_of (remove messages.now.entries index) ≡ without_message id.now (messages_of messages.now.entries)) }
+    ensures is { is_some result ≡ is_some (message_at (messages_of messages.now.entries) id.now) }
 {
     let mut index = 0;
     for (other, _) in messages {
@@ -93,6 +96,7 @@ impl Bench {
     }
 
     /// Keeps a message's octets at an id, neither of which needs to be copied.
+    #[tactic(auto, using(crate::proofs::Entries::entries))]
     pub(crate) fn keep_message(&mut self, id: Octets, bytes: Octets) -> Result<(), EditFault>
         ensures ok { OnOk result (after self.old.content (put_message id bytes) ≡ Ok self.new.content) }
         ensures err { OnErr result (self.new ≡ self.old) }
@@ -102,13 +106,14 @@ impl Bench {
             return Err(fault);
         }
         let message = message_of(self.alloc, bytes)?;
-        match self.messages.insert(id, message) {
+        match self.messages.insert(id, Entry { message }) {
             Ok(_) => Ok(()),
             Err(_) => Err(EditFault::NoMemory),
         }
     }
 
     /// A bench with no scripts, no messages, no main script, an empty envelope, and the mailbox `INBOX`.
+    #[tactic(auto, unfolding(crate::specs::view::Entry::messages_of))]
     pub fn new(alloc: Global) -> Result<Bench, AllocError>
         ensures { IfOk result (λ bench. bench.content ≡ new_content) }
     {
@@ -208,6 +213,7 @@ impl Bench {
     }
 
     /// Removes the message of an id. Takes no memory.
+    #[tactic(auto, using(crate::proofs::Entries::entries))]
     fn drop_sought(&mut self, sought: Sought<'_>) -> Result<(), EditFault>
         ensures { Makes (remove_message sought.entry.octets.now) result self.old self.new }
     {

@@ -1,15 +1,17 @@
 //! Why an edit is refused, apart from memory.
 ghost use Rattle.std.specs.Prelude.{◌≡◌};
 ghost use Rattle.sievebench.specs.Content.{is_long, script_refusal, message_refusal, main_refusal, rename_refusal, remove_script_refusal, envelope_refusal, mailbox_refusal};
+ghost use Rattle.sievebench.specs.view.Entry.{messages_of};
 
 use crate::fault::EditFault;
+use crate::message::Entry;
 use crate::scripts::Scripts;
 use indexmap::IndexMap;
 use sieve_base::Octets;
 use sieve_base::limits::{
     MAX_ADDRESS, MAX_ID, MAX_MAILBOX, MAX_MESSAGE, MAX_MESSAGES, MAX_NAME, MAX_SCRIPTS, MAX_TEXT,
 };
-use sieve_run::{Message, ScriptName};
+use sieve_run::ScriptName;
 
 /// Whether a script's name is past its limit.
 pub(crate) fn is_long(name: &Octets) -> bool
@@ -32,12 +34,13 @@ pub(crate) fn refuse_script(scripts: &Scripts, name: &ScriptName, text: &[u8]) -
 }
 
 /// Why a message isn't put, apart from memory.
+#[tactic(auto, using(crate::proofs::Entries::entries))]
 pub(crate) fn refuse_message(
-    messages: &IndexMap<Octets, Message>,
+    messages: &IndexMap<Octets, Entry>,
     id: &Octets,
     bytes: &[u8],
 ) -> Option<EditFault>
-    ensures { result ≡ message_refusal messages.now.entries id.now bytes.now }
+    ensures { result ≡ message_refusal (messages_of messages.now.entries) id.now bytes.now }
 {
     if id.as_slice().len() > MAX_ID || bytes.len() > MAX_MESSAGE {
         return Some(EditFault::TooLarge);

@@ -4,8 +4,10 @@ ghost use Rattle.std.specs.Option.{option_copied};
 ghost use Rattle.sieve_base.specs.Writers.{Wrote, WroteFront};
 ghost use Rattle.sievebench.specs.Report.{action_line, read_line, script_line, verdict_lines, message_lines, error_count, total_line, report_with, verdicts};
 ghost use Rattle.sieve_run.specs.Meter.{runs_after};
+ghost use Rattle.sievebench.specs.view.Entry.{messages_of};
 ghost use Rattle.sievebench.specs.view.Reported.{reported_of};
 
+use crate::message::Entry;
 use crate::report_lines::{
     write_action, write_envelope, write_error, write_implicit, write_main, write_message,
     write_read, write_script, write_total,
@@ -13,7 +15,7 @@ use crate::report_lines::{
 use crate::scripts::Scripts;
 use indexmap::IndexMap;
 use sieve_base::{Octets, Sink, WriteFault};
-use sieve_run::{Envelope, Message, Meter, Outcome, ScriptName, run};
+use sieve_run::{Envelope, Meter, Outcome, ScriptName, run};
 use std::alloc::{AllocError, Global};
 
 /// A message's id with the verdict on it.
@@ -24,22 +26,22 @@ pub(crate) struct Reported<'a> {
 }
 
 /// Runs the main script on each message.
-#[tactic(auto, unfolding(crate::specs::Report::verdicts))]
+#[tactic(auto, unfolding(crate::specs::Report::verdicts, crate::specs::view::Entry::messages_of))]
 pub(crate) fn run_all<'a>(
     alloc: Global,
     scripts: &Scripts,
     main: Option<&ScriptName>,
     envelope: &Envelope,
-    messages: &'a IndexMap<Octets, Message>,
+    messages: &'a IndexMap<Octets, Entry>,
     meter: &mut Meter,
 ) -> Result<Vec<Reported<'a>>, AllocError>
     ensures verdicts { IfOk result (λ reported.
-        map reported_of reported.items ≡ verdicts (option_copied main.entry) envelope.now scripts.now messages.now.entries) }
-    ensures meter { OnOk result (meter.new ≡ runs_after (length messages.now.entries) meter.old) }
+        map reported_of reported.items ≡ verdicts (option_copied main.entry) envelope.now scripts.now (messages_of messages.now.entries)) }
+    ensures meter { OnOk result (meter.new ≡ runs_after (length (messages_of messages.now.entries)) meter.old) }
 {
     let mut reported = Vec::new(alloc);
-    for (id, message) in messages {
-        let outcome = run(alloc, scripts, main, envelope, message, meter)?;
+    for (id, entry) in messages {
+        let outcome = run(alloc, scripts, main, envelope, &entry.message, meter)?;
         reported.push(Reported { id, outcome })?;
     }
     Ok(reported)

@@ -5,8 +5,10 @@ use Rattle.sieve_run.specs.Meter.{next_run, runs_after}
 use Rattle.sieve_run.specs.Run.{outcome_of}
 use Rattle.sievebench.specs.Content.{text_at}
 use Rattle.sievebench.specs.Report.{verdicts}
+use Rattle.sievebench.specs.view.Entry.{messages_of}
 use Rattle.sievebench.specs.view.Reported.{reported_of}
 use Rattle.std.proofs.lemmas.List.{map-append}
+use Rattle.sievebench.proofs.Entries.{messages-cons}
 use Rattle.sievebench.proofs.report.run_all.Goals as goal
 
 -- one more of what is left is done
@@ -27,9 +29,10 @@ one_run left rest x before after runs cut counted so_far =
 
 pub loop-id-preserved : goal.loop-id-preserved
 unfolding verdicts
-loop-id-preserved c = (
-  one_more reported_of (λ e. (e.0, outcome_of (λ name. lookup_of (text_at c.args.scripts.now name)) (option_copied c.args.main) c.args.envelope.now e.1))
-      c.loop-id.reported.items c.push.new.self.items c.loop-id.id-iterator c.next.new.self _ (c.in-Some.id.now, c.in-Some.message.now) _
-      c.loop-id.invariant.0 (search rules) (c.in_ok-push.ensures.items) (search rules),
-  one_run c.loop-id.id-iterator c.next.new.self (c.in-Some.id.now, c.in-Some.message.now) c.loop-id.meter _ _ (search rules) c.run.ensures.meter c.loop-id.invariant.1,
-)
+loop-id-preserved c =
+    let left = messages-cons c.loop-id.id-iterator c.in-Some.id.now c.in-Some.entry.now c.next.new.self (search rules) in (
+      one_more reported_of (λ e. (e.0, outcome_of (λ name. lookup_of (text_at c.args.scripts.now name)) (option_copied c.args.main) c.args.envelope.now e.1))
+          c.loop-id.reported.items c.push.new.self.items (messages_of c.loop-id.id-iterator) (messages_of c.next.new.self) _ (c.in-Some.id.now, c.in-Some.entry.now.message) _
+          c.loop-id.invariant.0 left (c.in_ok-push.ensures.items) (search rules),
+      one_run (messages_of c.loop-id.id-iterator) (messages_of c.next.new.self) (c.in-Some.id.now, c.in-Some.entry.now.message) c.loop-id.meter _ _ left c.run.ensures.meter c.loop-id.invariant.1,
+    )

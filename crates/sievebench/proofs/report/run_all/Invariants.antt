@@ -4,12 +4,13 @@ use Rattle.sieve_run.specs.Library.{lookup_of}
 use Rattle.sieve_run.specs.Meter.{runs_after}
 use Rattle.sieve_run.specs.Run.{outcome_of}
 use Rattle.sievebench.specs.Content.{text_at}
+use Rattle.sievebench.specs.view.Entry.{messages_of}
 use Rattle.sievebench.specs.view.Reported.{reported_of}
 use Rattle.sievebench.proofs.report.run_all.Given as goal
 
 -- the verdicts so far, and those on the messages that are left, are those on all, and so it is with the runs
 abbrev pub invariant-loop-id : goal.invariant-loop-id
 invariant-loop-id l =
-    (map reported_of l.reported.items ++ map (λ e. (e.0, outcome_of (λ name. lookup_of (text_at l.scripts name)) (option_copied l.main) l.envelope e.1)) l.id-iterator
-    ≡ map (λ e. (e.0, outcome_of (λ name. lookup_of (text_at l.scripts name)) (option_copied l.main) l.envelope e.1)) l.messages.entries)
-    × (runs_after (length l.id-iterator) l.meter ≡ runs_after (length l.messages.entries) l.fn.meter)
+    (map reported_of l.reported.items ++ map (λ e. (e.0, outcome_of (λ name. lookup_of (text_at l.scripts name)) (option_copied l.main) l.envelope e.1)) (messages_of l.id-iterator)
+    ≡ map (λ e. (e.0, outcome_of (λ name. lookup_of (text_at l.scripts name)) (option_copied l.main) l.envelope e.1)) (messages_of l.messages.entries))
+    × (runs_after (length (messages_of l.id-iterator)) l.meter ≡ runs_after (length (messages_of l.messages.entries)) l.fn.meter)

@@ -4,6 +4,7 @@ use Rattle.sieve_run.specs.declared.name.ScriptName.{ScriptName}
 use Rattle.sieve_run.specs.Verdict.{Verdict}
 use Rattle.sievebench.specs.Content.{Content}
 use Rattle.sievebench.specs.Report.{report_with, report_text, verdicts}
+use Rattle.sievebench.specs.view.Entry.{messages_of}
 use Rattle.sievebench.proofs.bench.Bench.report.Goals as goal
 
 -- the report of a content's main script and verdicts is the report of the content
@@ -15,6 +16,6 @@ whole_report content main judged m j =
 
 pub returns-clause-err : goal.returns-clause-err
 returns-clause-err g c =
-    let content : Content = record { main = c.self.inside.main; envelope = c.self.inside.envelope; scripts = c.self.inside.scripts; messages = c.self.inside.messages.entries } in
+    let content : Content = record { main = c.self.inside.main; envelope = c.self.inside.envelope; scripts = c.self.inside.scripts; messages = messages_of c.self.inside.messages.entries } in
     rw (← c.self.view_is) (subst (λ (text : List ℕ). WroteFront g.W.Sink.contents g.W.Faults.fault_count c.args.writer.now c.write_report.new.writer text)
     (whole_report content _ _ c.as_ref-main.ensures.value (rw c.deref.ensures.value c.in-Ok.ensures.verdicts)) c.in-Err.ensures.err)
