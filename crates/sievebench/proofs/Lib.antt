@@ -1,4 +1,5 @@
 pub mod Dumping
+pub mod Endings
 pub mod Entries
 pub mod Lines
 pub mod Messages
@@ -6,5 +7,5 @@ pub mod Requests
 pub mod Serving
 pub mod SessionRows
 pub mod Sessions
-mod Stales
+pub mod Stales
 pub mod Writing

@@ -150,6 +150,10 @@ pub record CutSession (old : BenchState) (stream : List ℕ) (text : List ℕ) (
   pub cut : front ++ back ≡ reply
   pub whole : text ≡ replies ++ front
 
+-- a front of the text of some session over a stream
+abbrev pub IsFront : BenchState → List ℕ → List ℕ → Type 0
+IsFront old stream text = (back : List ℕ) × (end : SessionEnd) × (new : BenchState) × SessionText old stream (text ++ back) end new
+
 -- OVER DEVICES
 
 -- The whole session is carried out, and its text written, where the reader tells which octets it has.

@@ -5,6 +5,7 @@
 mod bench;
 mod dump;
 mod fault;
+pub mod laws;
 mod message;
 mod refusal;
 mod report;

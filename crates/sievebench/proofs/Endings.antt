@@ -1,0 +1,170 @@
+-- Each session comes to an end.
+use Rattle.std.proofs.Common.{◌≡◌, ℕ, ◌<◌, ◌≤◌, zero, suc, List, [], ◌∷◌, ◌++◌, length, take, drop, length-drop, append_assoc, append-nil, sym, ap, ◌∙◌, refl, arith, inl, inr, Bool, true, false, eqb, cond, nat_lt, codes, Option, None, Some, Result, Ok, Err}
+use Rattle.std.specs.Option.{option_map}
+use Rattle.session_text.specs.SessionLine as line
+use Rattle.session_text.specs.SessionLine.{cut_line, first_line, in_front, line_from, without_cr, command_of_line}
+use Rattle.sieve_base.specs.Limits.{line_limit}
+use Rattle.sievebench.specs.Bench.{BenchState}
+use Rattle.sievebench.specs.Content.{Content, Edit, after, put_message, put_script}
+use Rattle.sievebench.specs.Dump.{dump_of}
+use Rattle.sievebench.specs.Report.{report_text}
+use Rattle.sievebench.specs.Session.{CutSession, Ends, IsFront, Replies, Request, SessionText, Step, Steps, none_yet, one_more, over, unreadable, truncated, idle, edits, reports, dumps, refusal_line, request_at, request_by, request_of, takes_memory, with_octets}
+use Rattle.sievebench.specs.declared.fault.EditFault.{EditFault}
+use Rattle.sievebench.specs.declared.status.SessionEnd.{SessionEnd}
+use Rattle.sievebench.specs.declared.status.SessionEnd.TheVariants as ends
+
+-- WHAT FOLLOWS A COMMAND IS SHORTER
+
+-- what is left behind what is asked for has fewer octets
+abbrev LeavesFewer : ℕ → Request → Type 0
+LeavesFewer n over = Unit {0}
+LeavesFewer n unreadable = Unit {0}
+LeavesFewer n truncated = Unit {0}
+LeavesFewer n (idle rest) = length rest < n
+LeavesFewer n (edits edit rest) = length rest < n
+LeavesFewer n (reports rest) = length rest < n
+LeavesFewer n (dumps name rest) = length rest < n
+
+put_fewer : (n count : ℕ) (rest : List ℕ) (edit : List ℕ → Edit) → length rest < n → LeavesFewer n (with_octets count rest edit)
+put_fewer n count rest edit less = by_room (nat_lt (length rest) count)
+  where
+    by_room : (b : Bool) → LeavesFewer n (cond b truncated (edits (edit (take count rest)) (drop count rest)))
+    by_room true = tt
+    by_room false = omega (arith, length-drop count rest, less)
+
+command_fewer : (n : ℕ) (command : Option line.Command) (rest : List ℕ) → length rest < n → LeavesFewer n (request_by command rest)
+command_fewer n None rest less = tt
+command_fewer n (Some line.nothing) rest less = less
+command_fewer n (Some (line.script place name count)) rest less = put_fewer n count rest (put_script (record { place = place; name = name })) less
+command_fewer n (Some (line.message id count)) rest less = put_fewer n count rest (put_message id) less
+command_fewer n (Some (line.main place name)) rest less = less
+command_fewer n (Some line.no_main) rest less = less
+command_fewer n (Some (line.rename place name new_place new_name)) rest less = less
+command_fewer n (Some (line.drop_script place name)) rest less = less
+command_fewer n (Some (line.drop_message id)) rest less = less
+command_fewer n (Some (line.envelope from to)) rest less = less
+command_fewer n (Some (line.mailbox box)) rest less = less
+command_fewer n (Some line.report) rest less = less
+command_fewer n (Some (line.dump place name)) rest less = less
+
+-- what follows the first LF
+abbrev CutsFewer : ℕ → Option (List ℕ × List ℕ) → Type 0
+CutsFewer n None = Unit {0}
+CutsFewer n (Some cut) = length cut.1 < n
+
+later_fewer : (n b : ℕ) (cut : Option (List ℕ × List ℕ)) → CutsFewer n cut → CutsFewer (suc n) (option_map (in_front b) cut)
+later_fewer n b None less = tt
+later_fewer n b (Some cut) less = omega (arith, less)
+
+cut_fewer : (bs : List ℕ) → CutsFewer (length bs) (cut_line bs)
+cut_fewer [] = tt
+cut_fewer (b ∷ bs) = by_octet (cut_fewer bs) (eqb b 10)
+  where
+    by_octet : CutsFewer (length bs) (cut_line bs) → (v : Bool) → CutsFewer (suc (length bs)) (cond v (Some ([], bs)) (option_map (in_front b) (cut_line bs)))
+    by_octet later true = omega arith
+    by_octet later false = later_fewer (length bs) b (cut_line bs) later
+
+at_fewer : (n : ℕ) (front rest : List ℕ) → length rest < n → LeavesFewer n (request_at (front, rest))
+at_fewer n front rest less = by_limit (nat_lt line_limit (length front))
+  where
+    by_limit : (v : Bool) → LeavesFewer n (cond v unreadable (request_by (command_of_line front) rest))
+    by_limit true = tt
+    by_limit false = command_fewer n (command_of_line front) rest less
+
+stream_fewer : (b : ℕ) (bs : List ℕ) → LeavesFewer (length (b ∷ bs)) (request_of (b ∷ bs))
+unfolding request_of first_line
+stream_fewer b bs = by_cut (cut_line (b ∷ bs)) (cut_fewer (b ∷ bs))
+  where
+    by_cut : (cut : Option (List ℕ × List ℕ)) → CutsFewer (length (b ∷ bs)) cut → LeavesFewer (length (b ∷ bs)) (request_at (line_from (b ∷ bs) cut))
+    by_cut None less = at_fewer (length (b ∷ bs)) (b ∷ bs) [] (omega arith)
+    by_cut (Some cut) less = at_fewer (length (b ∷ bs)) (without_cr cut.0) cut.1 less
+
+-- EACH COMMAND HAS A REPLY, AND EACH STREAM AN END
+
+edit_replies : (takes : Bool) (meaning : Result Content EditFault) (old : BenchState) → (reply : List ℕ) × (new : BenchState) × Replies takes meaning old reply new
+edit_replies takes (Ok content) old = (codes "ok\n", record old { content = content }, inl (refl, refl))
+edit_replies takes (Err fault) old = (refusal_line fault, old, (inl refl, refl))
+
+-- some commands, and then others
+steps_both : (request : List ℕ → Request) (a b : BenchState) (s t xs : List ℕ) → Steps request a s xs b t → (c : BenchState) (u ys : List ℕ) → Steps request b t ys c u → Steps request a s (xs ++ ys) c u
+steps_both request a b s t xs first c u ys none_yet = rw append-nil first
+steps_both request a b s t xs first c u ys (one_more replies reply mid new rest left before step) =
+    rw (← append_assoc xs replies reply) (one_more (xs ++ replies) reply mid new rest left (steps_both request a b s t xs first mid rest replies before) step)
+
+-- a session comes to an end
+abbrev ComesToEnd : BenchState → List ℕ → Type 0
+ComesToEnd old stream = (text : List ℕ) × (end : SessionEnd) × (new : BenchState) × SessionText old stream text end new
+
+ends_here : (old : BenchState) (stream reply : List ℕ) (end : SessionEnd) → Ends (request_of stream) end reply → ComesToEnd old stream
+ends_here old stream reply end is = (reply, end, old, record { replies = []; last = reply; rest = stream; steps = none_yet; ends = is; whole = refl })
+
+goes_on : (old mid : BenchState) (stream reply left : List ℕ) → Step old (request_of stream) reply mid left → ComesToEnd mid left → ComesToEnd old stream
+goes_on old mid stream reply left step ended =
+    let session = ended.3 in (
+      reply ++ ended.0,
+      ended.1,
+      ended.2,
+      record {
+        replies = reply ++ session.replies;
+        last = session.last;
+        rest = session.rest;
+        steps = steps_both request_of old mid stream left reply (one_more [] reply old mid stream left none_yet step) ended.2 session.rest session.replies session.steps;
+        ends = session.ends;
+        whole = ap (λ l. reply ++ l) session.whole ∙ sym (append_assoc reply session.replies session.last);
+      },
+    )
+
+by_request : (n : ℕ) (old : BenchState) (stream : List ℕ) (request : Request) → ((new : BenchState) (rest : List ℕ) → length rest ≤ n → ComesToEnd new rest) → length stream ≤ suc n → LeavesFewer (length stream) request → request_of stream ≡ request → ComesToEnd old stream
+by_request n old stream over go few less is = ends_here old stream [] ends.Done (rw is (refl, refl))
+by_request n old stream unreadable go few less is = ends_here old stream (codes "no syntax\n") ends.Syntax (rw is (refl, refl))
+by_request n old stream truncated go few less is = ends_here old stream (codes "no truncated\n") ends.Truncated (rw is (refl, refl))
+by_request n old stream (idle rest) go few less is = goes_on old old stream [] rest (rw is (refl, refl, refl)) (go old rest (omega (arith, few, less)))
+by_request n old stream (edits edit rest) go few less is =
+    let said = edit_replies (takes_memory edit) (after old.content edit) old in
+    goes_on old said.1 stream said.0 rest (rw is (said.2, refl)) (go said.1 rest (omega (arith, few, less)))
+by_request n old stream (reports rest) go few less is = goes_on old old stream (report_text old.content) rest (rw is (inl refl, refl, refl)) (go old rest (omega (arith, few, less)))
+by_request n old stream (dumps name rest) go few less is = goes_on old old stream (dump_of old.content name) rest (rw is (inl refl, refl, refl)) (go old rest (omega (arith, few, less)))
+
+comes_to_end : (n : ℕ) (old : BenchState) (stream : List ℕ) → length stream ≤ n → ComesToEnd old stream
+unfolding request_of
+comes_to_end n old [] few = ends_here old [] [] ends.Done (refl, refl)
+comes_to_end zero old (b ∷ bs) few = absurd (omega (arith, few))
+comes_to_end (suc n) old (b ∷ bs) few = by_request n old (b ∷ bs) (request_of (b ∷ bs)) (λ new rest less. comes_to_end n new rest less) few (stream_fewer b bs) refl
+
+joined : (r f b y x t : List ℕ) → f ++ b ≡ y → (r ++ f) ++ (b ++ (x ++ t)) ≡ ((r ++ y) ++ x) ++ t
+joined r f b y x t is = rw (← is) (simp append_assoc)
+
+-- what is written of a session whose last reply is cut
+pub cut_is_front : (old new : BenchState) (stream text : List ℕ) → CutSession old stream text new → IsFront old stream text
+cut_is_front old new stream text cut = elim cut.answered [ inl on ↦ later on.0 on.1 (comes_to_end (length on.0) new on.0 (omega arith)) | inr last ↦ here last.0 last.1 ]
+  where
+    later : (left : List ℕ) → Step cut.mid (request_of cut.rest) cut.reply new left → ComesToEnd new left → IsFront old stream text
+    later left step ended =
+        let session = ended.3 in (
+          cut.back ++ (session.replies ++ session.last),
+          ended.1,
+          ended.2,
+          record {
+            replies = (cut.replies ++ cut.reply) ++ session.replies;
+            last = session.last;
+            rest = session.rest;
+            steps = steps_both request_of old new stream left (cut.replies ++ cut.reply) (one_more cut.replies cut.reply cut.mid new cut.rest left cut.steps step) ended.2 session.rest session.replies session.steps;
+            ends = session.ends;
+            whole = ap (λ l. l ++ (cut.back ++ (session.replies ++ session.last))) cut.whole ∙ joined cut.replies cut.front cut.back cut.reply session.replies session.last cut.cut;
+          },
+        )
+
+    here : (end : SessionEnd) → Ends (request_of cut.rest) end cut.reply → IsFront old stream text
+    here end is = (
+      cut.back,
+      end,
+      cut.mid,
+      record {
+        replies = cut.replies;
+        last = cut.reply;
+        rest = cut.rest;
+        steps = cut.steps;
+        ends = is;
+        whole = ap (λ l. l ++ cut.back) cut.whole ∙ append_assoc cut.replies cut.front cut.back ∙ ap (λ l. cut.replies ++ l) cut.cut;
+      },
+    )
