@@ -94,13 +94,13 @@ fn a_write_may_fail_among_the_replies(rt: HostRuntime) -> Result<(), Fail> {
     Ok(())
 }
 
-/// Dumps a script to an output of which the first write fails: the status.
-fn failing_dump(alloc: Global, written: &Written) -> u8 {
+/// Dumps the script of a file to an output of which the first write fails: the status.
+fn failing_dump(alloc: Global, files: &[(&str, Given<'_>)], written: &Written) -> u8 {
     run(&Machine {
         alloc,
         words: &[b"sievebench", b"dump", b"a.sieve"],
         input: whole(b""),
-        files: &[("a.sieve", whole(b"discard;"))],
+        files,
         room: Room {
             octets: 1_000,
             failure: Some((0, ErrorKind::Other)),
@@ -112,7 +112,8 @@ fn failing_dump(alloc: Global, written: &Written) -> u8 {
 #[test]
 fn a_dump_is_written_once(rt: HostRuntime) -> Result<(), Fail> {
     let written = Written::new(rt.alloc());
-    assert_eq!(rt; failing_dump(rt.alloc(), &written), 3);
+    let status = failing_dump(rt.alloc(), &[("a.sieve", whole(b"discard;"))], &written);
+    assert_eq!(rt; status, 3);
     check_kept(&rt, &written.output, b"")?;
     check_kept(&rt, &written.errors, COMPLAINT)?;
     check_kept(&rt, &written.writes, &[0])
