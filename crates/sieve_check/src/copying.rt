@@ -15,7 +15,7 @@ use crate::context::Context;
 use crate::label::Shaped;
 use crate::role::role_of;
 use crate::shape::row_expected;
-use crate::tree::{Argument, Command, Part, Test, Tests, Text};
+use crate::tree::{Argument, Command, Part, Parts, Test, Tests, Text};
 use sieve_syntax::SmallOctets;
 use sieve_table::{Role, Row, command_named, test_named};
 use std::alloc::{AllocError, Global};
@@ -26,12 +26,11 @@ fn parts_of(
     context: Context,
     role: Option<Role>,
     octets: &[u8],
-) -> Result<Vec<Part>, AllocError>
+) -> Result<Parts, AllocError>
     ensures { IfOk result (λ parts. map part_of parts.items ≡ parts_of (context_as context) role octets.now) }
 {
-    let mut parts = Vec::with_capacity(alloc, 1)?;
-    parts.push(Part::Literal(SmallOctets::from_slice(alloc, octets)?))?;
-    Ok(parts)
+    let literal = Part::Literal(SmallOctets::from_slice(alloc, octets)?);
+    Ok(Parts::from_buf(alloc, [literal]))
 }
 
 /// A string in parts.

@@ -23,5 +23,5 @@ pub use judged::{FaultKind, JudgeFault, Judged, judge};
 pub use reading::{Ask, CommandReading, Leaf, MatchType, TestReading};
 pub use sieve_syntax::SmallOctets;
 pub use sieve_table::{CommandKind, Rule, TestKind};
-pub use tree::{Argument, Command, Part, Test, Tests, Text};
+pub use tree::{Argument, Command, Part, Parts, Test, Tests, Text};
 pub use validator::{CheckFault, check};

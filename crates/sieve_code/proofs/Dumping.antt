@@ -3,8 +3,7 @@ use Rattle.std.proofs.Common.{◌≡◌, ℕ, ◌-◌, ◌<◌, ◌≤◌, Optio
 use Rattle.std.specs.List.{flat_map}
 use Rattle.std.proofs.lemmas.List.{take_rest}
 use Rattle.sieve_base.specs.Writers.{Wrote, WroteFront}
-use Rattle.std.specs.declared.alloc.Global.{Global}
-use Rattle.std.specs.declared.vec.Vec.{Vec}
+use Rattle.smallvec.specs.SmallVec.{SmallVec}
 use Rattle.match_text.specs.declared.comparators.Collation.{Collation}
 use Rattle.sieve_check.specs.Reading.{header_ask}
 use Rattle.sieve_check.specs.Tree as tree
@@ -19,7 +18,7 @@ pub marked_part_at : (parts : List Part) (i : ℕ) (part : Part) → part ≡ ge
 unfolding marked_part
 marked_part_at parts i part is = ap (λ p. codes "+" ++ part_text (part_of p)) is
 
-pub marked_string_at : (strings : List (Vec Part Global)) (i : ℕ) (string : Vec Part Global) (parts : List Part) → parts ≡ string.items → string ≡ get_or strings i string → codes ", " ++ string_text (map part_of parts) ≡ marked_string (get_or strings i string)
+pub marked_string_at : (strings : List (SmallVec Part)) (i : ℕ) (string : SmallVec Part) (parts : List Part) → parts ≡ string.items → string ≡ get_or strings i string → codes ", " ++ string_text (map part_of parts) ≡ marked_string (get_or strings i string)
 unfolding marked_string
 marked_string_at strings i string parts same is =
     ap (λ ps. codes ", " ++ string_text (map part_of ps)) same ∙ ap (λ s. codes ", " ++ string_text (parts_of s)) is
@@ -29,7 +28,7 @@ unfolding marked_part
 parts_marked [] = refl
 parts_marked (p ∷ ps) = ap (λ t. (codes "+" ++ part_text (part_of p)) ++ t) (parts_marked ps)
 
-strings_marked : (strings : List (Vec Part Global)) → flat_map (λ s. codes ", " ++ string_text s) (strings_of strings) ≡ flat_map marked_string strings
+strings_marked : (strings : List (SmallVec Part)) → flat_map (λ s. codes ", " ++ string_text s) (strings_of strings) ≡ flat_map marked_string strings
 unfolding marked_string
 strings_marked [] = refl
 strings_marked (s ∷ ss) = ap (λ t. (codes ", " ++ string_text (parts_of s)) ++ t) (strings_marked ss)
@@ -47,11 +46,11 @@ string_some [] part some is = absurd (omega (arith, some))
 string_some (p ∷ ps) part some is =
     ap (λ x. part_text (part_of x) ++ flat_map marked_part ps) is ∙ ap (λ t. part_text (part_of p) ++ t) (sym (parts_marked ps))
 
-pub strings_none : (strings : List (Vec Part Global)) → length strings ≤ 0 → [] ≡ separated (codes ", ") string_text (strings_of strings)
+pub strings_none : (strings : List (SmallVec Part)) → length strings ≤ 0 → [] ≡ separated (codes ", ") string_text (strings_of strings)
 strings_none [] none = refl
 strings_none (s ∷ ss) none = absurd (omega (arith, none))
 
-pub strings_some : (strings : List (Vec Part Global)) (string : Vec Part Global) (parts : List Part) → 0 < length strings → parts ≡ string.items → string ≡ get_or strings 0 string → string_text (map part_of parts) ++ flat_map marked_string (drop 1 strings) ≡ separated (codes ", ") string_text (strings_of strings)
+pub strings_some : (strings : List (SmallVec Part)) (string : SmallVec Part) (parts : List Part) → 0 < length strings → parts ≡ string.items → string ≡ get_or strings 0 string → string_text (map part_of parts) ++ flat_map marked_string (drop 1 strings) ≡ separated (codes ", ") string_text (strings_of strings)
 strings_some [] string parts some same is = absurd (omega (arith, some))
 strings_some (s ∷ ss) string parts some same is =
     ap (λ ps. string_text (map part_of ps) ++ flat_map marked_string ss) same
@@ -77,7 +76,7 @@ string_front front parts part some is =
     ∙ ap (λ ps. front ++ (part_text (part_of part) ++ flat_map marked_part ps)) (take_rest parts 1)
     ∙ ap (λ t. front ++ t) (string_some parts part some is)
 
-pub strings_front : (front : List ℕ) (strings : List (Vec Part Global)) (string : Vec Part Global) (parts : List Part) → 0 < length strings → parts ≡ string.items → string ≡ get_or strings 0 string → (front ++ string_text (map part_of parts)) ++ flat_map marked_string (others_of strings) ≡ front ++ separated (codes ", ") string_text (strings_of strings)
+pub strings_front : (front : List ℕ) (strings : List (SmallVec Part)) (string : SmallVec Part) (parts : List Part) → 0 < length strings → parts ≡ string.items → string ≡ get_or strings 0 string → (front ++ string_text (map part_of parts)) ++ flat_map marked_string (others_of strings) ≡ front ++ separated (codes ", ") string_text (strings_of strings)
 strings_front front strings string parts some same is =
     append_assoc front (string_text (map part_of parts)) (flat_map marked_string (others_of strings))
     ∙ ap (λ ss. front ++ (string_text (map part_of parts) ++ flat_map marked_string ss)) (take_rest strings 1)

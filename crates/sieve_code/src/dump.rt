@@ -11,7 +11,7 @@ ghost use Rattle.sieve_code.specs.view.Op.{op_as, strings_of};
 use crate::op::Op;
 use match_text::Collation;
 use sieve_base::{Piece, Sink, WriteFault, write_out, write_pieces};
-use sieve_check::{MatchType, Part};
+use sieve_check::{MatchType, Part, Parts};
 
 /// The word of a match type.
 fn match_word(match_type: MatchType) -> &'static [u8]
@@ -72,7 +72,7 @@ fn write_string<W: Sink>(front: &[u8], parts: &[Part], writer: &mut W) -> Result
 
 /// Writes strings behind another.
 #[tactic(auto, using(sieve_base::proofs::Writing::writing_items), unfolding(crate::specs::view::Marked::marked_string))]
-fn write_marked_strings<W: Sink>(strings: &[Vec<Part>], writer: &mut W) -> Result<(), WriteFault>
+fn write_marked_strings<W: Sink>(strings: &[Parts], writer: &mut W) -> Result<(), WriteFault>
     ensures ok { OnOk result (Wrote W.contents W.fault_count writer.old writer.new (flat_map marked_string strings.now)) }
     ensures err { OnErr result (WroteFront W.contents W.fault_count writer.old writer.new (flat_map marked_string strings.now)) }
 {
@@ -84,11 +84,7 @@ fn write_marked_strings<W: Sink>(strings: &[Vec<Part>], writer: &mut W) -> Resul
 
 /// Writes these octets and then strings with commas between them.
 #[tactic(auto, using(sieve_base::proofs::Writing::writing))]
-fn write_strings<W: Sink>(
-    front: &[u8],
-    strings: &[Vec<Part>],
-    writer: &mut W,
-) -> Result<(), WriteFault>
+fn write_strings<W: Sink>(front: &[u8], strings: &[Parts], writer: &mut W) -> Result<(), WriteFault>
     ensures ok { OnOk result (Wrote W.contents W.fault_count writer.old writer.new (front.now ++ separated (codes ", ") string_text (strings_of strings.now))) }
     ensures err { OnErr result (WroteFront W.contents W.fault_count writer.old writer.new (front.now ++ separated (codes ", ") string_text (strings_of strings.now))) }
 {
@@ -103,11 +99,7 @@ fn write_strings<W: Sink>(
 
 /// Writes these octets and then strings in brackets.
 #[tactic(auto, using(sieve_base::proofs::Writing::writing))]
-fn write_list<W: Sink>(
-    front: &[u8],
-    strings: &[Vec<Part>],
-    writer: &mut W,
-) -> Result<(), WriteFault>
+fn write_list<W: Sink>(front: &[u8], strings: &[Parts], writer: &mut W) -> Result<(), WriteFault>
     ensures ok { OnOk result (Wrote W.contents W.fault_count writer.old writer.new (front.now ++ list_text (strings_of strings.now))) }
     ensures err { OnErr result (WroteFront W.contents W.fault_count writer.old writer.new (front.now ++ list_text (strings_of strings.now))) }
 {
@@ -142,8 +134,8 @@ fn write_header_words<W: Sink>(
 fn write_header<W: Sink>(
     match_type: MatchType,
     collation: Collation,
-    names: &[Vec<Part>],
-    keys: &[Vec<Part>],
+    names: &[Parts],
+    keys: &[Parts],
     writer: &mut W,
 ) -> Result<(), WriteFault>
     ensures ok { OnOk result (Wrote W.contents W.fault_count writer.old writer.new (ask_text (header_ask match_type collation (strings_of names.now) (strings_of keys.now)))) }

@@ -1,7 +1,7 @@
 //! The operations of code.
 
 use match_text::Collation;
-use sieve_check::{MatchType, Part};
+use sieve_check::{MatchType, Parts};
 
 /// An operation. Code has one truth register, which tests set. A string is its parts in order.
 #[derive(Debug, Drop)]
@@ -19,14 +19,14 @@ pub enum Op {
         /// Which octets are equal.
         collation: Collation,
         /// The names of fields.
-        names: Vec<Vec<Part>>,
+        names: Vec<Parts>,
         /// The keys.
-        keys: Vec<Vec<Part>>,
+        keys: Vec<Parts>,
     },
     /// Whether all named fields are there (RFC 5228, section 5.5).
     Exists {
         /// The names of fields.
-        names: Vec<Vec<Part>>,
+        names: Vec<Parts>,
     },
     /// Whether the message has more octets (RFC 5228, section 5.9).
     SizeOver(u64),

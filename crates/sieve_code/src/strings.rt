@@ -6,7 +6,7 @@ ghost use Rattle.sieve_code.specs.Operation.{asks, acts};
 ghost use Rattle.sieve_code.specs.view.Op.{op_as, parts_of, strings_of};
 
 use crate::op::Op;
-use sieve_check::{Ask, Leaf, Part, SmallOctets, Text};
+use sieve_check::{Ask, Leaf, Part, Parts, SmallOctets, Text};
 use std::alloc::{AllocError, Global};
 
 /// A copy of a part.
@@ -19,23 +19,23 @@ fn copied_part(alloc: Global, part: &Part) -> Result<Part, AllocError>
 }
 
 /// Copies of the parts of a string.
-fn copied_parts(alloc: Global, text: &Text) -> Result<Vec<Part>, AllocError>
-    ensures { IfOk result (λ copies. parts_of copies ≡ (text_of text.now).parts) }
+fn copied_parts(alloc: Global, parts: &[Part]) -> Result<Parts, AllocError>
+    ensures { IfOk result (λ copies. parts_of copies ≡ map part_of parts.now) }
 {
-    let mut copies = Vec::with_capacity(alloc, text.parts.len())?;
-    for part in &text.parts {
+    let mut copies = Parts::with_capacity(alloc, parts.len())?;
+    for part in parts {
         copies.push(copied_part(alloc, part)?)?;
     }
     Ok(copies)
 }
 
 /// Copies of the parts of strings.
-fn copied_strings(alloc: Global, texts: &[Text]) -> Result<Vec<Vec<Part>>, AllocError>
+fn copied_strings(alloc: Global, texts: &[Text]) -> Result<Vec<Parts>, AllocError>
     ensures { IfOk result (λ copies. strings_of copies.items ≡ texts_as texts.now) }
 {
     let mut copies = Vec::with_capacity(alloc, texts.len())?;
     for text in texts {
-        copies.push(copied_parts(alloc, text)?)?;
+        copies.push(copied_parts(alloc, &text.parts)?)?;
     }
     Ok(copies)
 }

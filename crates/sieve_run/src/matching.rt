@@ -11,7 +11,7 @@ ghost use Rattle.sieve_run.specs.Matching.{fold_of, has_field, header_pairs, is_
 
 use match_text::{AsciiCasemap, Collation, Octet, contains, contains_in, is};
 use message_text::Message;
-use sieve_check::{MatchType, Part};
+use sieve_check::{MatchType, Part, Parts};
 use std::alloc::{AllocError, Global};
 use std::borrow::CowSlice;
 
@@ -161,7 +161,7 @@ fn expanded_string(alloc: Global, parts: &[Part]) -> Result<CowSlice<'_, u8>, Al
 }
 
 /// The octets that each string stands for.
-fn expanded(alloc: Global, strings: &[Vec<Part>]) -> Result<Vec<CowSlice<'_, u8>>, AllocError>
+fn expanded(alloc: Global, strings: &[Parts]) -> Result<Vec<CowSlice<'_, u8>>, AllocError>
     ensures { IfOk result (λ values. octets_of_each values.items ≡ map text_value (strings_of strings.now)) }
 {
     let mut values = Vec::new(alloc);
@@ -178,8 +178,8 @@ pub(crate) fn header_holds(
     message: &Message,
     match_type: MatchType,
     collation: Collation,
-    names: &[Vec<Part>],
-    keys: &[Vec<Part>],
+    names: &[Parts],
+    keys: &[Parts],
 ) -> Result<bool, AllocError>
     ensures { IfOk result (λ truth. truth ≡ truth_of message.now (header_ask match_type collation (strings_of names.now) (strings_of keys.now))) }
 {
@@ -195,11 +195,7 @@ pub(crate) fn header_holds(
 
 /// Whether all named fields are there.
 #[tactic(auto, unfolding(crate::specs::Matching::truth_of))]
-pub(crate) fn exists(
-    alloc: Global,
-    message: &Message,
-    names: &[Vec<Part>],
-) -> Result<bool, AllocError>
+pub(crate) fn exists(alloc: Global, message: &Message, names: &[Parts]) -> Result<bool, AllocError>
     ensures { IfOk result (λ truth. truth ≡ truth_of message.now (exists_ask (strings_of names.now))) }
 {
     let names = expanded(alloc, names)?;

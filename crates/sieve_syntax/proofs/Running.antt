@@ -13,6 +13,7 @@ use Rattle.sieve_syntax.specs.declared.cursor.Cursor.{Cursor}
 use Rattle.sieve_syntax.specs.declared.parser.SyntaxFault.{SyntaxFault}
 use Rattle.sieve_syntax.specs.declared.parser.SyntaxFault.TheVariants.{Syntax, TooLarge, NoMemory}
 use Rattle.sieve_syntax.specs.declared.token.Token.{Token}
+use Rattle.sieve_syntax.specs.declared.reader.Outer as outers
 use Rattle.sieve_syntax.specs.declared.tree.Script as scripts
 use Rattle.sieve_syntax.proofs.Spelling.{tokens_of_spell, some_tokens, unique}
 
@@ -41,12 +42,12 @@ pub next_means : (text : List ℕ) (s next : State) (place : ℕ) (token : Token
 next_means text s next place token behind is e so more h = sym (read-next text s next token more e) ∙ so (token ∷ more) (is.goes more h)
 
 -- a token that isn't taken is the fault
-pub stop_means : (text : List ℕ) (s : State) (place : ℕ) (token : Token) (behind : Cursor) (fault : SyntaxFault) → IsNext text place token behind → Goes (Err fault) (step test_depth block_room s (word_of text token)) token.line → Means text s place → Parses (Err fault) (syntax_of text)
-stop_means text s place token behind (Syntax line) is h so =
+pub stop_means : (text : List ℕ) (s : State) (place : ℕ) (token : Token) (behind : Cursor) (fault : SyntaxFault) (o : outers.Outer) → IsNext text place token behind → Goes o (Err fault) (step test_depth block_room s (word_of text token)) token.line → Means text s place → Parses (Err fault) (syntax_of text)
+stop_means text s place token behind (Syntax line) o is h so =
     let more = some_tokens text behind.place is.is.within in
     sym (so (token ∷ more.0) (is.goes more.0 more.1)) ∙ read-stop text s token more.0 h.0 ∙ ap (λ n. Err n) (sym h.1)
-stop_means text s place token behind TooLarge is h so = absurd h
-stop_means text s place token behind NoMemory is h so = tt
+stop_means text s place token behind TooLarge o is h so = absurd h
+stop_means text s place token behind NoMemory o is h so = tt
 
 -- the end
 pub end_means : (text : List ℕ) (s : State) (place : ℕ) (r : Result scripts.Script SyntaxFault) → SpellsFrom text place [] → Means text s place → Finishes r (whole s) (line_at text (length text)) → Parses r (syntax_of text)

@@ -73,31 +73,39 @@ fn read_script(alloc: Global, text: &[u8]) -> Result<Script, SyntaxFault>
     ensures small { IsErrOf result SyntaxFault.TooLarge → ⊥ }
     ensures exact { Parses result (syntax_of text.now) }
 {
-    let mut state = State::Between(Outer {
+    let mut outer = Outer {
         blocks: Vec::new(alloc),
         done: Vec::new(alloc),
-    });
+        levels: Vec::new(alloc),
+    };
+    let mut state = State::Between;
     let mut cursor = Cursor {
         place: 0,
         line_feeds: 0,
     };
     while let Some((token, behind)) = next_token(text, cursor) {
-        match read_token(alloc, text, token, state) {
+        match read_token(alloc, text, token, &mut outer, state) {
             Ok(next) => state = next,
             Err(fault) => return Err(fault),
         }
         cursor = behind;
     }
-    finish(text, state)
+    finish(text, outer, state)
 }
 
 /// The state behind a token of the text.
-fn read_token(alloc: Global, text: &[u8], token: Token, state: State) -> Result<State, SyntaxFault>
+fn read_token(
+    alloc: Global,
+    text: &[u8],
+    token: Token,
+    outer: &mut Outer,
+    state: State,
+) -> Result<State, SyntaxFault>
     requires { IsInside text.now token }
-    ensures { Goes result (Machine.step test_depth block_room (state_value state) (word_of text.now token)) token.line }
+    ensures { Goes outer.new result (Machine.step test_depth block_room (state_value outer.old state) (word_of text.now token)) token.line }
 {
     let word = read_word(alloc, text, token)?;
-    match step(alloc, state, word) {
+    match step(alloc, outer, state, word) {
         Ok(next) => Ok(next),
         Err(Stop::Fault) => Err(SyntaxFault::Syntax { line: token.line }),
         Err(Stop::NoMemory) => Err(SyntaxFault::NoMemory),
@@ -106,11 +114,11 @@ fn read_token(alloc: Global, text: &[u8], token: Token, state: State) -> Result<
 
 /// The script, where all that was begun is ended.
 #[tactic(auto, unfolding(crate::specs::Machine::whole))]
-fn finish(text: &[u8], state: State) -> Result<Script, SyntaxFault>
+fn finish(text: &[u8], outer: Outer, state: State) -> Result<Script, SyntaxFault>
     requires { length text.now ≤ text_limit }
-    ensures { Finishes result (whole (state_value state)) (line_at text.now (length text.now)) }
+    ensures { Finishes result (whole (state_value outer state)) (line_at text.now (length text.now)) }
 {
-    if let State::Between(outer) = state {
+    if let State::Between = state {
         if outer.blocks.is_empty() {
             return Ok(Script {
                 commands: outer.done,

@@ -32,28 +32,30 @@ pub(crate) struct Open {
     pub(crate) tests: Tests,
 }
 
-/// The open blocks, the innermost last, and the commands read in the innermost.
+/// The open blocks, the innermost last, the commands read in the innermost, and the tests that are open in the command that
+/// is being read, the innermost last. Between two commands the tests don't matter.
 #[derive(Debug, Drop)]
 pub(crate) struct Outer {
     pub(crate) blocks: Vec<Open>,
     pub(crate) done: Vec<Command>,
+    pub(crate) levels: Vec<Level>,
 }
 
-/// Where the next token stands. The levels are the tests that are open, the innermost last.
+/// Where the next token stands.
 #[derive(Debug, Drop)]
 pub(crate) enum State {
     /// Between two commands.
-    Between(Outer),
+    Between,
     /// Behind an identifier or an argument.
-    Arguments(Outer, Vec<Level>, Head),
+    Arguments(Head),
     /// In a list of strings, where a string has to come.
-    BeforeString(Outer, Vec<Level>, Head, Vec<Text>),
+    BeforeString(Head, Vec<Text>),
     /// In a list of strings, behind a string.
-    AfterString(Outer, Vec<Level>, Head, Vec<Text>),
+    AfterString(Head, Vec<Text>),
     /// In a list of tests, where a test has to come.
-    BeforeTest(Outer, Vec<Level>),
+    BeforeTest,
     /// Behind a list of tests.
-    AfterTests(Outer, Vec<Level>, Head, Tests),
+    AfterTests(Head, Tests),
 }
 
 /// The command with this head, these tests and this block.

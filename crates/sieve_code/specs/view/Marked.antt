@@ -1,7 +1,6 @@
 -- What the dump writes of a part or a string that isn't the first.
 use Rattle.std.specs.Prelude.{ℕ, List, ◌++◌, codes}
-use Rattle.std.specs.declared.alloc.Global.{Global}
-use Rattle.std.specs.declared.vec.Vec.{Vec}
+use Rattle.smallvec.specs.SmallVec.{SmallVec}
 use Rattle.sieve_check.specs.view.Tree.{part_of}
 use Rattle.sieve_check.specs.declared.tree.Part.{Part}
 use Rattle.sieve_code.specs.Dump.{part_text, string_text}
@@ -10,5 +9,5 @@ use Rattle.sieve_code.specs.view.Op.{parts_of}
 unfoldable pub marked_part : Part → List ℕ
 marked_part part = codes "+" ++ part_text (part_of part)
 
-unfoldable pub marked_string : Vec Part Global → List ℕ
+unfoldable pub marked_string : SmallVec Part → List ℕ
 marked_string parts = codes ", " ++ string_text (parts_of parts)

@@ -1,7 +1,6 @@
 -- The program's operations.
 use Rattle.std.specs.Prelude.{ℕ, ◌-◌, List, map, true, false}
-use Rattle.std.specs.declared.alloc.Global.{Global}
-use Rattle.std.specs.declared.vec.Vec.{Vec}
+use Rattle.smallvec.specs.SmallVec.{SmallVec}
 use Rattle.sieve_check.specs.Reading.{header_ask, exists_ask, over_ask, under_ask, keep_leaf, discard_leaf}
 use Rattle.sieve_check.specs.Tree as tree
 use Rattle.sieve_check.specs.view.Tree.{part_of}
@@ -11,11 +10,11 @@ use Rattle.sieve_code.specs.declared.op.Op.{Op}
 use Rattle.sieve_code.specs.declared.op.Op.TheVariants.{True, False, Not, Header, Exists, SizeOver, SizeUnder, Jump, JumpIfFalse, JumpIfTrue, Keep, Discard, Stop}
 
 -- the parts of a string
-abbrev pub parts_of : Vec Part Global → List tree.Part
+abbrev pub parts_of : SmallVec Part → List tree.Part
 parts_of parts = map part_of parts.items
 
 -- strings, each as its parts
-abbrev pub strings_of : List (Vec Part Global) → List (List tree.Part)
+abbrev pub strings_of : List (SmallVec Part) → List (List tree.Part)
 strings_of strings = map parts_of strings
 
 abbrev pub op_as : Op → Operation

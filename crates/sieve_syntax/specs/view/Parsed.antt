@@ -7,6 +7,7 @@ use Rattle.sieve_syntax.specs.view.Tree.{nodes_of}
 use Rattle.sieve_syntax.specs.declared.parser.SyntaxFault.{SyntaxFault}
 use Rattle.sieve_syntax.specs.declared.parser.SyntaxFault.TheVariants.{Syntax, TooLarge, NoMemory}
 use Rattle.sieve_syntax.specs.declared.tree.Script as scripts
+use Rattle.sieve_syntax.specs.declared.reader.Outer as outers
 use Rattle.sieve_syntax.specs.declared.reader.State as states
 
 -- the tree is what the text means, or the line of the fault is
@@ -17,11 +18,11 @@ Parses (Err TooLarge) meaning = Unit {0}
 Parses (Err NoMemory) meaning = Unit {0}
 
 -- the state is the next one, or there is none and the line is the token's
-abbrev pub Goes : Result states.State SyntaxFault → Option State → ℕ → Type 0
-Goes (Ok s) next line = next ≡ Some (state_value s)
-Goes (Err (Syntax at)) next line = (next ≡ None) × (at ≡ line)
-Goes (Err TooLarge) next line = ⊥
-Goes (Err NoMemory) next line = Unit {0}
+abbrev pub Goes : outers.Outer → Result states.State SyntaxFault → Option State → ℕ → Type 0
+Goes o (Ok s) next line = next ≡ Some (state_value o s)
+Goes o (Err (Syntax at)) next line = (next ≡ None) × (at ≡ line)
+Goes o (Err TooLarge) next line = ⊥
+Goes o (Err NoMemory) next line = Unit {0}
 
 -- the script is the whole tree, or there is none and the line is that of the end
 abbrev pub Finishes : Result scripts.Script SyntaxFault → Option (List Node) → ℕ → Type 0

@@ -58,16 +58,16 @@ opens_value bs = map open_value (reverse bs)
 abbrev pub outer_value : outers.Outer → Outer
 outer_value o = record { blocks = opens_value o.blocks.items; done = map node_of o.done.items }
 
-abbrev pub state_value : states.State → State
-state_value (state_variants.Between o) = between (outer_value o)
-state_value (state_variants.Arguments o ls h) = in_arguments (outer_value o) (levels_value ls.items) (head_value h)
-state_value (state_variants.BeforeString o ls h items) = before_string (outer_value o) (levels_value ls.items) (head_value h) (map text_of items.items)
-state_value (state_variants.AfterString o ls h items) = after_string (outer_value o) (levels_value ls.items) (head_value h) (map text_of items.items)
-state_value (state_variants.BeforeTest o ls) = before_test (outer_value o) (levels_value ls.items)
-state_value (state_variants.AfterTests o ls h ts) = after_tests (outer_value o) (levels_value ls.items) (head_value h) (tests_of ts)
+abbrev pub state_value : outers.Outer → states.State → State
+state_value o state_variants.Between = between (outer_value o)
+state_value o (state_variants.Arguments h) = in_arguments (outer_value o) (levels_value o.levels.items) (head_value h)
+state_value o (state_variants.BeforeString h items) = before_string (outer_value o) (levels_value o.levels.items) (head_value h) (map text_of items.items)
+state_value o (state_variants.AfterString h items) = after_string (outer_value o) (levels_value o.levels.items) (head_value h) (map text_of items.items)
+state_value o state_variants.BeforeTest = before_test (outer_value o) (levels_value o.levels.items)
+state_value o (state_variants.AfterTests h ts) = after_tests (outer_value o) (levels_value o.levels.items) (head_value h) (tests_of ts)
 
 -- what a step returned is the machine's next state, or a fault where there is none, unless memory ran out
-abbrev pub Advances : Result states.State stops.Stop → Option State → Type 0
-Advances (Ok s) next = next ≡ Some (state_value s)
-Advances (Err stop_variants.Fault) next = next ≡ None
-Advances (Err stop_variants.NoMemory) next = Unit {0}
+abbrev pub Advances : outers.Outer → Result states.State stops.Stop → Option State → Type 0
+Advances o (Ok s) next = next ≡ Some (state_value o s)
+Advances o (Err stop_variants.Fault) next = next ≡ None
+Advances o (Err stop_variants.NoMemory) next = Unit {0}

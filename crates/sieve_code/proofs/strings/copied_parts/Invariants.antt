@@ -3,4 +3,4 @@ use Rattle.sieve_check.specs.view.Tree.{part_of}
 use Rattle.sieve_code.proofs.strings.copied_parts.Given as goal
 
 abbrev pub invariant-loop-part : goal.invariant-loop-part
-invariant-loop-part l = map part_of l.copies.items ≡ map part_of (take l.part-index l.text.parts.items)
+invariant-loop-part l = map part_of l.copies.items ≡ map part_of (take l.part-index l.parts)

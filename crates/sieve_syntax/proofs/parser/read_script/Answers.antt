@@ -17,13 +17,13 @@ loop-token-init c = record {
 
 pub returns-in-Err-clause-exact : goal.returns-in-Err-clause-exact
 returns-in-Err-clause-exact c =
-    stop_means c.args.text.now (state_value c.loop-token.state) c.loop-token.cursor.place c.in-Some.token c.in-Some.behind c.in-Err.fault c.in-Some.ensures c.in-Err.ensures c.loop-token.invariant.means
+    stop_means c.args.text.now (state_value c.loop-token.outer c.loop-token.state) c.loop-token.cursor.place c.in-Some.token c.in-Some.behind c.in-Err.fault c.read_token.new.outer c.in-Some.ensures c.in-Err.ensures c.loop-token.invariant.means
 
 pub loop-token-preserved : goal.loop-token-preserved
 loop-token-preserved c = record {
   is = c.in-Some.ensures.is;
-  means = next_means c.args.text.now (state_value c.loop-token.state) (state_value c.in-Ok.next) c.loop-token.cursor.place c.in-Some.token c.in-Some.behind c.in-Some.ensures c.in-Ok.ensures c.loop-token.invariant.means;
+  means = next_means c.args.text.now (state_value c.loop-token.outer c.loop-token.state) (state_value c.read_token.new.outer c.in-Ok.next) c.loop-token.cursor.place c.in-Some.token c.in-Some.behind c.in-Some.ensures c.in-Ok.ensures c.loop-token.invariant.means;
 }
 
 pub returns-clause-exact : goal.returns-clause-exact
-returns-clause-exact c = end_means c.args.text.now (state_value c.loop-token.state) c.loop-token.cursor.place c.finish.result c.in_default.ensures c.loop-token.invariant.means c.finish.ensures
+returns-clause-exact c = end_means c.args.text.now (state_value c.loop-token.outer c.loop-token.state) c.loop-token.cursor.place c.finish.result c.in_default.ensures c.loop-token.invariant.means c.finish.ensures

@@ -7,7 +7,7 @@ use Rattle.sieve_syntax.proofs.parser.read_script.Given as goal
 abbrev pub invariant-loop-token : goal.invariant-loop-token
 invariant-loop-token l = record {
   is : IsCursor l.text l.cursor;
-  means : Means l.text (state_value l.state) l.cursor.place;
+  means : Means l.text (state_value l.outer l.state) l.cursor.place;
 }
 
 abbrev pub decreases-loop-token : goal.decreases-loop-token
