@@ -43,9 +43,15 @@ message_count_limit = 65536
 abbrev pub address_limit : ℕ
 address_limit = 1024
 
--- the most octets of the name of the mailbox that mail is kept in
+-- the most octets of the name of the mailbox that mail is kept in, and of one that it is filed into
 abbrev pub mailbox_limit : ℕ
 mailbox_limit = 255
+
+-- RUNS
+
+-- the most actions of a run (RFC 5228, section 2.10.4)
+abbrev pub action_limit : ℕ
+action_limit = 32
 
 -- SESSIONS
 

@@ -3,15 +3,16 @@ use Rattle.std.specs.Prelude.{◌≡◌, ℕ, Bool, true, false, not, ◌&&◌, 
 use Rattle.std.specs.List.{flat_map}
 use lib.Pointwise.{pointwise}
 use Rattle.sieve_syntax.specs.Tree.{Node, Block, Tests, Argument}
+use Rattle.sieve_table.specs.Address.{is_address_field, is_envelope_part}
 use Rattle.sieve_table.specs.Capability.{is_capability}
-use Rattle.sieve_check.specs.Context.{Context, is_require, continues_if}
+use Rattle.sieve_check.specs.Context.{Context, Required, is_require, continues_if}
 use Rattle.sieve_check.specs.Element.{Element, the_command, the_test, the_text, the_number, elements_of}
 use Rattle.sieve_check.specs.Role.{has_role}
 use Rattle.sieve_check.specs.Shape.{row_labels, shapes_of}
 use Rattle.sieve_table.specs.Table.{Row, command_named, test_named, command_row, test_row}
-use Rattle.sieve_check.specs.Use.{has_bad_tag, has_bad_arguments, has_block}
+use Rattle.sieve_check.specs.Use.{has_bad_tag, has_bad_arguments, has_block, lacks_required}
 use Rattle.sieve_table.specs.declared.row.Role.{Role}
-use Rattle.sieve_table.specs.declared.row.Role.TheVariants.{Capabilities, ComparatorName}
+use Rattle.sieve_table.specs.declared.row.Role.TheVariants.{Capabilities, ComparatorName, AddressFields, EnvelopeParts}
 use Rattle.sieve_table.specs.declared.rule.Rule.{Rule}
 use Rattle.sieve_table.specs.declared.rule.Rule.TheVariants.{RequirePlace, UnknownCapability, UnknownCommand, NotRequired, ElsePlace, BadTag, BadArguments, UnknownComparator, BadVariableName, GlobalAfterSet, BadNamespace, MatchIndex, NumberTooLarge, BadEnvelopePart, NotAddressHeader, TooManyVariables}
 use Rattle.sieve_table.specs.declared.table.CommandKind.{CommandKind}
@@ -28,11 +29,12 @@ all_rules = RequirePlace ∷ UnknownCapability ∷ UnknownCommand ∷ NotRequire
 
 -- WHAT BREAKS WHICH RULE
 
--- a command or test of a row (RFC 5228, sections 2.5, 2.6, 2.8 and 2.9)
-abbrev pub row_breaks : Row → List Argument → Tests → (ends_by_block : Bool) → Rule → Bool
-row_breaks row args ts ends_by_block BadTag = has_bad_tag (row_labels row args)
-row_breaks row args ts ends_by_block BadArguments = has_bad_arguments row (shapes_of row.tags args) ts ends_by_block
-row_breaks row args ts ends_by_block rule = false
+-- a command or test of a row (RFC 5228, sections 2.5, 2.6, 2.8, 2.9 and 2.10.5)
+abbrev pub row_breaks : Required → Row → List Argument → Tests → (ends_by_block : Bool) → Rule → Bool
+row_breaks required row args ts ends_by_block NotRequired = lacks_required required row (row_labels row args)
+row_breaks required row args ts ends_by_block BadTag = has_bad_tag (row_labels row args)
+row_breaks required row args ts ends_by_block BadArguments = has_bad_arguments row (shapes_of row.tags args) ts ends_by_block
+row_breaks required row args ts ends_by_block rule = false
 
 -- a command (RFC 5228, sections 2.10.5, 3.1 and 3.2)
 abbrev pub command_breaks : Context → Option CommandKind → List Argument → Tests → Block → Rule → Bool
@@ -40,22 +42,25 @@ command_breaks context None args ts ending UnknownCommand = true
 command_breaks context None args ts ending rule = false
 command_breaks context (Some kind) args ts ending RequirePlace = is_require kind && not context.leads
 command_breaks context (Some kind) args ts ending ElsePlace = continues_if kind && not context.follows_if
-command_breaks context (Some kind) args ts ending rule = row_breaks (command_row kind) args ts (has_block ending) rule
+command_breaks context (Some kind) args ts ending rule = row_breaks context.required (command_row kind) args ts (has_block ending) rule
 
 -- a test (RFC 5228, section 2.10.5)
-abbrev pub test_breaks : Option TestKind → List Argument → Tests → Rule → Bool
-test_breaks None args ts UnknownCommand = true
-test_breaks None args ts rule = false
-test_breaks (Some kind) args ts rule = row_breaks (test_row kind) args ts false rule
+abbrev pub test_breaks : Context → Option TestKind → List Argument → Tests → Rule → Bool
+test_breaks context None args ts UnknownCommand = true
+test_breaks context None args ts rule = false
+test_breaks context (Some kind) args ts rule = row_breaks context.required (test_row kind) args ts false rule
 
 -- the comparators that there are, octet for octet (RFC 4790, section 9)
 abbrev pub is_comparator_name : List ℕ → Bool
 is_comparator_name name = pointwise nat_eq (codes "i;octet") name || pointwise nat_eq (codes "i;ascii-casemap") name
 
--- a string: that of a leading `require` (RFC 5228, section 3.2), or of a comparator (RFC 5228, section 2.7.3)
+-- a string: that of a leading `require` (RFC 5228, section 3.2), of a comparator (section 2.7.3), a part of an envelope (section
+-- 5.4), or a field that holds addresses (section 5.1)
 abbrev pub text_breaks : Context → Option Role → List ℕ → Rule → Bool
 text_breaks context role octets UnknownCapability = has_role Capabilities role && (context.leads && not (is_capability octets))
 text_breaks context role octets UnknownComparator = has_role ComparatorName role && not (is_comparator_name octets)
+text_breaks context role octets BadEnvelopePart = has_role EnvelopeParts role && not (is_envelope_part octets)
+text_breaks context role octets NotAddressHeader = has_role AddressFields role && not (is_address_field octets)
 text_breaks context role octets rule = false
 
 -- a number past 64 bits (RFC 5228, section 2.4.1)
@@ -65,7 +70,7 @@ number_breaks value rule = false
 
 abbrev pub breaks : Element → Rule → Bool
 breaks (the_command context name line args ts ending) rule = command_breaks context (command_named name) args ts ending rule
-breaks (the_test context name line args ts) rule = test_breaks (test_named name) args ts rule
+breaks (the_test context name line args ts) rule = test_breaks context (test_named name) args ts rule
 breaks (the_text context role text) rule = text_breaks context role text.octets rule
 breaks (the_number value line) rule = number_breaks value rule
 

@@ -1,19 +1,69 @@
 -- What stands before a command in its text, as far as rules ask.
-use Rattle.std.specs.Prelude.{Bool, true, false, ◌&&◌, Option, Some, None}
-use Rattle.sieve_syntax.specs.Tree.{Node, node}
+use Rattle.std.specs.Prelude.{ℕ, Bool, true, false, ◌&&◌, ◌||◌, List, [], ◌∷◌, Option, Some, None, if◌then◌else◌}
+use Rattle.sieve_syntax.specs.Tree.{Node, node, Text, Argument, strings, number, tag}
+use Rattle.sieve_table.specs.Capability.{is_name_of}
 use Rattle.sieve_table.specs.Table.{command_named}
+use Rattle.sieve_table.specs.declared.capability.Capability.{Capability}
+use Rattle.sieve_table.specs.declared.capability.Capability.TheVariants as capability
 use Rattle.sieve_table.specs.declared.table.CommandKind.{CommandKind}
-use Rattle.sieve_table.specs.declared.table.CommandKind.TheVariants.{Require, If, Elsif, Else, Keep, Discard, Stop}
+use Rattle.sieve_table.specs.declared.table.CommandKind.TheVariants.{Require, If, Elsif, Else, Keep, Fileinto, Redirect, Discard, Stop}
+
+-- what is required, of what commands, tests, tags and arguments may need (RFC 5228, section 2.10.5)
+pub record Required : Type 0 where
+  pub fileinto : Bool
+  pub envelope : Bool
+  pub variables : Bool
+  pub imap4flags : Bool
+  pub include : Bool
+
+abbrev pub nothing_required : Required
+nothing_required = record { fileinto = false; envelope = false; variables = false; imap4flags = false; include = false }
+
+-- the two comparators need not be required (RFC 5228, section 2.7.3)
+abbrev pub is_required : Required → Capability → Bool
+is_required required capability.Fileinto = required.fileinto
+is_required required capability.Envelope = required.envelope
+is_required required capability.Variables = required.variables
+is_required required capability.Imap4flags = required.imap4flags
+is_required required capability.Include = required.include
+is_required required capability.OctetComparator = true
+is_required required capability.CasemapComparator = true
+
+-- with what a string names (RFC 5228, section 3.2)
+abbrev pub requiring : Required → List ℕ → Required
+requiring required name = record {
+  fileinto = required.fileinto || is_name_of name capability.Fileinto;
+  envelope = required.envelope || is_name_of name capability.Envelope;
+  variables = required.variables || is_name_of name capability.Variables;
+  imap4flags = required.imap4flags || is_name_of name capability.Imap4flags;
+  include = required.include || is_name_of name capability.Include;
+}
+
+-- with what strings name, and those of arguments
+abbrev pub requiring_texts : Required → List Text → Required
+requiring_texts required [] = required
+requiring_texts required (t ∷ ts) = requiring_texts (requiring required t.octets) ts
+
+abbrev pub requiring_argument : Required → Argument → Required
+requiring_argument required (strings items bracketed) = requiring_texts required items
+requiring_argument required (number value line) = required
+requiring_argument required (tag name line) = required
+
+abbrev pub requiring_arguments : Required → List Argument → Required
+requiring_arguments required [] = required
+requiring_arguments required (a ∷ args) = requiring_arguments (requiring_argument required a) args
 
 pub record Context : Type 0 where
   -- only requires stand before it in the script (RFC 5228, section 3.2)
   pub leads : Bool
   -- an `if` or `elsif` stands directly before it in its block (RFC 5228, section 3.1)
   pub follows_if : Bool
+  -- what the requires at the top of the script name that stand before it (RFC 5228, section 3.2)
+  pub required : Required
 
 -- at the start of a script
 abbrev pub script_start : Context
-script_start = record { leads = true; follows_if = false }
+script_start = record { leads = true; follows_if = false; required = nothing_required }
 
 abbrev pub is_require : CommandKind → Bool
 is_require Require = true
@@ -21,6 +71,8 @@ is_require If = false
 is_require Elsif = false
 is_require Else = false
 is_require Keep = false
+is_require Fileinto = false
+is_require Redirect = false
 is_require Discard = false
 is_require Stop = false
 
@@ -31,6 +83,8 @@ allows_else If = true
 allows_else Elsif = true
 allows_else Else = false
 allows_else Keep = false
+allows_else Fileinto = false
+allows_else Redirect = false
 allows_else Discard = false
 allows_else Stop = false
 
@@ -41,13 +95,19 @@ continues_if If = false
 continues_if Elsif = true
 continues_if Else = true
 continues_if Keep = false
+continues_if Fileinto = false
+continues_if Redirect = false
 continues_if Discard = false
 continues_if Stop = false
 
--- behind a command of a kind
-abbrev pub behind_kind : Context → Option CommandKind → Context
-behind_kind context None = record context { leads = false; follows_if = false }
-behind_kind context (Some kind) = record context { leads = context.leads && is_require kind; follows_if = allows_else kind }
+-- what is required behind a command with such arguments: a `require` at the top adds what it names
+abbrev pub required_behind : Context → CommandKind → List Argument → Required
+required_behind context kind args = if context.leads && is_require kind then requiring_arguments context.required args else context.required
+
+-- behind a command of a kind, with its arguments
+abbrev pub behind_kind : Context → Option CommandKind → List Argument → Context
+behind_kind context None args = record context { leads = false; follows_if = false }
+behind_kind context (Some kind) args = record { leads = context.leads && is_require kind; follows_if = allows_else kind; required = required_behind context kind args }
 
 -- at the start of a block
 abbrev pub inside : Context → Context
@@ -55,4 +115,4 @@ inside context = record context { leads = false; follows_if = false }
 
 -- behind a whole command
 abbrev pub behind : Context → Node → Context
-behind context (node name line args ts ending) = behind_kind context (command_named name)
+behind context (node name line args ts ending) = behind_kind context (command_named name) args

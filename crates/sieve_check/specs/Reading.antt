@@ -6,10 +6,12 @@ use Rattle.std.specs.Option.{option_map}
 use lib.Pointwise.{pointwise}
 use Rattle.match_text.specs.declared.comparators.Collation.{Collation}
 use Rattle.match_text.specs.declared.comparators.Collation.TheVariants.{Octet, Casemap}
+use Rattle.message_text.specs.declared.addressing.AddressPart.{AddressPart}
+use Rattle.message_text.specs.declared.addressing.AddressPart.TheVariants as part
 use Rattle.sieve_check.specs.Label.{labels_of}
 use Rattle.sieve_check.specs.Role.{has_role, first_role}
 use Rattle.sieve_check.specs.Shape.{texts_shape}
-use Rattle.sieve_table.specs.Table.{Row, command_named, test_named, tag_named, test_row}
+use Rattle.sieve_table.specs.Table.{Row, command_named, test_named, tag_named, test_row, command_row}
 use Rattle.sieve_check.specs.Tree.{Part, literal, Argument, strings, number, tag, Test, test, Node, node}
 use Rattle.sieve_check.specs.declared.label.Label.{Label}
 use Rattle.sieve_check.specs.declared.label.Label.TheVariants.{Tagged, OtherTag, Own, InSlot, Unfit}
@@ -26,9 +28,16 @@ use Rattle.sieve_table.specs.declared.table.Tag.TheVariants as tag
 use Rattle.sieve_table.specs.declared.table.TestKind.{TestKind}
 use Rattle.sieve_table.specs.declared.table.TestKind.TheVariants as kind
 
--- a test without tests in it, which looks at the message (RFC 5228, section 5); a string is its parts
+-- Where a test takes values from: the fields of some names (RFC 5228, section 5.7), a part of the addresses in such fields
+-- (section 5.1), or a part of an envelope's addresses (section 5.4). A string is its parts.
+pub data Source : Type 0 where
+  header_values : (names : List (List Part)) → Source
+  address_values : (part : AddressPart) (names : List (List Part)) → Source
+  envelope_values : (part : AddressPart) (names : List (List Part)) → Source
+
+-- a test without tests in it (RFC 5228, section 5): it compares values with keys (section 2.7), or looks at the message
 pub data Ask : Type 0 where
-  header_ask : (match_type : MatchType) (collation : Collation) (names keys : List (List Part)) → Ask
+  compares : (source : Source) (match_type : MatchType) (collation : Collation) (keys : List (List Part)) → Ask
   exists_ask : (names : List (List Part)) → Ask
   over_ask : (limit : ℕ) → Ask
   under_ask : (limit : ℕ) → Ask
@@ -36,6 +45,8 @@ pub data Ask : Type 0 where
 -- a command that acts
 pub data Leaf : Type 0 where
   keep_leaf : Leaf
+  fileinto_leaf : (mailbox : List Part) → Leaf
+  redirect_leaf : (address : List Part) → Leaf
   discard_leaf : Leaf
 
 -- ARGUMENTS
@@ -61,6 +72,15 @@ texts_in (Some (strings items bracketed)) = Some (map (λ t. t.parts) items)
 texts_in (Some (number value line)) = None
 texts_in (Some (tag name line)) = None
 
+-- the one string that an argument is
+abbrev pub text_in : Option Argument → Option (List Part)
+text_in None = None
+text_in (Some (strings [] bracketed)) = None
+text_in (Some (strings (t ∷ []) bracketed)) = Some t.parts
+text_in (Some (strings (t ∷ s ∷ ts) bracketed)) = None
+text_in (Some (number value line)) = None
+text_in (Some (tag name line)) = None
+
 -- the number that an argument is
 abbrev pub number_in : Option Argument → Option ℕ
 number_in None = None
@@ -73,8 +93,11 @@ abbrev pub tag_number : Tag → ℕ
 tag_number tag.Comparator = 0
 tag_number tag.Is = 1
 tag_number tag.Contains = 2
-tag_number tag.Over = 3
-tag_number tag.Under = 4
+tag_number tag.All = 3
+tag_number tag.LocalPart = 4
+tag_number tag.Domain = 5
+tag_number tag.Over = 6
+tag_number tag.Under = 7
 
 abbrev pub is_tagged : Tag → Label → Bool
 is_tagged wanted (Tagged taken) = nat_eq (tag_number wanted) (tag_number taken)
@@ -112,15 +135,31 @@ collation_by (Some (tag name line)) = None
 abbrev pub match_type_of : List Label → MatchType
 match_type_of labels = if has_tag tag.Contains labels then Contains else Is
 
--- what a `header` test asks (RFC 5228, section 5.7)
-abbrev pub header_from : MatchType → Option Collation → Option (List (List Part)) → Option (List (List Part)) → Option Ask
-header_from match_type (Some collation) (Some names) (Some keys) = Some (header_ask match_type collation names keys)
-header_from match_type (Some collation) (Some names) None = None
-header_from match_type (Some collation) None keys = None
-header_from match_type None names keys = None
+-- the part of an address, which is all of it where none is named (RFC 5228, section 2.7.4)
+abbrev pub address_part_of : List Label → AddressPart
+address_part_of labels = if has_tag tag.LocalPart labels then part.Local else if has_tag tag.Domain labels then part.Domain else part.All
 
-abbrev pub header_by : List Label → List Argument → Option Ask
-header_by labels args = header_from (match_type_of labels) (collation_by (in_role role.ComparatorName labels args)) (texts_in (in_role role.FieldNames labels args)) (texts_in (in_role role.Keys labels args))
+-- what a test asks that compares values with keys
+abbrev pub compares_from : Option Source → MatchType → Option Collation → Option (List (List Part)) → Option Ask
+compares_from (Some source) match_type (Some collation) (Some keys) = Some (compares source match_type collation keys)
+compares_from (Some source) match_type (Some collation) None = None
+compares_from (Some source) match_type None keys = None
+compares_from None match_type collation keys = None
+
+abbrev pub compares_by : Option Source → List Label → List Argument → Option Ask
+compares_by source labels args = compares_from source (match_type_of labels) (collation_by (in_role role.ComparatorName labels args)) (texts_in (in_role role.Keys labels args))
+
+-- from where a `header` test takes its values (RFC 5228, section 5.7)
+abbrev pub header_source : List Label → List Argument → Option Source
+header_source labels args = option_map header_values (texts_in (in_role role.FieldNames labels args))
+
+-- an `address` test (RFC 5228, section 5.1)
+abbrev pub address_source : List Label → List Argument → Option Source
+address_source labels args = option_map (address_values (address_part_of labels)) (texts_in (in_role role.AddressFields labels args))
+
+-- an `envelope` test (RFC 5228, section 5.4)
+abbrev pub envelope_source : List Label → List Argument → Option Source
+envelope_source labels args = option_map (envelope_values (address_part_of labels)) (texts_in (in_role role.EnvelopeParts labels args))
 
 -- what an `exists` test asks (RFC 5228, section 5.5)
 abbrev pub exists_by : List Label → List Argument → Option Ask
@@ -148,7 +187,9 @@ pub data TestReading : Type 0 where
 
 abbrev pub test_reading_by : Option TestKind → List Argument → Option TestReading
 test_reading_by None args = None
-test_reading_by (Some kind.Header) args = option_map reads_ask (header_by (labels_in (test_row kind.Header) args) args)
+test_reading_by (Some kind.Header) args = let labels = labels_in (test_row kind.Header) args in option_map reads_ask (compares_by (header_source labels args) labels args)
+test_reading_by (Some kind.Address) args = let labels = labels_in (test_row kind.Address) args in option_map reads_ask (compares_by (address_source labels args) labels args)
+test_reading_by (Some kind.Envelope) args = let labels = labels_in (test_row kind.Envelope) args in option_map reads_ask (compares_by (envelope_source labels args) labels args)
 test_reading_by (Some kind.Exists) args = option_map reads_ask (exists_by (labels_in (test_row kind.Exists) args) args)
 test_reading_by (Some kind.Size) args = option_map reads_ask (size_by (labels_in (test_row kind.Size) args) args)
 test_reading_by (Some kind.AllOf) args = Some reads_all
@@ -172,19 +213,21 @@ pub data CommandReading : Type 0 where
   nothing : CommandReading
   acts : (leaf : Leaf) → CommandReading
 
-abbrev pub command_reading_by : Option CommandKind → Option CommandReading
-command_reading_by None = None
-command_reading_by (Some command.Require) = Some nothing
-command_reading_by (Some command.If) = Some opens
-command_reading_by (Some command.Elsif) = Some continues
-command_reading_by (Some command.Else) = Some otherwise
-command_reading_by (Some command.Keep) = Some (acts keep_leaf)
-command_reading_by (Some command.Discard) = Some (acts discard_leaf)
-command_reading_by (Some command.Stop) = Some stops
+abbrev pub command_reading_by : Option CommandKind → List Argument → Option CommandReading
+command_reading_by None args = None
+command_reading_by (Some command.Require) args = Some nothing
+command_reading_by (Some command.If) args = Some opens
+command_reading_by (Some command.Elsif) args = Some continues
+command_reading_by (Some command.Else) args = Some otherwise
+command_reading_by (Some command.Keep) args = Some (acts keep_leaf)
+command_reading_by (Some command.Fileinto) args = option_map acts (option_map fileinto_leaf (text_in (in_role role.Mailbox (labels_in (command_row command.Fileinto) args) args)))
+command_reading_by (Some command.Redirect) args = option_map acts (option_map redirect_leaf (text_in (in_role role.Address (labels_in (command_row command.Redirect) args) args)))
+command_reading_by (Some command.Discard) args = Some (acts discard_leaf)
+command_reading_by (Some command.Stop) args = Some stops
 
 -- the kind of a command
 abbrev pub kind_of : Node → Option CommandKind
 kind_of (node name line args ts ending) = command_named name
 
 abbrev pub command_reading : Node → Option CommandReading
-command_reading n = command_reading_by (kind_of n)
+command_reading (node name line args ts ending) = command_reading_by (command_named name) args

@@ -2,15 +2,38 @@
 use Rattle.std.specs.Prelude.{ℕ, Bool, true, false, not, ◌||◌, ◌&&◌, List, [], ◌∷◌, Option, Some, None, is_some, nat_eq, if◌then◌else◌}
 use Rattle.std.specs.List.{list_any}
 use Rattle.sieve_syntax.specs.Tree.{Tests, no_tests, one_test, test_list, Block, no_block, block}
+use Rattle.sieve_check.specs.Context.{Required, is_required}
 use Rattle.sieve_check.specs.Label.{labels_of, is_filled}
 use Rattle.sieve_table.specs.Table.{Row, tag_row}
 use Rattle.sieve_check.specs.declared.label.Label.{Label}
 use Rattle.sieve_check.specs.declared.label.Label.TheVariants.{Tagged, OtherTag, Own, InSlot, Unfit}
 use Rattle.sieve_check.specs.declared.label.Shape.{Shape}
+use Rattle.sieve_table.specs.declared.capability.Capability.{Capability}
 use Rattle.sieve_table.specs.declared.row.Inner.{Inner}
 use Rattle.sieve_table.specs.declared.row.Inner.TheVariants as inner
 use Rattle.sieve_table.specs.declared.row.TagKind.{TagKind}
 use Rattle.sieve_table.specs.declared.row.TagKind.TheVariants as kind
+
+-- WHAT IS NEEDED
+
+abbrev pub is_lacking : Required → Capability → Bool
+is_lacking required capability = not (is_required required capability)
+
+abbrev pub lacks_needed : Required → Option Capability → Bool
+lacks_needed required None = false
+lacks_needed required (Some capability) = is_lacking required capability
+
+-- what has to be required for an argument: for a tag, or for an argument in a slot
+abbrev pub needed_by : Label → Option Capability
+needed_by (Tagged taken) = (tag_row taken).needs
+needed_by OtherTag = None
+needed_by (Own slot) = slot.needs
+needed_by (InSlot slot) = slot.needs
+needed_by Unfit = None
+
+-- something isn't required that the row needs, or one of the arguments (RFC 5228, section 2.10.5)
+abbrev pub lacks_required : Required → Row → List Label → Bool
+lacks_required required row labels = list_any (is_lacking required) row.needs || list_any (λ label. lacks_needed required (needed_by label)) labels
 
 -- TAGS
 

@@ -4,7 +4,9 @@ use Rattle.std.specs.List.{flat_map}
 use Rattle.match_text.specs.declared.comparators.Collation.{Collation}
 use Rattle.match_text.specs.declared.comparators.Collation.TheVariants.{Octet, Casemap}
 use Rattle.sieve_base.specs.Writers.{quoted}
-use Rattle.sieve_check.specs.Reading.{Ask, header_ask, exists_ask, over_ask, under_ask, Leaf, keep_leaf, discard_leaf}
+use Rattle.message_text.specs.declared.addressing.AddressPart.{AddressPart}
+use Rattle.message_text.specs.declared.addressing.AddressPart.TheVariants as address_part
+use Rattle.sieve_check.specs.Reading.{Source, header_values, address_values, envelope_values, Ask, compares, exists_ask, over_ask, under_ask, Leaf, keep_leaf, fileinto_leaf, redirect_leaf, discard_leaf}
 use Rattle.sieve_check.specs.Tree.{Part, literal}
 use Rattle.sieve_check.specs.declared.reading.MatchType.{MatchType}
 use Rattle.sieve_check.specs.declared.reading.MatchType.TheVariants.{Is, Contains}
@@ -35,18 +37,35 @@ abbrev pub collation_word : Collation → List ℕ
 collation_word Octet = codes "octet"
 collation_word Casemap = codes "casemap"
 
--- the words of a `header` test
-unfoldable pub header_words : MatchType → Collation → List ℕ
-header_words match_type collation = codes "header " ++ match_word match_type ++ codes " " ++ collation_word collation
+abbrev pub address_part_word : AddressPart → List ℕ
+address_part_word address_part.All = codes "all"
+address_part_word address_part.Local = codes "localpart"
+address_part_word address_part.Domain = codes "domain"
+
+-- the words of a test that compares values with keys
+unfoldable pub comparing_words : List ℕ → MatchType → Collation → List ℕ
+comparing_words test match_type collation = test ++ codes " " ++ match_word match_type ++ codes " " ++ collation_word collation
+
+-- those of one that compares a part of addresses
+unfoldable pub address_words : List ℕ → MatchType → Collation → AddressPart → List ℕ
+address_words test match_type collation part = comparing_words test match_type collation ++ codes " " ++ address_part_word part
+
+-- its names and its keys
+unfoldable pub two_lists : List (List Part) → List (List Part) → List ℕ
+two_lists names keys = codes " " ++ list_text names ++ codes " " ++ list_text keys
 
 unfoldable pub ask_text : Ask → List ℕ
-ask_text (header_ask match_type collation names keys) = header_words match_type collation ++ codes " " ++ list_text names ++ codes " " ++ list_text keys
+ask_text (compares (header_values names) match_type collation keys) = comparing_words (codes "header") match_type collation ++ two_lists names keys
+ask_text (compares (address_values part names) match_type collation keys) = address_words (codes "address") match_type collation part ++ two_lists names keys
+ask_text (compares (envelope_values part names) match_type collation keys) = address_words (codes "envelope") match_type collation part ++ two_lists names keys
 ask_text (exists_ask names) = codes "exists " ++ list_text names
 ask_text (over_ask limit) = codes "size over " ++ decimal limit
 ask_text (under_ask limit) = codes "size under " ++ decimal limit
 
 abbrev pub leaf_text : Leaf → List ℕ
 leaf_text keep_leaf = codes "keep internal"
+leaf_text (fileinto_leaf mailbox) = codes "fileinto " ++ string_text mailbox ++ codes " internal"
+leaf_text (redirect_leaf address) = codes "redirect " ++ string_text address
 leaf_text discard_leaf = codes "discard"
 
 unfoldable pub operation_text : Operation → List ℕ

@@ -1,3 +1,4 @@
+pub mod Delivery
 pub mod ErrorKind
 pub mod Library
 pub mod Matching

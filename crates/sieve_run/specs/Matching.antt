@@ -1,13 +1,19 @@
--- What tests find in a message: fields by name, and whether a value matches a key (RFC 5228, sections 2.7 and 5).
-use Rattle.std.specs.Prelude.{ℕ, Bool, List, map, filter, length, nat_lt}
-use Rattle.std.specs.List.{flat_map, list_any, list_all}
+-- What tests find in a delivery: fields, addresses and parts of the envelope by name, and whether a value matches a key (RFC 5228,
+-- sections 2.7 and 5).
+use Rattle.std.specs.Prelude.{ℕ, Bool, List, [], ◌∷◌, Option, None, Some, map, filter, length, nat_lt, if◌then◌else◌, codes}
+use Rattle.std.specs.List.{filter_map, flat_map, list_any, list_all}
 use Rattle.match_text.specs.Comparator.{same, is_part, octet, ascii_casemap}
 use Rattle.match_text.specs.declared.comparators.Collation.{Collation}
 use Rattle.match_text.specs.declared.comparators.Collation.TheVariants.{Octet, Casemap}
+use Rattle.message_text.specs.Addresses.{AddrSpec, part_of, addresses_of, envelope_address_of}
 use Rattle.message_text.specs.Fields.{Field, fields_of}
-use Rattle.sieve_check.specs.Reading.{text_value, Ask, header_ask, exists_ask, over_ask, under_ask}
+use Rattle.message_text.specs.declared.addressing.AddressPart.{AddressPart}
+use Rattle.sieve_check.specs.Reading.{text_value, Source, header_values, address_values, envelope_values, Ask, compares, exists_ask, over_ask, under_ask}
 use Rattle.sieve_check.specs.declared.reading.MatchType.{MatchType}
 use Rattle.sieve_check.specs.declared.reading.MatchType.TheVariants.{Is, Contains}
+use Rattle.sieve_table.specs.Address.{is_address_field}
+use Rattle.sieve_run.specs.Delivery.{Delivery}
+use Rattle.sieve_run.specs.declared.envelope.Envelope.{Envelope}
 
 -- the fold by which a comparator takes octets as equal (RFC 5228, section 2.7.3)
 abbrev pub fold_of : Collation → ℕ → ℕ
@@ -36,14 +42,40 @@ values_named fields name = map (λ field. field.value) (filter (is_field_named n
 abbrev pub pairs_with : List (List ℕ) → List ℕ → List Pair
 pairs_with keys value = map (λ key. record { value = value; key = key }) keys
 
--- the values of a name, each with each key
-abbrev pub pairs_named : List Field → List (List ℕ) → List ℕ → List Pair
-pairs_named fields keys name = flat_map (pairs_with keys) (values_named fields name)
+-- the part of each of some addresses; one that lacks the part gives nothing (RFC 5228, section 2.7.4)
+abbrev pub parts_in : AddressPart → List AddrSpec → List (List ℕ)
+parts_in part addresses = filter_map (part_of part) addresses
 
--- what a header test compares, in its order (RFC 5228, section 5.7): by names, then by fields, then by keys; an absent field
--- gives nothing
-abbrev pub header_pairs : List Field → List (List ℕ) → List (List ℕ) → List Pair
-header_pairs fields names keys = flat_map (pairs_named fields keys) names
+-- the parts of the addresses in a value
+abbrev pub parts_of_value : AddressPart → List ℕ → List (List ℕ)
+parts_of_value part value = parts_in part (addresses_of value)
+
+-- the parts of the addresses in the fields of a name, in order; a name that isn't of a field with addresses names nothing (RFC 5228, section 5.1)
+abbrev pub parts_named : AddressPart → List Field → List ℕ → List (List ℕ)
+parts_named part fields name = if is_address_field name then flat_map (parts_of_value part) (values_named fields name) else []
+
+-- the address of an envelope's part: the sender, or the recipient; another name names nothing (RFC 5228, section 5.4)
+abbrev pub envelope_text : Envelope → List ℕ → Option (List ℕ)
+envelope_text envelope name =
+    if same ascii_casemap (codes "from") name then Some envelope.from else
+    if same ascii_casemap (codes "to") name then Some envelope.to else None
+
+abbrev pub parts_of_envelope : AddressPart → Option (List ℕ) → List (List ℕ)
+parts_of_envelope part None = []
+parts_of_envelope part (Some text) = parts_in part (envelope_address_of text ∷ [])
+
+abbrev pub envelope_named : AddressPart → Envelope → List ℕ → List (List ℕ)
+envelope_named part envelope name = parts_of_envelope part (envelope_text envelope name)
+
+-- what a test compares with its keys, by names, then by fields, then by addresses; an absent field gives nothing
+abbrev pub values_of : Delivery → Source → List (List ℕ)
+values_of delivery (header_values names) = flat_map (values_named (fields_of delivery.message)) (map text_value names)
+values_of delivery (address_values part names) = flat_map (parts_named part (fields_of delivery.message)) (map text_value names)
+values_of delivery (envelope_values part names) = flat_map (envelope_named part delivery.envelope) (map text_value names)
+
+-- each value with each key, in this order (RFC 5228, section 5.7)
+abbrev pub pairs_of : List (List ℕ) → List (List ℕ) → List Pair
+pairs_of values keys = flat_map (pairs_with keys) values
 
 -- whether a field of that name is there (RFC 5228, section 5.5)
 abbrev pub has_field : List Field → List ℕ → Bool
@@ -53,10 +85,10 @@ has_field fields name = list_any (is_field_named name) fields
 abbrev pub some_matches : MatchType → (ℕ → ℕ) → List Pair → Bool
 some_matches match_type fold pairs = list_any (λ pair. matches match_type fold pair.value pair.key) pairs
 
--- Whether what a test asks is so: header (RFC 5228, section 5.7), exists (section 5.5), size (section 5.9), where a message of
--- exactly the limit's octets is neither over nor under it.
-unfoldable pub truth_of : List ℕ → Ask → Bool
-truth_of message (header_ask match_type collation names keys) = some_matches match_type (fold_of collation) (header_pairs (fields_of message) (map text_value names) (map text_value keys))
-truth_of message (exists_ask names) = list_all (has_field (fields_of message)) (map text_value names)
-truth_of message (over_ask limit) = nat_lt limit (length message)
-truth_of message (under_ask limit) = nat_lt (length message) limit
+-- Whether what a test asks is so: header, address and envelope (RFC 5228, sections 5.7, 5.1 and 5.4), exists (section 5.5), size
+-- (section 5.9), where a message of exactly the limit's octets is neither over nor under it.
+unfoldable pub truth_of : Delivery → Ask → Bool
+truth_of delivery (compares source match_type collation keys) = some_matches match_type (fold_of collation) (pairs_of (values_of delivery source) (map text_value keys))
+truth_of delivery (exists_ask names) = list_all (has_field (fields_of delivery.message)) (map text_value names)
+truth_of delivery (over_ask limit) = nat_lt limit (length delivery.message)
+truth_of delivery (under_ask limit) = nat_lt (length delivery.message) limit

@@ -1,15 +1,19 @@
 -- What running a script does (RFC 5228, sections 2.10 and 4).
-use Rattle.std.specs.Prelude.{ℕ, List, [], ◌∷◌, ◌++◌, Bool, true, false, not, Option, None, Some, if◌then◌else◌, nat_eq}
-use Rattle.std.specs.List.{list_any}
+use Rattle.std.specs.Prelude.{ℕ, List, [], ◌∷◌, ◌++◌, length, Bool, true, false, not, ◌&&◌, ◌||◌, Option, None, Some, is_some, if◌then◌else◌, nat_eq, nat_lt, nat_le}
+use Rattle.std.specs.List.{list_all, list_any}
 use lib.Pointwise.{pointwise}
-use Rattle.sieve_check.specs.Reading.{Ask, Leaf, keep_leaf, discard_leaf}
+use Rattle.message_text.specs.Addresses.{AddrSpec, addresses_of}
+use Rattle.sieve_base.specs.Limits.{action_limit, mailbox_limit}
+use Rattle.sieve_check.specs.Reading.{Ask, Leaf, keep_leaf, fileinto_leaf, redirect_leaf, discard_leaf, text_value}
 use Rattle.sieve_check.specs.Script.{Condition, always, never, asks, negated, both, either, Commands, no_commands, stops, acts, chooses, script_of}
 use Rattle.sieve_run.specs.declared.name.ScriptName.{ScriptName}
 use Rattle.sieve_run.specs.declared.envelope.Envelope.{Envelope}
 use Rattle.sieve_run.specs.declared.outcome.Action.{Action}
-use Rattle.sieve_run.specs.declared.outcome.Action.TheVariants.{Store, Discard}
+use Rattle.sieve_run.specs.declared.outcome.Action.TheVariants.{Store, Redirect, Discard}
 use Rattle.sieve_run.specs.declared.outcome.RunError.{RunError}
-use Rattle.sieve_run.specs.declared.outcome.ErrorKind.TheVariants.{MissingScript, InvalidScript}
+use Rattle.sieve_run.specs.declared.outcome.ErrorKind.{ErrorKind}
+use Rattle.sieve_run.specs.declared.outcome.ErrorKind.TheVariants.{MissingScript, InvalidScript, BadAddress, TooManyActions, BadMailbox}
+use Rattle.sieve_run.specs.Delivery.{Delivery}
 use Rattle.sieve_run.specs.Matching.{truth_of}
 use Rattle.sieve_run.specs.Library.{Lookup, missing, invalid, present, found_at}
 use Rattle.sieve_run.specs.Verdict.{Verdict}
@@ -27,24 +31,77 @@ pub data Ending : Type 0 where
   stopped : (state : RunState) → Ending
   failed : (error : RunError) (state : RunState) → Ending
 
--- whether an action stores into the mailbox
-abbrev pub is_store_into : List ℕ → Action → Bool
-is_store_into mailbox (Store box) = pointwise nat_eq mailbox box
-is_store_into mailbox Discard = false
+-- ACTIONS
 
-abbrev pub is_discard : Action → Bool
-is_discard (Store box) = false
-is_discard Discard = true
+-- whether two actions are one: stores into one mailbox, redirects to one address, and discards, octet for octet (RFC 5228, section
+-- 2.10.3)
+abbrev pub same_action : Action → Action → Bool
+same_action (Store mailbox) (Store other) = pointwise nat_eq mailbox other
+same_action (Store mailbox) (Redirect other) = false
+same_action (Store mailbox) Discard = false
+same_action (Redirect address) (Store other) = false
+same_action (Redirect address) (Redirect other) = pointwise nat_eq address other
+same_action (Redirect address) Discard = false
+same_action Discard (Store other) = false
+same_action Discard (Redirect other) = false
+same_action Discard Discard = true
 
--- a second action of a kind adds nothing (RFC 5228, section 2.10.3)
-abbrev pub with_action : (Action → Bool) → Action → List Action → List Action
-with_action is_alike action actions = if list_any is_alike actions then actions else actions ++ action ∷ []
+-- what becomes of the actions of a run where one is performed: they are then these, or there is one too many
+pub data Performed : Type 0 where
+  performed : (actions : List Action) → Performed
+  one_too_many : Performed
 
--- what a command that acts does: keep stores into the envelope's mailbox (RFC 5228, section 4.3), discard discards
--- (section 4.4), and no action takes another away (section 2.10.1)
-abbrev pub act_of : Envelope → Leaf → ℕ → RunState → Ending
-act_of envelope keep_leaf line state = goes_on (record state { actions = with_action (is_store_into envelope.mailbox) (Store envelope.mailbox) state.actions; cancelled = true })
-act_of envelope discard_leaf line state = goes_on (record state { actions = with_action is_discard Discard state.actions; cancelled = true })
+-- one that is there already adds nothing (RFC 5228, section 2.10.3), and none is taken away (section 2.10.1); past so many there is
+-- one too many (section 2.10.4)
+abbrev pub performing : Action → List Action → Performed
+performing action actions =
+    if list_any (same_action action) actions then performed actions else
+    if nat_lt (length actions) action_limit then performed (actions ++ action ∷ []) else one_too_many
+
+-- WHAT COMMANDS DO
+
+-- an error of the script that runs, at a line of it (RFC 5228, section 2.10.6)
+abbrev pub failing : Delivery → ℕ → ErrorKind → RunState → Ending
+failing delivery line kind state = failed (record { script = delivery.script; line = line; kind = kind }) state
+
+-- an action takes the place of the implicit keep (RFC 5228, section 2.10.2)
+abbrev pub ending_of : Delivery → ℕ → Performed → RunState → Ending
+ending_of delivery line (performed actions) state = goes_on (record state { actions = actions; cancelled = true })
+ending_of delivery line one_too_many state = failing delivery line TooManyActions state
+
+abbrev pub taking : Delivery → ℕ → Action → RunState → Ending
+taking delivery line action state = ending_of delivery line (performing action state.actions) state
+
+-- an octet that a mailbox's name may have: no control character of ASCII
+abbrev pub is_printable : ℕ → Bool
+is_printable b = nat_le 32 b && not (nat_eq b 127)
+
+-- a name of a mailbox: some octets, of which none is a control character
+abbrev pub is_mailbox : List ℕ → Bool
+is_mailbox name = nat_lt 0 (length name) && (nat_le (length name) mailbox_limit && list_all is_printable name)
+
+-- the one address that has a local part and a domain
+abbrev pub whole_address : AddrSpec → Option (List ℕ)
+whole_address address = if is_some address.local_part && is_some address.domain then Some address.all else None
+
+abbrev pub only_address : List AddrSpec → Option (List ℕ)
+only_address [] = None
+only_address (one ∷ []) = whole_address one
+only_address (one ∷ two ∷ more) = None
+
+-- to an address, where there is one (RFC 5228, section 4.2)
+abbrev pub redirecting : Delivery → ℕ → Option (List ℕ) → RunState → Ending
+redirecting delivery line None state = failing delivery line BadAddress state
+redirecting delivery line (Some address) state = taking delivery line (Redirect address) state
+
+-- what a command that acts does: keep stores into the delivery's mailbox (RFC 5228, section 4.3), fileinto into the one that it
+-- names (section 4.1), redirect sends the message on to an address (section 4.2), discard discards (section 4.4)
+abbrev pub act_of : Delivery → Leaf → ℕ → RunState → Ending
+act_of delivery keep_leaf line state = taking delivery line (Store delivery.envelope.mailbox) state
+act_of delivery (fileinto_leaf mailbox) line state =
+    if is_mailbox (text_value mailbox) then taking delivery line (Store (text_value mailbox)) state else failing delivery line BadMailbox state
+act_of delivery (redirect_leaf address) line state = redirecting delivery line (only_address (addresses_of (text_value address))) state
+act_of delivery discard_leaf line state = taking delivery line Discard state
 
 -- what follows runs only where nothing has ended the run
 abbrev pub and_then : Ending → (RunState → Ending) → Ending
@@ -59,9 +116,9 @@ pub record Answer : Type 0 where
   pub truth : Bool
   pub state : RunState
 
--- what a test asks of the message, which leaves the state as it is
-abbrev pub answer_of : List ℕ → Ask → RunState → Answer
-answer_of message ask state = record { truth = truth_of message ask; state = state }
+-- what a test asks of the delivery, which leaves the state as it is
+abbrev pub answer_of : Delivery → Ask → RunState → Answer
+answer_of delivery ask state = record { truth = truth_of delivery ask; state = state }
 
 abbrev pub inverted : Answer → Answer
 inverted answer = record { truth = not answer.truth; state = answer.state }
@@ -116,7 +173,9 @@ begun main = record { actions = []; cancelled = false; reads = (main, true) ∷ 
 abbrev pub verdict_at : Envelope → List ℕ → ScriptName → Lookup → Verdict
 verdict_at envelope message main missing = record { actions = []; implicit = true; error = Some (record { script = main; line = 0; kind = MissingScript }); reads = (main, false) ∷ [] }
 verdict_at envelope message main invalid = record { actions = []; implicit = true; error = Some (record { script = main; line = 0; kind = InvalidScript }); reads = (main, true) ∷ [] }
-verdict_at envelope message main (present tree) = verdict_of (exec (answer_of message) (act_of envelope) (script_of tree) (begun main))
+verdict_at envelope message main (present tree) =
+    let delivery = record { message = message; envelope = envelope; script = main } in
+    verdict_of (exec (answer_of delivery) (act_of delivery) (script_of tree) (begun main))
 
 -- the verdict on a message, and the names that it looked up, over a library
 unfoldable pub outcome_of : (ScriptName → Lookup) → Option ScriptName → Envelope → List ℕ → Verdict

@@ -1,3 +1,4 @@
+pub mod Address
 pub mod Capability
 pub mod Rule
 pub mod Table

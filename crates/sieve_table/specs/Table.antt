@@ -2,6 +2,7 @@
 use Rattle.std.specs.Prelude.{ℕ, Bool, true, false, List, [], ◌∷◌, Option, Some, None, find, codes}
 use Rattle.std.specs.Str.{str_eq_ignore_ascii_case}
 use Rattle.sieve_table.specs.declared.capability.Capability.{Capability}
+use Rattle.sieve_table.specs.declared.capability.Capability.TheVariants as capability
 use Rattle.sieve_table.specs.declared.row.Form.{Form}
 use Rattle.sieve_table.specs.declared.row.Form.TheVariants as form
 use Rattle.sieve_table.specs.declared.row.Inner.{Inner}
@@ -70,6 +71,10 @@ tag_row tag.Comparator = record (bare_tag (codes "comparator") kind.Comparator) 
 -- RFC 5228, section 2.7.1
 tag_row tag.Is = bare_tag (codes "is") kind.MatchType
 tag_row tag.Contains = bare_tag (codes "contains") kind.MatchType
+-- RFC 5228, section 2.7.4
+tag_row tag.All = bare_tag (codes "all") kind.AddressPart
+tag_row tag.LocalPart = bare_tag (codes "localpart") kind.AddressPart
+tag_row tag.Domain = bare_tag (codes "domain") kind.AddressPart
 -- RFC 5228, section 5.9
 tag_row tag.Over = bare_tag (codes "over") kind.Bound
 tag_row tag.Under = bare_tag (codes "under") kind.Bound
@@ -77,6 +82,14 @@ tag_row tag.Under = bare_tag (codes "under") kind.Bound
 -- the match types
 abbrev pub match_tags : List Tag
 match_tags = tag.Is ∷ tag.Contains ∷ []
+
+-- how values are compared with keys (RFC 5228, section 2.7)
+abbrev pub comparing_tags : List Tag
+comparing_tags = tag.Comparator ∷ match_tags
+
+-- the parts of an address too (RFC 5228, section 2.7.4)
+abbrev pub address_tags : List Tag
+address_tags = tag.All ∷ tag.LocalPart ∷ tag.Domain ∷ comparing_tags
 
 abbrev pub command_row : CommandKind → Row
 -- RFC 5228, section 3.2
@@ -87,6 +100,10 @@ command_row command.Elsif = record (bare (codes "elsif")) { tests = inner.One; h
 command_row command.Else = record (bare (codes "else")) { has_block = true }
 -- RFC 5228, section 4.3
 command_row command.Keep = bare (codes "keep")
+-- RFC 5228, section 4.1
+command_row command.Fileinto = record (bare (codes "fileinto")) { slots = slot form.One role.Mailbox ∷ []; needs = capability.Fileinto ∷ [] }
+-- RFC 5228, section 4.2
+command_row command.Redirect = record (bare (codes "redirect")) { slots = slot form.One role.Address ∷ [] }
 -- RFC 5228, section 4.4
 command_row command.Discard = bare (codes "discard")
 -- RFC 5228, section 3.3
@@ -94,7 +111,11 @@ command_row command.Stop = bare (codes "stop")
 
 abbrev pub test_row : TestKind → Row
 -- RFC 5228, section 5.7
-test_row test.Header = record (bare (codes "header")) { tags = tag.Comparator ∷ match_tags; slots = slot form.List role.FieldNames ∷ slot form.List role.Keys ∷ [] }
+test_row test.Header = record (bare (codes "header")) { tags = comparing_tags; slots = slot form.List role.FieldNames ∷ slot form.List role.Keys ∷ [] }
+-- RFC 5228, section 5.1
+test_row test.Address = record (bare (codes "address")) { tags = address_tags; slots = slot form.List role.AddressFields ∷ slot form.List role.Keys ∷ [] }
+-- RFC 5228, section 5.4
+test_row test.Envelope = record (bare (codes "envelope")) { tags = address_tags; slots = slot form.List role.EnvelopeParts ∷ slot form.List role.Keys ∷ []; needs = capability.Envelope ∷ [] }
 -- RFC 5228, section 5.5
 test_row test.Exists = record (bare (codes "exists")) { slots = slot form.List role.FieldNames ∷ [] }
 -- RFC 5228, section 5.9
@@ -115,10 +136,10 @@ abbrev pub is_named : List ℕ → List ℕ → Bool
 is_named name written = str_eq_ignore_ascii_case name written
 
 abbrev pub commands : List CommandKind
-commands = command.Require ∷ command.If ∷ command.Elsif ∷ command.Else ∷ command.Keep ∷ command.Discard ∷ command.Stop ∷ []
+commands = command.Require ∷ command.If ∷ command.Elsif ∷ command.Else ∷ command.Keep ∷ command.Fileinto ∷ command.Redirect ∷ command.Discard ∷ command.Stop ∷ []
 
 abbrev pub tests : List TestKind
-tests = test.Header ∷ test.Exists ∷ test.Size ∷ test.AllOf ∷ test.AnyOf ∷ test.Not ∷ test.True ∷ test.False ∷ []
+tests = test.Header ∷ test.Address ∷ test.Envelope ∷ test.Exists ∷ test.Size ∷ test.AllOf ∷ test.AnyOf ∷ test.Not ∷ test.True ∷ test.False ∷ []
 
 -- the command of that name
 unfoldable pub command_named : List ℕ → Option CommandKind

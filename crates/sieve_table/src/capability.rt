@@ -22,7 +22,12 @@ pub enum Capability {
 }
 
 /// The capabilities that there are.
-const CAPABILITIES: [Capability; 2] = [Capability::OctetComparator, Capability::CasemapComparator];
+const CAPABILITIES: [Capability; 4] = [
+    Capability::Fileinto,
+    Capability::Envelope,
+    Capability::OctetComparator,
+    Capability::CasemapComparator,
+];
 
 impl Capability {
     /// The string that names it in a `require`.
@@ -42,7 +47,7 @@ impl Capability {
 }
 
 /// Whether a string names it, octet for octet.
-fn is_name_of(name: &[u8], capability: Capability) -> bool
+pub fn is_name_of(name: &[u8], capability: Capability) -> bool
     ensures { result ≡ is_name_of name.now capability }
 {
     capability.name() == name

@@ -2,12 +2,14 @@
 //! rules that a use of it can break have their numbers and words.
 #![tactic(auto)]
 
+mod address;
 mod capability;
 mod row;
 mod rule;
 mod table;
 
-pub use capability::{Capability, is_capability};
+pub use address::{is_address_field, is_envelope_part};
+pub use capability::{Capability, is_capability, is_name_of};
 pub use row::{Form, Inner, Role, Row, Slot, TagKind, TagRow};
 pub use rule::Rule;
 pub use table::{CommandKind, Tag, TestKind, command_named, tag_named, test_named};

@@ -3,6 +3,7 @@ ghost use Rattle.std.specs.Prelude.{◌≡◌, find};
 ghost use Rattle.sieve_table.specs.Table.{command_named, command_row, is_named, tag_named, tag_row, test_named, test_row};
 ghost use Rattle.sieve_table.specs.view.Row.{row_as, tag_row_as};
 
+use crate::capability::Capability;
 use crate::row::{Form, Inner, Role, Row, Slot, TagKind, TagRow};
 
 /// A command that there is.
@@ -18,6 +19,10 @@ pub enum CommandKind {
     Else,
     /// `keep` (RFC 5228, section 4.3).
     Keep,
+    /// `fileinto` (RFC 5228, section 4.1).
+    Fileinto,
+    /// `redirect` (RFC 5228, section 4.2).
+    Redirect,
     /// `discard` (RFC 5228, section 4.4).
     Discard,
     /// `stop` (RFC 5228, section 3.3).
@@ -29,6 +34,10 @@ pub enum CommandKind {
 pub enum TestKind {
     /// `header` (RFC 5228, section 5.7).
     Header,
+    /// `address` (RFC 5228, section 5.1).
+    Address,
+    /// `envelope` (RFC 5228, section 5.4).
+    Envelope,
     /// `exists` (RFC 5228, section 5.5).
     Exists,
     /// `size` (RFC 5228, section 5.9).
@@ -54,6 +63,12 @@ pub enum Tag {
     Is,
     /// `:contains` (RFC 5228, section 2.7.1).
     Contains,
+    /// `:all` (RFC 5228, section 2.7.4).
+    All,
+    /// `:localpart` (RFC 5228, section 2.7.4).
+    LocalPart,
+    /// `:domain` (RFC 5228, section 2.7.4).
+    Domain,
     /// `:over` (RFC 5228, section 5.9).
     Over,
     /// `:under` (RFC 5228, section 5.9).
@@ -61,19 +76,23 @@ pub enum Tag {
 }
 
 /// All commands.
-const COMMANDS: [CommandKind; 7] = [
+const COMMANDS: [CommandKind; 9] = [
     CommandKind::Require,
     CommandKind::If,
     CommandKind::Elsif,
     CommandKind::Else,
     CommandKind::Keep,
+    CommandKind::Fileinto,
+    CommandKind::Redirect,
     CommandKind::Discard,
     CommandKind::Stop,
 ];
 
 /// All tests.
-const TESTS: [TestKind; 8] = [
+const TESTS: [TestKind; 10] = [
     TestKind::Header,
+    TestKind::Address,
+    TestKind::Envelope,
     TestKind::Exists,
     TestKind::Size,
     TestKind::AllOf,
@@ -123,6 +142,21 @@ impl Tag {
             Tag::Contains => TagRow {
                 name: b"contains",
                 kind: TagKind::MatchType,
+                ..BARE_TAG
+            },
+            Tag::All => TagRow {
+                name: b"all",
+                kind: TagKind::AddressPart,
+                ..BARE_TAG
+            },
+            Tag::LocalPart => TagRow {
+                name: b"localpart",
+                kind: TagKind::AddressPart,
+                ..BARE_TAG
+            },
+            Tag::Domain => TagRow {
+                name: b"domain",
+                kind: TagKind::AddressPart,
                 ..BARE_TAG
             },
             Tag::Over => TagRow {
@@ -175,6 +209,25 @@ impl CommandKind {
                 name: b"keep",
                 ..BARE
             },
+            CommandKind::Fileinto => Row {
+                name: b"fileinto",
+                slots: &[Slot {
+                    form: Form::One,
+                    role: Role::Mailbox,
+                    needs: None,
+                }],
+                needs: &[Capability::Fileinto],
+                ..BARE
+            },
+            CommandKind::Redirect => Row {
+                name: b"redirect",
+                slots: &[Slot {
+                    form: Form::One,
+                    role: Role::Address,
+                    needs: None,
+                }],
+                ..BARE
+            },
             CommandKind::Discard => Row {
                 name: b"discard",
                 ..BARE
@@ -186,6 +239,19 @@ impl CommandKind {
         }
     }
 }
+
+/// The tags that say how values are compared with keys (RFC 5228, section 2.7).
+const COMPARING_TAGS: [Tag; 3] = [Tag::Comparator, Tag::Is, Tag::Contains];
+
+/// Those that name a part of an address too (RFC 5228, section 2.7.4).
+const ADDRESS_TAGS: [Tag; 6] = [
+    Tag::All,
+    Tag::LocalPart,
+    Tag::Domain,
+    Tag::Comparator,
+    Tag::Is,
+    Tag::Contains,
+];
 
 /// A list of the names of header fields.
 const FIELD_NAMES: Slot = Slot {
@@ -209,8 +275,35 @@ impl TestKind {
         match self {
             TestKind::Header => Row {
                 name: b"header",
-                tags: &[Tag::Comparator, Tag::Is, Tag::Contains],
+                tags: &COMPARING_TAGS,
                 slots: &[FIELD_NAMES, KEYS],
+                ..BARE
+            },
+            TestKind::Address => Row {
+                name: b"address",
+                tags: &ADDRESS_TAGS,
+                slots: &[
+                    Slot {
+                        form: Form::List,
+                        role: Role::AddressFields,
+                        needs: None,
+                    },
+                    KEYS,
+                ],
+                ..BARE
+            },
+            TestKind::Envelope => Row {
+                name: b"envelope",
+                tags: &ADDRESS_TAGS,
+                slots: &[
+                    Slot {
+                        form: Form::List,
+                        role: Role::EnvelopeParts,
+                        needs: None,
+                    },
+                    KEYS,
+                ],
+                needs: &[Capability::Envelope],
                 ..BARE
             },
             TestKind::Exists => Row {

@@ -8,7 +8,7 @@ use Rattle.sieve_check.specs.Judgement.{Judgement, judgement_of, sound, faulty, 
 use Rattle.sieve_run.specs.declared.name.ScriptName.{ScriptName}
 use Rattle.sieve_run.specs.declared.envelope.Envelope.{Envelope}
 use Rattle.sieve_run.specs.declared.outcome.Action.{Action}
-use Rattle.sieve_run.specs.declared.outcome.Action.TheVariants.{Store, Discard}
+use Rattle.sieve_run.specs.declared.outcome.Action.TheVariants.{Store, Redirect, Discard}
 use Rattle.sieve_run.specs.declared.outcome.RunError.{RunError}
 use Rattle.sieve_run.specs.ErrorKind.{error_word}
 use Rattle.sieve_run.specs.Library.{lookup_of}
@@ -45,6 +45,7 @@ script_line (name, text) = codes "script " ++ name_text name ++ codes " " ++ jud
 -- the line of an action
 unfoldable pub action_line : Action → List ℕ
 action_line (Store mailbox) = codes "  store " ++ quoted mailbox ++ codes "\n"
+action_line (Redirect address) = codes "  redirect " ++ quoted address ++ codes "\n"
 action_line Discard = codes "  discard\n"
 
 -- the line of the implicit keep, where it stands
