@@ -4,10 +4,12 @@
 //! of its fields.
 #![tactic(auto)]
 
+mod addressing;
 mod blanks;
 mod fields;
 mod lines;
 mod messages;
 mod values;
 
+pub use crate::addressing::AddressPart;
 pub use crate::messages::{Message, MessageFault};

@@ -1,7 +1,7 @@
 //! The limits of the project, each once, for code. Contracts name the limits of the definitions.
 
 ghost use Rattle.std.specs.Prelude.{◌≡◌};
-ghost use Rattle.sieve_base.specs.Limits.{address_limit, block_room, id_limit, line_limit, mailbox_limit, message_count_limit, message_limit, name_limit, script_count_limit, test_depth, text_limit};
+ghost use Rattle.sieve_base.specs.Limits.{action_limit, address_limit, block_room, id_limit, line_limit, mailbox_limit, message_count_limit, message_limit, name_limit, script_count_limit, test_depth, text_limit};
 
 /// The most octets of a script's text.
 pub const MAX_TEXT: usize = 1_048_576;
@@ -21,8 +21,10 @@ pub const MAX_ID: usize = 1_024;
 pub const MAX_MESSAGES: usize = 65_536;
 /// The most octets of an address of the envelope.
 pub const MAX_ADDRESS: usize = 1_024;
-/// The most octets of the name of the mailbox that mail is kept in.
+/// The most octets of the name of a mailbox.
 pub const MAX_MAILBOX: usize = 255;
+/// The most actions of a run.
+pub const MAX_ACTIONS: usize = 32;
 /// The most octets of a session's line, without the line end.
 pub const MAX_LINE: usize = 16_384;
 
@@ -38,5 +40,6 @@ pub fn constants_are_limits()
     ensures messages { MAX_MESSAGES ≡ message_count_limit }
     ensures address { MAX_ADDRESS ≡ address_limit }
     ensures mailbox { MAX_MAILBOX ≡ mailbox_limit }
+    ensures actions { MAX_ACTIONS ≡ action_limit }
     ensures line { MAX_LINE ≡ line_limit }
 {}

@@ -12,7 +12,7 @@ use Rattle.sieve_check.specs.Element.{argument_elements, judged_labels, labelled
 use Rattle.sieve_check.specs.Label.{fits, is_filled, labels_of}
 use Rattle.sieve_check.specs.Parted.{parted_argument, parted_labelled, parted_text, parts_of}
 use Rattle.sieve_check.specs.Readable.{row_takes}
-use Rattle.sieve_check.specs.Reading.{collation_by, number_in, part_shape, text_value, texts_in}
+use Rattle.sieve_check.specs.Reading.{collation_by, number_in, part_shape, text_in, text_value, texts_in}
 use Rattle.sieve_check.specs.Role.{first_role, has_role}
 use Rattle.sieve_check.specs.Shape.{row_labels, shape_of, shapes_of, texts_shape}
 use Rattle.sieve_table.specs.Table.{Row}
@@ -159,6 +159,14 @@ not_one n = grind (arith, nat_tests)
 two_are_no_text : (n : ℕ) (bracketed : Bool) → fits form.One (texts_shape (suc (suc n)) bracketed) ≡ true → ⊥
 two_are_no_text n bracketed fit = no_list (nat_eq (suc (suc n)) 1 && not bracketed) (ap (λ b. b && not bracketed) (not_one n)) fit
 
+-- one string without brackets
+pub text_good_alone : (tags : List Tag) (r : Option Role) (a : Argument) → Keeps r a → fits form.One (part_shape tags a) ≡ true → is_some (text_in (Some a)) ≡ true
+text_good_alone tags r (strings [] bracketed) keeps fit = absurd (no_list (nat_eq 0 1 && not bracketed) refl fit)
+text_good_alone tags r (strings (t ∷ []) bracketed) keeps fit = refl
+text_good_alone tags r (strings (t ∷ s ∷ ts) bracketed) keeps fit = absurd (two_are_no_text (length ts) bracketed fit)
+text_good_alone tags r (number value line) keeps fit = absurd (not_both fit)
+text_good_alone tags r (tag name line) keeps fit = absurd (not_both fit)
+
 pub collation_good : (tags : List Tag) (r : Option Role) (a : Argument) → has_role role.ComparatorName r ≡ true → Keeps r a → fits form.One (part_shape tags a) ≡ true → is_some (collation_by (Some a)) ≡ true
 collation_good tags r (strings [] bracketed) is keeps fit = absurd (no_list (nat_eq 0 1 && not bracketed) refl fit)
 collation_good tags r (strings (t ∷ []) bracketed) is keeps fit =
@@ -172,6 +180,10 @@ collation_good tags r (tag name line) is keeps fit = absurd (not_both fit)
 pub texts_read : (o : Option Argument) → none_or (λ a. is_some (texts_in (Some a))) o ≡ true → is_some o ≡ true → is_some (texts_in o) ≡ true
 texts_read None good there = absurd (not_both there)
 texts_read (Some a) good there = good
+
+pub text_read : (o : Option Argument) → none_or (λ a. is_some (text_in (Some a))) o ≡ true → is_some o ≡ true → is_some (text_in o) ≡ true
+text_read None good there = absurd (not_both there)
+text_read (Some a) good there = good
 
 pub number_read : (o : Option Argument) → none_or (λ a. is_some (number_in (Some a))) o ≡ true → is_some o ≡ true → is_some (number_in o) ≡ true
 number_read None good there = absurd (not_both there)

@@ -1,6 +1,6 @@
 -- The breaches of commands and tests, part by part.
 use Rattle.std.proofs.Common.{◌≡◌, ℕ, ◌+◌, ◌<◌, ◌≤◌, Bool, true, false, not, ◌&&◌, List, [], ◌++◌, map, length, get_or, drop, Option, None, Some, is_some, Result, refl, sym, ap, ◌∙◌, subst}
-use Rattle.std.proofs.lemmas.List.{at_drop_more, at_drop_all}
+use Rattle.std.proofs.lemmas.List.{append_assoc, at_drop_more, at_drop_all}
 use Rattle.std.specs.declared.vec.Vec.{Vec}
 use Rattle.std.specs.declared.alloc.Global.{Global}
 use Rattle.sieve_syntax.specs.Tree.{nodes, tests}
@@ -8,7 +8,7 @@ use Rattle.sieve_syntax.specs.view.Tree.{argument_of, node_of, test_of, tests_of
 use Rattle.sieve_syntax.specs.declared.tree.Argument as arguments
 use Rattle.sieve_syntax.specs.declared.tree.Command as commands
 use Rattle.sieve_syntax.specs.declared.tree.Test as one_tests
-use Rattle.sieve_check.specs.Breach.{Breach, all_rules, breach_if, breaches_at, breaches_by, breaches_in, command_breaks, row_breaks, test_breaks}
+use Rattle.sieve_check.specs.Breach.{Breach, all_rules, breach_if, breaches_at, breaches_by, breaches_in, command_breaks, test_breaks}
 use Rattle.sieve_check.specs.CheckFault.{IsFirst}
 use Rattle.sieve_check.specs.Context.{Context, behind, behind_kind, inside, is_require, continues_if}
 use Rattle.sieve_check.specs.Element.{the_command, the_test, test_arguments, command_arguments, test_elements, tests_elements, test_list_elements, node_elements, nodes_elements, block_elements}
@@ -17,8 +17,8 @@ use Rattle.sieve_table.specs.Table.{Row, command_row, test_row}
 use Rattle.sieve_check.specs.Use.{has_block}
 use Rattle.sieve_check.specs.view.Finds.{Finds, FindsIn}
 use Rattle.sieve_check.specs.view.Head.{block_as, test_head, command_head, kind_found}
-use Rattle.sieve_check.specs.view.Use.{row_found}
-use Rattle.sieve_table.specs.declared.rule.Rule.TheVariants.{RequirePlace, ElsePlace, UnknownCommand}
+use Rattle.sieve_check.specs.view.Use.{row_found, use_breaks}
+use Rattle.sieve_table.specs.declared.rule.Rule.TheVariants.{RequirePlace, UnknownCommand}
 use Rattle.sieve_table.specs.declared.table.CommandKind.{CommandKind}
 use Rattle.sieve_table.specs.declared.table.TestKind.{TestKind}
 use Rattle.sieve_check.specs.declared.validator.CheckFault.{CheckFault}
@@ -39,13 +39,13 @@ test_unknown t context name line is n l =
     let args = map argument_of o.args.items in
     let ts = tests_of o.tests in
     let known : None ≡ table.test_named o.name.items = is ∙ ap table.test_named n in
-    let here : IsFirst (breaches_at (the_test context o.name.items o.line args ts)) (faults.Breach o.line UnknownCommand) = subst (λ k. IsFirst (breaches_by (test_breaks k args ts) o.line all_rules) (faults.Breach o.line UnknownCommand)) known refl in
+    let here : IsFirst (breaches_at (the_test context o.name.items o.line args ts)) (faults.Breach o.line UnknownCommand) = subst (λ k. IsFirst (breaches_by (test_breaks context k args ts) o.line all_rules) (faults.Breach o.line UnknownCommand)) known refl in
     first_stops (the_test context o.name.items o.line args ts) (test_arguments context (table.test_named o.name.items) args ts) (faults.Breach line UnknownCommand)
     (subst (λ x. IsFirst (breaches_at (the_test context o.name.items o.line args ts)) (faults.Breach x UnknownCommand)) (sym l) here)
 
 -- a test that there is
 pub test_known : (t : one_tests.Test) (context : Context) (kind : TestKind) (row : Row) (name : List ℕ) (line : ℕ) (xs : List arguments.Argument) (r : Answer) → let o = one_tests.out-Test t in
-    Some kind ≡ table.test_named name → name ≡ o.name.items → line ≡ o.line → row ≡ test_row kind → xs ≡ o.args.items → Finds (row_found context line row (map argument_of xs) (tests_of o.tests) false) r → FindsIn (test_head context t) r
+    Some kind ≡ table.test_named name → name ≡ o.name.items → line ≡ o.line → row ≡ test_row kind → xs ≡ o.args.items → Finds (row_found false context line row (map argument_of xs) (tests_of o.tests) false) r → FindsIn (test_head context t) r
 unfolding breaches_at
 test_known t context kind row name line xs r is n l same a found =
     let o = one_tests.out-Test t in
@@ -53,10 +53,10 @@ test_known t context kind row name line xs r is n l same a found =
     let ts = tests_of o.tests in
     let known : Some kind ≡ table.test_named o.name.items = is ∙ ap table.test_named n in
     subst (λ bs. Finds bs r)
-    (ap (λ x. row_found context x row (map argument_of xs) ts false) l
-    ∙ ap (λ x. row_found context o.line x (map argument_of xs) ts false) same
-    ∙ ap (λ x. row_found context o.line (test_row kind) (map argument_of x) ts false) a
-    ∙ ap (λ k. breaches_by (test_breaks k args ts) o.line all_rules ++ breaches_in (test_arguments context k args ts)) known
+    (ap (λ x. row_found false context x row (map argument_of xs) ts false) l
+    ∙ ap (λ x. row_found false context o.line x (map argument_of xs) ts false) same
+    ∙ ap (λ x. row_found false context o.line (test_row kind) (map argument_of x) ts false) a
+    ∙ ap (λ k. breaches_by (test_breaks context k args ts) o.line all_rules ++ breaches_in (test_arguments context k args ts)) known
     ∙ sym (cons_in (the_test context o.name.items o.line args ts) (test_arguments context (table.test_named o.name.items) args ts)))
     found
 
@@ -95,44 +95,39 @@ block_there None = refl
 block_there (Some v) = refl
 
 module _ (context : Context) (kind : CommandKind) (c : commands.Command) where
-  -- what is found, by whether a require stands in a wrong place and whether a branch stands alone
-  by_places : Bool → Bool → List Breach
-  by_places misplaced alone =
+  -- what is found, by whether a require stands in a wrong place
+  by_places : Bool → List Breach
+  by_places misplaced =
       let o = commands.out-Command c in
-      let args = map argument_of o.args.items in
-      (breach_if misplaced o.line RequirePlace ++ (breach_if alone o.line ElsePlace ++ breaches_by (row_breaks (command_row kind) args (tests_of o.tests) (has_block (block_as o.block))) o.line all_rules))
-      ++ breaches_in (command_arguments context (Some kind) args (tests_of o.tests) (block_as o.block))
+      breach_if misplaced o.line RequirePlace ++ row_found (continues_if kind && not context.follows_if) context o.line (command_row kind) (map argument_of o.args.items) (tests_of o.tests) (has_block (block_as o.block))
 
-  found_by : kind_found context kind c ≡ by_places (is_require kind && not context.leads) (continues_if kind && not context.follows_if)
+  found_by : kind_found context kind c ≡ by_places (is_require kind && not context.leads)
   unfolding by_places
-  found_by = refl
+  found_by = let o = commands.out-Command c in 
+      append_assoc (breach_if (is_require kind && not context.leads) o.line RequirePlace)
+      (breaches_by (use_breaks (continues_if kind && not context.follows_if) context.required (command_row kind) (map argument_of o.args.items) (tests_of o.tests) (has_block (block_as o.block))) o.line all_rules)
+      (breaches_in (command_arguments context (Some kind) (map argument_of o.args.items) (tests_of o.tests) (block_as o.block)))
 
   pub require_misplaced : (line : ℕ) → line ≡ (commands.out-Command c).line → true ≡ (is_require kind && not context.leads) → IsFirst (kind_found context kind c) (faults.Breach line RequirePlace)
   unfolding by_places
   require_misplaced line l is =
       let o = commands.out-Command c in
       subst (λ x. IsFirst (kind_found context kind c) (faults.Breach x RequirePlace)) (sym l)
-      (subst (λ bs. IsFirst bs (faults.Breach o.line RequirePlace)) (sym (found_by ∙ ap (λ p. by_places p (continues_if kind && not context.follows_if)) (sym is))) refl)
+      (subst (λ bs. IsFirst bs (faults.Breach o.line RequirePlace)) (sym (found_by ∙ ap by_places (sym is))) refl)
 
-  pub branch_alone : (line : ℕ) → line ≡ (commands.out-Command c).line → false ≡ (is_require kind && not context.leads) → true ≡ (continues_if kind && not context.follows_if) → IsFirst (kind_found context kind c) (faults.Breach line ElsePlace)
+  pub kind_placed : (row : Row) (line : ℕ) (xs : List arguments.Argument) (b apart : Bool) (r : Answer) → let o = commands.out-Command c in
+      line ≡ o.line → row ≡ command_row kind → xs ≡ o.args.items → b ≡ is_some o.block → false ≡ (is_require kind && not context.leads) → apart ≡ (continues_if kind && not context.follows_if) → Finds (row_found apart context line row (map argument_of xs) (tests_of o.tests) b) r → Finds (kind_found context kind c) r
   unfolding by_places
-  branch_alone line l placed is =
-      let o = commands.out-Command c in
-      subst (λ x. IsFirst (kind_found context kind c) (faults.Breach x ElsePlace)) (sym l)
-      (subst (λ bs. IsFirst bs (faults.Breach o.line ElsePlace)) (sym (found_by ∙ ap (λ p. by_places p (continues_if kind && not context.follows_if)) (sym placed) ∙ ap (by_places false) (sym is))) refl)
-
-  pub kind_placed : (row : Row) (line : ℕ) (xs : List arguments.Argument) (b : Bool) (r : Answer) → let o = commands.out-Command c in
-      line ≡ o.line → row ≡ command_row kind → xs ≡ o.args.items → b ≡ is_some o.block → false ≡ (is_require kind && not context.leads) → false ≡ (continues_if kind && not context.follows_if) → Finds (row_found context line row (map argument_of xs) (tests_of o.tests) b) r → Finds (kind_found context kind c) r
-  unfolding by_places
-  kind_placed row line xs b r l same a ends placed goes found =
+  kind_placed row line xs b apart r l same a ends placed goes found =
       let o = commands.out-Command c in
       let ts = tests_of o.tests in
       subst (λ bs. Finds bs r)
-      (ap (λ x. row_found context x row (map argument_of xs) ts b) l
-      ∙ ap (λ x. row_found context o.line x (map argument_of xs) ts b) same
-      ∙ ap (λ x. row_found context o.line (command_row kind) (map argument_of x) ts b) a
-      ∙ ap (row_found context o.line (command_row kind) (map argument_of o.args.items) ts) (ends ∙ block_there o.block)
-      ∙ sym (found_by ∙ ap (λ p. by_places p (continues_if kind && not context.follows_if)) (sym placed) ∙ ap (by_places false) (sym goes)))
+      (ap (λ x. row_found apart context x row (map argument_of xs) ts b) l
+      ∙ ap (λ x. row_found apart context o.line x (map argument_of xs) ts b) same
+      ∙ ap (λ x. row_found apart context o.line (command_row kind) (map argument_of x) ts b) a
+      ∙ ap (row_found apart context o.line (command_row kind) (map argument_of o.args.items) ts) (ends ∙ block_there o.block)
+      ∙ ap (λ x. row_found x context o.line (command_row kind) (map argument_of o.args.items) ts (has_block (block_as o.block))) goes
+      ∙ sym (found_by ∙ ap by_places (sym placed)))
       found
 
 -- a command that there isn't
@@ -165,8 +160,11 @@ command_stops c context kind name fault is n h = subst (λ bs. IsFirst bs fault)
 pub command_passes : (c : commands.Command) (context : Context) (kind : CommandKind) (name : List ℕ) → Some kind ≡ table.command_named name → name ≡ (commands.out-Command c).name.items → kind_found context kind c ≡ [] → breaches_in (command_head context c) ≡ []
 command_passes c context kind name is n none = sym (head_by c context kind name is n) ∙ none
 
-pub command_moves : (c : commands.Command) (context next : Context) (kind : CommandKind) (name : List ℕ) → Some kind ≡ table.command_named name → name ≡ (commands.out-Command c).name.items → next ≡ behind_kind context (Some kind) → next ≡ behind_kind context (table.command_named (commands.out-Command c).name.items)
-command_moves c context next kind name is n goes = goes ∙ ap (behind_kind context) (is ∙ ap table.command_named n)
+pub command_moves : (c : commands.Command) (context next : Context) (kind : CommandKind) (name : List ℕ) (xs : List arguments.Argument) → Some kind ≡ table.command_named name → name ≡ (commands.out-Command c).name.items → xs ≡ (commands.out-Command c).args.items → next ≡ behind_kind context (Some kind) (map argument_of xs)
+    → next ≡ behind_kind context (table.command_named (commands.out-Command c).name.items) (map argument_of (commands.out-Command c).args.items)
+command_moves c context next kind name xs is n a goes =
+    goes ∙ ap (λ l. behind_kind context (Some kind) (map argument_of l)) a
+    ∙ ap (λ k. behind_kind context k (map argument_of (commands.out-Command c).args.items)) (is ∙ ap table.command_named n)
 
 command_at : (c : commands.Command) (context : Context) → let o = commands.out-Command c in node_elements context (node_of c) ≡ command_head context c ++ (tests_elements context (tests_of o.tests) ++ block_elements context (block_as o.block))
 unfolding node_elements
@@ -208,7 +206,7 @@ block_ends c context within inner xs none fine is same start h =
     ∙ sym (ap (λ l. breaches_in (nodes_elements within (nodes (map node_of l)))) same)
     ∙ h
 
-pub whole_moves : (c : commands.Command) (context next : Context) → next ≡ behind_kind context (table.command_named (commands.out-Command c).name.items) → next ≡ behind context (node_of c)
+pub whole_moves : (c : commands.Command) (context next : Context) → next ≡ behind_kind context (table.command_named (commands.out-Command c).name.items) (map argument_of (commands.out-Command c).args.items) → next ≡ behind context (node_of c)
 whole_moves c context next goes = goes ∙ sym (ap (behind context) (seen_command c))
 
 -- commands from one of them on
@@ -234,7 +232,7 @@ pub ruleset test_steps = (test_stops, test_goes_on)
 
 pub ruleset list_steps = (list_stops, list_goes_on, list_ends)
 
-pub ruleset kind_steps = (require_misplaced, branch_alone, kind_placed)
+pub ruleset kind_steps = (require_misplaced, kind_placed)
 
 pub ruleset command_head_steps = (command_unknown, command_stops, command_passes, command_moves)
 

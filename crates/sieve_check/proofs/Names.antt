@@ -13,12 +13,16 @@ command_found command.If = refl
 command_found command.Elsif = refl
 command_found command.Else = refl
 command_found command.Keep = refl
+command_found command.Fileinto = refl
+command_found command.Redirect = refl
 command_found command.Discard = refl
 command_found command.Stop = refl
 
 pub test_found : (kind : TestKind) → test_named (test_row kind).name ≡ Some kind
 unfolding test_named
 test_found test.Header = refl
+test_found test.Address = refl
+test_found test.Envelope = refl
 test_found test.Exists = refl
 test_found test.Size = refl
 test_found test.AllOf = refl

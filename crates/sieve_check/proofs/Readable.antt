@@ -1,22 +1,28 @@
 -- Of a tree without a breach each command and each test is read as something: nothing of it vanishes.
-use Rattle.std.proofs.Common.{◌≡◌, Bool, true, false, not, ◌&&◌, List, [], ◌++◌, Option, None, Some, refl, sym, ap, subst}
+use Rattle.std.proofs.Common.{◌≡◌, Bool, true, false, not, ◌&&◌, List, [], ◌++◌, map, Option, None, Some, is_some, refl, sym, ap, subst}
+use Rattle.std.specs.Option.{option_map}
 use Rattle.sieve_syntax.specs.Tree as syntax
 use Rattle.sieve_check.specs.Breach.{breaches_in, breaches_of, command_breaks}
 use Rattle.sieve_check.specs.Context.{Context, behind, behind_kind, continues_if, inside, script_start}
 use Rattle.sieve_check.specs.Element.{block_elements, command_arguments, node_elements, nodes_elements, test_arguments, test_elements, test_list_elements, tests_elements, the_command, the_test}
 use Rattle.sieve_check.specs.Parted.{command_labels, parted, parted_block, parted_labelled, parted_node, parted_nodes, parted_test, parted_test_list, parted_tests}
 use Rattle.sieve_check.specs.Readable.{IsReadable, ReadsBlock, ReadsNode, ReadsNodes, ReadsTest, ReadsTestList, ReadsTests, Stands, command_takes, may_go_on}
-use Rattle.sieve_check.specs.Reading.{command_reading, command_reading_by}
+use Rattle.sieve_check.specs.Reading as reading
+use Rattle.sieve_check.specs.Reading.{Leaf, command_reading, command_reading_by, fileinto_leaf, in_role, part_shape, redirect_leaf, text_in}
+use Rattle.sieve_check.specs.Role.{same_role}
 use Rattle.sieve_table.specs.Table.{command_named, command_row, test_named}
-use Rattle.sieve_check.specs.Tree.{Nodes, end_nodes, more_nodes, no_block, block, items, nodes}
+use Rattle.sieve_check.specs.Tree.{Argument, Block, Part, Tests, no_tests, Nodes, end_nodes, more_nodes, no_block, block, items, nodes}
 use Rattle.sieve_check.specs.Use.{block_fits, has_block, tests_fit}
+use Rattle.sieve_table.specs.declared.row.Form.TheVariants as form
+use Rattle.sieve_table.specs.declared.row.Role.{Role}
+use Rattle.sieve_table.specs.declared.row.Role.TheVariants as role
 use Rattle.sieve_table.specs.declared.rule.Rule.{Rule}
 use Rattle.sieve_table.specs.declared.rule.Rule.TheVariants.{BadArguments, BadTag, ElsePlace, UnknownCommand}
 use Rattle.sieve_table.specs.declared.table.CommandKind.{CommandKind}
 use Rattle.sieve_table.specs.declared.table.CommandKind.TheVariants as command
-use Rattle.sieve_check.proofs.Asked.{none_fit, one_fits, test_is_read}
-use Rattle.sieve_check.proofs.Filled.{as_parted, takes}
-use Rattle.sieve_check.proofs.Roles.{never_both, not_both}
+use Rattle.sieve_check.proofs.Asked.{its_labels, maps_some, none_fit, one_fits, test_is_read, text_is_read}
+use Rattle.sieve_check.proofs.Filled.{AsRowSays, as_parted, takes}
+use Rattle.sieve_check.proofs.Roles.{AllTake, is_to_come, never_both, not_both}
 use Rattle.sieve_check.proofs.Unbroken.{keeps, none_in_both, none_in_front}
 
 -- WHERE A COMMAND STANDS
@@ -34,46 +40,70 @@ module _ (context : Context) where
   not_false true e = refl
   not_false false e = absurd (never_both e)
 
+  -- arguments of a command of that kind, with these tests and this end, are as its row says
+  abbrev Says : CommandKind → List Argument → syntax.Tests → (ends_by_block : Bool) → Type 0
+  Says k args ts ends_by_block = AsRowSays (command_row k) (map (part_shape (command_row k).tags) args) args ts ends_by_block
+
+  stands_acting : (leaf : Option Leaf) (ts : Tests) (ending : Block) → is_some (option_map reading.acts leaf) ≡ true → ts ≡ no_tests → ending ≡ no_block → Stands context.follows_if (option_map reading.acts leaf) ts ending
+  stands_acting None ts ending is none ends = absurd (not_both is)
+  stands_acting (Some leaf) ts ending is none ends = (none, ends)
+
   -- with the tests and the block that its row says, and behind an `if` where it goes on with one
-  stands : (k : CommandKind) (ts : syntax.Tests) (ending : syntax.Block) → tests_fit (command_row k).tests ts ≡ true → block_fits (command_row k).has_block (has_block ending) ≡ true → (continues_if k && not context.follows_if) ≡ false
-      → Stands context.follows_if (command_reading_by (Some k)) (parted_tests context ts) (parted_block context ending)
-  stands command.Require ts ending fit ends place = (none_fit context ts fit, none_there ending ends)
-  stands command.If ts ending fit ends place =
-      let t = one_fits context ts fit in
-      let b = block_there ending ends in
+  stands : (k : CommandKind) (args : List Argument) (ts : syntax.Tests) (ending : syntax.Block) → Says k args ts (has_block ending) → (continues_if k && not context.follows_if) ≡ false
+      → Stands context.follows_if (command_reading_by (Some k) args) (parted_tests context ts) (parted_block context ending)
+  stands command.Require args ts ending says place = (none_fit context ts says.tests, none_there ending says.block)
+  stands command.If args ts ending says place =
+      let t = one_fits context ts says.tests in
+      let b = block_there ending says.block in
       (t.0, b.0, t.1, b.1)
-  stands command.Elsif ts ending fit ends place =
-      let t = one_fits context ts fit in
-      let b = block_there ending ends in
+  stands command.Elsif args ts ending says place =
+      let t = one_fits context ts says.tests in
+      let b = block_there ending says.block in
       (not_false context.follows_if place, t.0, b.0, t.1, b.1)
-  stands command.Else ts ending fit ends place =
-      let b = block_there ending ends in
-      (not_false context.follows_if place, b.0, none_fit context ts fit, b.1)
-  stands command.Keep ts ending fit ends place = (none_fit context ts fit, none_there ending ends)
-  stands command.Discard ts ending fit ends place = (none_fit context ts fit, none_there ending ends)
-  stands command.Stop ts ending fit ends place = (none_fit context ts fit, none_there ending ends)
+  stands command.Else args ts ending says place =
+      let b = block_there ending says.block in
+      (not_false context.follows_if place, b.0, none_fit context ts says.tests, b.1)
+  stands command.Keep args ts ending says place = (none_fit context ts says.tests, none_there ending says.block)
+  stands command.Fileinto args ts ending says place =
+      let row = command_row command.Fileinto in
+      stands_acting _ (parted_tests context ts) (parted_block context ending)
+      (maps_some reading.acts _ (maps_some fileinto_leaf _ (text_is_read row.tags row.slots args role.Mailbox refl ((λ same. refl), tt) refl says.filled says.keep)))
+      (none_fit context ts says.tests) (none_there ending says.block)
+  stands command.Redirect args ts ending says place =
+      let row = command_row command.Redirect in
+      stands_acting _ (parted_tests context ts) (parted_block context ending)
+      (maps_some reading.acts _ (maps_some redirect_leaf _ (text_is_read row.tags row.slots args role.Address refl ((λ same. refl), tt) refl says.filled says.keep)))
+      (none_fit context ts says.tests) (none_there ending says.block)
+  stands command.Discard args ts ending says place = (none_fit context ts says.tests, none_there ending says.block)
+  stands command.Stop args ts ending says place = (none_fit context ts says.tests, none_there ending says.block)
 
   -- a command of some kind or none that breaks no rule is of a kind, takes its arguments, and stands where it may
   command_is_read : (k : Option CommandKind) (args : List syntax.Argument) (ts : syntax.Tests) (ending : syntax.Block) → ((rule : Rule) → command_breaks context k args ts ending rule ≡ false) → breaches_in (command_arguments context k args ts ending) ≡ []
-      → (command_takes k (parted_labelled context (command_labels k args) args) ≡ true) × Stands context.follows_if (command_reading_by k) (parted_tests context ts) (parted_block context ending)
+      → (command_takes k (parted_labelled context (command_labels k args) args) ≡ true) × Stands context.follows_if (command_reading_by k (parted_labelled context (command_labels k args) args)) (parted_tests context ts) (parted_block context ending)
   command_is_read None args ts ending keeps none = absurd (never_both (keeps UnknownCommand))
   command_is_read (Some k) args ts ending keeps none =
       let says = as_parted context (command_row k) args ts (has_block ending) (keeps BadTag) (keeps BadArguments) none in
-      (takes (command_row k) _ ts (has_block ending) says, stands k ts ending says.tests says.block (keeps ElsePlace))
+      (takes (command_row k) _ ts (has_block ending) says, stands k _ ts ending says (keeps ElsePlace))
+
+  acting_ends : (leaf : Option Leaf) → false ≡ may_go_on (option_map reading.acts leaf)
+  acting_ends None = refl
+  acting_ends (Some leaf) = refl
 
   -- a branch may go on exactly behind one that may go on
-  kind_goes_on : (k : Option CommandKind) → (behind_kind context k).follows_if ≡ may_go_on (command_reading_by k)
-  kind_goes_on None = refl
-  kind_goes_on (Some command.Require) = refl
-  kind_goes_on (Some command.If) = refl
-  kind_goes_on (Some command.Elsif) = refl
-  kind_goes_on (Some command.Else) = refl
-  kind_goes_on (Some command.Keep) = refl
-  kind_goes_on (Some command.Discard) = refl
-  kind_goes_on (Some command.Stop) = refl
+  kind_goes_on : (k : Option CommandKind) (written : List syntax.Argument) (args : List Argument) → (behind_kind context k written).follows_if ≡ may_go_on (command_reading_by k args)
+  kind_goes_on None written args = refl
+  kind_goes_on (Some command.Require) written args = refl
+  kind_goes_on (Some command.If) written args = refl
+  kind_goes_on (Some command.Elsif) written args = refl
+  kind_goes_on (Some command.Else) written args = refl
+  kind_goes_on (Some command.Keep) written args = refl
+  kind_goes_on (Some command.Fileinto) written args = acting_ends _
+  kind_goes_on (Some command.Redirect) written args = acting_ends _
+  kind_goes_on (Some command.Discard) written args = refl
+  kind_goes_on (Some command.Stop) written args = refl
 
   goes_on : (n : syntax.Node) → (behind context n).follows_if ≡ may_go_on (command_reading (parted_node context n))
-  goes_on (syntax.node name line args ts ending) = kind_goes_on (command_named name)
+  goes_on (syntax.node name line args ts ending) = kind_goes_on (command_named name) args _
 
 -- TESTS
 

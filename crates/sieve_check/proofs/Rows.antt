@@ -6,7 +6,7 @@ use Rattle.sieve_check.specs.Breach.{breaches_of, breaches_in, breaches_at}
 use Rattle.sieve_check.specs.Element.{nodes_elements, node_elements, block_elements, tests_elements, test_elements}
 use Rattle.sieve_check.specs.Label.{labels_of}
 use Rattle.sieve_check.specs.Parted.{parted}
-use Rattle.sieve_check.specs.Reading.{keep_leaf, discard_leaf, header_ask}
+use Rattle.sieve_check.specs.Reading.{keep_leaf, discard_leaf, header_values, compares}
 use Rattle.sieve_check.specs.Script.{no_commands, stops, acts, chooses, always, asks, script_of, chain_of, node_before, block_commands, condition_of, conditions_in}
 use Rattle.sieve_table.specs.Table.{Row, slot, bare, command_named, test_named}
 use Rattle.sieve_check.specs.Tree.{literal}
@@ -127,7 +127,7 @@ chain_row : script_of (parted (branch (codes "if") 1 (header (tagged (codes "con
     ∷ branch (codes "elsif") 3 truth (plain (codes "stop") 4 [] ∷ [])
     ∷ syntax.node (codes "else") 5 [] syntax.no_tests (syntax.block syntax.end_nodes)
     ∷ plain (codes "keep") 6 [] ∷ []))
-    ≡ chooses (asks (header_ask Contains Casemap ((literal (codes "a") ∷ []) ∷ []) ((literal (codes "b") ∷ []) ∷ []))) (acts discard_leaf 2 no_commands)
+    ≡ chooses (asks (compares (header_values ((literal (codes "a") ∷ []) ∷ [])) Contains Casemap ((literal (codes "b") ∷ []) ∷ []))) (acts discard_leaf 2 no_commands)
     (chooses always (stops no_commands) no_commands no_commands)
     (acts keep_leaf 6 no_commands)
 unfolding chain_of node_before block_commands condition_of conditions_in command_named test_named
@@ -135,6 +135,6 @@ chain_row = refl
 
 -- if header :comparator "i;octet" ["a", "c"] "b" {}
 octet_row : script_of (parted (branch (codes "if") 1 (header (tagged (codes "comparator") ∷ one (codes "i;octet") ∷ syntax.strings (text (codes "a") ∷ text (codes "c") ∷ []) true ∷ one (codes "b") ∷ [])) [] ∷ []))
-    ≡ chooses (asks (header_ask Is Octet ((literal (codes "a") ∷ []) ∷ (literal (codes "c") ∷ []) ∷ []) ((literal (codes "b") ∷ []) ∷ []))) no_commands no_commands no_commands
+    ≡ chooses (asks (compares (header_values ((literal (codes "a") ∷ []) ∷ (literal (codes "c") ∷ []) ∷ [])) Is Octet ((literal (codes "b") ∷ []) ∷ []))) no_commands no_commands no_commands
 unfolding chain_of node_before block_commands condition_of conditions_in command_named test_named
 octet_row = refl

@@ -8,49 +8,64 @@ use Rattle.sieve_check.specs.Element.{labelled_elements, judged_labels}
 use Rattle.sieve_check.specs.Label.{labels_of, is_filled}
 use Rattle.sieve_check.specs.Shape.{shapes_of}
 use Rattle.sieve_table.specs.Table.{Row}
-use Rattle.sieve_check.specs.Use.{are_bad, has_bad_arguments, has_bad_tag}
+use Rattle.sieve_check.specs.Use.{are_bad, has_bad_arguments, has_bad_tag, lacks_required}
 use Rattle.sieve_check.specs.view.Finds.{Finds, FindsIn}
 use Rattle.sieve_check.specs.view.Use.{row_found}
 use Rattle.sieve_check.specs.declared.label.Label.{Label}
-use Rattle.sieve_table.specs.declared.rule.Rule.TheVariants.{BadTag, BadArguments}
+use Rattle.sieve_table.specs.declared.rule.Rule.TheVariants.{NotRequired, ElsePlace, BadTag, BadArguments}
 use Rattle.sieve_check.specs.declared.validator.CheckFault.{CheckFault}
 use Rattle.sieve_check.specs.declared.validator.CheckFault.TheVariants as faults
 
 abbrev Answer : Type 0
 Answer = Result (Unit {0}) CheckFault
 
-module _ (context : Context) (line : ℕ) (row : Row) (args : List Argument) (ts : Tests) (b : Bool) where
-  -- what is found, by whether a tag is bad and whether arguments are
-  by_uses : Bool → Bool → List Breach
-  by_uses bad_tag bad_arguments =
-      (breach_if bad_tag line BadTag ++ (breach_if bad_arguments line BadArguments ++ [])) ++ breaches_in (labelled_elements context (judged_labels (not bad_tag && not bad_arguments) row args) args)
+module _ (alone : Bool) (context : Context) (line : ℕ) (row : Row) (args : List Argument) (ts : Tests) (b : Bool) where
+  -- what is found, by whether something isn't required, whether a branch stands alone, whether a tag is bad, and whether
+  -- arguments are
+  by_uses : Bool → Bool → Bool → Bool → List Breach
+  by_uses lacking apart bad_tag bad_arguments =
+      (breach_if lacking line NotRequired ++ (breach_if apart line ElsePlace ++ (breach_if bad_tag line BadTag ++ (breach_if bad_arguments line BadArguments ++ []))))
+      ++ breaches_in (labelled_elements context (judged_labels (not bad_tag && not bad_arguments) row args) args)
 
-  found_by : row_found context line row args ts b ≡ by_uses (has_bad_tag (labels_of row (shapes_of row.tags args))) (has_bad_arguments row (shapes_of row.tags args) ts b)
+  found_by : row_found alone context line row args ts b ≡ by_uses (lacks_required context.required row (labels_of row (shapes_of row.tags args))) alone (has_bad_tag (labels_of row (shapes_of row.tags args))) (has_bad_arguments row (shapes_of row.tags args) ts b)
   unfolding by_uses
   found_by = refl
 
-  tag_of : (labels : List Label) (bad : Bool) → labels ≡ labels_of row (shapes_of row.tags args) → has_bad_tag labels ≡ bad → has_bad_tag (labels_of row (shapes_of row.tags args)) ≡ bad
-  tag_of labels bad same is = ap has_bad_tag (sym same) ∙ is
+  module _ (labels : List Label) (same : labels ≡ labels_of row (shapes_of row.tags args)) where
+    -- whether arguments are bad
+    abbrev bad : Bool
+    bad = are_bad (is_filled row (shapes_of row.tags args)) row labels ts b
 
-  arguments_of : (labels : List Label) (bad : Bool) → labels ≡ labels_of row (shapes_of row.tags args) → are_bad (is_filled row (shapes_of row.tags args)) row labels ts b ≡ bad → has_bad_arguments row (shapes_of row.tags args) ts b ≡ bad
-  arguments_of labels bad same is = ap (λ l. are_bad (is_filled row (shapes_of row.tags args)) row l ts b) (sym same) ∙ is
+    found_at : (lacking bad_tag bad_arguments : Bool) → lacks_required context.required row labels ≡ lacking → has_bad_tag labels ≡ bad_tag → are_bad (is_filled row (shapes_of row.tags args)) row labels ts b ≡ bad_arguments
+        → row_found alone context line row args ts b ≡ by_uses lacking alone bad_tag bad_arguments
+    found_at lacking bad_tag bad_arguments lacks tag bad =
+        found_by
+        ∙ ap (λ l. by_uses (lacks_required context.required row l) alone (has_bad_tag l) (are_bad (is_filled row (shapes_of row.tags args)) row l ts b)) (sym same)
+        ∙ ap (λ x. by_uses x alone (has_bad_tag labels) (are_bad (is_filled row (shapes_of row.tags args)) row labels ts b)) lacks
+        ∙ ap (λ x. by_uses lacking alone x (are_bad (is_filled row (shapes_of row.tags args)) row labels ts b)) tag
+        ∙ ap (by_uses lacking alone bad_tag) bad
 
-  pub found_tag : (labels : List Label) → labels ≡ labels_of row (shapes_of row.tags args) → has_bad_tag labels ≡ true → IsFirst (row_found context line row args ts b) (faults.Breach line BadTag)
-  unfolding by_uses
-  found_tag labels same is =
-      subst (λ bs. IsFirst bs (faults.Breach line BadTag)) (sym (found_by ∙ ap (λ t. by_uses t (has_bad_arguments row (shapes_of row.tags args) ts b)) (tag_of labels true same is))) refl
+    pub found_lacking : lacks_required context.required row labels ≡ true → IsFirst (row_found alone context line row args ts b) (faults.Breach line NotRequired)
+    unfolding by_uses
+    found_lacking lacks = subst (λ bs. IsFirst bs (faults.Breach line NotRequired)) (sym (found_at true (has_bad_tag labels) bad lacks refl refl)) refl
 
-  pub found_arguments : (labels : List Label) → labels ≡ labels_of row (shapes_of row.tags args) → has_bad_tag labels ≡ false → are_bad (is_filled row (shapes_of row.tags args)) row labels ts b ≡ true → IsFirst (row_found context line row args ts b) (faults.Breach line BadArguments)
-  unfolding by_uses
-  found_arguments labels same fine is =
-      subst (λ bs. IsFirst bs (faults.Breach line BadArguments))
-      (sym (found_by ∙ ap (λ t. by_uses t (has_bad_arguments row (shapes_of row.tags args) ts b)) (tag_of labels false same fine) ∙ ap (by_uses false) (arguments_of labels true same is))) refl
+    pub found_alone : lacks_required context.required row labels ≡ false → alone ≡ true → IsFirst (row_found alone context line row args ts b) (faults.Breach line ElsePlace)
+    unfolding by_uses
+    found_alone lacks is = subst (λ bs. IsFirst bs (faults.Breach line ElsePlace)) (sym (found_at false (has_bad_tag labels) bad lacks refl refl ∙ ap (λ x. by_uses false x (has_bad_tag labels) bad) is)) refl
 
-  pub found_inside : (labels : List Label) (r : Answer) → labels ≡ labels_of row (shapes_of row.tags args) → has_bad_tag labels ≡ false → are_bad (is_filled row (shapes_of row.tags args)) row labels ts b ≡ false → FindsIn (labelled_elements context labels args) r → Finds (row_found context line row args ts b) r
-  unfolding by_uses
-  found_inside labels r same fine well found =
-      subst (λ bs. Finds bs r)
-      (sym (found_by ∙ ap (λ t. by_uses t (has_bad_arguments row (shapes_of row.tags args) ts b)) (tag_of labels false same fine) ∙ ap (by_uses false) (arguments_of labels false same well)
-      ∙ sym (ap (λ l. breaches_in (labelled_elements context l args)) same))) found
+    pub found_tag : lacks_required context.required row labels ≡ false → alone ≡ false → has_bad_tag labels ≡ true → IsFirst (row_found alone context line row args ts b) (faults.Breach line BadTag)
+    unfolding by_uses
+    found_tag lacks stands is = subst (λ bs. IsFirst bs (faults.Breach line BadTag)) (sym (found_at false true bad lacks is refl ∙ ap (λ x. by_uses false x true bad) stands)) refl
 
-pub ruleset use_steps = (found_tag, found_arguments, found_inside)
+    pub found_arguments : lacks_required context.required row labels ≡ false → alone ≡ false → has_bad_tag labels ≡ false → are_bad (is_filled row (shapes_of row.tags args)) row labels ts b ≡ true → IsFirst (row_found alone context line row args ts b) (faults.Breach line BadArguments)
+    unfolding by_uses
+    found_arguments lacks stands fine is = subst (λ bs. IsFirst bs (faults.Breach line BadArguments)) (sym (found_at false false true lacks fine is ∙ ap (λ x. by_uses false x false true) stands)) refl
+
+    pub found_inside : (r : Answer) → lacks_required context.required row labels ≡ false → alone ≡ false → has_bad_tag labels ≡ false → are_bad (is_filled row (shapes_of row.tags args)) row labels ts b ≡ false → FindsIn (labelled_elements context labels args) r → Finds (row_found alone context line row args ts b) r
+    unfolding by_uses
+    found_inside r lacks stands fine well found =
+        subst (λ bs. Finds bs r)
+        (sym (found_at false false false lacks fine well ∙ ap (λ x. by_uses false x false false) stands
+        ∙ sym (ap (λ l. breaches_in (labelled_elements context l args)) same))) found
+
+pub ruleset use_steps = (found_lacking, found_alone, found_tag, found_arguments, found_inside)

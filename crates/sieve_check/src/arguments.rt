@@ -1,4 +1,5 @@
-//! The breaches in arguments: unknown capabilities and comparators, and numbers that are too large.
+//! The breaches in the use of a row and in its arguments: what isn't required, tags and arguments that don't fit, unknown names,
+//! and numbers that are too large.
 ghost use Rattle.std.specs.Prelude.{◌≡◌, map};
 ghost use Rattle.sieve_syntax.specs.view.Tree.{argument_of, tests_of, text_of};
 ghost use Rattle.sieve_check.specs.Breach.{breaches_at, is_comparator_name};
@@ -12,10 +13,10 @@ use crate::context::Context;
 use crate::label::Label;
 use crate::role::{behind_first, first_role, has_role};
 use crate::shape::row_labels;
-use crate::usage::{has_bad_arguments, has_bad_tag};
+use crate::usage::{has_bad_arguments, has_bad_tag, lacks_required};
 use crate::validator::CheckFault;
 use sieve_syntax::{Argument, Tests, Text};
-use sieve_table::{Role, Row, Rule, is_capability};
+use sieve_table::{Role, Row, Rule, is_address_field, is_capability, is_envelope_part};
 use std::alloc::Global;
 
 /// Whether there is such a comparator (RFC 4790).
@@ -37,6 +38,14 @@ fn check_text(context: Context, role: Option<Role>, text: &Text) -> Result<(), C
     }
     if has_role(Role::ComparatorName, role) && !is_comparator_name(&text.octets) {
         let rule = Rule::UnknownComparator;
+        return Err(CheckFault::Breach { line, rule });
+    }
+    if has_role(Role::EnvelopeParts, role) && !is_envelope_part(&text.octets) {
+        let rule = Rule::BadEnvelopePart;
+        return Err(CheckFault::Breach { line, rule });
+    }
+    if has_role(Role::AddressFields, role) && !is_address_field(&text.octets) {
+        let rule = Rule::NotAddressHeader;
         return Err(CheckFault::Breach { line, rule });
     }
     Ok(())
@@ -100,7 +109,8 @@ pub(crate) fn check_arguments(
     Ok(())
 }
 
-/// Checks a command or a test of a row, apart from where it stands, from its tests and from its block.
+/// Checks a command or a test of a row, apart from its tests and its block, and from whether a `require` may stand there.
+/// `stands_alone` says whether it goes on with an `if` that isn't there.
 #[tactic(auto, using(crate::proofs::Uses::use_steps))]
 pub(crate) fn check_use(
     alloc: Global,
@@ -110,10 +120,19 @@ pub(crate) fn check_use(
     args: &[Argument],
     tests: &Tests,
     ends_by_block: bool,
+    stands_alone: bool,
 ) -> Result<(), CheckFault>
-    ensures { Finds (row_found (context_as context) line (row_as row.now) (map argument_of args.now) (tests_of tests.now) ends_by_block) result }
+    ensures { Finds (row_found stands_alone (context_as context) line (row_as row.now) (map argument_of args.now) (tests_of tests.now) ends_by_block) result }
 {
     let labels = row_labels(alloc, row, args)?;
+    if lacks_required(context.required, row, &labels) {
+        let rule = Rule::NotRequired;
+        return Err(CheckFault::Breach { line, rule });
+    }
+    if stands_alone {
+        let rule = Rule::ElsePlace;
+        return Err(CheckFault::Breach { line, rule });
+    }
     if has_bad_tag(&labels) {
         let rule = Rule::BadTag;
         return Err(CheckFault::Breach { line, rule });

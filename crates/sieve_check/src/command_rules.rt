@@ -1,7 +1,7 @@
 //! The breaches in commands.
 ghost use Rattle.std.specs.Prelude.{◌≡◌, ◌&&◌, not, map, IfOk};
 ghost use Rattle.sieve_syntax.specs.Tree.{nodes};
-ghost use Rattle.sieve_syntax.specs.view.Tree.{node_of};
+ghost use Rattle.sieve_syntax.specs.view.Tree.{argument_of, node_of};
 ghost use Rattle.sieve_syntax.specs.declared.tree.Command.{out-Command};
 ghost use Rattle.sieve_check.specs.Context.{behind, behind_kind, continues_if, is_require};
 ghost use Rattle.sieve_check.specs.Element.{node_elements, nodes_elements};
@@ -47,10 +47,6 @@ fn check_kind(
         let rule = Rule::RequirePlace;
         return Err(CheckFault::Breach { line, rule });
     }
-    if stands_alone(context, kind) {
-        let rule = Rule::ElsePlace;
-        return Err(CheckFault::Breach { line, rule });
-    }
     let ends_by_block = command.block.is_some();
     check_use(
         alloc,
@@ -60,6 +56,7 @@ fn check_kind(
         &command.args,
         &command.tests,
         ends_by_block,
+        stands_alone(context, kind),
     )
 }
 
@@ -71,7 +68,7 @@ fn check_command_head(
     command: &Command,
 ) -> Result<Context, CheckFault>
     ensures found { FindsIn (command_head (context_as context) command.now) result }
-    ensures goes { IfOk result (λ next. context_as next ≡ behind_kind (context_as context) (command_named (out-Command command.now).name.items)) }
+    ensures goes { IfOk result (λ next. context_as next ≡ behind_kind (context_as context) (command_named (out-Command command.now).name.items) (map argument_of (out-Command command.now).args.items)) }
 {
     match command_named(&command.name) {
         None => Err(CheckFault::Breach {
@@ -80,7 +77,7 @@ fn check_command_head(
         }),
         Some(kind) => {
             check_kind(alloc, context, kind, command)?;
-            Ok(context.behind_kind(Some(kind)))
+            Ok(context.behind_kind(Some(kind), &command.args))
         }
     }
 }

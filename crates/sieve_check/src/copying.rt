@@ -217,7 +217,7 @@ fn parted_test_list(
 fn behind(context: Context, command: &sieve_syntax::Command) -> Context
     ensures { context_as result ≡ behind (context_as context) (seen.node_of command.now) }
 {
-    context.behind_kind(command_named(&command.name))
+    context.behind_kind(command_named(&command.name), &command.args)
 }
 
 /// A command with its strings in parts.

@@ -20,7 +20,7 @@ mod validator;
 
 pub use checked::Checked;
 pub use judged::{FaultKind, JudgeFault, Judged, judge};
-pub use reading::{Ask, CommandReading, Leaf, MatchType, TestReading};
+pub use reading::{Ask, CommandReading, Leaf, MatchType, Source, TestReading};
 pub use sieve_syntax::SmallOctets;
 pub use sieve_table::{CommandKind, Rule, TestKind};
 pub use tree::{Argument, Command, Part, Parts, Test, Tests, Text};

@@ -3,14 +3,15 @@ ghost use Rattle.std.specs.Prelude.{◌≡◌, true, false, length, drop, Some, 
 ghost use Rattle.std.specs.Option.{option_map};
 ghost use Rattle.std.specs.List.{flat_map, starts_with};
 ghost use lib.Pointwise.{pointwise};
-ghost use Rattle.sieve_check.specs.Reading.{collation_by, collation_named, command_reading, command_reading_by, exists_by, has_tag, header_by, in_role, kind_of, labels_in, match_type_of, number_in, part_value, reads_ask, size_by, test_reading, test_reading_by, text_value, texts_in};
-ghost use Rattle.sieve_check.specs.view.Reading.{ask_as, command_reading_as, test_reading_as, texts_as};
+ghost use Rattle.sieve_check.specs.Reading.{acts, address_part_of, address_source, collation_by, collation_named, command_reading, command_reading_by, compares_by, envelope_source, exists_by, fileinto_leaf, has_tag, header_source, in_role, kind_of, labels_in, match_type_of, number_in, part_value, reads_ask, redirect_leaf, size_by, test_reading, test_reading_by, text_in, text_value, texts_in};
+ghost use Rattle.sieve_check.specs.view.Reading.{ask_as, command_reading_as, source_as, test_reading_as, texts_as};
 ghost use Rattle.sieve_table.specs.view.Row.{row_as};
 ghost use Rattle.sieve_check.specs.view.Tree.{argument_of, node_of, part_of, test_of, text_of};
 
 use crate::labelled::{argument_in, has_tag};
 use crate::tree::{Argument, Command, Part, Test, Text};
 use match_text::Collation;
+use message_text::AddressPart;
 use sieve_table::{CommandKind, Role, Row, Tag, TestKind, command_named, test_named};
 
 /// How a test compares values with keys (RFC 5228, section 2.7.1).
@@ -22,17 +23,41 @@ pub enum MatchType {
     Contains,
 }
 
-/// What a test asks of the message.
+/// Where a test takes values from.
+#[derive(Clone, Copy, Debug)]
+pub enum Source<'a> {
+    /// From the fields of some names (RFC 5228, section 5.7).
+    Header {
+        /// The names of fields.
+        names: &'a [Text],
+    },
+    /// From the addresses in the fields of some names (RFC 5228, section 5.1).
+    Address {
+        /// Which part of an address.
+        part: AddressPart,
+        /// The names of fields.
+        names: &'a [Text],
+    },
+    /// From the envelope (RFC 5228, section 5.4).
+    Envelope {
+        /// Which part of an address.
+        part: AddressPart,
+        /// The names of the envelope's parts.
+        names: &'a [Text],
+    },
+}
+
+/// What a test asks of the delivery.
 #[derive(Clone, Copy, Debug)]
 pub enum Ask<'a> {
-    /// Whether a value of some named field matches some key (RFC 5228, section 5.7).
-    Header {
+    /// Whether some value matches some key (RFC 5228, section 2.7).
+    Compares {
+        /// Where the values are from.
+        source: Source<'a>,
         /// How a value is compared with a key.
         match_type: MatchType,
         /// Which octets are equal.
         collation: Collation,
-        /// The names of fields.
-        names: &'a [Text],
         /// The keys.
         keys: &'a [Text],
     },
@@ -71,17 +96,27 @@ pub enum TestReading<'a> {
 }
 
 /// What a command does that acts.
-#[derive(Clone, Copy, Debug, PartialEq, Eq)]
-pub enum Leaf {
+#[derive(Clone, Copy, Debug)]
+pub enum Leaf<'a> {
     /// It stores into the mailbox of the delivery (RFC 5228, section 4.3).
     Keep,
+    /// It stores into the mailbox of that name (RFC 5228, section 4.1).
+    Fileinto {
+        /// The name, as its parts.
+        mailbox: &'a [Part],
+    },
+    /// It sends the message on to that address (RFC 5228, section 4.2).
+    Redirect {
+        /// The address, as its parts.
+        address: &'a [Part],
+    },
     /// It discards the message (RFC 5228, section 4.4).
     Discard,
 }
 
 /// What a command is, apart from its test and its block.
-#[derive(Clone, Copy, Debug, PartialEq, Eq)]
-pub enum CommandReading {
+#[derive(Clone, Copy, Debug)]
+pub enum CommandReading<'a> {
     /// It is the first branch of a chain (RFC 5228, section 3.1).
     Opens,
     /// It is a branch behind another, with a test (RFC 5228, section 3.1).
@@ -93,7 +128,7 @@ pub enum CommandReading {
     /// It does nothing when it runs (RFC 5228, section 3.2).
     Nothing,
     /// It acts.
-    Acts(Leaf),
+    Acts(Leaf<'a>),
 }
 
 /// The strings of an argument.
@@ -102,6 +137,21 @@ fn texts_in(argument: Option<&Argument>) -> Option<&[Text]>
 {
     match argument {
         Some(Argument::Strings { items, .. }) => Some(items.as_slice()),
+        Some(Argument::Number { .. }) => None,
+        Some(Argument::Tag { .. }) => None,
+        None => None,
+    }
+}
+
+/// The one string that an argument is.
+fn text_in(argument: Option<&Argument>) -> Option<&[Part]>
+    ensures { option_map (λ parts. map part_of parts.now) result ≡ text_in (option_map (λ a. argument_of a.now) argument.entry) }
+{
+    match argument {
+        Some(Argument::Strings { items, .. }) => match items.as_slice() {
+            [text] => Some(text.parts.as_slice()),
+            _ => None,
+        },
         Some(Argument::Number { .. }) => None,
         Some(Argument::Tag { .. }) => None,
         None => None,
@@ -194,20 +244,80 @@ fn collation_by(argument: Option<&Argument>) -> Option<Collation>
     }
 }
 
-/// What a `header` test asks.
-fn header_ask<'a>(row: &Row, args: &'a [Argument]) -> Option<Ask<'a>>
-    ensures { option_map ask_as result ≡ header_by (labels_in (row_as row.now) (map argument_of args.now)) (map argument_of args.now) }
+/// The part of an address that a test names, which is all of it where none is named.
+fn address_part_of(row: &Row, args: &[Argument]) -> AddressPart
+    ensures { result ≡ address_part_of (labels_in (row_as row.now) (map argument_of args.now)) }
 {
+    if has_tag(row, Tag::LocalPart, args) {
+        AddressPart::Local
+    } else if has_tag(row, Tag::Domain, args) {
+        AddressPart::Domain
+    } else {
+        AddressPart::All
+    }
+}
+
+/// From where a `header` test takes its values.
+fn header_source<'a>(row: &Row, args: &'a [Argument]) -> Option<Source<'a>>
+    ensures { option_map source_as result ≡ header_source (labels_in (row_as row.now) (map argument_of args.now)) (map argument_of args.now) }
+{
+    let names = texts_in(argument_in(row, Role::FieldNames, args))?;
+    Some(Source::Header { names })
+}
+
+/// From where an `address` test takes its values.
+fn address_source<'a>(row: &Row, args: &'a [Argument]) -> Option<Source<'a>>
+    ensures { option_map source_as result ≡ address_source (labels_in (row_as row.now) (map argument_of args.now)) (map argument_of args.now) }
+{
+    let part = address_part_of(row, args);
+    let names = texts_in(argument_in(row, Role::AddressFields, args))?;
+    Some(Source::Address { part, names })
+}
+
+/// From where an `envelope` test takes its values.
+fn envelope_source<'a>(row: &Row, args: &'a [Argument]) -> Option<Source<'a>>
+    ensures { option_map source_as result ≡ envelope_source (labels_in (row_as row.now) (map argument_of args.now)) (map argument_of args.now) }
+{
+    let part = address_part_of(row, args);
+    let names = texts_in(argument_in(row, Role::EnvelopeParts, args))?;
+    Some(Source::Envelope { part, names })
+}
+
+/// What a test asks that compares values with keys.
+fn compares_by<'a>(source: Option<Source<'a>>, row: &Row, args: &'a [Argument]) -> Option<Ask<'a>>
+    ensures { option_map ask_as result ≡ compares_by (option_map source_as source.entry) (labels_in (row_as row.now) (map argument_of args.now)) (map argument_of args.now) }
+{
+    let source = source?;
     let match_type = match_type_of(row, args);
     let collation = collation_by(argument_in(row, Role::ComparatorName, args))?;
-    let names = texts_in(argument_in(row, Role::FieldNames, args))?;
     let keys = texts_in(argument_in(row, Role::Keys, args))?;
-    Some(Ask::Header {
+    Some(Ask::Compares {
+        source,
         match_type,
         collation,
-        names,
         keys,
     })
+}
+
+/// What a `header` test asks.
+fn header_ask<'a>(row: &Row, args: &'a [Argument]) -> Option<Ask<'a>>
+    ensures { option_map ask_as result ≡ (let labels = labels_in (row_as row.now) (map argument_of args.now) in compares_by (header_source labels (map argument_of args.now)) labels (map argument_of args.now)) }
+{
+    compares_by(header_source(row, args), row, args)
+}
+
+/// What an `address` test asks.
+fn address_ask<'a>(row: &Row, args: &'a [Argument]) -> Option<Ask<'a>>
+    ensures { option_map ask_as result ≡ (let labels = labels_in (row_as row.now) (map argument_of args.now) in compares_by (address_source labels (map argument_of args.now)) labels (map argument_of args.now)) }
+{
+    compares_by(address_source(row, args), row, args)
+}
+
+/// What an `envelope` test asks.
+fn envelope_ask<'a>(row: &Row, args: &'a [Argument]) -> Option<Ask<'a>>
+    ensures { option_map ask_as result ≡ (let labels = labels_in (row_as row.now) (map argument_of args.now) in compares_by (envelope_source labels (map argument_of args.now)) labels (map argument_of args.now)) }
+{
+    compares_by(envelope_source(row, args), row, args)
 }
 
 /// What an `exists` test asks.
@@ -250,6 +360,8 @@ fn test_reading_by(kind: TestKind, args: &[Argument]) -> Option<TestReading<'_>>
 {
     match kind {
         TestKind::Header => asking(header_ask(&kind.row(), args)),
+        TestKind::Address => asking(address_ask(&kind.row(), args)),
+        TestKind::Envelope => asking(envelope_ask(&kind.row(), args)),
         TestKind::Exists => asking(exists_ask(&kind.row(), args)),
         TestKind::Size => asking(size_ask(&kind.row(), args)),
         TestKind::AllOf => Some(TestReading::AllOf),
@@ -273,18 +385,36 @@ impl Test {
     }
 }
 
+/// What a `fileinto` does.
+fn fileinto_leaf<'a>(row: &Row, args: &'a [Argument]) -> Option<CommandReading<'a>>
+    ensures { option_map command_reading_as result ≡ option_map acts (option_map fileinto_leaf (text_in (in_role Role.Mailbox (labels_in (row_as row.now) (map argument_of args.now)) (map argument_of args.now)))) }
+{
+    let mailbox = text_in(argument_in(row, Role::Mailbox, args))?;
+    Some(CommandReading::Acts(Leaf::Fileinto { mailbox }))
+}
+
+/// What a `redirect` does.
+fn redirect_leaf<'a>(row: &Row, args: &'a [Argument]) -> Option<CommandReading<'a>>
+    ensures { option_map command_reading_as result ≡ option_map acts (option_map redirect_leaf (text_in (in_role Role.Address (labels_in (row_as row.now) (map argument_of args.now)) (map argument_of args.now)))) }
+{
+    let address = text_in(argument_in(row, Role::Address, args))?;
+    Some(CommandReading::Acts(Leaf::Redirect { address }))
+}
+
 /// What a command of a kind is.
-fn command_reading_by(kind: CommandKind) -> CommandReading
-    ensures { Some (command_reading_as result) ≡ command_reading_by (Some kind) }
+fn command_reading_by(kind: CommandKind, args: &[Argument]) -> Option<CommandReading<'_>>
+    ensures { option_map command_reading_as result ≡ command_reading_by (Some kind) (map argument_of args.now) }
 {
     match kind {
-        CommandKind::Require => CommandReading::Nothing,
-        CommandKind::If => CommandReading::Opens,
-        CommandKind::Elsif => CommandReading::Continues,
-        CommandKind::Else => CommandReading::Otherwise,
-        CommandKind::Keep => CommandReading::Acts(Leaf::Keep),
-        CommandKind::Discard => CommandReading::Acts(Leaf::Discard),
-        CommandKind::Stop => CommandReading::Stops,
+        CommandKind::Require => Some(CommandReading::Nothing),
+        CommandKind::If => Some(CommandReading::Opens),
+        CommandKind::Elsif => Some(CommandReading::Continues),
+        CommandKind::Else => Some(CommandReading::Otherwise),
+        CommandKind::Keep => Some(CommandReading::Acts(Leaf::Keep)),
+        CommandKind::Fileinto => fileinto_leaf(&kind.row(), args),
+        CommandKind::Redirect => redirect_leaf(&kind.row(), args),
+        CommandKind::Discard => Some(CommandReading::Acts(Leaf::Discard)),
+        CommandKind::Stop => Some(CommandReading::Stops),
     }
 }
 
@@ -298,11 +428,11 @@ impl Command {
 
     /// What the command is, apart from its test and its block. Each command of a checked script is read as something. Takes
     /// no memory.
-    pub fn reading(&self) -> Option<CommandReading>
+    pub fn reading(&self) -> Option<CommandReading<'_>>
         ensures { option_map command_reading_as result ≡ command_reading (node_of self.now) }
     {
         match self.kind() {
-            Some(kind) => Some(command_reading_by(kind)),
+            Some(kind) => command_reading_by(kind, &self.args),
             None => None,
         }
     }

@@ -33,6 +33,7 @@ fn check_test_head(alloc: Global, context: Context, test: &Test) -> Result<(), C
             &test.args,
             &test.tests,
             false,
+            false,
         ),
     }
 }

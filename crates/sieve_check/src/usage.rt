@@ -4,13 +4,68 @@ ghost use Rattle.std.specs.List.{list_any};
 ghost use Rattle.sieve_syntax.specs.view.Tree.{argument_of, tests_of};
 ghost use Rattle.sieve_check.specs.Label.{is_filled};
 ghost use Rattle.sieve_check.specs.Shape.{shapes_of};
-ghost use Rattle.sieve_check.specs.Use.{are_bad, awaits, begins_own, has_bad_tag, has_late_tag, has_repeated, is_of_kind, is_other_tag, is_positional, is_repeated, is_tag, lacks_kind, lacks_own, same_kind, tests_fit};
+ghost use Rattle.sieve_check.specs.Use.{are_bad, awaits, begins_own, has_bad_tag, has_late_tag, has_repeated, is_of_kind, is_other_tag, is_positional, is_repeated, is_tag, is_lacking, lacks_kind, lacks_needed, lacks_own, lacks_required, needed_by, same_kind, tests_fit};
+ghost use Rattle.sieve_check.specs.view.Context.{required_as};
 ghost use Rattle.sieve_table.specs.view.Row.{row_as};
 
+use crate::context::Required;
 use crate::label::Label;
 use crate::shape::row_is_filled;
 use sieve_syntax::{Argument, Tests};
-use sieve_table::{Inner, Row, TagKind};
+use sieve_table::{Capability, Inner, Row, TagKind};
+
+/// Whether a capability has to be required and isn't.
+fn is_lacking(required: Required, capability: Capability) -> bool
+    ensures { result ≡ is_lacking (required_as required) capability }
+{
+    !required.has(capability)
+}
+
+/// What has to be required for an argument.
+fn needed_by(label: Label) -> Option<Capability>
+    ensures { result ≡ needed_by label }
+{
+    match label {
+        Label::Tagged(tag) => tag.row().needs,
+        Label::Own(slot) => slot.needs,
+        Label::InSlot(slot) => slot.needs,
+        Label::OtherTag => None,
+        Label::Unfit => None,
+    }
+}
+
+/// Whether an argument needs what isn't required.
+fn lacks_needed(required: Required, label: Label) -> bool
+    ensures { result ≡ lacks_needed (required_as required) (needed_by label) }
+{
+    match needed_by(label) {
+        Some(capability) => is_lacking(required, capability),
+        None => false,
+    }
+}
+
+/// Whether some of these has to be required and isn't.
+fn has_lacking(required: Required, needs: &[Capability]) -> bool
+    ensures { result ≡ list_any (is_lacking (required_as required)) needs.now }
+{
+    needs
+        .iter()
+        .any(|capability| is_lacking(required, *capability))
+}
+
+/// Whether some argument needs what isn't required.
+fn has_needy(required: Required, labels: &[Label]) -> bool
+    ensures { result ≡ list_any (λ label. lacks_needed (required_as required) (needed_by label)) labels.now }
+{
+    labels.iter().any(|label| lacks_needed(required, *label))
+}
+
+/// Whether a command or a test of a row, with arguments of these labels, needs what isn't required (RFC 5228, section 2.10.5).
+pub(crate) fn lacks_required(required: Required, row: &Row, labels: &[Label]) -> bool
+    ensures { result ≡ lacks_required (required_as required) (row_as row.now) labels.now }
+{
+    has_lacking(required, row.needs) || has_needy(required, labels)
+}
 
 /// Whether it is a tag that isn't taken.
 fn is_other_tag(label: Label) -> bool

@@ -2,13 +2,15 @@
 use Rattle.std.specs.Prelude.{List, map}
 use Rattle.sieve_check.specs.Reading as reading
 use Rattle.sieve_check.specs.Tree.{Part}
-use Rattle.sieve_check.specs.view.Tree.{text_of}
+use Rattle.sieve_check.specs.view.Tree.{part_of, text_of}
 use Rattle.sieve_check.specs.declared.reading.Ask.{Ask}
-use Rattle.sieve_check.specs.declared.reading.Ask.TheVariants.{Header, Exists, Over, Under}
+use Rattle.sieve_check.specs.declared.reading.Ask.TheVariants.{Compares, Exists, Over, Under}
 use Rattle.sieve_check.specs.declared.reading.CommandReading.{CommandReading}
 use Rattle.sieve_check.specs.declared.reading.CommandReading.TheVariants.{Opens, Continues, Otherwise, Stops, Nothing, Acts}
 use Rattle.sieve_check.specs.declared.reading.Leaf.{Leaf}
-use Rattle.sieve_check.specs.declared.reading.Leaf.TheVariants.{Keep, Discard}
+use Rattle.sieve_check.specs.declared.reading.Leaf.TheVariants.{Keep, Fileinto, Redirect, Discard}
+use Rattle.sieve_check.specs.declared.reading.Source.{Source}
+use Rattle.sieve_check.specs.declared.reading.Source.TheVariants as source
 use Rattle.sieve_check.specs.declared.reading.TestReading.{TestReading}
 use Rattle.sieve_check.specs.declared.reading.TestReading.TheVariants.{Always, Never, Asks, AllOf, AnyOf, Not}
 use Rattle.sieve_check.specs.declared.tree.Text.{Text}
@@ -17,8 +19,13 @@ use Rattle.sieve_check.specs.declared.tree.Text.{Text}
 abbrev pub texts_as : List Text → List (List Part)
 texts_as texts = map (λ t. t.parts) (map text_of texts)
 
+abbrev pub source_as : Source → reading.Source
+source_as (source.Header names) = reading.header_values (texts_as names.now)
+source_as (source.Address part names) = reading.address_values part (texts_as names.now)
+source_as (source.Envelope part names) = reading.envelope_values part (texts_as names.now)
+
 abbrev pub ask_as : Ask → reading.Ask
-ask_as (Header match_type collation names keys) = reading.header_ask match_type collation (texts_as names.now) (texts_as keys.now)
+ask_as (Compares source match_type collation keys) = reading.compares (source_as source) match_type collation (texts_as keys.now)
 ask_as (Exists names) = reading.exists_ask (texts_as names.now)
 ask_as (Over limit) = reading.over_ask limit
 ask_as (Under limit) = reading.under_ask limit
@@ -33,6 +40,8 @@ test_reading_as Not = reading.reads_not
 
 abbrev pub leaf_as : Leaf → reading.Leaf
 leaf_as Keep = reading.keep_leaf
+leaf_as (Fileinto mailbox) = reading.fileinto_leaf (map part_of mailbox.now)
+leaf_as (Redirect address) = reading.redirect_leaf (map part_of address.now)
 leaf_as Discard = reading.discard_leaf
 
 abbrev pub command_reading_as : CommandReading → reading.CommandReading

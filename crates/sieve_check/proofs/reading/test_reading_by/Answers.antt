@@ -1,6 +1,6 @@
 use Rattle.std.proofs.Common.{Some, ◌∙◌, ap, map, sym}
 use Rattle.std.specs.Option.{option_map}
-use Rattle.sieve_check.specs.Reading.{exists_by, header_by, labels_in, reads_ask, size_by, test_reading_by}
+use Rattle.sieve_check.specs.Reading.{address_source, compares_by, envelope_source, exists_by, header_source, labels_in, reads_ask, size_by, test_reading_by}
 use Rattle.sieve_table.specs.Table.{test_row}
 use Rattle.sieve_check.specs.view.Tree.{argument_of}
 use Rattle.sieve_check.proofs.reading.test_reading_by.Goals as goal
@@ -9,8 +9,22 @@ pub returns-in-Header : goal.returns-in-Header
 returns-in-Header c =
     let args = map argument_of c.args.args.now in
     c.asking.ensures
-    ∙ ap (option_map reads_ask) (c.header_ask.ensures ∙ ap (λ r. header_by (labels_in r args) args) (c.row.ensures ∙ ap test_row c.in-Header.is))
+    ∙ ap (option_map reads_ask) (c.header_ask.ensures ∙ ap (λ r. compares_by (header_source (labels_in r args) args) (labels_in r args) args) (c.row.ensures ∙ ap test_row c.in-Header.is))
     ∙ sym (ap (λ kind. test_reading_by (Some kind) args) c.in-Header.is)
+
+pub returns-in-Address : goal.returns-in-Address
+returns-in-Address c =
+    let args = map argument_of c.args.args.now in
+    c.asking-in-Address.ensures
+    ∙ ap (option_map reads_ask) (c.address_ask.ensures ∙ ap (λ r. compares_by (address_source (labels_in r args) args) (labels_in r args) args) (c.row-in-Address.ensures ∙ ap test_row c.in-Address.is))
+    ∙ sym (ap (λ kind. test_reading_by (Some kind) args) c.in-Address.is)
+
+pub returns-in-Envelope : goal.returns-in-Envelope
+returns-in-Envelope c =
+    let args = map argument_of c.args.args.now in
+    c.asking-in-Envelope.ensures
+    ∙ ap (option_map reads_ask) (c.envelope_ask.ensures ∙ ap (λ r. compares_by (envelope_source (labels_in r args) args) (labels_in r args) args) (c.row-in-Envelope.ensures ∙ ap test_row c.in-Envelope.is))
+    ∙ sym (ap (λ kind. test_reading_by (Some kind) args) c.in-Envelope.is)
 
 pub returns-in-Exists : goal.returns-in-Exists
 returns-in-Exists c =

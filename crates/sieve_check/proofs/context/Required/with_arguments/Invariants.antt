@@ -1,0 +1,9 @@
+use Rattle.std.proofs.Common.{◌≡◌, drop, map}
+use Rattle.sieve_syntax.specs.view.Tree.{argument_of}
+use Rattle.sieve_check.specs.Context.{requiring_arguments}
+use Rattle.sieve_check.specs.view.Context.{required_as}
+use Rattle.sieve_check.proofs.context.Required.with_arguments.Given as goal
+
+-- what the arguments that are left add
+abbrev pub invariant-loop-argument : goal.invariant-loop-argument
+invariant-loop-argument l = requiring_arguments (required_as l.required) (map argument_of (drop l.argument-index l.args)) ≡ requiring_arguments (required_as l.fn.self) (map argument_of l.args)

@@ -1,0 +1,9 @@
+use Rattle.std.proofs.Common.{◌≡◌, drop, map}
+use Rattle.sieve_syntax.specs.view.Tree.{text_of}
+use Rattle.sieve_check.specs.Context.{requiring_texts}
+use Rattle.sieve_check.specs.view.Context.{required_as}
+use Rattle.sieve_check.proofs.context.Required.with_texts.Given as goal
+
+-- what the strings that are left add
+abbrev pub invariant-loop-text : goal.invariant-loop-text
+invariant-loop-text l = requiring_texts (required_as l.required) (map text_of (drop l.text-index l.texts)) ≡ requiring_texts (required_as l.fn.self) (map text_of l.texts)
