@@ -58,7 +58,8 @@ pub record Context : Type 0 where
   pub leads : Bool
   -- an `if` or `elsif` stands directly before it in its block (RFC 5228, section 3.1)
   pub follows_if : Bool
-  -- what the requires at the top of the script name that stand before it (RFC 5228, section 3.2)
+  -- what the requires at the top of the script name that stand before it; behind them that is all that is required (RFC 5228,
+  -- section 3.2)
   pub required : Required
 
 -- at the start of a script

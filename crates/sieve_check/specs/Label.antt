@@ -98,7 +98,7 @@ slots_with (Some front) slots shapes = if fills (expecting (front ∷ slots)) sh
 abbrev pub slots_of : Row → List Shape → List Slot
 slots_of row shapes = slots_with row.front row.slots shapes
 
--- the labels of a row'looks arguments
+-- the labels of a row's arguments
 abbrev pub labels_of : Row → List Shape → List Label
 labels_of row shapes = labels_from (expecting (slots_of row shapes)) shapes
 

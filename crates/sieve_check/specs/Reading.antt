@@ -175,7 +175,7 @@ size_from false false limit = None
 abbrev pub size_by : List Label → List Argument → Option Ask
 size_by labels args = size_from (has_tag tag.Over labels) (has_tag tag.Under labels) (number_in (in_role role.Limit labels args))
 
--- a test apart from the tests in it: always or never so (RFC 5228, sections 5.10 and 5.6), asked of the message, or a join of
+-- a test apart from the tests in it: always or never so (RFC 5228, sections 5.10 and 5.6), asked of the delivery, or a join of
 -- the tests in it (RFC 5228, sections 5.2, 5.3 and 5.8)
 pub data TestReading : Type 0 where
   reads_always : TestReading

@@ -23,7 +23,7 @@ abbrev pub lacks_needed : Required → Option Capability → Bool
 lacks_needed required None = false
 lacks_needed required (Some capability) = is_lacking required capability
 
--- what has to be required for an argument: for a tag, or for an argument in a slot
+-- what has to be required for an argument: for a tag, for the argument that a tag takes itself, or for one in a slot
 abbrev pub needed_by : Label → Option Capability
 needed_by (Tagged taken) = (tag_row taken).needs
 needed_by OtherTag = None

@@ -1,5 +1,5 @@
 //! Laws over the definitions. Each of these functions does nothing: its contract is the law.
-ghost use Rattle.std.specs.Prelude.{◌≡◌, ◌-◌, ℕ, false, length, slice_get, All, List, [], None, Some};
+ghost use Rattle.std.specs.Prelude.{◌≡◌, ◌-◌, ◌||◌, ℕ, false, length, slice_get, All, List, [], None, Some};
 ghost use Rattle.std.specs.List.{flat_map};
 ghost use Rattle.sieve_base.specs.Limits.{test_depth, block_room};
 ghost use Rattle.sieve_syntax.specs.Grammar.{Writes};
@@ -8,15 +8,18 @@ ghost use Rattle.sieve_syntax.specs.Tree.{Node};
 ghost use Rattle.sieve_syntax.specs.Word.{words_of};
 ghost use Rattle.sieve_syntax.specs.declared.token.Token.{Token};
 ghost use Rattle.sieve_check.specs.Breach.{Breach, all_rules, breaches_at, breaches_of, breaks, first_breach, IsLeastBreach};
+ghost use Rattle.sieve_check.specs.Context.{Required, is_required, requiring};
 ghost use Rattle.sieve_check.specs.Element.{elements_of};
 ghost use Rattle.sieve_check.specs.Order.{IsInTextOrder};
 ghost use Rattle.sieve_check.specs.Parted.{parted};
 ghost use Rattle.sieve_check.specs.Readable.{IsReadable, DoesAll};
 ghost use Rattle.sieve_check.specs.Role.{all_roles, role_number};
+ghost use Rattle.sieve_table.specs.Capability.{is_name_of};
 ghost use Rattle.sieve_table.specs.Rule.{rule_number};
 ghost use Rattle.sieve_table.specs.Table.{command_named, command_row, test_named, test_row};
 ghost use Rattle.sieve_check.specs.Tree as checked;
 ghost use Rattle.sieve_check.specs.Use.{all_kinds, kind_number};
+ghost use Rattle.sieve_table.specs.declared.capability.Capability.{Capability};
 ghost use Rattle.sieve_table.specs.declared.row.Role.{Role};
 ghost use Rattle.sieve_table.specs.declared.row.TagKind.{TagKind};
 ghost use Rattle.sieve_table.specs.declared.rule.Rule.{Rule};
@@ -43,6 +46,12 @@ pub fn rules_go_by_their_numbers()
 pub fn numbers_tell_roles_and_kinds()
     ensures roles { (role : Role) → slice_get all_roles (role_number role) ≡ Some role }
     ensures kinds { (kind : TagKind) → slice_get all_kinds (kind_number kind) ≡ Some kind }
+{}
+
+/// Behind a string that a `require` names, what was required is, and what the string names.
+#[tactic(auto, using(crate::proofs::Required::named_is_required))]
+pub fn what_is_named_is_required()
+    ensures { (required : Required) (name : List ℕ) (capability : Capability) → is_required (requiring required name) capability ≡ (is_required required capability || is_name_of name capability) }
 {}
 
 /// Each command and each test is found by the name of its row.

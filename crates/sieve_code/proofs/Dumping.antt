@@ -5,12 +5,11 @@ use Rattle.std.proofs.lemmas.List.{take_rest}
 use Rattle.sieve_base.specs.Writers.{Wrote, WroteFront}
 use Rattle.smallvec.specs.SmallVec.{SmallVec}
 use Rattle.match_text.specs.declared.comparators.Collation.{Collation}
-use Rattle.sieve_check.specs.Reading.{header_ask}
 use Rattle.sieve_check.specs.Tree as tree
 use Rattle.sieve_check.specs.view.Tree.{part_of}
 use Rattle.sieve_check.specs.declared.reading.MatchType.{MatchType}
 use Rattle.sieve_check.specs.declared.tree.Part.{Part}
-use Rattle.sieve_code.specs.Dump.{ask_text, header_words, list_text, part_text, separated, string_text}
+use Rattle.sieve_code.specs.Dump.{list_text, part_text, separated, string_text}
 use Rattle.sieve_code.specs.view.Marked.{marked_part, marked_string}
 use Rattle.sieve_code.specs.view.Op.{parts_of, strings_of}
 
@@ -88,10 +87,3 @@ opened strings = codes "[" ++ separated (codes ", ") string_text strings
 pub list_whole : (front : List ℕ) (strings : List (List tree.Part)) → (front ++ opened strings) ++ codes "]" ≡ front ++ list_text strings
 unfolding list_text
 list_whole front strings = append_assoc front (opened strings) (codes "]")
-
-pub header_whole : (match_type : MatchType) (collation : Collation) (names keys : List (List tree.Part)) → (header_words match_type collation ++ (codes " " ++ list_text names)) ++ (codes " " ++ list_text keys) ≡ ask_text (header_ask match_type collation names keys)
-unfolding ask_text
-header_whole match_type collation names keys =
-    let words = header_words match_type collation in
-    ap (λ t. t ++ (codes " " ++ list_text keys)) (sym (append_assoc words (codes " ") (list_text names)))
-    ∙ sym (append_assoc ((words ++ codes " ") ++ list_text names) (codes " ") (list_text keys))

@@ -3,14 +3,15 @@ use Rattle.std.proofs.Common.{◌≡◌, ℕ, true, false, List, [], ◌∷◌, 
 use Rattle.match_text.specs.declared.comparators.Collation.TheVariants.{Casemap}
 use Rattle.std.specs.Fmt.{digits}
 use Rattle.sieve_base.specs.Writers.{quoted}
-use Rattle.sieve_check.specs.Reading.{Ask, header_ask, over_ask, keep_leaf, discard_leaf}
+use Rattle.message_text.specs.declared.addressing.AddressPart.TheVariants as part
+use Rattle.sieve_check.specs.Reading.{Ask, header_values, address_values, envelope_values, compares, over_ask, keep_leaf, fileinto_leaf, redirect_leaf, discard_leaf}
 use Rattle.sieve_check.specs.Script as script
 use Rattle.sieve_check.specs.Script.{chain_of, condition_of, conditions_in, conditions, block_commands}
 use Rattle.sieve_table.specs.Table.{command_named, test_named}
 use Rattle.sieve_check.specs.Tree.{literal, Argument, strings, number, tag, Test, test, no_tests, one_test, test_list, tests, Node, node, Block, no_block, block, nodes}
 use Rattle.sieve_check.specs.declared.reading.MatchType.TheVariants.{Contains}
 use Rattle.sieve_code.specs.Choice.{code_of, placed, test_before, tests_before, list_before, first_before, node_before, block_before, nodes_before}
-use Rattle.sieve_code.specs.Dump.{ask_text, header_words, line_text, list_text, operation_text, string_text}
+use Rattle.sieve_code.specs.Dump.{address_words, ask_text, comparing_words, line_text, list_text, operation_text, string_text, two_lists}
 use Rattle.sieve_code.specs.Operation.{Operation, sets, inverts, asks, jumps, jumps_if, acts, stops}
 use Rattle.sieve_code.specs.Walk.{Walk, at_end, by_stop, cut_off, asked, acted, code_walk, walk_from, tree_walk, commands_walk, condition_walk, gone, met_ask, met_leaf, ended, unanswered}
 
@@ -56,7 +57,7 @@ abbrev worked : List Node
 worked = testing (codes "if") 1 (list_of (codes "anyof") (header_test ∷ size_test ∷ [])) (keep_at 2 ∷ []) ∷ last_branch (discard_at 4 ∷ []) ∷ []
 
 abbrev list_ask : Ask
-list_ask = header_ask Contains Casemap ((literal (codes "Subject") ∷ []) ∷ []) ((literal (codes "[list]") ∷ []) ∷ [])
+list_ask = compares (header_values ((literal (codes "Subject") ∷ []) ∷ [])) Contains Casemap ((literal (codes "[list]") ∷ []) ∷ [])
 
 abbrev worked_code : List Operation
 worked_code =
@@ -149,7 +150,7 @@ unanswered_row = refl
 -- DUMP
 
 header_line_row : line_text 0 (asks list_ask) ≡ codes "0: header contains casemap [\"Subject\"] [\"[list]\"]\n"
-unfolding line_text operation_text digits ask_text header_words list_text string_text quoted
+unfolding line_text operation_text digits ask_text comparing_words two_lists list_text string_text quoted
 header_line_row = refl
 
 jump_line_row : line_text 1 (jumps_if true 3) ≡ codes "1: jump-if-true 3\n"
@@ -171,3 +172,23 @@ discard_line_row = refl
 strings_row : list_text ((literal (codes "a") ∷ literal (codes "b") ∷ []) ∷ [] ∷ []) ≡ codes "[\"a\"+\"b\", \"\"]"
 unfolding list_text string_text quoted
 strings_row = refl
+
+-- a string of one part
+abbrev one_text : List ℕ → List Part
+one_text octets = literal octets ∷ []
+
+address_line_row : line_text 0 (asks (compares (address_values part.Local (one_text (codes "from") ∷ one_text (codes "To") ∷ [])) Is Casemap (one_text (codes "jane") ∷ []))) ≡ codes "0: address is casemap localpart [\"from\", \"To\"] [\"jane\"]\n"
+unfolding line_text operation_text digits ask_text address_words comparing_words two_lists list_text string_text quoted
+address_line_row = refl
+
+envelope_line_row : line_text 4 (asks (compares (envelope_values part.All (one_text (codes "from") ∷ [])) Is Octet (one_text [] ∷ one_text (codes "x") ∷ []))) ≡ codes "4: envelope is octet all [\"from\"] [\"\", \"x\"]\n"
+unfolding line_text operation_text digits ask_text address_words comparing_words two_lists list_text string_text quoted
+envelope_line_row = refl
+
+redirect_line_row : line_text 2 (acts (redirect_leaf (one_text (codes "a@b.example"))) 2) ≡ codes "2: redirect \"a@b.example\" @2\n"
+unfolding line_text operation_text digits string_text quoted
+redirect_line_row = refl
+
+fileinto_line_row : line_text 6 (acts (fileinto_leaf (one_text (codes "A"))) 3) ≡ codes "6: fileinto \"A\" internal @3\n"
+unfolding line_text operation_text digits string_text quoted
+fileinto_line_row = refl

@@ -48,11 +48,11 @@ comparing_words test match_type collation = test ++ codes " " ++ match_word matc
 
 -- those of one that compares a part of addresses
 unfoldable pub address_words : List ℕ → MatchType → Collation → AddressPart → List ℕ
-address_words test match_type collation part = comparing_words test match_type collation ++ codes " " ++ address_part_word part
+address_words test match_type collation part = comparing_words test match_type collation ++ (codes " " ++ address_part_word part)
 
 -- its names and its keys
 unfoldable pub two_lists : List (List Part) → List (List Part) → List ℕ
-two_lists names keys = codes " " ++ list_text names ++ codes " " ++ list_text keys
+two_lists names keys = (codes " " ++ list_text names) ++ (codes " " ++ list_text keys)
 
 unfoldable pub ask_text : Ask → List ℕ
 ask_text (compares (header_values names) match_type collation keys) = comparing_words (codes "header") match_type collation ++ two_lists names keys
@@ -76,7 +76,7 @@ operation_text (asks ask) = ask_text ask
 operation_text (jumps target) = codes "jump " ++ decimal target
 operation_text (jumps_if false target) = codes "jump-if-false " ++ decimal target
 operation_text (jumps_if true target) = codes "jump-if-true " ++ decimal target
-operation_text (acts leaf line) = leaf_text leaf ++ codes " @" ++ decimal line
+operation_text (acts leaf line) = leaf_text leaf ++ (codes " @" ++ decimal line)
 operation_text stops = codes "stop"
 
 -- the line of an operation: its place and what it is

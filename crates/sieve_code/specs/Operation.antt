@@ -2,7 +2,7 @@
 use Rattle.std.specs.Prelude.{ℕ, Bool, Option, Some, None}
 use Rattle.sieve_check.specs.Reading.{Ask, Leaf}
 
--- An operation: it sets the register, inverts it, sets it to what a test asks of the message, goes to another operation,
+-- An operation: it sets the register, inverts it, sets it to what a test asks of the delivery, goes to another operation,
 -- always or where the register has that truth, does what a command does, with its line, or ends the run.
 pub data Operation : Type 0 where
   sets : (truth : Bool) → Operation

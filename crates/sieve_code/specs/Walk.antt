@@ -7,7 +7,7 @@ use Rattle.sieve_check.specs.Tree.{Node}
 use Rattle.sieve_code.specs.Operation.{Operation, sets, inverts, asks, jumps, jumps_if, acts, stops}
 
 -- A walk: it has come to the end, it was ended by `stop` (RFC 5228, section 3.3), or its operations were used up; it asks
--- something of the message, and goes on by the answer; or it does what a command does, with the command's line, and goes on.
+-- something of the delivery, and goes on by the answer; or it does what a command does, with the command's line, and goes on.
 pub data Walk : Type 0 where
   at_end : Walk
   by_stop : Walk

@@ -97,7 +97,7 @@ fn put_command(
         }
         Some(CommandReading::Acts(leaf)) => {
             tail.keep_last(front.behind);
-            tail.put(leaf_op(leaf, command.line))?;
+            tail.put(leaf_op(alloc, leaf, command.line)?)?;
             Ok(without_branch(tail))
         }
         Some(CommandReading::Stops) => {

@@ -3,13 +3,13 @@ ghost use Rattle.std.specs.Prelude.{◌≡◌, ◌++◌, codes, decimal, map, On
 ghost use Rattle.std.specs.List.{flat_map};
 ghost use Rattle.sieve_base.specs.Writers.{Wrote, WroteFront};
 ghost use Rattle.sieve_check.specs.view.Tree.{part_of};
-ghost use Rattle.sieve_check.specs.Reading.{header_ask};
-ghost use Rattle.sieve_code.specs.Dump.{ask_text, collation_word, header_words, line_text, list_text, match_word, operation_text, part_text, separated, string_text};
+ghost use Rattle.sieve_code.specs.Dump.{address_part_word, address_words, collation_word, comparing_words, line_text, list_text, match_word, operation_text, part_text, separated, string_text, two_lists};
 ghost use Rattle.sieve_code.specs.view.Marked.{marked_part, marked_string};
 ghost use Rattle.sieve_code.specs.view.Op.{op_as, strings_of};
 
 use crate::op::Op;
 use match_text::Collation;
+use message_text::AddressPart;
 use sieve_base::{Piece, Sink, WriteFault, write_out, write_pieces};
 use sieve_check::{MatchType, Part, Parts};
 
@@ -30,6 +30,17 @@ fn collation_word(collation: Collation) -> &'static [u8]
     match collation {
         Collation::Octet => b"octet",
         Collation::Casemap => b"casemap",
+    }
+}
+
+/// The word of a part of an address.
+fn address_part_word(part: AddressPart) -> &'static [u8]
+    ensures { result.now ≡ address_part_word part }
+{
+    match part {
+        AddressPart::All => b"all",
+        AddressPart::Local => b"localpart",
+        AddressPart::Domain => b"domain",
     }
 }
 
@@ -108,25 +119,56 @@ fn write_list<W: Sink>(front: &[u8], strings: &[Parts], writer: &mut W) -> Resul
     write_out(b"]", writer)
 }
 
-/// Writes the words of a `header` test.
-#[tactic(auto, unfolding(crate::specs::Dump::header_words))]
-fn write_header_words<W: Sink>(
+/// Writes the words of a test that compares values with keys.
+#[tactic(auto, unfolding(crate::specs::Dump::comparing_words))]
+fn write_comparing<W: Sink>(
+    test: &[u8],
     match_type: MatchType,
     collation: Collation,
     writer: &mut W,
 ) -> Result<(), WriteFault>
-    ensures ok { OnOk result (Wrote W.contents W.fault_count writer.old writer.new (header_words match_type collation)) }
-    ensures err { OnErr result (WroteFront W.contents W.fault_count writer.old writer.new (header_words match_type collation)) }
+    ensures ok { OnOk result (Wrote W.contents W.fault_count writer.old writer.new (comparing_words test.now match_type collation)) }
+    ensures err { OnErr result (WroteFront W.contents W.fault_count writer.old writer.new (comparing_words test.now match_type collation)) }
 {
     write_pieces(
         &[
-            Piece::Raw(b"header "),
+            Piece::Raw(test),
+            Piece::Raw(b" "),
             Piece::Raw(match_word(match_type)),
             Piece::Raw(b" "),
             Piece::Raw(collation_word(collation)),
         ],
         writer,
     )
+}
+
+/// Writes the words of a test that compares a part of addresses.
+#[tactic(auto, using(sieve_base::proofs::Writing::writing), unfolding(crate::specs::Dump::address_words))]
+fn write_address_words<W: Sink>(
+    test: &[u8],
+    match_type: MatchType,
+    collation: Collation,
+    part: AddressPart,
+    writer: &mut W,
+) -> Result<(), WriteFault>
+    ensures ok { OnOk result (Wrote W.contents W.fault_count writer.old writer.new (address_words test.now match_type collation part)) }
+    ensures err { OnErr result (WroteFront W.contents W.fault_count writer.old writer.new (address_words test.now match_type collation part)) }
+{
+    write_comparing(test, match_type, collation, writer)?;
+    write_pieces(
+        &[Piece::Raw(b" "), Piece::Raw(address_part_word(part))],
+        writer,
+    )
+}
+
+/// Writes the two lists of a test.
+#[tactic(auto, using(sieve_base::proofs::Writing::writing), unfolding(crate::specs::Dump::two_lists))]
+fn write_lists<W: Sink>(names: &[Parts], keys: &[Parts], writer: &mut W) -> Result<(), WriteFault>
+    ensures ok { OnOk result (Wrote W.contents W.fault_count writer.old writer.new (two_lists (strings_of names.now) (strings_of keys.now))) }
+    ensures err { OnErr result (WroteFront W.contents W.fault_count writer.old writer.new (two_lists (strings_of names.now) (strings_of keys.now))) }
+{
+    write_list(b" ", names, writer)?;
+    write_list(b" ", keys, writer)
 }
 
 /// Writes a `header` test.
@@ -138,12 +180,50 @@ fn write_header<W: Sink>(
     keys: &[Parts],
     writer: &mut W,
 ) -> Result<(), WriteFault>
-    ensures ok { OnOk result (Wrote W.contents W.fault_count writer.old writer.new (ask_text (header_ask match_type collation (strings_of names.now) (strings_of keys.now)))) }
-    ensures err { OnErr result (WroteFront W.contents W.fault_count writer.old writer.new (ask_text (header_ask match_type collation (strings_of names.now) (strings_of keys.now)))) }
+    ensures ok { OnOk result (Wrote W.contents W.fault_count writer.old writer.new (comparing_words (codes "header") match_type collation ++ two_lists (strings_of names.now) (strings_of keys.now))) }
+    ensures err { OnErr result (WroteFront W.contents W.fault_count writer.old writer.new (comparing_words (codes "header") match_type collation ++ two_lists (strings_of names.now) (strings_of keys.now))) }
 {
-    write_header_words(match_type, collation, writer)?;
-    write_list(b" ", names, writer)?;
-    write_list(b" ", keys, writer)
+    write_comparing(b"header", match_type, collation, writer)?;
+    write_lists(names, keys, writer)
+}
+
+/// Writes a test of this name that compares a part of addresses.
+#[tactic(auto, using(sieve_base::proofs::Writing::writing))]
+fn write_address<W: Sink>(
+    test: &[u8],
+    match_type: MatchType,
+    collation: Collation,
+    part: AddressPart,
+    names: &[Parts],
+    keys: &[Parts],
+    writer: &mut W,
+) -> Result<(), WriteFault>
+    ensures ok { OnOk result (Wrote W.contents W.fault_count writer.old writer.new (address_words test.now match_type collation part ++ two_lists (strings_of names.now) (strings_of keys.now))) }
+    ensures err { OnErr result (WroteFront W.contents W.fault_count writer.old writer.new (address_words test.now match_type collation part ++ two_lists (strings_of names.now) (strings_of keys.now))) }
+{
+    write_address_words(test, match_type, collation, part, writer)?;
+    write_lists(names, keys, writer)
+}
+
+/// Writes a `fileinto`.
+#[tactic(auto, using(sieve_base::proofs::Writing::writing))]
+fn write_fileinto<W: Sink>(mailbox: &[Part], line: u64, writer: &mut W) -> Result<(), WriteFault>
+    ensures ok { OnOk result (Wrote W.contents W.fault_count writer.old writer.new ((codes "fileinto " ++ string_text (map part_of mailbox.now)) ++ codes " internal" ++ (codes " @" ++ decimal line))) }
+    ensures err { OnErr result (WroteFront W.contents W.fault_count writer.old writer.new ((codes "fileinto " ++ string_text (map part_of mailbox.now)) ++ codes " internal" ++ (codes " @" ++ decimal line))) }
+{
+    write_string(b"fileinto ", mailbox, writer)?;
+    write_out(b" internal", writer)?;
+    write_number(b" @", line, writer)
+}
+
+/// Writes a `redirect`.
+#[tactic(auto, using(sieve_base::proofs::Writing::writing))]
+fn write_redirect<W: Sink>(address: &[Part], line: u64, writer: &mut W) -> Result<(), WriteFault>
+    ensures ok { OnOk result (Wrote W.contents W.fault_count writer.old writer.new ((codes "redirect " ++ string_text (map part_of address.now)) ++ (codes " @" ++ decimal line))) }
+    ensures err { OnErr result (WroteFront W.contents W.fault_count writer.old writer.new ((codes "redirect " ++ string_text (map part_of address.now)) ++ (codes " @" ++ decimal line))) }
+{
+    write_string(b"redirect ", address, writer)?;
+    write_number(b" @", line, writer)
 }
 
 /// Writes an operation.
@@ -162,6 +242,36 @@ fn write_op<W: Sink>(op: &Op, writer: &mut W) -> Result<(), WriteFault>
             names,
             keys,
         } => write_header(*match_type, *collation, names, keys, writer),
+        Op::Address {
+            match_type,
+            collation,
+            part,
+            names,
+            keys,
+        } => write_address(
+            b"address",
+            *match_type,
+            *collation,
+            *part,
+            names,
+            keys,
+            writer,
+        ),
+        Op::Envelope {
+            match_type,
+            collation,
+            part,
+            names,
+            keys,
+        } => write_address(
+            b"envelope",
+            *match_type,
+            *collation,
+            *part,
+            names,
+            keys,
+            writer,
+        ),
         Op::Exists { names } => write_list(b"exists ", names, writer),
         Op::SizeOver(limit) => write_number(b"size over ", *limit, writer),
         Op::SizeUnder(limit) => write_number(b"size under ", *limit, writer),
@@ -169,6 +279,8 @@ fn write_op<W: Sink>(op: &Op, writer: &mut W) -> Result<(), WriteFault>
         Op::JumpIfFalse(target) => write_number(b"jump-if-false ", *target as u64, writer),
         Op::JumpIfTrue(target) => write_number(b"jump-if-true ", *target as u64, writer),
         Op::Keep(line) => write_number(b"keep internal @", *line, writer),
+        Op::Fileinto { mailbox, line } => write_fileinto(mailbox, *line, writer),
+        Op::Redirect { address, line } => write_redirect(address, *line, writer),
         Op::Discard(line) => write_number(b"discard @", *line, writer),
         Op::Stop => write_out(b"stop", writer),
     }

@@ -1,6 +1,7 @@
 //! The operations of code.
 
 use match_text::Collation;
+use message_text::AddressPart;
 use sieve_check::{MatchType, Parts};
 
 /// An operation. Code has one truth register, which tests set. A string is its parts in order.
@@ -23,6 +24,32 @@ pub enum Op {
         /// The keys.
         keys: Vec<Parts>,
     },
+    /// Whether a part of an address in some named field matches some key (RFC 5228, section 5.1).
+    Address {
+        /// How a value is compared with a key.
+        match_type: MatchType,
+        /// Which octets are equal.
+        collation: Collation,
+        /// Which part of an address.
+        part: AddressPart,
+        /// The names of fields.
+        names: Vec<Parts>,
+        /// The keys.
+        keys: Vec<Parts>,
+    },
+    /// Whether a part of an address of the envelope matches some key (RFC 5228, section 5.4).
+    Envelope {
+        /// How a value is compared with a key.
+        match_type: MatchType,
+        /// Which octets are equal.
+        collation: Collation,
+        /// Which part of an address.
+        part: AddressPart,
+        /// The names of the envelope's parts.
+        names: Vec<Parts>,
+        /// The keys.
+        keys: Vec<Parts>,
+    },
     /// Whether all named fields are there (RFC 5228, section 5.5).
     Exists {
         /// The names of fields.
@@ -40,6 +67,20 @@ pub enum Op {
     JumpIfTrue(usize),
     /// Stores into the mailbox of the delivery (RFC 5228, section 4.3), with the command's line.
     Keep(u64),
+    /// Stores into the mailbox of that name (RFC 5228, section 4.1), with the command's line.
+    Fileinto {
+        /// The name.
+        mailbox: Parts,
+        /// The command's line.
+        line: u64,
+    },
+    /// Sends the message on to that address (RFC 5228, section 4.2), with the command's line.
+    Redirect {
+        /// The address.
+        address: Parts,
+        /// The command's line.
+        line: u64,
+    },
     /// Discards the message (RFC 5228, section 4.4), with the command's line.
     Discard(u64),
     /// Ends the run (RFC 5228, section 3.3).

@@ -1,12 +1,14 @@
 //! Copies of the strings of tests, and the operations of tests and commands that stand alone.
 ghost use Rattle.std.specs.Prelude.{◌≡◌, map, IfOk};
-ghost use Rattle.sieve_check.specs.view.Reading.{ask_as, leaf_as, texts_as};
+ghost use Rattle.sieve_check.specs.Reading.{compares};
+ghost use Rattle.sieve_check.specs.view.Reading.{ask_as, leaf_as, source_as, texts_as};
 ghost use Rattle.sieve_check.specs.view.Tree.{part_of, text_of};
 ghost use Rattle.sieve_code.specs.Operation.{asks, acts};
 ghost use Rattle.sieve_code.specs.view.Op.{op_as, parts_of, strings_of};
 
 use crate::op::Op;
-use sieve_check::{Ask, Leaf, Part, Parts, SmallOctets, Text};
+use match_text::Collation;
+use sieve_check::{Ask, Leaf, MatchType, Part, Parts, SmallOctets, Source, Text};
 use std::alloc::{AllocError, Global};
 
 /// A copy of a part.
@@ -40,22 +42,54 @@ fn copied_strings(alloc: Global, texts: &[Text]) -> Result<Vec<Parts>, AllocErro
     Ok(copies)
 }
 
-/// The operation that asks something of the message.
+/// The operation that compares values with keys.
+fn comparing_op(
+    alloc: Global,
+    source: &Source<'_>,
+    match_type: MatchType,
+    collation: Collation,
+    keys: Vec<Parts>,
+) -> Result<Op, AllocError>
+    ensures { IfOk result (λ op. op_as op ≡ asks (compares (source_as source.now) match_type collation (strings_of keys.items))) }
+{
+    match source {
+        Source::Header { names } => Ok(Op::Header {
+            match_type,
+            collation,
+            names: copied_strings(alloc, names)?,
+            keys,
+        }),
+        Source::Address { part, names } => Ok(Op::Address {
+            match_type,
+            collation,
+            part: *part,
+            names: copied_strings(alloc, names)?,
+            keys,
+        }),
+        Source::Envelope { part, names } => Ok(Op::Envelope {
+            match_type,
+            collation,
+            part: *part,
+            names: copied_strings(alloc, names)?,
+            keys,
+        }),
+    }
+}
+
+/// The operation that asks something of the delivery.
 pub(crate) fn ask_op(alloc: Global, ask: &Ask<'_>) -> Result<Op, AllocError>
     ensures { IfOk result (λ op. op_as op ≡ asks (ask_as ask.now)) }
 {
     match ask {
-        Ask::Header {
+        Ask::Compares {
+            source,
             match_type,
             collation,
-            names,
             keys,
-        } => Ok(Op::Header {
-            match_type: *match_type,
-            collation: *collation,
-            names: copied_strings(alloc, names)?,
-            keys: copied_strings(alloc, keys)?,
-        }),
+        } => {
+            let keys = copied_strings(alloc, keys)?;
+            comparing_op(alloc, source, *match_type, *collation, keys)
+        }
         Ask::Exists { names } => Ok(Op::Exists {
             names: copied_strings(alloc, names)?,
         }),
@@ -65,11 +99,19 @@ pub(crate) fn ask_op(alloc: Global, ask: &Ask<'_>) -> Result<Op, AllocError>
 }
 
 /// The operation that does what a command does, with the command's line.
-pub(crate) fn leaf_op(leaf: Leaf, line: u64) -> Op
-    ensures { op_as result ≡ acts (leaf_as leaf) line }
+pub(crate) fn leaf_op(alloc: Global, leaf: Leaf<'_>, line: u64) -> Result<Op, AllocError>
+    ensures { IfOk result (λ op. op_as op ≡ acts (leaf_as leaf.entry) line) }
 {
     match leaf {
-        Leaf::Keep => Op::Keep(line),
-        Leaf::Discard => Op::Discard(line),
+        Leaf::Keep => Ok(Op::Keep(line)),
+        Leaf::Fileinto { mailbox } => {
+            let mailbox = copied_parts(alloc, mailbox)?;
+            Ok(Op::Fileinto { mailbox, line })
+        }
+        Leaf::Redirect { address } => {
+            let address = copied_parts(alloc, address)?;
+            Ok(Op::Redirect { address, line })
+        }
+        Leaf::Discard => Ok(Op::Discard(line)),
     }
 }

@@ -2,6 +2,7 @@
 -- sections 2.7 and 5).
 use Rattle.std.specs.Prelude.{ℕ, Bool, List, [], ◌∷◌, Option, None, Some, map, filter, length, nat_lt, if◌then◌else◌, codes}
 use Rattle.std.specs.List.{filter_map, flat_map, list_any, list_all}
+use Rattle.std.specs.Str.{str_eq_ignore_ascii_case}
 use Rattle.match_text.specs.Comparator.{same, is_part, octet, ascii_casemap}
 use Rattle.match_text.specs.declared.comparators.Collation.{Collation}
 use Rattle.match_text.specs.declared.comparators.Collation.TheVariants.{Octet, Casemap}
@@ -57,8 +58,8 @@ parts_named part fields name = if is_address_field name then flat_map (parts_of_
 -- the address of an envelope's part: the sender, or the recipient; another name names nothing (RFC 5228, section 5.4)
 abbrev pub envelope_text : Envelope → List ℕ → Option (List ℕ)
 envelope_text envelope name =
-    if same ascii_casemap (codes "from") name then Some envelope.from else
-    if same ascii_casemap (codes "to") name then Some envelope.to else None
+    if str_eq_ignore_ascii_case (codes "from") name then Some envelope.from else
+    if str_eq_ignore_ascii_case (codes "to") name then Some envelope.to else None
 
 abbrev pub parts_of_envelope : AddressPart → Option (List ℕ) → List (List ℕ)
 parts_of_envelope part None = []

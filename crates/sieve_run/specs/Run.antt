@@ -33,8 +33,8 @@ pub data Ending : Type 0 where
 
 -- ACTIONS
 
--- whether two actions are one: stores into one mailbox, redirects to one address, and discards, octet for octet (RFC 5228, section
--- 2.10.3)
+-- whether two actions are one: stores into one mailbox (RFC 5228, section 2.10.3), redirects to one address, octet for octet, and
+-- discards
 abbrev pub same_action : Action → Action → Bool
 same_action (Store mailbox) (Store other) = pointwise nat_eq mailbox other
 same_action (Store mailbox) (Redirect other) = false
@@ -51,36 +51,37 @@ pub data Performed : Type 0 where
   performed : (actions : List Action) → Performed
   one_too_many : Performed
 
--- one that is there already adds nothing (RFC 5228, section 2.10.3), and none is taken away (section 2.10.1); past so many there is
--- one too many (section 2.10.4)
-abbrev pub performing : Action → List Action → Performed
-performing action actions =
+-- one that is there already adds nothing, and none is taken away (RFC 5228, sections 2.10.1 and 2.10.3); past so many there is one
+-- too many (section 2.10.4)
+abbrev pub with_action : Action → List Action → Performed
+with_action action actions =
     if list_any (same_action action) actions then performed actions else
     if nat_lt (length actions) action_limit then performed (actions ++ action ∷ []) else one_too_many
 
 -- WHAT COMMANDS DO
 
 -- an error of the script that runs, at a line of it (RFC 5228, section 2.10.6)
-abbrev pub failing : Delivery → ℕ → ErrorKind → RunState → Ending
-failing delivery line kind state = failed (record { script = delivery.script; line = line; kind = kind }) state
+abbrev pub fails_at : Delivery → ℕ → ErrorKind → RunState → Ending
+fails_at delivery line kind state = failed (record { script = delivery.script; line = line; kind = kind }) state
 
 -- an action takes the place of the implicit keep (RFC 5228, section 2.10.2)
-abbrev pub ending_of : Delivery → ℕ → Performed → RunState → Ending
-ending_of delivery line (performed actions) state = goes_on (record state { actions = actions; cancelled = true })
-ending_of delivery line one_too_many state = failing delivery line TooManyActions state
+abbrev pub ends_with : Delivery → ℕ → Performed → RunState → Ending
+ends_with delivery line (performed actions) state = goes_on (record state { actions = actions; cancelled = true })
+ends_with delivery line one_too_many state = fails_at delivery line TooManyActions state
 
-abbrev pub taking : Delivery → ℕ → Action → RunState → Ending
-taking delivery line action state = ending_of delivery line (performing action state.actions) state
+-- a command performs an action
+abbrev pub performs : Delivery → ℕ → Action → RunState → Ending
+performs delivery line action state = ends_with delivery line (with_action action state.actions) state
 
--- an octet that a mailbox's name may have: no control character of ASCII
-abbrev pub is_printable : ℕ → Bool
-is_printable b = nat_le 32 b && not (nat_eq b 127)
+-- no control character of ASCII
+abbrev pub is_no_control : ℕ → Bool
+is_no_control b = nat_le 32 b && not (nat_eq b 127)
 
--- a name of a mailbox: some octets, of which none is a control character
+-- a name of a mailbox (RFC 5228, section 4.1, leaves open which there are): one to 255 octets, of which none is a control character
 abbrev pub is_mailbox : List ℕ → Bool
-is_mailbox name = nat_lt 0 (length name) && (nat_le (length name) mailbox_limit && list_all is_printable name)
+is_mailbox name = nat_lt 0 (length name) && (nat_le (length name) mailbox_limit && list_all is_no_control name)
 
--- the one address that has a local part and a domain
+-- the one address, where it has a local part and a domain (RFC 5228, section 2.4.2.3)
 abbrev pub whole_address : AddrSpec → Option (List ℕ)
 whole_address address = if is_some address.local_part && is_some address.domain then Some address.all else None
 
@@ -90,18 +91,18 @@ only_address (one ∷ []) = whole_address one
 only_address (one ∷ two ∷ more) = None
 
 -- to an address, where there is one (RFC 5228, section 4.2)
-abbrev pub redirecting : Delivery → ℕ → Option (List ℕ) → RunState → Ending
-redirecting delivery line None state = failing delivery line BadAddress state
-redirecting delivery line (Some address) state = taking delivery line (Redirect address) state
+abbrev pub redirects : Delivery → ℕ → Option (List ℕ) → RunState → Ending
+redirects delivery line None state = fails_at delivery line BadAddress state
+redirects delivery line (Some address) state = performs delivery line (Redirect address) state
 
 -- what a command that acts does: keep stores into the delivery's mailbox (RFC 5228, section 4.3), fileinto into the one that it
 -- names (section 4.1), redirect sends the message on to an address (section 4.2), discard discards (section 4.4)
 abbrev pub act_of : Delivery → Leaf → ℕ → RunState → Ending
-act_of delivery keep_leaf line state = taking delivery line (Store delivery.envelope.mailbox) state
+act_of delivery keep_leaf line state = performs delivery line (Store delivery.envelope.mailbox) state
 act_of delivery (fileinto_leaf mailbox) line state =
-    if is_mailbox (text_value mailbox) then taking delivery line (Store (text_value mailbox)) state else failing delivery line BadMailbox state
-act_of delivery (redirect_leaf address) line state = redirecting delivery line (only_address (addresses_of (text_value address))) state
-act_of delivery discard_leaf line state = taking delivery line Discard state
+    if is_mailbox (text_value mailbox) then performs delivery line (Store (text_value mailbox)) state else fails_at delivery line BadMailbox state
+act_of delivery (redirect_leaf address) line state = redirects delivery line (only_address (addresses_of (text_value address))) state
+act_of delivery discard_leaf line state = performs delivery line Discard state
 
 -- what follows runs only where nothing has ended the run
 abbrev pub and_then : Ending → (RunState → Ending) → Ending

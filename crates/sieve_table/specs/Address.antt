@@ -7,8 +7,8 @@ use Rattle.std.specs.Str.{str_eq_ignore_ascii_case}
 abbrev pub is_one_of : List (List ℕ) → List ℕ → Bool
 is_one_of names name = list_any (λ one. str_eq_ignore_ascii_case one name) names
 
--- the fields that an `address` test may name (RFC 5228, section 5.1): those of RFC 5322, section 3.6, that hold addresses, and
--- some that mail systems add
+-- the fields that an `address` test may name (RFC 5228, section 5.1): those of RFC 5322, sections 3.6 and 4.5.6, that hold
+-- addresses, and some that mail systems add
 abbrev pub address_fields : List (List ℕ)
 address_fields =
     codes "from" ∷ codes "to" ∷ codes "cc" ∷ codes "bcc" ∷ codes "sender" ∷ codes "reply-to"

@@ -74,7 +74,7 @@ put_command-returns-in_ok-put-in-Some-Acts-clause-value t c =
     alone c.without_branch-in-Some-Acts.result c.put.new.self c.without_branch-in-Some-Acts.ensures.branches c.without_branch-in-Some-Acts.ensures.behind
     ∙ ap no_branch
     (c.in_ok-put-in-Some-Acts.ensures
-    ∙ ap (λ op. op ∷ c.keep_last-in-Some-Acts.new.self) c.leaf_op.ensures
+    ∙ ap (λ op. op ∷ c.keep_last-in-Some-Acts.new.self) c.in_ok-leaf_op-in-Some-Acts.ensures
     ∙ ap (λ line. acts leaf line ∷ c.keep_last-in-Some-Acts.new.self) (sym (line_seen c.args.command.now))
     ∙ ap (λ tail. acts leaf (line_at (node_of c.args.command.now)) ∷ tail) c.keep_last-in-Some-Acts.ensures)
     ∙ command_put (node_of c.args.command.now) (Some (reading.acts leaf)) (branches_as c.args.front c.args.tail.now)
