@@ -1,4 +1,5 @@
 pub mod Rows
+pub mod AddressRows
 pub mod LineLemmas
 pub mod HeadLemmas
 pub mod GroupLemmas

@@ -4,9 +4,11 @@
 //! of its fields.
 #![tactic(auto)]
 
+mod addressing;
 mod blanks;
 mod fields;
 mod lines;
+mod marks;
 mod messages;
 mod values;
 
