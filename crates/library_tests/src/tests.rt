@@ -1,5 +1,6 @@
 //! Rows for each library's public calls. What is expected was written by hand from the standards.
 
+mod addresses_of_values;
 mod codes;
 mod comparators;
 mod faults;

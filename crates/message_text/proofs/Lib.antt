@@ -1,4 +1,11 @@
 pub mod Rows
+pub mod AddressRows
+pub mod PieceLemmas
+pub mod RouteLemmas
+pub mod MarkLemmas
+pub mod DivisionLemmas
+pub mod AddressLemmas
+pub mod LawLemmas
 pub mod LineLemmas
 pub mod HeadLemmas
 pub mod GroupLemmas

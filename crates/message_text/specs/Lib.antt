@@ -1,3 +1,4 @@
+pub mod Addresses
 pub mod Blanks
 pub mod Fields
 pub mod view

@@ -1,4 +1,6 @@
 -- What the program's types stand for in contracts. The other files of specs/ restate the subject.
+pub mod Depths
+pub mod Divisions
 pub mod Heads
 pub mod Positions
 pub mod Spans

@@ -1,10 +1,124 @@
-/// A part of an address (RFC 5228, section 2.7.4).
+//! The addresses of a value.
+ghost use Rattle.std.specs.Prelude.{◌≡◌, ◌<◌, ◌++◌, IfOk, OnOk, Some, length, option_to_list};
+ghost use Rattle.std.specs.Option.{option_map};
+ghost use Rattle.sieve_base.specs.Octet.{octet_of};
+ghost use Rattle.message_text.specs.Addresses.{address_by, address_in, addresses_of, is_free, octets_of, part_of};
+ghost use Rattle.message_text.specs.view.Divisions.{IsBehindLast, divided_at};
+
+use crate::marks::{Marked, marks_of};
+use crate::pieces::{address_marks, is_free, separates};
+use std::alloc::{AllocError, Global};
+use std::marker::Model;
+
+/// Which part of an address a test sees (RFC 5228, section 2.7.4).
 #[derive(Clone, Copy, Debug, PartialEq, Eq)]
 pub enum AddressPart {
-    /// All of it.
+    /// The whole address: `:all`.
     All,
-    /// What stands before the last `@`.
+    /// What stands before the `@` that divides it: `:localpart`.
     Local,
-    /// What stands behind it.
+    /// What stands behind that `@`: `:domain`.
     Domain,
+}
+
+/// An address of a value, as [`addresses`] reads it.
+#[derive(Debug, Drop)]
+pub struct Address {
+    all: Vec<u8>,
+    // The place of the `@` between local part and domain.
+    at: Option<usize>,
+}
+
+impl Model for Address {
+    ghost use Rattle.message_text.specs.Addresses.{AddrSpec};
+    ghost use Rattle.message_text.specs.view.Divisions.{IsWithin, divided_at};
+
+    ghost Value = { AddrSpec };
+
+    ghost view = { λ a. divided_at a.all.items a.at };
+
+    ghost invariant = { λ a. IsWithin a.all.items a.at };
+}
+
+impl Address {
+    /// The octets of a part, or nothing where the address has no such part. The whole is always
+    /// there; local part and domain are there both or not at all (RFC 5228, section 2.7.4).
+    pub fn part(&self, part: AddressPart) -> Option<&[u8]>
+        ensures { option_map (λ octets. octets.now) result ≡ part_of part self.now }
+    {
+        let all = self.all.as_slice();
+        match part {
+            AddressPart::All => Some(all),
+            AddressPart::Local => Some(&all[..self.at?]),
+            AddressPart::Domain => Some(&all[self.at? + 1..]),
+        }
+    }
+}
+
+/// The addresses of a value, in order (RFC 5322, sections 3.4 and 4.4).
+///
+/// Any octets are read. A comma or a semicolon ends an address; the name of a group goes, with its
+/// colon, and so do comments. Where there is an angle, the address is what stands in the first one,
+/// without a source route. White space outside of quoted strings goes, and so do quote signs and the
+/// backslashes that protect an octet of a quoted string. What isn't closed lasts to the end of the value.
+/// Where nothing is left, there is no address. The last `@` outside of quoted strings and literals
+/// stands between local part and domain, if there are octets on both sides.
+///
+/// It takes memory for the marks of all octets and for the addresses, and fails only for want of it.
+pub fn addresses(alloc: Global, value: &[u8]) -> Result<Vec<Address>, AllocError>
+    ensures { IfOk result (λ found. found.items ≡ addresses_of value.now) }
+{
+    let marks = marks_of(alloc, value)?;
+    let mut found = Vec::new(alloc);
+    for piece in marks.split(|marked| separates(*marked)) {
+        push_address(alloc, &mut found, piece)?;
+    }
+    Ok(found)
+}
+
+// Adds the address in a piece, if there is one.
+fn push_address(alloc: Global, found: &mut Vec<Address>, piece: &[Marked]) -> Result<(), AllocError>
+    ensures { OnOk result (found.new.items
+        ≡ found.old.items ++ option_to_list (address_in piece.now)) }
+{
+    let marks = address_marks(alloc, piece)?;
+    if !marks.is_empty() {
+        found.push(address_by(alloc, &marks)?)?;
+    }
+    Ok(())
+}
+
+// The address of these octets.
+fn address_by(alloc: Global, marks: &[Marked]) -> Result<Address, AllocError>
+    requires { 0 < length marks.now }
+    ensures { IfOk result (λ address. address_by marks.now ≡ Some address) }
+{
+    let all = marks.iter().map(|marked| marked.octet).collect(alloc)?;
+    Ok(Address {
+        all,
+        at: dividing_at(marks),
+    })
+}
+
+// The place of the last free `@`, if octets stand on both sides of it.
+fn dividing_at(marks: &[Marked]) -> Option<usize>
+    requires { 0 < length marks.now }
+    ensures { address_by marks.now ≡ Some (divided_at (octets_of marks.now) result) }
+{
+    let behind = behind_last_at(marks);
+    if behind < 2 || behind == marks.len() {
+        return None;
+    }
+    Some(behind - 1)
+}
+
+// The place behind the last free `@`, or 0 where there is none.
+fn behind_last_at(marks: &[Marked]) -> usize
+    ensures { IsBehindLast (is_free (octet_of "@")) marks.now result }
+{
+    let mut behind = marks.len();
+    while behind > 0 && !is_free(b'@', marks[behind - 1]) {
+        behind -= 1;
+    }
+    behind
 }

@@ -1,15 +1,18 @@
-//! Messages and their header fields (RFC 5322).
+//! Messages, their header fields and the addresses of a field's value (RFC 5322).
 //!
 //! Every octet string up to [`MAX_MESSAGE`](sieve_base::limits::MAX_MESSAGE) is a [`Message`]. It keeps its octets once, with the places
-//! of its fields.
+//! of its fields. [`addresses`] reads any octets as a list of addresses.
 #![tactic(auto)]
 
 mod addressing;
 mod blanks;
 mod fields;
+pub mod laws;
 mod lines;
+mod marks;
 mod messages;
+mod pieces;
 mod values;
 
-pub use crate::addressing::AddressPart;
+pub use crate::addressing::{Address, AddressPart, addresses};
 pub use crate::messages::{Message, MessageFault};

@@ -1,0 +1,234 @@
+//! Values and their addresses, row by row.
+use message_text::{Address, AddressPart, addresses};
+use std::alloc::{AllocError, Global};
+use std::process::Abort;
+use std::test::Fail;
+
+// Adds the parts of an address, and a hyphen for each that it hasn't, on one line.
+fn push_line(text: &mut Vec<u8>, address: &Address) -> Result<(), AllocError> {
+    text.extend_from_slice(address.part(AddressPart::All).unwrap_or(b"-"))?;
+    text.push(b'|')?;
+    text.extend_from_slice(address.part(AddressPart::Local).unwrap_or(b"-"))?;
+    text.push(b'|')?;
+    text.extend_from_slice(address.part(AddressPart::Domain).unwrap_or(b"-"))?;
+    text.push(b'\n')?;
+    Ok(())
+}
+
+// Each address of the value on a line of its own.
+fn listed(alloc: Global, value: &[u8]) -> Result<Vec<u8>, AllocError> {
+    let found = addresses(alloc, value)?;
+    let mut text = Vec::new(alloc);
+    for address in &found {
+        push_line(&mut text, address)?;
+    }
+    Ok(text)
+}
+
+/// Compares the addresses of each value.
+fn check_listed(rt: &(impl AllocGlobal + Abort), rows: &[(&[u8], &[u8])]) -> Result<(), Fail> {
+    for (value, wanted) in rows {
+        let text = listed(rt.alloc(), *value)?;
+        assert_eq!(rt; text.as_slice(), *wanted, "in {value:?}");
+    }
+    Ok(())
+}
+
+#[test]
+fn reads_lists_and_groups(rt: HostRuntime) -> Result<(), Fail> {
+    check_listed(
+        &rt,
+        &[
+            (
+                b"\"Doe, Jane\" <@a.example:Jane@B.example>, Team: x@c.example (c, d), y@c.example;",
+                b"Jane@B.example|Jane|B.example\nx@c.example|x|c.example\ny@c.example|y|c.example\n",
+            ),
+            (b"", b""),
+            (b",,;", b""),
+            (b" \t\r\n", b""),
+            (b"a: b: \"c:\"d@e, f:; [g:h]:i", b"c:d@e|c:d|e\ni|-|-\n"),
+        ],
+    )
+}
+
+#[test]
+fn what_is_not_closed_lasts_to_the_end(rt: HostRuntime) -> Result<(), Fail> {
+    check_listed(
+        &rt,
+        &[
+            (b"\"a", b"a|-|-\n"),
+            (b"\"a, b@c", b"a, b@c|-|-\n"),
+            // A last backslash stands for itself, unless one before it protects it.
+            (b"\"a\\", b"a\\|-|-\n"),
+            (b"\"a\\\\", b"a\\|-|-\n"),
+            (b"<@a", b"@a|-|-\n"),
+            (b"(((", b""),
+            (b"a@b (c, d@e", b"a@b|a|b\n"),
+            (b"a@[b, c@d", b"a@[b,c@d|a|[b,c@d\n"),
+        ],
+    )
+}
+
+#[test]
+fn only_the_last_sign_divides(rt: HostRuntime) -> Result<(), Fail> {
+    check_listed(
+        &rt,
+        &[
+            (b"a@b@", b"a@b@|-|-\n"),
+            (b"@b", b"@b|-|-\n"),
+            (b"@", b"@|-|-\n"),
+            (b"a@b@c", b"a@b@c|a@b|c\n"),
+            // One in quotes or in a literal divides nothing. The quote signs themselves go.
+            (b"\"a@b\"@c", b"a@b@c|a@b|c\n"),
+            (b"\"a@b\"", b"a@b|-|-\n"),
+            (b"a@[b@c]", b"a@[b@c]|a|[b@c]\n"),
+            (b"\"\"@c", b"@c|-|-\n"),
+        ],
+    )
+}
+
+#[test]
+fn reads_the_first_angle(rt: HostRuntime) -> Result<(), Fail> {
+    check_listed(
+        &rt,
+        &[
+            (b"x <a<b@c> y", b"a<b@c|a<b|c\n"),
+            (b"<a@b> <c@d>", b"a@b|a|b\n"),
+            (b"a>b@c", b"a>b@c|a>b|c\n"),
+            (b"x <>, a", b"a|-|-\n"),
+            (b"<a,b;c:d@e>", b"a,b;c:d@e|a,b;c:d|e\n"),
+            (b"\"<\" (<) [<] <a\">\"@b>", b"a>@b|a>|b\n"),
+            // A source route goes only with its colon.
+            (b"< (c:) @a,@b:c:d@e>", b"c:d@e|c:d|e\n"),
+            (b"<@a,@b>", b"@a,@b|@a,|b\n"),
+            (b"<@[a:b]:c@d>", b"c@d|c|d\n"),
+            (b"<\"@\":c@d>", b"@:c@d|@:c|d\n"),
+        ],
+    )
+}
+
+#[test]
+fn drops_comments_and_white_space(rt: HostRuntime) -> Result<(), Fail> {
+    check_listed(
+        &rt,
+        &[
+            (b"(a, (b) \\) <) c (\"; )@d", b"c@d|c|d\n"),
+            (b"a)b@c", b"a)b@c|a)b|c\n"),
+            (b" \t a \r\n b\" \t c\" @ d", b"ab \t c@d|ab \t c|d\n"),
+            (b"\"a\\\"b\\\\\"@c", b"a\"b\\@c|a\"b\\|c\n"),
+            // In a literal white space goes, and a backslash stays.
+            (
+                b"a@[b \\] \t\\\\c, d]",
+                b"a@[b\\]\\\\c,d]|a|[b\\]\\\\c,d]\n",
+            ),
+            (
+                b"\xc3\xa4\x00@\xff",
+                b"\xc3\xa4\x00@\xff|\xc3\xa4\x00|\xff\n",
+            ),
+        ],
+    )
+}
+
+// The examples of RFC 5322, appendices A.1.1 to A.1.3.
+#[test]
+fn reads_simple_examples(rt: HostRuntime) -> Result<(), Fail> {
+    check_listed(
+        &rt,
+        &[
+            (
+                b" John Doe <jdoe@machine.example>",
+                b"jdoe@machine.example|jdoe|machine.example\n",
+            ),
+            (
+                b" Michael Jones <mjones@machine.example>",
+                b"mjones@machine.example|mjones|machine.example\n",
+            ),
+            (
+                b" Mary Smith <mary@example.net>",
+                b"mary@example.net|mary|example.net\n",
+            ),
+            (
+                b" \"Joe Q. Public\" <john.q.public@example.com>",
+                b"john.q.public@example.com|john.q.public|example.com\n",
+            ),
+            (
+                b" Mary Smith <mary@x.test>, jdoe@example.org, Who? <one@y.test>",
+                b"mary@x.test|mary|x.test\njdoe@example.org|jdoe|example.org\none@y.test|one|y.test\n",
+            ),
+            (
+                b" <boss@nil.test>, \"Giant; \\\"Big\\\" Box\" <sysservices@example.net>",
+                b"boss@nil.test|boss|nil.test\nsysservices@example.net|sysservices|example.net\n",
+            ),
+            (
+                b" Pete <pete@silly.example>",
+                b"pete@silly.example|pete|silly.example\n",
+            ),
+            (
+                b" A Group:Ed Jones <c@a.test>,joe@where.test,John <jdoe@one.test>;",
+                b"c@a.test|c|a.test\njoe@where.test|joe|where.test\njdoe@one.test|jdoe|one.test\n",
+            ),
+            (b" Undisclosed recipients:;", b""),
+        ],
+    )
+}
+
+// The examples of RFC 5322, appendices A.5 and A.6.1.
+#[test]
+fn reads_comments_folds_and_obsolete_forms(rt: HostRuntime) -> Result<(), Fail> {
+    check_listed(
+        &rt,
+        &[
+            (
+                b" Pete(A nice \\) chap) <pete(his account)@silly.test(his host)>",
+                b"pete@silly.test|pete|silly.test\n",
+            ),
+            (
+                b"A Group(Some people)\r\n     :Chris Jones <c@(Chris's host.)public.example>,\r\n         joe@example.org,\r\n  John <jdoe@one.test> (my dear friend); (the end of the group)",
+                b"c@public.example|c|public.example\njoe@example.org|joe|example.org\njdoe@one.test|jdoe|one.test\n",
+            ),
+            (
+                b"(Empty list)(start)Hidden recipients  :(nobody(that I know))  ;",
+                b"",
+            ),
+            (
+                b" Joe Q. Public <john.q.public@example.com>",
+                b"john.q.public@example.com|john.q.public|example.com\n",
+            ),
+            (
+                b" Mary Smith <@node.test:mary@example.net>, , jdoe@test  . example",
+                b"mary@example.net|mary|example.net\njdoe@test.example|jdoe|test.example\n",
+            ),
+        ],
+    )
+}
+
+// So many of these octets.
+fn repeated(alloc: Global, octet: u8, count: usize) -> Result<Vec<u8>, AllocError> {
+    let mut value = Vec::new(alloc);
+    for _ in 0..count {
+        value.push(octet)?;
+    }
+    Ok(value)
+}
+
+/// Compares how many addresses a million of each octet are.
+fn check_million(rt: &(impl AllocGlobal + Abort), rows: &[(u8, usize)]) -> Result<(), Fail> {
+    for (octet, wanted) in rows {
+        let value = repeated(rt.alloc(), *octet, 1_000_000)?;
+        let found = addresses(rt.alloc(), &value)?;
+        assert_eq!(rt; found.len(), *wanted, "of {octet}");
+    }
+    Ok(())
+}
+
+// Comments, pieces and quoted strings with nothing in them are no addresses.
+#[test]
+fn a_million_octets_that_go(rt: HostRuntime) -> Result<(), Fail> {
+    check_million(&rt, &[(b'(', 0), (b',', 0), (b'"', 0)])
+}
+
+// The inside of an angle, a literal, and octets that stand for themselves.
+#[test]
+fn a_million_octets_that_stay(rt: HostRuntime) -> Result<(), Fail> {
+    check_million(&rt, &[(b'<', 1), (b'[', 1), (b'a', 1), (b'@', 1)])
+}

@@ -1,0 +1,269 @@
+-- The addresses of a value (RFC 5322, sections 3.4 and 4.4) and of an envelope, and their parts (RFC 5228, section 2.7.4). Each
+-- octet of a value is marked with what it stands in; what follows are steps over marked octets.
+use Rattle.std.specs.Prelude.{◌≡◌, ℕ, ◌+◌, ◌-◌, ◌<◌, nat_le, nat_eq, Bool, true, false, not, ◌&&◌, ◌||◌, ◌==◌, if◌then◌else◌, length, List, [], ◌∷◌, ◌++◌, map, filter, Option, None, Some, codes}
+use Rattle.std.specs.List.{after_first, after_last, before_first, before_last, filter_map, list_any, slice_split}
+use lib.Pointwise.{pointwise}
+use Rattle.sieve_base.specs.Octet.{octet_of}
+use Rattle.message_text.specs.declared.addressing.AddressPart.{AddressPart}
+use Rattle.message_text.specs.declared.addressing.AddressPart.TheVariants as part
+use Rattle.message_text.specs.declared.marks.Inside.{Inside}
+use Rattle.message_text.specs.declared.marks.Inside.TheVariants as inside
+use Rattle.message_text.specs.declared.marks.Mark.{Mark}
+use Rattle.message_text.specs.declared.marks.Mark.TheVariants as mark
+use Rattle.message_text.specs.declared.marks.Marked.{Marked}
+use Rattle.message_text.specs.declared.marks.Spot.{Spot}
+
+-- an address: its whole text, and its local part and its domain where it has them (RFC 5322, section 3.4.1)
+pub record AddrSpec : Type 0 where
+  pub all : List ℕ
+  pub local_part : Option (List ℕ)
+  pub domain : Option (List ℕ)
+
+-- what a test sees of an address (RFC 5228, section 2.7.4)
+abbrev pub part_of : AddressPart → AddrSpec → Option (List ℕ)
+part_of part.All address = Some address.all
+part_of part.Local address = address.local_part
+part_of part.Domain address = address.domain
+
+-- MARKS
+
+-- at the start of a value nothing is open
+abbrev pub value_start : Spot
+value_start = record { inside = inside.Nothing; is_protected = false; in_angle = false }
+
+-- An octet outside of quoted strings, comments and literals opens one of these, or an angle, or closes the angle, or stands for
+-- itself. In an angle no other opens.
+abbrev pub free_mark : (in_angle : Bool) → ℕ → Mark
+free_mark in_angle b =
+    if b == octet_of "\"" then mark.QuoteSign else
+    if b == octet_of "(" then mark.Comment else
+    if b == octet_of "[" then mark.Literal else
+    if b == octet_of "<" && not in_angle then mark.AngleOpen else
+    if b == octet_of ">" && in_angle then mark.AngleClose else mark.Plain
+
+-- An octet in a quoted string (RFC 5322, section 3.2.4): the sign that closes it, and a backslash that protects the next octet,
+-- are signs; all others stand for themselves, a backslash at the end of the value too.
+abbrev pub quoted_mark : (is_protected is_last : Bool) → ℕ → Mark
+quoted_mark is_protected is_last b =
+    if is_protected then mark.Quoted else
+    if b == octet_of "\"" || (b == octet_of "\\" && not is_last) then mark.QuoteSign else mark.Quoted
+
+-- the mark of an octet by what is open before it
+abbrev pub mark_in : Inside → (is_protected in_angle is_last : Bool) → ℕ → Mark
+mark_in inside.Nothing is_protected in_angle is_last b = free_mark in_angle b
+mark_in inside.QuotedString is_protected in_angle is_last b = quoted_mark is_protected is_last b
+mark_in (inside.Comment depth) is_protected in_angle is_last b = mark.Comment
+mark_in inside.DomainLiteral is_protected in_angle is_last b = mark.Literal
+
+abbrev pub mark_at : Spot → (is_last : Bool) → ℕ → Mark
+mark_at spot is_last b = mark_in spot.inside spot.is_protected spot.in_angle is_last b
+
+-- behind an octet outside of these
+abbrev pub opened_by : ℕ → Inside
+opened_by b =
+    if b == octet_of "\"" then inside.QuotedString else
+    if b == octet_of "(" then inside.Comment 1 else
+    if b == octet_of "[" then inside.DomainLiteral else inside.Nothing
+
+-- behind an octet of so many comments in one another (RFC 5322, section 3.2.2)
+abbrev pub comment_behind : (depth : ℕ) → ℕ → Inside
+comment_behind depth b =
+    if b == octet_of "(" then inside.Comment (depth + 1) else
+    if b == octet_of ")" then (if nat_le depth 1 then inside.Nothing else inside.Comment (depth - 1)) else inside.Comment depth
+
+-- behind an octet that isn't protected
+abbrev pub inside_behind : Inside → ℕ → Inside
+inside_behind inside.Nothing b = opened_by b
+inside_behind inside.QuotedString b = if b == octet_of "\"" then inside.Nothing else inside.QuotedString
+inside_behind (inside.Comment depth) b = comment_behind depth b
+inside_behind inside.DomainLiteral b = if b == octet_of "]" then inside.Nothing else inside.DomainLiteral
+
+-- whether a backslash protects the next octet there: not outside of quoted strings, comments and literals (RFC 5322, section 3.2.1)
+abbrev pub is_protecting : Inside → Bool
+is_protecting inside.Nothing = false
+is_protecting inside.QuotedString = true
+is_protecting (inside.Comment depth) = true
+is_protecting inside.DomainLiteral = true
+
+-- whether an angle is open behind an octet; one in a quoted string, a comment or a literal opens and closes none
+abbrev pub angle_behind : Inside → (in_angle : Bool) → ℕ → Bool
+angle_behind inside.Nothing in_angle b = if b == octet_of "<" then true else if b == octet_of ">" then false else in_angle
+angle_behind inside.QuotedString in_angle b = in_angle
+angle_behind (inside.Comment depth) in_angle b = in_angle
+angle_behind inside.DomainLiteral in_angle b = in_angle
+
+-- what is open behind an octet; one that is protected opens and closes nothing
+abbrev pub spot_behind : Spot → ℕ → Spot
+spot_behind spot b = record {
+  inside = if spot.is_protected then spot.inside else inside_behind spot.inside b;
+  is_protected = not spot.is_protected && (is_protecting spot.inside && b == octet_of "\\");
+  in_angle = angle_behind spot.inside spot.in_angle b;
+}
+
+-- the octets from some place on, each with its mark
+unfoldable pub marks_from : Spot → List ℕ → List Marked
+marks_from spot [] = []
+marks_from spot (b ∷ rest) = record { octet = b; mark = mark_at spot (length rest == 0) b; in_angle = spot.in_angle } ∷ marks_from (spot_behind spot b) rest
+
+-- the octets of a value, each with its mark
+abbrev pub marks_of : List ℕ → List Marked
+marks_of value = marks_from value_start value
+
+-- STEPS
+
+abbrev pub is_mark_plain : Mark → Bool
+is_mark_plain mark.Plain = true
+is_mark_plain mark.AngleOpen = false
+is_mark_plain mark.AngleClose = false
+is_mark_plain mark.QuoteSign = false
+is_mark_plain mark.Quoted = false
+is_mark_plain mark.Comment = false
+is_mark_plain mark.Literal = false
+
+-- this octet, outside of quoted strings, comments and literals, and marking none
+abbrev pub is_free : ℕ → Marked → Bool
+is_free b m = is_mark_plain m.mark && m.octet == b
+
+-- this octet, outside of an angle too
+abbrev pub is_bare : ℕ → Marked → Bool
+is_bare b m = is_free b m && not m.in_angle
+
+-- a comma or a semicolon ends an address, a semicolon also a group (RFC 5322, section 3.4)
+abbrev pub separates : Marked → Bool
+separates m = is_bare (octet_of ",") m || is_bare (octet_of ";") m
+
+-- without the name of a group, which a colon ends (RFC 5322, section 3.4)
+abbrev pub without_group : List Marked → List Marked
+without_group piece = after_last (is_bare (octet_of ":")) piece
+
+-- not in a comment, nor one of its signs
+abbrev pub is_uncommented : Mark → Bool
+is_uncommented mark.Plain = true
+is_uncommented mark.AngleOpen = true
+is_uncommented mark.AngleClose = true
+is_uncommented mark.QuoteSign = true
+is_uncommented mark.Quoted = true
+is_uncommented mark.Comment = false
+is_uncommented mark.Literal = true
+
+abbrev pub without_comments : List Marked → List Marked
+without_comments piece = filter (λ m. is_uncommented m.mark) piece
+
+abbrev pub opens_angle : Mark → Bool
+opens_angle mark.Plain = false
+opens_angle mark.AngleOpen = true
+opens_angle mark.AngleClose = false
+opens_angle mark.QuoteSign = false
+opens_angle mark.Quoted = false
+opens_angle mark.Comment = false
+opens_angle mark.Literal = false
+
+abbrev pub closes_angle : Mark → Bool
+closes_angle mark.Plain = false
+closes_angle mark.AngleOpen = false
+closes_angle mark.AngleClose = true
+closes_angle mark.QuoteSign = false
+closes_angle mark.Quoted = false
+closes_angle mark.Comment = false
+closes_angle mark.Literal = false
+
+abbrev pub is_quoted : Mark → Bool
+is_quoted mark.Plain = false
+is_quoted mark.AngleOpen = false
+is_quoted mark.AngleClose = false
+is_quoted mark.QuoteSign = false
+is_quoted mark.Quoted = true
+is_quoted mark.Comment = false
+is_quoted mark.Literal = false
+
+-- a space, a tab, a carriage return or a line feed
+abbrev pub is_white : ℕ → Bool
+is_white b = b == octet_of " " || (b == octet_of "\t" || (b == octet_of "\r" || b == octet_of "\n"))
+
+-- white space outside of quoted strings
+abbrev pub is_gap : Marked → Bool
+is_gap m = is_white m.octet && not (is_quoted m.mark)
+
+-- the first octet behind such white space is an `@`
+abbrev pub begins_route : List Marked → Bool
+begins_route [] = false
+begins_route (m ∷ ms) = if is_gap m then begins_route ms else is_free (octet_of "@") m
+
+-- without a source route, which begins with `@` and ends with a colon (RFC 5322, section 4.4); without the colon there is none
+abbrev pub without_route : List Marked → List Marked
+without_route inside = if begins_route inside && list_any (is_free (octet_of ":")) inside then after_first (is_free (octet_of ":")) inside else inside
+
+-- where there is an angle, what stands in the first one, without its source route
+abbrev pub in_first_angle : List Marked → List Marked
+in_first_angle piece =
+    if list_any (λ m. opens_angle m.mark) piece
+    then without_route (before_first (λ m. closes_angle m.mark) (after_first (λ m. opens_angle m.mark) piece))
+    else piece
+
+abbrev pub is_sign : Mark → Bool
+is_sign mark.Plain = false
+is_sign mark.AngleOpen = false
+is_sign mark.AngleClose = false
+is_sign mark.QuoteSign = true
+is_sign mark.Quoted = false
+is_sign mark.Comment = false
+is_sign mark.Literal = false
+
+-- neither white space outside of quoted strings nor a sign of one
+abbrev pub stays : Marked → Bool
+stays m = not (is_gap m) && not (is_sign m.mark)
+
+-- the marked octets of the address in a piece
+abbrev pub address_marks : List Marked → List Marked
+address_marks piece = filter stays (in_first_angle (without_comments (without_group piece)))
+
+abbrev pub octets_of : List Marked → List ℕ
+octets_of marked = map (λ m. m.octet) marked
+
+-- an address with a local part and a domain where both have octets, and else with neither
+abbrev pub divided : (all local_part domain : List ℕ) → AddrSpec
+divided all [] domain = record { all = all; local_part = None; domain = None }
+divided all (b ∷ bs) [] = record { all = all; local_part = None; domain = None }
+divided all (b ∷ bs) (c ∷ cs) = record { all = all; local_part = Some (b ∷ bs); domain = Some (c ∷ cs) }
+
+-- the address of such octets, if there are any: the last free `@` stands between local part and domain
+abbrev pub address_by : List Marked → Option AddrSpec
+address_by [] = None
+address_by (m ∷ ms) = Some (divided (octets_of (m ∷ ms)) (octets_of (before_last (is_free (octet_of "@")) (m ∷ ms))) (octets_of (after_last (is_free (octet_of "@")) (m ∷ ms))))
+
+abbrev pub address_in : List Marked → Option AddrSpec
+address_in piece = address_by (address_marks piece)
+
+-- the addresses of a value, in order
+unfoldable pub addresses_of : List ℕ → List AddrSpec
+addresses_of value = filter_map address_in (slice_split separates (marks_of value))
+
+-- AN ENVELOPE'S ADDRESS
+
+-- no address, or the null path (RFC 5321, section 4.5.5)
+abbrev pub is_null_path : List ℕ → Bool
+is_null_path text = length text == 0 || pointwise nat_eq (codes "<>") text
+
+-- a text that isn't one address is seen as a whole alone
+abbrev pub the_only : (text : List ℕ) → List AddrSpec → AddrSpec
+the_only text [] = record { all = text; local_part = None; domain = None }
+the_only text (one ∷ []) = one
+the_only text (one ∷ two ∷ more) = record { all = text; local_part = None; domain = None }
+
+-- The address of an envelope (RFC 5228, section 5.4): a null path is the empty string, whatever part is asked for.
+unfoldable pub envelope_address_of : List ℕ → AddrSpec
+envelope_address_of text = if is_null_path text then record { all = []; local_part = Some []; domain = Some [] } else the_only text (addresses_of text)
+
+-- LAWS
+
+-- the parts of an address are there both or not at all; joined by `@` they are the whole, and neither is empty
+abbrev pub PartsJoin : (all : List ℕ) → (local_part domain : Option (List ℕ)) → Type 0
+PartsJoin all None None = Unit {0}
+PartsJoin all None (Some domain) = ⊥
+PartsJoin all (Some local_part) None = ⊥
+PartsJoin all (Some local_part) (Some domain) = (all ≡ local_part ++ octet_of "@" ∷ domain) × ((0 < length local_part) × (0 < length domain))
+
+-- an address has octets, and its parts join to it
+pub record IsAddrSpec (address : AddrSpec) : Type 0 where
+  pub filled : 0 < length address.all
+  pub parts : PartsJoin address.all address.local_part address.domain

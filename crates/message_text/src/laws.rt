@@ -1,0 +1,16 @@
+//! Laws over the definitions. Each of these functions does nothing: its contract is the law.
+ghost use Rattle.std.specs.Prelude.{◌≡◌, ℕ, List};
+ghost use Rattle.std.specs.List.{All};
+ghost use Rattle.message_text.specs.Addresses.{IsAddrSpec, addresses_of, marks_of, octets_of};
+
+/// Each address of a value has octets, and its local part, an `@` and its domain in turn are the whole, where it has
+/// these parts; neither of them is empty (RFC 5322, section 3.4.1).
+pub fn parts_join_to_the_address()
+    ensures parts { (value : List ℕ) → All IsAddrSpec (addresses_of value) }
+{}
+
+/// The marks keep the octets of a value.
+#[tactic(auto, using(crate::proofs::LawLemmas::marks_are_of_the_octets))]
+pub fn marks_keep_the_octets()
+    ensures octets { (value : List ℕ) → octets_of (marks_of value) ≡ value }
+{}

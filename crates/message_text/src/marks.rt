@@ -1,0 +1,196 @@
+//! The octets of a value, each marked with what it stands in (RFC 5322, sections 3.2 and 3.4).
+ghost use Rattle.std.specs.Prelude.{◌≡◌, ◌≤◌, ◌<◌, ◌+◌, ◌^◌, IfOk};
+ghost use Rattle.message_text.specs.Addresses.{angle_behind, comment_behind, free_mark, inside_behind, is_protecting, mark_at, marks_of, opened_by, quoted_mark, spot_behind};
+ghost use Rattle.message_text.specs.view.Depths.{depth_of};
+
+use std::alloc::{AllocError, Global};
+
+/// What an octet of an address list is, or what it stands in.
+#[derive(Clone, Copy, Debug)]
+pub(crate) enum Mark {
+    /// An octet outside of quoted strings, comments and literals that stands for itself.
+    Plain,
+    /// The sign that opens an angle.
+    AngleOpen,
+    /// The sign that closes it.
+    AngleClose,
+    /// A quote sign, or a backslash that protects the next octet of a quoted string.
+    QuoteSign,
+    /// An octet of a quoted string.
+    Quoted,
+    /// An octet of a comment, its signs included.
+    Comment,
+    /// An octet of a literal, its brackets included.
+    Literal,
+}
+
+/// What is open at a place of a value.
+#[derive(Clone, Copy, Debug)]
+pub(crate) enum Inside {
+    /// Neither a quoted string nor a comment nor a literal.
+    Nothing,
+    /// A quoted string.
+    QuotedString,
+    /// So many comments, each in the one before.
+    Comment(usize),
+    /// A literal, as of a domain.
+    DomainLiteral,
+}
+
+/// A place of a value.
+#[derive(Clone, Copy, Debug)]
+pub(crate) struct Spot {
+    /// What is open there.
+    pub(crate) inside: Inside,
+    /// Whether a backslash before it protects its octet.
+    pub(crate) is_protected: bool,
+    /// Whether an angle is open there.
+    pub(crate) in_angle: bool,
+}
+
+/// An octet with its mark.
+#[derive(Clone, Copy, Debug)]
+pub(crate) struct Marked {
+    pub(crate) octet: u8,
+    pub(crate) mark: Mark,
+    /// Whether an angle was open before it.
+    pub(crate) in_angle: bool,
+}
+
+// The mark of an octet outside of quoted strings, comments and literals.
+fn free_mark(in_angle: bool, octet: u8) -> Mark
+    ensures { result ≡ free_mark in_angle octet }
+{
+    match octet {
+        b'"' => Mark::QuoteSign,
+        b'(' => Mark::Comment,
+        b'[' => Mark::Literal,
+        b'<' if !in_angle => Mark::AngleOpen,
+        b'>' if in_angle => Mark::AngleClose,
+        _ => Mark::Plain,
+    }
+}
+
+// The mark of an octet in a quoted string. A backslash that ends the value protects nothing.
+fn quoted_mark(is_protected: bool, is_last: bool, octet: u8) -> Mark
+    ensures { result ≡ quoted_mark is_protected is_last octet }
+{
+    if is_protected {
+        return Mark::Quoted;
+    }
+    if octet == b'"' || (octet == b'\\' && !is_last) {
+        Mark::QuoteSign
+    } else {
+        Mark::Quoted
+    }
+}
+
+// The mark of the octet at a place.
+fn mark_at(spot: Spot, is_last: bool, octet: u8) -> Mark
+    ensures { result ≡ mark_at spot is_last octet }
+{
+    match spot.inside {
+        Inside::Nothing => free_mark(spot.in_angle, octet),
+        Inside::QuotedString => quoted_mark(spot.is_protected, is_last, octet),
+        Inside::Comment(_) => Mark::Comment,
+        Inside::DomainLiteral => Mark::Literal,
+    }
+}
+
+// What an octet opens where nothing is open.
+fn opened_by(octet: u8) -> Inside
+    ensures { result ≡ opened_by octet }
+{
+    match octet {
+        b'"' => Inside::QuotedString,
+        b'(' => Inside::Comment(1),
+        b'[' => Inside::DomainLiteral,
+        _ => Inside::Nothing,
+    }
+}
+
+// What is open behind an octet of so many comments in one another.
+fn comment_behind(depth: usize, octet: u8) -> Inside
+    requires { depth + 1 < 2 ^ 64 }
+    ensures { result ≡ comment_behind depth octet }
+{
+    match octet {
+        b'(' => Inside::Comment(depth + 1),
+        b')' if depth <= 1 => Inside::Nothing,
+        b')' => Inside::Comment(depth - 1),
+        _ => Inside::Comment(depth),
+    }
+}
+
+// What is open behind an octet that isn't protected.
+fn inside_behind(inside: Inside, octet: u8) -> Inside
+    requires { depth_of inside + 1 < 2 ^ 64 }
+    ensures { result ≡ inside_behind inside octet }
+{
+    match inside {
+        Inside::Nothing => opened_by(octet),
+        Inside::QuotedString if octet == b'"' => Inside::Nothing,
+        Inside::Comment(depth) => comment_behind(depth, octet),
+        Inside::DomainLiteral if octet == b']' => Inside::Nothing,
+        Inside::QuotedString | Inside::DomainLiteral => inside,
+    }
+}
+
+// Whether a backslash there protects the next octet.
+fn is_protecting(inside: Inside) -> bool
+    ensures { result ≡ is_protecting inside }
+{
+    !matches!(inside, Inside::Nothing)
+}
+
+// Whether an angle is open behind an octet.
+fn angle_behind(inside: Inside, in_angle: bool, octet: u8) -> bool
+    ensures { result ≡ angle_behind inside in_angle octet }
+{
+    if is_protecting(inside) {
+        return in_angle;
+    }
+    match octet {
+        b'<' => true,
+        b'>' => false,
+        _ => in_angle,
+    }
+}
+
+// The place behind an octet.
+fn spot_behind(spot: Spot, octet: u8) -> Spot
+    requires { depth_of spot.inside + 1 < 2 ^ 64 }
+    ensures spot { result ≡ spot_behind spot octet }
+    ensures depth { depth_of result.inside ≤ depth_of spot.inside + 1 }
+{
+    Spot {
+        inside: if spot.is_protected {
+            spot.inside
+        } else {
+            inside_behind(spot.inside, octet)
+        },
+        is_protected: !spot.is_protected && is_protecting(spot.inside) && octet == b'\\',
+        in_angle: angle_behind(spot.inside, spot.in_angle, octet),
+    }
+}
+
+/// The octets of a value with their marks.
+pub(crate) fn marks_of(alloc: Global, value: &[u8]) -> Result<Vec<Marked>, AllocError>
+    ensures { IfOk result (λ marked. marked.items ≡ marks_of value.now) }
+{
+    let mut marked = Vec::new(alloc);
+    let mut spot = Spot {
+        inside: Inside::Nothing,
+        is_protected: false,
+        in_angle: false,
+    };
+    for (place, octet) in value.iter().enumerate() {
+        marked.push(Marked {
+            octet: *octet,
+            mark: mark_at(spot, place + 1 == value.len(), *octet),
+            in_angle: spot.in_angle,
+        })?;
+        spot = spot_behind(spot, *octet);
+    }
+    Ok(marked)
+}
