@@ -1,6 +1,6 @@
 -- Worked rows of what code is chosen, of what it does, and of how it is printed.
 use Rattle.std.proofs.Common.{◌≡◌, ℕ, true, false, List, [], ◌∷◌, Some, refl, codes}
-use Rattle.match_text.specs.declared.comparators.Collation.TheVariants.{Casemap}
+use Rattle.match_text.specs.declared.comparators.Collation.TheVariants.{Casemap, Octet}
 use Rattle.std.specs.Fmt.{digits}
 use Rattle.sieve_base.specs.Writers.{quoted}
 use Rattle.message_text.specs.declared.addressing.AddressPart.TheVariants as part
@@ -8,10 +8,10 @@ use Rattle.sieve_check.specs.Reading.{Ask, header_values, address_values, envelo
 use Rattle.sieve_check.specs.Script as script
 use Rattle.sieve_check.specs.Script.{chain_of, condition_of, conditions_in, conditions, block_commands}
 use Rattle.sieve_table.specs.Table.{command_named, test_named}
-use Rattle.sieve_check.specs.Tree.{literal, Argument, strings, number, tag, Test, test, no_tests, one_test, test_list, tests, Node, node, Block, no_block, block, nodes}
-use Rattle.sieve_check.specs.declared.reading.MatchType.TheVariants.{Contains}
+use Rattle.sieve_check.specs.Tree.{Part, literal, Argument, strings, number, tag, Test, test, no_tests, one_test, test_list, tests, Node, node, Block, no_block, block, nodes}
+use Rattle.sieve_check.specs.declared.reading.MatchType.TheVariants.{Contains, Is}
 use Rattle.sieve_code.specs.Choice.{code_of, placed, test_before, tests_before, list_before, first_before, node_before, block_before, nodes_before}
-use Rattle.sieve_code.specs.Dump.{address_words, ask_text, comparing_words, line_text, list_text, operation_text, string_text, two_lists}
+use Rattle.sieve_code.specs.Dump.{address_words, ask_text, comparing_words, further_list, line_text, list_text, operation_text, string_text, two_lists, worded_text}
 use Rattle.sieve_code.specs.Operation.{Operation, sets, inverts, asks, jumps, jumps_if, acts, stops}
 use Rattle.sieve_code.specs.Walk.{Walk, at_end, by_stop, cut_off, asked, acted, code_walk, walk_from, tree_walk, commands_walk, condition_walk, gone, met_ask, met_leaf, ended, unanswered}
 
@@ -150,7 +150,7 @@ unanswered_row = refl
 -- DUMP
 
 header_line_row : line_text 0 (asks list_ask) ≡ codes "0: header contains casemap [\"Subject\"] [\"[list]\"]\n"
-unfolding line_text operation_text digits ask_text comparing_words two_lists list_text string_text quoted
+unfolding line_text operation_text digits ask_text comparing_words two_lists further_list list_text string_text quoted
 header_line_row = refl
 
 jump_line_row : line_text 1 (jumps_if true 3) ≡ codes "1: jump-if-true 3\n"
@@ -178,17 +178,17 @@ abbrev one_text : List ℕ → List Part
 one_text octets = literal octets ∷ []
 
 address_line_row : line_text 0 (asks (compares (address_values part.Local (one_text (codes "from") ∷ one_text (codes "To") ∷ [])) Is Casemap (one_text (codes "jane") ∷ []))) ≡ codes "0: address is casemap localpart [\"from\", \"To\"] [\"jane\"]\n"
-unfolding line_text operation_text digits ask_text address_words comparing_words two_lists list_text string_text quoted
+unfolding line_text operation_text digits ask_text address_words comparing_words two_lists further_list list_text string_text quoted
 address_line_row = refl
 
 envelope_line_row : line_text 4 (asks (compares (envelope_values part.All (one_text (codes "from") ∷ [])) Is Octet (one_text [] ∷ one_text (codes "x") ∷ []))) ≡ codes "4: envelope is octet all [\"from\"] [\"\", \"x\"]\n"
-unfolding line_text operation_text digits ask_text address_words comparing_words two_lists list_text string_text quoted
+unfolding line_text operation_text digits ask_text address_words comparing_words two_lists further_list list_text string_text quoted
 envelope_line_row = refl
 
 redirect_line_row : line_text 2 (acts (redirect_leaf (one_text (codes "a@b.example"))) 2) ≡ codes "2: redirect \"a@b.example\" @2\n"
-unfolding line_text operation_text digits string_text quoted
+unfolding line_text operation_text digits worded_text string_text quoted
 redirect_line_row = refl
 
 fileinto_line_row : line_text 6 (acts (fileinto_leaf (one_text (codes "A"))) 3) ≡ codes "6: fileinto \"A\" internal @3\n"
-unfolding line_text operation_text digits string_text quoted
+unfolding line_text operation_text digits worded_text string_text quoted
 fileinto_line_row = refl

@@ -50,9 +50,13 @@ comparing_words test match_type collation = test ++ codes " " ++ match_word matc
 unfoldable pub address_words : List ℕ → MatchType → Collation → AddressPart → List ℕ
 address_words test match_type collation part = comparing_words test match_type collation ++ (codes " " ++ address_part_word part)
 
+-- strings in brackets behind a space
+unfoldable pub further_list : List (List Part) → List ℕ
+further_list strings = codes " " ++ list_text strings
+
 -- its names and its keys
 unfoldable pub two_lists : List (List Part) → List (List Part) → List ℕ
-two_lists names keys = (codes " " ++ list_text names) ++ (codes " " ++ list_text keys)
+two_lists names keys = further_list names ++ further_list keys
 
 unfoldable pub ask_text : Ask → List ℕ
 ask_text (compares (header_values names) match_type collation keys) = comparing_words (codes "header") match_type collation ++ two_lists names keys
@@ -62,10 +66,14 @@ ask_text (exists_ask names) = codes "exists " ++ list_text names
 ask_text (over_ask limit) = codes "size over " ++ decimal limit
 ask_text (under_ask limit) = codes "size under " ++ decimal limit
 
+-- a string behind a command's word
+unfoldable pub worded_text : List ℕ → List Part → List ℕ
+worded_text word string = word ++ string_text string
+
 abbrev pub leaf_text : Leaf → List ℕ
 leaf_text keep_leaf = codes "keep internal"
-leaf_text (fileinto_leaf mailbox) = codes "fileinto " ++ string_text mailbox ++ codes " internal"
-leaf_text (redirect_leaf address) = codes "redirect " ++ string_text address
+leaf_text (fileinto_leaf mailbox) = worded_text (codes "fileinto ") mailbox ++ codes " internal"
+leaf_text (redirect_leaf address) = worded_text (codes "redirect ") address
 leaf_text discard_leaf = codes "discard"
 
 unfoldable pub operation_text : Operation → List ℕ

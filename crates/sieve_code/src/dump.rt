@@ -3,7 +3,7 @@ ghost use Rattle.std.specs.Prelude.{◌≡◌, ◌++◌, codes, decimal, map, On
 ghost use Rattle.std.specs.List.{flat_map};
 ghost use Rattle.sieve_base.specs.Writers.{Wrote, WroteFront};
 ghost use Rattle.sieve_check.specs.view.Tree.{part_of};
-ghost use Rattle.sieve_code.specs.Dump.{address_part_word, address_words, collation_word, comparing_words, line_text, list_text, match_word, operation_text, part_text, separated, string_text, two_lists};
+ghost use Rattle.sieve_code.specs.Dump.{address_part_word, address_words, collation_word, comparing_words, further_list, line_text, list_text, match_word, operation_text, part_text, separated, string_text, two_lists, worded_text};
 ghost use Rattle.sieve_code.specs.view.Marked.{marked_part, marked_string};
 ghost use Rattle.sieve_code.specs.view.Op.{op_as, strings_of};
 
@@ -161,14 +161,23 @@ fn write_address_words<W: Sink>(
     )
 }
 
+/// Writes strings in brackets behind a space.
+#[tactic(auto, unfolding(crate::specs::Dump::further_list))]
+fn write_further_list<W: Sink>(strings: &[Parts], writer: &mut W) -> Result<(), WriteFault>
+    ensures ok { OnOk result (Wrote W.contents W.fault_count writer.old writer.new (further_list (strings_of strings.now))) }
+    ensures err { OnErr result (WroteFront W.contents W.fault_count writer.old writer.new (further_list (strings_of strings.now))) }
+{
+    write_list(b" ", strings, writer)
+}
+
 /// Writes the two lists of a test.
 #[tactic(auto, using(sieve_base::proofs::Writing::writing), unfolding(crate::specs::Dump::two_lists))]
 fn write_lists<W: Sink>(names: &[Parts], keys: &[Parts], writer: &mut W) -> Result<(), WriteFault>
     ensures ok { OnOk result (Wrote W.contents W.fault_count writer.old writer.new (two_lists (strings_of names.now) (strings_of keys.now))) }
     ensures err { OnErr result (WroteFront W.contents W.fault_count writer.old writer.new (two_lists (strings_of names.now) (strings_of keys.now))) }
 {
-    write_list(b" ", names, writer)?;
-    write_list(b" ", keys, writer)
+    write_further_list(names, writer)?;
+    write_further_list(keys, writer)
 }
 
 /// Writes a `header` test.
@@ -205,13 +214,22 @@ fn write_address<W: Sink>(
     write_lists(names, keys, writer)
 }
 
+/// Writes a command's word and then a string.
+#[tactic(auto, unfolding(crate::specs::Dump::worded_text))]
+fn write_worded<W: Sink>(word: &[u8], string: &[Part], writer: &mut W) -> Result<(), WriteFault>
+    ensures ok { OnOk result (Wrote W.contents W.fault_count writer.old writer.new (worded_text word.now (map part_of string.now))) }
+    ensures err { OnErr result (WroteFront W.contents W.fault_count writer.old writer.new (worded_text word.now (map part_of string.now))) }
+{
+    write_string(word, string, writer)
+}
+
 /// Writes a `fileinto`.
 #[tactic(auto, using(sieve_base::proofs::Writing::writing))]
 fn write_fileinto<W: Sink>(mailbox: &[Part], line: u64, writer: &mut W) -> Result<(), WriteFault>
-    ensures ok { OnOk result (Wrote W.contents W.fault_count writer.old writer.new ((codes "fileinto " ++ string_text (map part_of mailbox.now)) ++ codes " internal" ++ (codes " @" ++ decimal line))) }
-    ensures err { OnErr result (WroteFront W.contents W.fault_count writer.old writer.new ((codes "fileinto " ++ string_text (map part_of mailbox.now)) ++ codes " internal" ++ (codes " @" ++ decimal line))) }
+    ensures ok { OnOk result (Wrote W.contents W.fault_count writer.old writer.new (worded_text (codes "fileinto ") (map part_of mailbox.now) ++ codes " internal" ++ (codes " @" ++ decimal line))) }
+    ensures err { OnErr result (WroteFront W.contents W.fault_count writer.old writer.new (worded_text (codes "fileinto ") (map part_of mailbox.now) ++ codes " internal" ++ (codes " @" ++ decimal line))) }
 {
-    write_string(b"fileinto ", mailbox, writer)?;
+    write_worded(b"fileinto ", mailbox, writer)?;
     write_out(b" internal", writer)?;
     write_number(b" @", line, writer)
 }
@@ -219,10 +237,10 @@ fn write_fileinto<W: Sink>(mailbox: &[Part], line: u64, writer: &mut W) -> Resul
 /// Writes a `redirect`.
 #[tactic(auto, using(sieve_base::proofs::Writing::writing))]
 fn write_redirect<W: Sink>(address: &[Part], line: u64, writer: &mut W) -> Result<(), WriteFault>
-    ensures ok { OnOk result (Wrote W.contents W.fault_count writer.old writer.new ((codes "redirect " ++ string_text (map part_of address.now)) ++ (codes " @" ++ decimal line))) }
-    ensures err { OnErr result (WroteFront W.contents W.fault_count writer.old writer.new ((codes "redirect " ++ string_text (map part_of address.now)) ++ (codes " @" ++ decimal line))) }
+    ensures ok { OnOk result (Wrote W.contents W.fault_count writer.old writer.new (worded_text (codes "redirect ") (map part_of address.now) ++ (codes " @" ++ decimal line))) }
+    ensures err { OnErr result (WroteFront W.contents W.fault_count writer.old writer.new (worded_text (codes "redirect ") (map part_of address.now) ++ (codes " @" ++ decimal line))) }
 {
-    write_string(b"redirect ", address, writer)?;
+    write_worded(b"redirect ", address, writer)?;
     write_number(b" @", line, writer)
 }
 

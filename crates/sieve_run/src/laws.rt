@@ -5,6 +5,7 @@ ghost use Rattle.sieve_check.specs.Reading.{Ask, Leaf};
 ghost use Rattle.sieve_check.specs.Script.{Commands, Condition, script_of, stops};
 ghost use Rattle.sieve_check.specs.Tree.{Node};
 ghost use Rattle.sieve_code.specs.Walk.{gone, tree_walk};
+ghost use Rattle.sieve_run.specs.Delivery.{Delivery};
 ghost use Rattle.sieve_run.specs.Name.{name_cmp, name_eq};
 ghost use Rattle.sieve_run.specs.Perform.{answers_of, do_gone, perform};
 ghost use Rattle.sieve_run.specs.Run.{Answer, Ending, RunState, answer_of, decide, exec};
@@ -23,7 +24,7 @@ pub fn stop_ends_the_commands()
 /// cancelled, nor the names looked up.
 #[tactic(auto, using(crate::proofs::Unchanged::decide_keeps))]
 pub fn tests_change_nothing()
-    ensures state { (message : List ℕ) (condition : Condition) (state : RunState) → (decide (answer_of message) condition state).state ≡ state }
+    ensures state { (delivery : Delivery) (condition : Condition) (state : RunState) → (decide (answer_of delivery) condition state).state ≡ state }
 {}
 
 /// What running a checked tree's commands does is what doing the leaves of its walk in turn gives, up to the first that ends

@@ -1,8 +1,19 @@
 -- How the interpreter says that commands ended.
-use Rattle.sieve_run.specs.Run.{RunState, Ending, goes_on, stopped}
-use Rattle.sieve_run.specs.declared.steps.Flow.{Flow}
-use Rattle.sieve_run.specs.declared.steps.Flow.TheVariants.{GoesOn, Stopped}
+use Rattle.std.specs.Prelude.{ℕ, Bool}
+use Rattle.sieve_run.specs.Delivery.{Delivery}
+use Rattle.sieve_run.specs.Run.{RunState, Ending, goes_on, stopped, fails_at}
+use Rattle.sieve_run.specs.declared.flow.Flow.{Flow}
+use Rattle.sieve_run.specs.declared.flow.Flow.TheVariants.{GoesOn, Stopped, Failed}
+use Rattle.sieve_run.specs.declared.steps.Step.{Step}
+use Rattle.sieve_run.specs.declared.steps.Step.TheVariants as step
 
-abbrev pub ending_by : Flow → RunState → Ending
-ending_by GoesOn state = goes_on state
-ending_by Stopped state = stopped state
+abbrev pub ending_by : Delivery → Flow → RunState → Ending
+ending_by delivery GoesOn state = goes_on state
+ending_by delivery Stopped state = stopped state
+ending_by delivery (Failed line kind) state = fails_at delivery line kind state
+
+-- the step after a command that ended so, where this is the place behind its operation's
+abbrev pub step_after : Flow → ℕ → Bool → Step
+step_after GoesOn behind register = step.Next behind register
+step_after Stopped behind register = step.Stopped
+step_after (Failed line kind) behind register = step.Failed line kind
