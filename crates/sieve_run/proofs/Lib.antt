@@ -1,3 +1,5 @@
+mod Bounds
+mod Paths
 mod Rows
 pub mod Unchanged
 pub mod Performing

@@ -5,6 +5,7 @@ use Rattle.sieve_check.specs.Script.{Condition, always, never, asks, negated, bo
 use Rattle.sieve_check.specs.Tree.{Node}
 use Rattle.sieve_code.specs.Walk.{Walk, at_end, by_stop, cut_off, asked, acted, code_walk, condition_walk, gone, commands_walk, tree_walk}
 use Rattle.sieve_code.specs.Operation.{Operation}
+use Rattle.sieve_run.specs.Delivery.{Delivery}
 use Rattle.sieve_run.specs.Library.{HasCode, Lookup, missing, invalid, present}
 use Rattle.sieve_run.specs.Perform.{answers_after, answers_of, chosen_answers, do_gone, do_met, end_of, perform}
 use Rattle.sieve_run.specs.declared.envelope.Envelope.{Envelope}
@@ -104,8 +105,9 @@ module _ (ask : Ask → RunState → Answer) (act : Leaf → ℕ → RunState �
 pub ruleset walking = (does_walk, does_met)
 
 -- the verdict by the code of what is found
-pub by_code : (message : List ℕ) (envelope : Envelope) (main : ScriptName) (lookup : Lookup) (ops : List Operation) → HasCode lookup ops → verdict_of (doing message envelope (code_walk ops (length ops)) (begun main)) ≡ verdict_at envelope message main lookup
+pub by_code : (message : List ℕ) (envelope : Envelope) (main : ScriptName) (lookup : Lookup) (ops : List Operation) → HasCode lookup ops → verdict_of (doing (record { message = message; envelope = envelope; script = main }) (code_walk ops (length ops)) (begun main)) ≡ verdict_at envelope message main lookup
 by_code message envelope main missing ops has = absurd has
 by_code message envelope main invalid ops has = absurd has
 by_code message envelope main (present tree) ops has =
-    ap verdict_of (ap (λ w. doing message envelope w (begun main)) has.does ∙ sym (does_walk (answer_of message) (act_of envelope) tree (begun main)))
+    let delivery : Delivery = record { message = message; envelope = envelope; script = main } in
+    ap verdict_of (ap (λ w. doing delivery w (begun main)) has.does ∙ sym (does_walk (answer_of delivery) (act_of delivery) tree (begun main)))

@@ -3,7 +3,7 @@ use Rattle.std.proofs.Common.{◌≡◌, ℕ, Bool, true, false, List, [], ◌�
 use Rattle.match_text.specs.declared.comparators.Collation.{Collation}
 use Rattle.match_text.specs.declared.comparators.Collation.TheVariants.{Octet, Casemap}
 use Rattle.message_text.specs.Fields.{fields_of, field_groups}
-use Rattle.sieve_check.specs.Reading.{Ask, header_ask, exists_ask, over_ask, under_ask, keep_leaf, discard_leaf}
+use Rattle.sieve_check.specs.Reading.{Ask, header_values, address_values, envelope_values, compares, exists_ask, over_ask, under_ask, keep_leaf, fileinto_leaf, redirect_leaf, discard_leaf}
 use Rattle.sieve_check.specs.Script.{Condition, always, never, asks, negated, both, either, Commands, no_commands, stops, acts, chooses, chain_of, node_before, block_commands, conditions_in}
 use Rattle.sieve_table.specs.Table.{command_named}
 use Rattle.sieve_check.specs.Tree.{Part, literal, node, no_tests, no_block}
@@ -11,14 +11,33 @@ use Rattle.sieve_check.specs.declared.reading.MatchType.{MatchType}
 use Rattle.sieve_check.specs.declared.reading.MatchType.TheVariants.{Is, Contains}
 use Rattle.sieve_base.specs.declared.place.Place.TheVariants.{Personal}
 use Rattle.sieve_base.specs.Limits.{name_limit}
+use Rattle.message_text.specs.Addresses.{addresses_of, envelope_address_of, marks_from}
+use Rattle.message_text.specs.declared.addressing.AddressPart.TheVariants as part
+use Rattle.sieve_table.specs.Address.{is_address_field}
+use Rattle.sieve_run.specs.Delivery.{Delivery}
 use Rattle.sieve_run.specs.Library.{Lookup, missing, invalid, present}
-use Rattle.sieve_run.specs.Matching.{truth_of, values_named, header_pairs}
-use Rattle.sieve_run.specs.Run.{RunState, Ending, goes_on, stopped, Answer, answer_of, act_of, decide, exec, begun, verdict_at, outcome_of}
+use Rattle.sieve_run.specs.Matching.{truth_of, values_named, values_of, pairs_of}
+use Rattle.sieve_run.specs.Run.{RunState, Ending, goes_on, stopped, failed, Answer, answer_of, act_of, decide, exec, begun, verdict_at, outcome_of}
 use Rattle.sieve_run.specs.declared.envelope.Envelope.{Envelope}
 use Rattle.sieve_run.specs.declared.name.ScriptName.{ScriptName}
 use Rattle.sieve_run.specs.declared.outcome.Action.{Action}
-use Rattle.sieve_run.specs.declared.outcome.Action.TheVariants.{Store, Discard}
-use Rattle.sieve_run.specs.declared.outcome.ErrorKind.TheVariants.{MissingScript, InvalidScript}
+use Rattle.sieve_run.specs.declared.outcome.Action.TheVariants.{Store, Redirect, Discard}
+use Rattle.sieve_run.specs.declared.outcome.ErrorKind.TheVariants.{MissingScript, InvalidScript, BadAddress, BadMailbox}
+
+-- DELIVERIES
+
+abbrev main : ScriptName
+main = record { place = Personal; name = codes "main" }
+
+abbrev envelope : Envelope
+envelope = record { from = []; to = []; mailbox = codes "INBOX" }
+
+-- a message in that envelope, and one from a sender
+abbrev delivered : List ℕ → Delivery
+delivered message = record { message = message; envelope = envelope; script = main }
+
+abbrev sent_by : List ℕ → Delivery
+sent_by from = record { message = []; envelope = record { from = from; to = codes "x@y.example"; mailbox = codes "INBOX" }; script = main }
 
 -- FIELDS
 
@@ -35,47 +54,47 @@ text octets = literal octets ∷ []
 
 -- header with one name and one key
 abbrev header : MatchType → Collation → List ℕ → List ℕ → Ask
-header match_type collation name key = header_ask match_type collation (text name ∷ []) (text key ∷ [])
+header match_type collation name key = compares (header_values (text name ∷ [])) match_type collation (text key ∷ [])
 
 -- an absent field contains nothing, not even the empty key
-absent_row : truth_of (headed (codes "Subject: a")) (header Contains Casemap (codes "X-None") []) ≡ false
+absent_row : truth_of (delivered (headed (codes "Subject: a"))) (header Contains Casemap (codes "X-None") []) ≡ false
 unfolding truth_of fields_of field_groups
 absent_row = refl
 
 -- an empty field contains the empty key
-empty_row : truth_of (headed (codes "X-None:")) (header Contains Casemap (codes "X-None") []) ≡ true
+empty_row : truth_of (delivered (headed (codes "X-None:"))) (header Contains Casemap (codes "X-None") []) ≡ true
 unfolding truth_of fields_of field_groups
 empty_row = refl
 
 -- i;ascii-casemap ignores the case of a value
-casemap_row : truth_of (headed (codes "Subject: HELLO")) (header Is Casemap (codes "subject") (codes "hello")) ≡ true
+casemap_row : truth_of (delivered (headed (codes "Subject: HELLO"))) (header Is Casemap (codes "subject") (codes "hello")) ≡ true
 unfolding truth_of fields_of field_groups
 casemap_row = refl
 
 -- i;octet minds it, though names of fields still ignore it
-octet_row : truth_of (headed (codes "Subject: HELLO")) (header Is Octet (codes "subject") (codes "hello")) ≡ false
+octet_row : truth_of (delivered (headed (codes "Subject: HELLO"))) (header Is Octet (codes "subject") (codes "hello")) ≡ false
 unfolding truth_of fields_of field_groups
 octet_row = refl
 
-octet_same_row : truth_of (headed (codes "Subject: HELLO")) (header Is Octet (codes "subject") (codes "HELLO")) ≡ true
+octet_same_row : truth_of (delivered (headed (codes "Subject: HELLO"))) (header Is Octet (codes "subject") (codes "HELLO")) ≡ true
 unfolding truth_of fields_of field_groups
 octet_same_row = refl
 
 -- a part of a value is contained, and isn't the value
-is_row : truth_of (headed (codes "Subject: hello")) (header Is Casemap (codes "Subject") (codes "ell")) ≡ false
+is_row : truth_of (delivered (headed (codes "Subject: hello"))) (header Is Casemap (codes "Subject") (codes "ell")) ≡ false
 unfolding truth_of fields_of field_groups
 is_row = refl
 
-contains_row : truth_of (headed (codes "Subject: hello")) (header Contains Casemap (codes "Subject") (codes "ell")) ≡ true
+contains_row : truth_of (delivered (headed (codes "Subject: hello"))) (header Contains Casemap (codes "Subject") (codes "ell")) ≡ true
 unfolding truth_of fields_of field_groups
 contains_row = refl
 
 -- exists asks for all names
-exists_row : truth_of (headed_twice (codes "From: a") (codes "To: b")) (exists_ask (text (codes "to") ∷ text (codes "from") ∷ [])) ≡ true
+exists_row : truth_of (delivered (headed_twice (codes "From: a") (codes "To: b"))) (exists_ask (text (codes "to") ∷ text (codes "from") ∷ [])) ≡ true
 unfolding truth_of fields_of field_groups
 exists_row = refl
 
-one_absent_row : truth_of (headed_twice (codes "From: a") (codes "To: b")) (exists_ask (text (codes "From") ∷ text (codes "Cc") ∷ [])) ≡ false
+one_absent_row : truth_of (delivered (headed_twice (codes "From: a") (codes "To: b"))) (exists_ask (text (codes "From") ∷ text (codes "Cc") ∷ [])) ≡ false
 unfolding truth_of fields_of field_groups
 one_absent_row = refl
 
@@ -89,29 +108,51 @@ unfolding fields_of field_groups
 order_row = refl
 
 -- by names, then by fields, then by keys
-pairs_row : header_pairs (fields_of (codes "A: 1" ++ (10 ∷ headed_twice (codes "B: 2") (codes "A: 3")))) (codes "B" ∷ codes "A" ∷ []) (codes "x" ∷ codes "y" ∷ [])
+pairs_row : pairs_of (values_of (delivered (codes "A: 1" ++ (10 ∷ headed_twice (codes "B: 2") (codes "A: 3")))) (header_values (text (codes "B") ∷ text (codes "A") ∷ []))) (codes "x" ∷ codes "y" ∷ [])
     ≡ record { value = codes "2"; key = codes "x" } ∷ record { value = codes "2"; key = codes "y" }
     ∷ record { value = codes "1"; key = codes "x" } ∷ record { value = codes "1"; key = codes "y" }
     ∷ record { value = codes "3"; key = codes "x" } ∷ record { value = codes "3"; key = codes "y" } ∷ []
 unfolding fields_of field_groups
 pairs_row = refl
 
+-- ADDRESSES
+
+-- by names, then by fields, then by addresses
+addresses_row : values_of (delivered (codes "To: a@x, b@y" ++ (10 ∷ headed_twice (codes "Cc: c@z") (codes "to: d@w")))) (address_values part.All (text (codes "Cc") ∷ text (codes "To") ∷ []))
+    ≡ codes "c@z" ∷ codes "a@x" ∷ codes "b@y" ∷ codes "d@w" ∷ []
+unfolding fields_of field_groups addresses_of marks_from is_address_field
+addresses_row = refl
+
+-- an address without the part gives nothing, and neither does a field that holds no addresses
+no_part_row : values_of (delivered (headed_twice (codes "To: a, b@y") (codes "Subject: c@z"))) (address_values part.Domain (text (codes "To") ∷ text (codes "Subject") ∷ [])) ≡ codes "y" ∷ []
+unfolding fields_of field_groups addresses_of marks_from is_address_field
+no_part_row = refl
+
+-- no sender is the empty string, whatever part is asked for
+no_sender_row : truth_of (sent_by []) (compares (envelope_values part.Domain (text (codes "from") ∷ [])) Is Casemap (text [] ∷ [])) ≡ true
+unfolding truth_of envelope_address_of
+no_sender_row = refl
+
+sender_row : truth_of (sent_by (codes "a@example.org")) (compares (envelope_values part.Domain (text (codes "from") ∷ [])) Is Casemap (text [] ∷ [])) ≡ false
+unfolding truth_of envelope_address_of addresses_of marks_from
+sender_row = refl
+
 -- SIZE
 
 -- three octets are neither over nor under 3
-over_row : truth_of (codes "abc") (over_ask 3) ≡ false
+over_row : truth_of (delivered (codes "abc")) (over_ask 3) ≡ false
 unfolding truth_of
 over_row = refl
 
-under_row : truth_of (codes "abc") (under_ask 3) ≡ false
+under_row : truth_of (delivered (codes "abc")) (under_ask 3) ≡ false
 unfolding truth_of
 under_row = refl
 
-over_less_row : truth_of (codes "abc") (over_ask 2) ≡ true
+over_less_row : truth_of (delivered (codes "abc")) (over_ask 2) ≡ true
 unfolding truth_of
 over_less_row = refl
 
-under_more_row : truth_of (codes "abc") (under_ask 4) ≡ true
+under_more_row : truth_of (delivered (codes "abc")) (under_ask 4) ≡ true
 unfolding truth_of
 under_more_row = refl
 
@@ -132,17 +173,11 @@ unfolding decide
 second_row ask a state = refl
 
 -- not size :over 3, of three octets
-negated_row : (state : RunState) → decide (answer_of (codes "abc")) (negated (asks (over_ask 3))) state ≡ record { truth = true; state = state }
+negated_row : (state : RunState) → decide (answer_of (delivered (codes "abc"))) (negated (asks (over_ask 3))) state ≡ record { truth = true; state = state }
 unfolding decide truth_of
 negated_row state = refl
 
 -- COMMANDS
-
-abbrev main : ScriptName
-main = record { place = Personal; name = codes "main" }
-
-abbrev envelope : Envelope
-envelope = record { from = []; to = []; mailbox = codes "INBOX" }
 
 abbrev inbox : Action
 inbox = Store (codes "INBOX")
@@ -153,7 +188,7 @@ after actions cancelled = record { actions = actions; cancelled = cancelled; rea
 
 -- what commands do to a message of such octets
 abbrev done : List ℕ → Commands → Ending
-done message commands = exec (answer_of message) (act_of envelope) commands (begun main)
+done message commands = exec (answer_of (delivered message)) (act_of (delivered message)) commands (begun main)
 
 -- no command: nothing is done
 no_commands_row : done [] no_commands ≡ goes_on (after [] false)
@@ -174,6 +209,30 @@ discard_row = refl
 second_row_of_keep : done [] (acts keep_leaf 1 (acts discard_leaf 2 (acts keep_leaf 3 (acts discard_leaf 4 no_commands)))) ≡ goes_on (after (inbox ∷ Discard ∷ []) true)
 unfolding exec
 second_row_of_keep = refl
+
+-- fileinto "A"; discard; fileinto "A";
+fileinto_row : done [] (acts (fileinto_leaf (text (codes "A"))) 1 (acts discard_leaf 2 (acts (fileinto_leaf (text (codes "A"))) 3 no_commands))) ≡ goes_on (after (Store (codes "A") ∷ Discard ∷ []) true)
+unfolding exec
+fileinto_row = refl
+
+-- discard; fileinto "";
+bad_mailbox_row : done [] (acts discard_leaf 1 (acts (fileinto_leaf (text [])) 2 no_commands)) ≡ failed (record { script = main; line = 2; kind = BadMailbox }) (after (Discard ∷ []) true)
+unfolding exec
+bad_mailbox_row = refl
+
+-- redirect "J <a@b>"; redirect "a@b";
+redirect_row : done [] (acts (redirect_leaf (text (codes "J <a@b>"))) 1 (acts (redirect_leaf (text (codes "a@b"))) 2 no_commands)) ≡ goes_on (after (Redirect (codes "a@b") ∷ []) true)
+unfolding exec addresses_of marks_from
+redirect_row = refl
+
+-- redirect "x"; and redirect "a@b, c@d";
+bad_address_row : done [] (acts (redirect_leaf (text (codes "x"))) 1 no_commands) ≡ failed (record { script = main; line = 1; kind = BadAddress }) (after [] false)
+unfolding exec addresses_of marks_from
+bad_address_row = refl
+
+two_addresses_row : done [] (acts (redirect_leaf (text (codes "a@b, c@d"))) 1 no_commands) ≡ failed (record { script = main; line = 1; kind = BadAddress }) (after [] false)
+unfolding exec addresses_of marks_from
+two_addresses_row = refl
 
 -- if size :over 3 { keep; } elsif size :over 2 { discard; } else { stop; } keep;
 abbrev branches : Commands

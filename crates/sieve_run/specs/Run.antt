@@ -175,7 +175,7 @@ abbrev pub verdict_at : Envelope → List ℕ → ScriptName → Lookup → Verd
 verdict_at envelope message main missing = record { actions = []; implicit = true; error = Some (record { script = main; line = 0; kind = MissingScript }); reads = (main, false) ∷ [] }
 verdict_at envelope message main invalid = record { actions = []; implicit = true; error = Some (record { script = main; line = 0; kind = InvalidScript }); reads = (main, true) ∷ [] }
 verdict_at envelope message main (present tree) =
-    let delivery = record { message = message; envelope = envelope; script = main } in
+    let delivery : Delivery = record { message = message; envelope = envelope; script = main } in
     verdict_of (exec (answer_of delivery) (act_of delivery) (script_of tree) (begun main))
 
 -- the verdict on a message, and the names that it looked up, over a library

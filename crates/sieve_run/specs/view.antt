@@ -1,5 +1,6 @@
 -- What the program's types stand for in contracts. The other files of specs/ restate the subject.
 pub mod Compiled
+pub mod Delivery
 pub mod Entry
 pub mod FieldTests
 pub mod Flow

@@ -1,4 +1,4 @@
-ghost use Rattle.std.specs.Prelude.{◌≡◌, [], ◌∷◌, true, None, Some, IfOk, length};
+ghost use Rattle.std.specs.Prelude.{◌≡◌, ◌≤◌, [], ◌∷◌, true, None, Some, IfOk, length};
 ghost use Rattle.std.specs.Option.{option_copied};
 ghost use Rattle.sieve_run.specs.Library.{found_at, lookup_of};
 ghost use Rattle.sieve_run.specs.Meter.{next_run};
@@ -6,10 +6,14 @@ ghost use Rattle.sieve_run.specs.Run.{begun, outcome_of, verdict_of};
 ghost use Rattle.sieve_code.specs.Walk.{code_walk};
 ghost use Rattle.sieve_code.specs.view.Code.{ops_of};
 ghost use Rattle.sieve_run.specs.view.Found.{FoundAs};
+ghost use Rattle.sieve_base.specs.Limits.{action_limit};
+ghost use Rattle.sieve_run.specs.view.Flow.{verdict_by};
+ghost use Rattle.sieve_run.specs.view.State.{state_of};
 ghost use Rattle.sieve_run.specs.view.Step.{doing};
 
 use crate::delivery::Delivery;
 use crate::envelope::Envelope;
+use crate::flow::Flow;
 use crate::library::{Found, Library};
 use crate::meter::Meter;
 use crate::name::ScriptName;
@@ -63,6 +67,41 @@ fn first_read(
     Ok(reads)
 }
 
+/// The outcome of a run of the main script that ended so.
+fn ended(
+    alloc: Global,
+    main: &ScriptName,
+    flow: Flow,
+    state: State,
+) -> Result<Outcome, AllocError>
+    requires { length state.actions.items ≤ action_limit }
+    ensures { IfOk result (λ outcome. outcome ≡ verdict_by main.now flow (state_of state)) }
+{
+    let State {
+        actions,
+        cancelled,
+        reads,
+    } = state;
+    match flow {
+        Flow::Failed { line, kind } => Ok(Outcome {
+            actions: Vec::new(alloc),
+            implicit: true,
+            error: Some(RunError {
+                script: main.copy(alloc)?,
+                line,
+                kind,
+            }),
+            reads,
+        }),
+        Flow::GoesOn | Flow::Stopped => Ok(Outcome {
+            actions,
+            implicit: !cancelled,
+            error: None,
+            reads,
+        }),
+    }
+}
+
 /// Runs the main script's code from the start.
 fn run_main(
     alloc: Global,
@@ -71,7 +110,7 @@ fn run_main(
     envelope: &Envelope,
     message: &Message,
 ) -> Result<Outcome, AllocError>
-    ensures { IfOk result (λ outcome. outcome ≡ verdict_of (doing message.now envelope.now (code_walk (ops_of code.now) (length (ops_of code.now))) (begun main.now))) }
+    ensures { IfOk result (λ outcome. outcome ≡ verdict_of (doing (record { message = message.now; envelope = envelope.now; script = main.now }) (code_walk (ops_of code.now) (length (ops_of code.now))) (begun main.now))) }
 {
     let mut state = State {
         actions: Vec::new(alloc),
@@ -82,19 +121,10 @@ fn run_main(
         alloc,
         message,
         envelope,
+        script: main,
     };
-    let _ = execute(&delivery, code, &mut state)?;
-    let State {
-        actions,
-        cancelled,
-        reads,
-    } = state;
-    Ok(Outcome {
-        actions,
-        implicit: !cancelled,
-        error: None,
-        reads,
-    })
+    let flow = execute(&delivery, code, &mut state)?;
+    ended(alloc, main, flow, state)
 }
 
 /// The outcome where there is no main script: the implicit keep, and nothing is looked up.

@@ -1,14 +1,19 @@
 //! Laws over the definitions. Each of these functions does nothing: its contract is the law.
 
-ghost use Rattle.std.specs.Prelude.{◌≡◌, ℕ, List};
+ghost use Rattle.std.specs.Prelude.{◌≡◌, ◌≤◌, ℕ, List, Option, is_some, length};
 ghost use Rattle.sieve_check.specs.Reading.{Ask, Leaf};
 ghost use Rattle.sieve_check.specs.Script.{Commands, Condition, script_of, stops};
 ghost use Rattle.sieve_check.specs.Tree.{Node};
 ghost use Rattle.sieve_code.specs.Walk.{gone, tree_walk};
+ghost use Rattle.sieve_base.specs.Limits.{action_limit};
+ghost use Rattle.sieve_table.specs.Address.{is_envelope_part};
 ghost use Rattle.sieve_run.specs.Delivery.{Delivery};
+ghost use Rattle.sieve_run.specs.Library.{Lookup};
+ghost use Rattle.sieve_run.specs.Matching.{envelope_text};
+ghost use Rattle.sieve_run.specs.declared.envelope.Envelope.{Envelope};
 ghost use Rattle.sieve_run.specs.Name.{name_cmp, name_eq};
 ghost use Rattle.sieve_run.specs.Perform.{answers_of, do_gone, perform};
-ghost use Rattle.sieve_run.specs.Run.{Answer, Ending, RunState, answer_of, decide, exec};
+ghost use Rattle.sieve_run.specs.Run.{Answer, Ending, RunState, answer_of, decide, exec, outcome_of};
 ghost use Rattle.sieve_run.specs.declared.name.ScriptName as names;
 
 use crate::name::ScriptName;
@@ -34,6 +39,18 @@ pub fn tests_change_nothing()
 pub fn a_run_does_its_walk()
     ensures same { (ask : Ask → RunState → Answer) (act : Leaf → ℕ → RunState → Ending) (tree : List Node) (state : RunState) → exec ask act (script_of tree) state ≡ perform ask act (tree_walk tree) state }
     ensures met { (ask : Ask → RunState → Answer) (act : Leaf → ℕ → RunState → Ending) (tree : List Node) (state : RunState) → exec ask act (script_of tree) state ≡ do_gone ask act (gone (tree_walk tree) (answers_of ask act (tree_walk tree) state)) state }
+{}
+
+/// Whatever the scripts, the message and the envelope: no run performs more actions than it may (RFC 5228, section 2.10.4).
+#[tactic(auto, using(crate::proofs::Bounds::outcome_bounded))]
+pub fn no_run_acts_too_often()
+    ensures { (find : names.ScriptName → Lookup) (main : Option names.ScriptName) (envelope : Envelope) (message : List ℕ) → length (outcome_of find main envelope message).actions ≤ action_limit }
+{}
+
+/// The names that a test finds in an envelope are those that the validator accepts (RFC 5228, section 5.4).
+#[tactic(auto, using(crate::proofs::Paths::named_parts))]
+pub fn envelope_parts_are_found()
+    ensures { (envelope : Envelope) (name : List ℕ) → is_some (envelope_text envelope name) ≡ is_envelope_part name }
 {}
 
 /// The names of scripts are in the order of their stores, and within a store in the order of their octets. Two are equal where

@@ -2,8 +2,11 @@
 //! verdict looked at.
 #![tactic(auto)]
 
+mod acting;
 mod delivery;
 mod envelope;
+mod envelope_tests;
+mod flow;
 mod interpreter;
 pub mod laws;
 mod library;
@@ -15,6 +18,7 @@ mod script;
 mod shelf;
 mod state;
 mod steps;
+mod strings;
 
 pub use envelope::Envelope;
 pub use interpreter::run;

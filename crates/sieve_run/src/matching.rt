@@ -1,26 +1,29 @@
-//! What tests ask of a message (RFC 5228, sections 2.7 and 5).
+//! What tests ask of a message's fields (RFC 5228, sections 2.7 and 5).
 ghost use Rattle.std.specs.Prelude.{◌≡◌, ◌<◌, length, map, Some, slice_get, IfOk};
-ghost use Rattle.std.specs.List.{list_all};
+ghost use Rattle.std.specs.List.{list_all, list_any};
+ghost use Rattle.std.specs.Option.{option_map};
 ghost use Rattle.message_text.specs.Fields.{fields_of};
-ghost use Rattle.std.specs.Cow.{cow_slice_items};
-ghost use Rattle.sieve_check.specs.Reading.{exists_ask, header_ask, over_ask, part_value, text_value, under_ask};
-ghost use Rattle.sieve_check.specs.view.Tree.{part_of};
+ghost use Rattle.sieve_check.specs.Reading.{compares, exists_ask, over_ask, under_ask};
 ghost use Rattle.sieve_code.specs.view.Op.{strings_of};
-ghost use Rattle.sieve_run.specs.view.FieldTests.{field_matches, octets_of_each};
-ghost use Rattle.sieve_run.specs.Matching.{fold_of, has_field, header_pairs, is_field_named, matches, pairs_named, pairs_with, some_matches, truth_of};
+ghost use Rattle.sieve_run.specs.Matching.{fold_of, has_field, is_field_named, matches, pairs_with, some_matches, truth_of};
+ghost use Rattle.sieve_run.specs.view.Delivery.{delivery_as};
+ghost use Rattle.sieve_run.specs.view.FieldTests.{field_holds, field_source, holds_by, holds_in, is_looked_at, name_holds, octets_of_each, part_holds, value_holds};
 
+use crate::delivery::Delivery;
+use crate::strings::expanded;
 use match_text::{AsciiCasemap, Collation, Octet, contains, contains_in, is};
-use message_text::Message;
-use sieve_check::{MatchType, Part, Parts};
+use message_text::{Address, AddressPart, Message, addresses};
+use sieve_check::{MatchType, Parts};
+use sieve_table::is_address_field;
 use std::alloc::{AllocError, Global};
 use std::borrow::CowSlice;
 
 /// How a test compares a value with keys.
 #[derive(Clone, Copy, Debug)]
-struct Comparison<'a> {
-    match_type: MatchType,
-    collation: Collation,
-    keys: &'a [CowSlice<'a, u8>],
+pub(crate) struct Comparison<'a> {
+    pub(crate) match_type: MatchType,
+    pub(crate) collation: Collation,
+    pub(crate) keys: &'a [CowSlice<'a, u8>],
 }
 
 impl Comparison<'_> {
@@ -39,8 +42,8 @@ impl Comparison<'_> {
     }
 
     /// Whether a value matches some key.
-    fn matches_some(&self, alloc: Global, value: &[u8]) -> Result<bool, AllocError>
-        ensures { IfOk result (λ truth. truth ≡ some_matches self.now.match_type (fold_of self.now.collation) (pairs_with (octets_of_each self.now.keys.now) value.now)) }
+    pub(crate) fn matches_some(&self, alloc: Global, value: &[u8]) -> Result<bool, AllocError>
+        ensures { IfOk result (λ truth. truth ≡ holds_by self.now value.now) }
     {
         for key in self.keys {
             if self.matches_key(alloc, value, key.as_slice())? {
@@ -78,142 +81,193 @@ fn has_fields(message: &Message, names: &[CowSlice<'_, u8>]) -> bool
     names.iter().all(|name| has_field(message, name.as_slice()))
 }
 
+/// Whether some of these parts of addresses matches some key.
+fn addresses_match(
+    alloc: Global,
+    part: AddressPart,
+    found: &[Address],
+    comparison: &Comparison<'_>,
+) -> Result<bool, AllocError>
+    ensures { IfOk result (λ truth. truth ≡ list_any (part_holds (holds_by comparison.now) part) found.now) }
+{
+    for address in found {
+        if part_matches(alloc, address.part(part), comparison)? {
+            return Ok(true);
+        }
+    }
+    Ok(false)
+}
+
+/// Whether a part is there and matches some key.
+pub(crate) fn part_matches(
+    alloc: Global,
+    part: Option<&[u8]>,
+    comparison: &Comparison<'_>,
+) -> Result<bool, AllocError>
+    ensures { IfOk result (λ truth. truth ≡ holds_in (holds_by comparison.now) (option_map (λ octets. octets.now) part.entry)) }
+{
+    match part {
+        Some(octets) => comparison.matches_some(alloc, octets),
+        None => Ok(false),
+    }
+}
+
+/// Whether a value matches some key: all of it, or that part of the addresses in it.
+fn value_matches(
+    alloc: Global,
+    part: Option<AddressPart>,
+    value: &[u8],
+    comparison: &Comparison<'_>,
+) -> Result<bool, AllocError>
+    ensures { IfOk result (λ truth. truth ≡ value_holds part (holds_by comparison.now) value.now) }
+{
+    match part {
+        None => comparison.matches_some(alloc, value),
+        Some(part) => {
+            let found = addresses(alloc, value)?;
+            addresses_match(alloc, part, &found, comparison)
+        }
+    }
+}
+
 /// Whether field `i` has that name and its value matches some key.
 fn field_matches(
     alloc: Global,
     message: &Message,
     i: usize,
+    part: Option<AddressPart>,
     name: &[u8],
     comparison: &Comparison<'_>,
 ) -> Result<bool, AllocError>
     requires { i < length (fields_of message.now) }
-    ensures { IfOk result (λ truth. slice_get (map (field_matches comparison.now.match_type (fold_of comparison.now.collation) (octets_of_each comparison.now.keys.now) name.now) (fields_of message.now)) i ≡ Some truth) }
+    ensures { IfOk result (λ truth. slice_get (map (field_holds part (holds_by comparison.now) name.now) (fields_of message.now)) i ≡ Some truth) }
 {
     if !is_named(message, i, name) {
         return Ok(false);
     }
     let value = message.value(alloc, i)?;
-    comparison.matches_some(alloc, value.as_slice())
+    value_matches(alloc, part, value.as_slice(), comparison)
 }
 
 /// Whether the value of some field of that name matches some key.
-fn name_matches(
+fn fields_match(
     alloc: Global,
     message: &Message,
+    part: Option<AddressPart>,
     name: &[u8],
     comparison: &Comparison<'_>,
 ) -> Result<bool, AllocError>
-    ensures { IfOk result (λ truth. truth ≡ some_matches comparison.now.match_type (fold_of comparison.now.collation) (pairs_named (fields_of message.now) (octets_of_each comparison.now.keys.now) name.now)) }
+    ensures { IfOk result (λ truth. truth ≡ list_any (field_holds part (holds_by comparison.now) name.now) (fields_of message.now)) }
 {
     for i in 0..message.fields() {
-        if field_matches(alloc, message, i, name, comparison)? {
+        if field_matches(alloc, message, i, part, name, comparison)? {
             return Ok(true);
         }
     }
     Ok(false)
+}
+
+/// Whether fields of that name are looked at: for a part of addresses, those that hold addresses.
+fn is_looked_at(part: Option<AddressPart>, name: &[u8]) -> bool
+    ensures { result ≡ is_looked_at part name.now }
+{
+    match part {
+        None => true,
+        Some(_) => is_address_field(name),
+    }
+}
+
+/// Whether fields of that name are looked at, and the value of one matches some key.
+fn name_matches(
+    alloc: Global,
+    message: &Message,
+    part: Option<AddressPart>,
+    name: &[u8],
+    comparison: &Comparison<'_>,
+) -> Result<bool, AllocError>
+    ensures { IfOk result (λ truth. truth ≡ name_holds part (holds_by comparison.now) (fields_of message.now) name.now) }
+{
+    if is_looked_at(part, name) {
+        fields_match(alloc, message, part, name, comparison)
+    } else {
+        Ok(false)
+    }
 }
 
 /// Whether the value of some field of some name matches some key.
-fn header_matches(
+fn names_match(
     alloc: Global,
     message: &Message,
+    part: Option<AddressPart>,
     names: &[CowSlice<'_, u8>],
     comparison: &Comparison<'_>,
 ) -> Result<bool, AllocError>
-    ensures { IfOk result (λ truth. truth ≡ some_matches comparison.now.match_type (fold_of comparison.now.collation) (header_pairs (fields_of message.now) (octets_of_each names.now) (octets_of_each comparison.now.keys.now))) }
+    ensures { IfOk result (λ truth. truth ≡ list_any (name_holds part (holds_by comparison.now) (fields_of message.now)) (octets_of_each names.now)) }
 {
     for name in names {
-        if name_matches(alloc, message, name.as_slice(), comparison)? {
+        if name_matches(alloc, message, part, name.as_slice(), comparison)? {
             return Ok(true);
         }
     }
     Ok(false)
 }
 
-/// The octets that a part stands for.
-fn part_value(part: &Part) -> &[u8]
-    ensures { result.now ≡ part_value (part_of part.now) }
+/// Whether a value of some named field, or that part of an address in it, matches some key.
+fn fields_compared(
+    delivery: &Delivery<'_>,
+    part: Option<AddressPart>,
+    match_type: MatchType,
+    collation: Collation,
+    names: &[CowSlice<'_, u8>],
+    keys: &[CowSlice<'_, u8>],
+) -> Result<bool, AllocError>
+    ensures { IfOk result (λ truth. truth ≡ list_any (name_holds part (λ value. some_matches match_type (fold_of collation) (pairs_with (octets_of_each keys.now) value)) (fields_of delivery.now.message.now)) (octets_of_each names.now)) }
 {
-    match part {
-        Part::Literal(octets) => octets,
-    }
+    let comparison = Comparison {
+        match_type,
+        collation,
+        keys,
+    };
+    names_match(delivery.alloc, delivery.message, part, names, &comparison)
 }
 
-/// The octets that the parts of a string stand for, joined.
-fn joined(alloc: Global, parts: &[Part]) -> Result<Vec<u8>, AllocError>
-    ensures { IfOk result (λ octets. octets.items ≡ text_value (map part_of parts.now)) }
-{
-    let mut octets = Vec::new(alloc);
-    for part in parts {
-        octets.extend_from_slice(part_value(part))?;
-    }
-    Ok(octets)
-}
-
-/// The octets that a string stands for. Those of one part are borrowed.
-fn expanded_string(alloc: Global, parts: &[Part]) -> Result<CowSlice<'_, u8>, AllocError>
-    ensures { IfOk result (λ octets. cow_slice_items octets ≡ text_value (map part_of parts.now)) }
-{
-    match parts {
-        [part] => Ok(CowSlice::Borrowed(part_value(part))),
-        _ => Ok(CowSlice::Owned(joined(alloc, parts)?)),
-    }
-}
-
-/// The octets that each string stands for.
-fn expanded(alloc: Global, strings: &[Parts]) -> Result<Vec<CowSlice<'_, u8>>, AllocError>
-    ensures { IfOk result (λ values. octets_of_each values.items ≡ map text_value (strings_of strings.now)) }
-{
-    let mut values = Vec::new(alloc);
-    for parts in strings {
-        values.push(expanded_string(alloc, parts)?)?;
-    }
-    Ok(values)
-}
-
-/// Whether a value of some named field matches some key. All strings are expanded before the first comparison.
-#[tactic(auto, unfolding(crate::specs::Matching::truth_of))]
-pub(crate) fn header_holds(
-    alloc: Global,
-    message: &Message,
+/// Whether a test of fields, or of that part of the addresses in them, holds. All strings are expanded before the first comparison.
+pub(crate) fn fields_hold(
+    delivery: &Delivery<'_>,
+    part: Option<AddressPart>,
     match_type: MatchType,
     collation: Collation,
     names: &[Parts],
     keys: &[Parts],
 ) -> Result<bool, AllocError>
-    ensures { IfOk result (λ truth. truth ≡ truth_of message.now (header_ask match_type collation (strings_of names.now) (strings_of keys.now))) }
+    ensures { IfOk result (λ truth. truth ≡ truth_of (delivery_as delivery.now) (compares (field_source part (strings_of names.now)) match_type collation (strings_of keys.now))) }
 {
-    let names = expanded(alloc, names)?;
-    let keys = expanded(alloc, keys)?;
-    let comparison = Comparison {
-        match_type,
-        collation,
-        keys: &keys,
-    };
-    header_matches(alloc, message, &names, &comparison)
+    let names = expanded(delivery.alloc, names)?;
+    let keys = expanded(delivery.alloc, keys)?;
+    fields_compared(delivery, part, match_type, collation, &names, &keys)
 }
 
 /// Whether all named fields are there.
 #[tactic(auto, unfolding(crate::specs::Matching::truth_of))]
-pub(crate) fn exists(alloc: Global, message: &Message, names: &[Parts]) -> Result<bool, AllocError>
-    ensures { IfOk result (λ truth. truth ≡ truth_of message.now (exists_ask (strings_of names.now))) }
+pub(crate) fn exists(delivery: &Delivery<'_>, names: &[Parts]) -> Result<bool, AllocError>
+    ensures { IfOk result (λ truth. truth ≡ truth_of (delivery_as delivery.now) (exists_ask (strings_of names.now))) }
 {
-    let names = expanded(alloc, names)?;
-    Ok(has_fields(message, &names))
+    let names = expanded(delivery.alloc, names)?;
+    Ok(has_fields(delivery.message, &names))
 }
 
 /// Whether the message has more octets.
 #[tactic(auto, unfolding(crate::specs::Matching::truth_of))]
-pub(crate) fn is_over(message: &Message, limit: u64) -> bool
-    ensures { result ≡ truth_of message.now (over_ask limit) }
+pub(crate) fn is_over(delivery: &Delivery<'_>, limit: u64) -> bool
+    ensures { result ≡ truth_of (delivery_as delivery.now) (over_ask limit) }
 {
-    message.size() as u64 > limit
+    delivery.message.size() as u64 > limit
 }
 
 /// Whether the message has fewer octets.
 #[tactic(auto, unfolding(crate::specs::Matching::truth_of))]
-pub(crate) fn is_under(message: &Message, limit: u64) -> bool
-    ensures { result ≡ truth_of message.now (under_ask limit) }
+pub(crate) fn is_under(delivery: &Delivery<'_>, limit: u64) -> bool
+    ensures { result ≡ truth_of (delivery_as delivery.now) (under_ask limit) }
 {
-    (message.size() as u64) < limit
+    (delivery.message.size() as u64) < limit
 }

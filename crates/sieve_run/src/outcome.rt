@@ -1,4 +1,5 @@
-ghost use Rattle.std.specs.Prelude.{◌≡◌};
+ghost use Rattle.std.specs.Prelude.{◌≡◌, ◌≤◌, length};
+ghost use Rattle.sieve_base.specs.Limits.{action_limit};
 ghost use Rattle.std.specs.Option.{option_copied};
 ghost use Rattle.sieve_run.specs.ErrorKind.{error_word};
 
@@ -12,6 +13,8 @@ use std::marker::Model;
 pub enum Action {
     /// It is stored into a mailbox.
     Store { mailbox: Octets },
+    /// It is sent on to an address (RFC 5228, section 4.2).
+    Redirect { address: Octets },
     /// It is discarded (RFC 5228, section 4.4).
     Discard,
 }
@@ -79,17 +82,22 @@ pub struct Outcome {
 }
 
 impl Model for Outcome {
+    ghost use Rattle.std.specs.Prelude.{◌≤◌, length};
+    ghost use Rattle.sieve_base.specs.Limits.{action_limit};
     ghost use Rattle.sieve_run.specs.Verdict.{Verdict};
 
     ghost Value = { Verdict };
 
     ghost view = { λ a. record { actions = a.actions.items; implicit = a.implicit; error = a.error; reads = a.reads.entries } };
+
+    ghost invariant = { λ a. length a.actions.items ≤ action_limit };
 }
 
 impl Outcome {
-    /// The actions in order. Takes no memory.
+    /// The actions in order, 32 at most (RFC 5228, section 2.10.4). Takes no memory.
     pub fn actions(&self) -> &[Action]
-        ensures { result.now ≡ self.now.actions }
+        ensures actions { result.now ≡ self.now.actions }
+        ensures limit { length result.now ≤ action_limit }
     {
         self.actions.as_slice()
     }

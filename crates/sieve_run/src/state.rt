@@ -1,13 +1,14 @@
-ghost use Rattle.std.specs.Prelude.{◌≡◌, OnOk, true};
+//! The state of a run, and the actions that are performed.
+ghost use Rattle.std.specs.Prelude.{◌≡◌, IfOk, false};
 ghost use Rattle.std.specs.List.{list_any};
-ghost use Rattle.sieve_run.specs.Run.{with_action, is_store_into, is_discard};
-ghost use Rattle.sieve_run.specs.declared.outcome.Action.TheVariants.{Store, Discard};
+ghost use Rattle.sieve_run.specs.Run.{same_action, with_action};
+ghost use Rattle.sieve_run.specs.view.State.{performed_as};
 
 use crate::name::ScriptName;
 use crate::outcome::Action;
 use indexmap::IndexMap;
-use sieve_base::Octets;
-use std::alloc::{AllocError, Global};
+use sieve_base::limits::MAX_ACTIONS;
+use std::alloc::AllocError;
 
 /// The state of a run.
 #[derive(Debug, Drop)]
@@ -18,86 +19,40 @@ pub(crate) struct State {
     pub(crate) reads: IndexMap<ScriptName, bool>,
 }
 
-/// Whether an action stores into the mailbox.
-fn is_store_into(mailbox: &[u8], action: &Action) -> bool
-    ensures { result ≡ is_store_into mailbox.now action.now }
+/// Whether two actions are one.
+fn same_action(action: &Action, other: &Action) -> bool
+    ensures { result ≡ same_action action.now other.now }
 {
-    match action {
-        Action::Store { mailbox: other } => mailbox == other.as_slice(),
-        Action::Discard => false,
+    match (action, other) {
+        (Action::Store { mailbox: a }, Action::Store { mailbox: b }) => {
+            a.as_slice() == b.as_slice()
+        }
+        (Action::Redirect { address: a }, Action::Redirect { address: b }) => {
+            a.as_slice() == b.as_slice()
+        }
+        (Action::Discard, Action::Discard) => true,
+        _ => false,
     }
 }
 
-/// Whether an action discards.
-fn is_discard(action: &Action) -> bool
-    ensures { result ≡ is_discard action.now }
+/// Whether an action is there already.
+fn has_action(action: &Action, actions: &[Action]) -> bool
+    ensures { result ≡ list_any (same_action action.now) actions.now }
 {
-    match action {
-        Action::Store { .. } => false,
-        Action::Discard => true,
-    }
+    actions.iter().any(|other| same_action(action, other))
 }
 
-/// Whether one of the actions stores into the mailbox.
-fn has_store_into(actions: &[Action], mailbox: &[u8]) -> bool
-    ensures { result ≡ list_any (is_store_into mailbox.now) actions.now }
+/// Adds an action, unless it is there already. Answers whether there is room for it.
+pub(crate) fn add_action(actions: &mut Vec<Action>, action: Action) -> Result<bool, AllocError>
+    ensures kept { IfOk result (λ has_room. has_room ≡ false → actions.new.items ≡ actions.old.items) }
+    ensures value { IfOk result (λ has_room. performed_as has_room actions.new.items ≡ with_action action actions.old.items) }
 {
-    actions.iter().any(|action| is_store_into(mailbox, action))
-}
-
-/// Whether one of the actions discards.
-fn has_discard(actions: &[Action]) -> bool
-    ensures { result ≡ list_any is_discard actions.now }
-{
-    actions.iter().any(|action| is_discard(action))
-}
-
-/// Adds a store into the mailbox, unless there is one.
-fn add_store(alloc: Global, actions: &mut Vec<Action>, mailbox: &[u8]) -> Result<(), AllocError>
-    ensures { OnOk result (actions.new.items ≡ with_action (is_store_into mailbox.now) (Store mailbox.now) actions.old.items) }
-{
-    if !has_store_into(actions, mailbox) {
-        let mailbox = Octets::copied(alloc, mailbox)?;
-        actions.push(Action::Store { mailbox })?;
+    if has_action(&action, actions) {
+        return Ok(true);
     }
-    Ok(())
-}
-
-/// Adds a discard, unless there is one.
-fn add_discard(actions: &mut Vec<Action>) -> Result<(), AllocError>
-    ensures { OnOk result (actions.new.items ≡ with_action is_discard Discard actions.old.items) }
-{
-    if !has_discard(actions) {
-        actions.push(Action::Discard)?;
+    if actions.len() >= MAX_ACTIONS {
+        return Ok(false);
     }
-    Ok(())
-}
-
-impl State {
-    ghost use Rattle.sieve_run.specs.view.State.{state_of};
-    ghost use Rattle.sieve_run.specs.Run.{RunState};
-
-    /// Stores into the mailbox, which takes the place of the implicit keep.
-    pub(crate) fn store(&mut self, alloc: Global, mailbox: &[u8]) -> Result<(), AllocError>
-        ensures { OnOk result (state_of self.new ≡ record (state_of self.old) {
-          actions = with_action (is_store_into mailbox.now) (Store mailbox.now) (state_of self.old).actions;
-          cancelled = true;
-        }) }
-    {
-        add_store(alloc, &mut self.actions, mailbox)?;
-        self.cancelled = true;
-        Ok(())
-    }
-
-    /// Discards, which takes the place of the implicit keep.
-    pub(crate) fn discard(&mut self) -> Result<(), AllocError>
-        ensures { OnOk result (state_of self.new ≡ record (state_of self.old) {
-          actions = with_action is_discard Discard (state_of self.old).actions;
-          cancelled = true;
-        }) }
-    {
-        add_discard(&mut self.actions)?;
-        self.cancelled = true;
-        Ok(())
-    }
+    actions.push(action)?;
+    Ok(true)
 }

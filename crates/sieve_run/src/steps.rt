@@ -3,33 +3,31 @@ ghost use Rattle.std.specs.Prelude.{◌≡◌, if◌then◌else◌, length, IfOk
 ghost use Rattle.sieve_code.specs.Walk.{code_walk};
 ghost use Rattle.sieve_code.specs.view.Code.{ops_of};
 ghost use Rattle.sieve_code.specs.view.Op.{op_as};
-ghost use Rattle.sieve_run.specs.view.Flow.{ending_by};
+ghost use Rattle.sieve_run.specs.view.Delivery.{delivery_as};
+ghost use Rattle.sieve_run.specs.view.Flow.{ending_by, step_after};
 ghost use Rattle.sieve_run.specs.view.State.{state_of};
 ghost use Rattle.sieve_run.specs.view.Step.{StepsTo, doing};
 ghost use Rattle.sieve_run.specs.declared.steps.Step.TheVariants.{Next};
 
+use crate::acting::{discard, file_into, keep, redirect};
 use crate::delivery::Delivery;
-use crate::matching::{exists, header_holds, is_over, is_under};
+use crate::envelope_tests::envelope_holds;
+use crate::flow::Flow;
+use crate::matching::{exists, fields_hold, is_over, is_under};
+use crate::outcome::ErrorKind;
 use crate::state::State;
 use sieve_code::{Code, Op};
 use std::alloc::AllocError;
 
-/// How code ended.
-#[derive(Debug, Drop)]
-pub(crate) enum Flow {
-    /// At its end.
-    GoesOn,
-    /// By `stop`.
-    Stopped,
-}
-
 /// How an operation ended.
-#[derive(Debug, Drop)]
+#[derive(Clone, Copy, Debug)]
 enum Step {
     /// It goes on at a place, with a truth in the register.
     Next { place: usize, register: bool },
     /// By `stop`.
     Stopped,
+    /// By an error in the command on a line.
+    Failed { line: u64, kind: ErrorKind },
 }
 
 /// Carries out code. Its jumps go forward, so it takes no more turns than there are operations.
@@ -39,8 +37,8 @@ pub(crate) fn execute(
     state: &mut State,
 ) -> Result<Flow, AllocError>
     ensures { IfOk result (λ flow.
-        doing delivery.now.message.now delivery.now.envelope.now (code_walk (ops_of code.now) (length (ops_of code.now))) (state_of state.old)
-        ≡ ending_by flow (state_of state.new)) }
+        doing (delivery_as delivery.now) (code_walk (ops_of code.now) (length (ops_of code.now))) (state_of state.old)
+        ≡ ending_by (delivery_as delivery.now) flow (state_of state.new)) }
 {
     let mut place = 0;
     let mut register = false;
@@ -57,13 +55,14 @@ pub(crate) fn execute(
                 register = truth;
             }
             Step::Stopped => return Ok(Flow::Stopped),
+            Step::Failed { line, kind } => return Ok(Flow::Failed { line, kind }),
         }
     }
     Ok(Flow::GoesOn)
 }
 
 /// Carries out an operation, where this is the place behind it.
-#[tactic(auto, using(crate::proofs::Stepping::asks_steps, crate::proofs::Stepping::discard_steps, crate::proofs::Stepping::stop_steps))]
+#[tactic(auto, using(crate::proofs::Stepping::asks_steps, crate::proofs::Stepping::acts_steps, crate::proofs::Stepping::stop_steps))]
 fn carry_out(
     delivery: &Delivery<'_>,
     op: &Op,
@@ -72,7 +71,7 @@ fn carry_out(
     state: &mut State,
 ) -> Result<Step, AllocError>
     ensures { IfOk result (λ step.
-        StepsTo delivery.now.message.now delivery.now.envelope.now (op_as op.now) behind register (state_of state.old) step (state_of state.new)) }
+        StepsTo (delivery_as delivery.now) (op_as op.now) behind register (state_of state.old) step (state_of state.new)) }
 {
     match op {
         Op::True => Ok(proceed(true, behind)),
@@ -84,32 +83,54 @@ fn carry_out(
             names,
             keys,
         } => {
-            let truth = header_holds(
-                delivery.alloc,
-                delivery.message,
-                *match_type,
-                *collation,
-                names,
-                keys,
-            )?;
+            let truth = fields_hold(delivery, None, *match_type, *collation, names, keys)?;
+            Ok(proceed(truth, behind))
+        }
+        Op::Address {
+            match_type,
+            collation,
+            part,
+            names,
+            keys,
+        } => {
+            let part = Some(*part);
+            let truth = fields_hold(delivery, part, *match_type, *collation, names, keys)?;
+            Ok(proceed(truth, behind))
+        }
+        Op::Envelope {
+            match_type,
+            collation,
+            part,
+            names,
+            keys,
+        } => {
+            let truth = envelope_holds(delivery, *part, *match_type, *collation, names, keys)?;
             Ok(proceed(truth, behind))
         }
         Op::Exists { names } => {
-            let truth = exists(delivery.alloc, delivery.message, names)?;
+            let truth = exists(delivery, names)?;
             Ok(proceed(truth, behind))
         }
-        Op::SizeOver(limit) => Ok(proceed(is_over(delivery.message, *limit), behind)),
-        Op::SizeUnder(limit) => Ok(proceed(is_under(delivery.message, *limit), behind)),
+        Op::SizeOver(limit) => Ok(proceed(is_over(delivery, *limit), behind)),
+        Op::SizeUnder(limit) => Ok(proceed(is_under(delivery, *limit), behind)),
         Op::Jump(target) => Ok(proceed(register, *target)),
         Op::JumpIfFalse(target) => Ok(proceed(register, chosen(register, behind, *target))),
         Op::JumpIfTrue(target) => Ok(proceed(register, chosen(register, *target, behind))),
-        Op::Keep(_) => {
-            state.store(delivery.alloc, delivery.envelope.mailbox.as_slice())?;
-            Ok(proceed(register, behind))
+        Op::Keep(line) => {
+            let flow = keep(delivery, *line, state)?;
+            Ok(step_after(flow, behind, register))
         }
-        Op::Discard(_) => {
-            state.discard()?;
-            Ok(proceed(register, behind))
+        Op::Fileinto { mailbox, line } => {
+            let flow = file_into(delivery, mailbox, *line, state)?;
+            Ok(step_after(flow, behind, register))
+        }
+        Op::Redirect { address, line } => {
+            let flow = redirect(delivery, address, *line, state)?;
+            Ok(step_after(flow, behind, register))
+        }
+        Op::Discard(line) => {
+            let flow = discard(delivery, *line, state)?;
+            Ok(step_after(flow, behind, register))
         }
         Op::Stop => Ok(Step::Stopped),
     }
@@ -127,4 +148,15 @@ fn proceed(register: bool, place: usize) -> Step
     ensures { result ≡ Next place register }
 {
     Step::Next { place, register }
+}
+
+/// The step after a command that ended so, where this is the place behind its operation's.
+fn step_after(flow: Flow, behind: usize, register: bool) -> Step
+    ensures { result ≡ step_after flow behind register }
+{
+    match flow {
+        Flow::GoesOn => proceed(register, behind),
+        Flow::Stopped => Step::Stopped,
+        Flow::Failed { line, kind } => Step::Failed { line, kind },
+    }
 }

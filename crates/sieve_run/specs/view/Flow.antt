@@ -1,7 +1,9 @@
 -- How the interpreter says that commands ended.
 use Rattle.std.specs.Prelude.{ℕ, Bool}
 use Rattle.sieve_run.specs.Delivery.{Delivery}
-use Rattle.sieve_run.specs.Run.{RunState, Ending, goes_on, stopped, fails_at}
+use Rattle.sieve_run.specs.Run.{RunState, Ending, goes_on, stopped, failed, fails_at, verdict_of}
+use Rattle.sieve_run.specs.Verdict.{Verdict}
+use Rattle.sieve_run.specs.declared.name.ScriptName.{ScriptName}
 use Rattle.sieve_run.specs.declared.flow.Flow.{Flow}
 use Rattle.sieve_run.specs.declared.flow.Flow.TheVariants.{GoesOn, Stopped, Failed}
 use Rattle.sieve_run.specs.declared.steps.Step.{Step}
@@ -17,3 +19,9 @@ abbrev pub step_after : Flow → ℕ → Bool → Step
 step_after GoesOn behind register = step.Next behind register
 step_after Stopped behind register = step.Stopped
 step_after (Failed line kind) behind register = step.Failed line kind
+
+-- the verdict where the main script ended so
+abbrev pub verdict_by : ScriptName → Flow → RunState → Verdict
+verdict_by main GoesOn state = verdict_of (goes_on state)
+verdict_by main Stopped state = verdict_of (stopped state)
+verdict_by main (Failed line kind) state = verdict_of (failed (record { script = main; line = line; kind = kind }) state)

@@ -1,6 +1,13 @@
 -- What the interpreter's state stands for.
+use Rattle.std.specs.Prelude.{Bool, true, false, List}
+use Rattle.sieve_run.specs.declared.outcome.Action.{Action}
 use Rattle.sieve_run.specs.declared.state.State.{State}
-use Rattle.sieve_run.specs.Run.{RunState}
+use Rattle.sieve_run.specs.Run.{RunState, Performed, performed, one_too_many}
 
 abbrev pub state_of : State → RunState
 state_of s = record { actions = s.actions.items; cancelled = s.cancelled; reads = s.reads.entries }
+
+-- what became of the actions, by whether there was room
+abbrev pub performed_as : (has_room : Bool) → List Action → Performed
+performed_as true actions = performed actions
+performed_as false actions = one_too_many

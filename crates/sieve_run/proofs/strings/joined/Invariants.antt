@@ -1,7 +1,7 @@
 use Rattle.std.proofs.Common.{◌≡◌, ◌++◌, drop, map}
 use Rattle.sieve_check.specs.view.Tree.{part_of}
 use Rattle.sieve_check.specs.Reading.{text_value}
-use Rattle.sieve_run.proofs.matching.joined.Given as goal
+use Rattle.sieve_run.proofs.strings.joined.Given as goal
 
 -- the octets so far, with those of the parts that are left
 abbrev pub invariant-loop-part : goal.invariant-loop-part
