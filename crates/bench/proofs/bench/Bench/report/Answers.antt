@@ -19,3 +19,12 @@ returns-clause-err g c =
     let content : Content = record { main = c.self.inside.main; envelope = c.self.inside.envelope; scripts = c.self.inside.scripts; messages = messages_of c.self.inside.messages.entries } in
     rw (← c.self.view_is) (subst (λ (text : List ℕ). WroteFront g.W.Sink.contents g.W.Faults.fault_count c.args.writer.now c.write_report.new.writer text)
     (whole_report content _ _ c.as_ref-main.ensures.value (rw c.deref.ensures.value c.in-Ok.ensures.verdicts)) c.in-Err.ensures.err)
+
+pub returns-in-Ok-write_report-clause-err : goal.returns-in-Ok-write_report-clause-err
+returns-in-Ok-write_report-clause-err g c = tt
+
+pub returns-in-Ok-write_report-clause-runs : goal.returns-in-Ok-write_report-clause-runs
+returns-in-Ok-write_report-clause-runs g c = rw (← c.self.view_is) c.in-Ok.ensures.meter
+
+pub returns-clause-runs_at_fault : goal.returns-clause-runs_at_fault
+returns-clause-runs_at_fault g c = rw (← c.self.view_is) c.in-Ok.ensures.meter
