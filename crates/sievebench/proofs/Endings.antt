@@ -4,12 +4,12 @@ use Rattle.std.specs.Option.{option_map}
 use Rattle.session_text.specs.SessionLine as line
 use Rattle.session_text.specs.SessionLine.{cut_line, first_line, in_front, line_from, without_cr, command_of_line}
 use Rattle.sieve_base.specs.Limits.{line_limit}
-use Rattle.sievebench.specs.Bench.{BenchState}
-use Rattle.sievebench.specs.Content.{Content, Edit, after, put_message, put_script}
-use Rattle.sievebench.specs.Dump.{dump_of}
-use Rattle.sievebench.specs.Report.{report_text}
+use Rattle.bench.specs.Bench.{BenchState}
+use Rattle.bench.specs.Content.{Content, Edit, after, put_message, put_script}
+use Rattle.bench.specs.Dump.{dump_of}
+use Rattle.bench.specs.Report.{report_text}
 use Rattle.sievebench.specs.Session.{CutSession, Ends, IsFront, Replies, Request, SessionText, Step, Steps, none_yet, one_more, over, unreadable, truncated, idle, edits, reports, dumps, refusal_line, request_at, request_by, request_of, takes_memory, with_octets}
-use Rattle.sievebench.specs.declared.fault.EditFault.{EditFault}
+use Rattle.bench.specs.declared.fault.EditFault.{EditFault}
 use Rattle.sievebench.specs.declared.status.SessionEnd.{SessionEnd}
 use Rattle.sievebench.specs.declared.status.SessionEnd.TheVariants as ends
 

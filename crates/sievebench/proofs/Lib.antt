@@ -1,11 +1,5 @@
-pub mod Dumping
 pub mod Endings
-pub mod Entries
-pub mod Lines
-pub mod Messages
 pub mod Requests
 pub mod Serving
 pub mod SessionRows
 pub mod Sessions
-pub mod Stales
-pub mod Writing

@@ -6,8 +6,8 @@ use Rattle.std.proofs.Math.Seq.{drop-append_seam, take-append_seam}
 use Rattle.std.proofs.KnownBytes.{Appends-nil}
 use Rattle.std.specs.Io.KnownBytes.{Keeps, prepend_known}
 use Rattle.sieve_base.specs.Limits.{line_limit}
-use Rattle.sievebench.specs.Bench.{BenchState}
-use Rattle.sievebench.specs.Content.{Edit, put_script, put_message, set_main, rename_script, remove_script, set_envelope, set_mailbox}
+use Rattle.bench.specs.Bench.{BenchState}
+use Rattle.bench.specs.Content.{Edit, put_script, put_message, set_main, rename_script, remove_script, set_envelope, set_mailbox}
 use Rattle.session_text.specs.view.Line.{IsCutOff, IsEnded, IsLine, IsWithin}
 use Rattle.sievebench.specs.Session.{Request, Step, request_behind, request_of, request_at, request_by, request_so_far, with_octets, edits, unreadable}
 use Rattle.session_text.specs.SessionLine as line

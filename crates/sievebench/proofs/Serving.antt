@@ -6,19 +6,19 @@ use Rattle.std.specs.Io.KnownBytes.{Appends}
 use Rattle.sieve_base.specs.Devices.{HasRisen}
 use Rattle.sieve_base.specs.Limits.{message_count_limit, message_limit, script_count_limit, text_limit}
 use Rattle.sieve_base.specs.Writers.{Wrote, WroteFront}
-use Rattle.sievebench.specs.Bench.{BenchState}
-use Rattle.sievebench.specs.Content.{Content, Edit, after, Answers, Refuses, unless, is_long, is_long_id, text_at, message_at, with_script, with_message}
+use Rattle.bench.specs.Bench.{BenchState}
+use Rattle.bench.specs.Content.{Content, Edit, after, Answers, Refuses, unless, is_long, is_long_id, text_at, message_at, with_script, with_message}
 use Rattle.session_text.specs.view.Payload.{BreaksOff, Takes, FallsShort}
 use Rattle.sievebench.specs.Session.{Ends, MatchFault, MatchSessionEnd, Request, Step, takes_memory, with_octets, dumps, edits, reports, truncated, Replies, refusal_line}
 use Rattle.sieve_run.specs.declared.name.ScriptName.{ScriptName}
-use Rattle.sievebench.specs.Dump.{dump_of}
-use Rattle.sievebench.specs.Report.{report_text}
+use Rattle.bench.specs.Dump.{dump_of}
+use Rattle.bench.specs.Report.{report_text}
 use Rattle.sievebench.specs.view.Task.{edit_of, limit_of}
 use Rattle.sievebench.specs.view.Progress.{RefusesIf, BreakFrom, Continues, CutFrom, EndsBy, Follows, GoesFrom, MatchProgress, MayBeRefused, StepFrom, EndFrom, reply_line}
 use Rattle.sievebench.specs.declared.server.Progress.{Progress}
 use Rattle.sievebench.specs.declared.server.Progress.TheVariants as ways
-use Rattle.sievebench.specs.declared.fault.EditFault.{EditFault}
-use Rattle.sievebench.specs.declared.fault.EditFault.TheVariants.{TooLarge, Full, NoMemory}
+use Rattle.bench.specs.declared.fault.EditFault.{EditFault}
+use Rattle.bench.specs.declared.fault.EditFault.TheVariants.{TooLarge, Full, NoMemory}
 use Rattle.sievebench.specs.declared.task.Subject.{Subject}
 use Rattle.sievebench.specs.declared.task.Subject.TheVariants as subjects
 use Rattle.sievebench.specs.declared.status.SessionEnd.{SessionEnd}

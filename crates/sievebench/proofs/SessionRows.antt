@@ -1,7 +1,7 @@
 -- Worked rows of what the octets of a session ask for, while more may come and at their end.
 use Rattle.std.proofs.Common.{◌≡◌, [], refl, codes}
 use Rattle.session_text.specs.SessionLine.{command_of_line, first_line, is_text, line_so_far, line_words, word_value}
-use Rattle.sievebench.specs.Content.{put_message}
+use Rattle.bench.specs.Content.{put_message}
 use Rattle.sievebench.specs.Session.{edits, idle, over, reports, request_of, request_so_far, truncated, unreadable}
 
 -- nothing is no command yet, and at the end it is none

@@ -3,7 +3,7 @@ use Rattle.std.proofs.Common.{◌≡◌, ℕ, ◌+◌, ◌-◌, ◌^◌, ◌≤�
 use Rattle.std.proofs.KnownBytes.{Appends-nil, Appends-trans}
 use Rattle.sieve_base.specs.Devices.{HasRisen}
 use Rattle.session_text.specs.view.Input.{CallsMade, Input, Reads, TurnsGave}
-use Rattle.sievebench.specs.Bench.{BenchState}
+use Rattle.bench.specs.Bench.{BenchState}
 use Rattle.sievebench.specs.Session.{BrokenSessionFrom, CutSessionFrom, SessionFrom, MatchFault, MatchSessionEnd, ReadsAreMade, TurnsAreSpent, none_yet, one_more, request_of, request_so_far}
 use Rattle.sievebench.specs.view.Progress.{BreakFrom, CutFrom, EndFrom, ServesFrom, SoFar}
 use Rattle.sievebench.specs.declared.status.SessionEnd.{SessionEnd}

@@ -2,14 +2,14 @@
 use Rattle.std.specs.Prelude.{◌≡◌, ⊤, ℕ, ◌+◌, ◌-◌, ◌^◌, ◌≤◌, Bool, true, false, ◌⊎◌, List, [], ◌∷◌, ◌++◌, length, take, drop, Option, None, Some, Result, Ok, Err, nat_lt, if◌then◌else◌, codes}
 use Rattle.std.specs.Io.KnownBytes.{Appends}
 use Rattle.sieve_base.specs.Limits.{line_limit}
-use Rattle.sievebench.specs.Bench.{BenchState}
-use Rattle.sievebench.specs.Content.{Content, Edit, put_script, put_message, set_main, rename_script, remove_script, remove_message, clear_main, set_envelope, set_mailbox, after}
-use Rattle.sievebench.specs.Dump.{dump_of}
-use Rattle.sievebench.specs.Report.{report_text}
+use Rattle.bench.specs.Bench.{BenchState}
+use Rattle.bench.specs.Content.{Content, Edit, put_script, put_message, set_main, rename_script, remove_script, remove_message, clear_main, set_envelope, set_mailbox, after}
+use Rattle.bench.specs.Dump.{dump_of}
+use Rattle.bench.specs.Report.{report_text}
 use Rattle.sieve_run.specs.declared.name.ScriptName.{ScriptName}
 use Rattle.session_text.specs.SessionLine.{Command, nothing, script, message, main, no_main, rename, drop_script, drop_message, envelope, mailbox, report, dump, first_line, command_of_line, is_long_so_far, line_so_far}
-use Rattle.sievebench.specs.declared.fault.EditFault.{EditFault}
-use Rattle.sievebench.specs.declared.fault.EditFault.TheVariants.{NoSuchScript, NameTaken, NoSuchMessage, Full, TooLarge, NoMemory}
+use Rattle.bench.specs.declared.fault.EditFault.{EditFault}
+use Rattle.bench.specs.declared.fault.EditFault.TheVariants.{NoSuchScript, NameTaken, NoSuchMessage, Full, TooLarge, NoMemory}
 use Rattle.sievebench.specs.declared.status.SessionEnd.{SessionEnd}
 use Rattle.sievebench.specs.declared.status.SessionEnd.TheVariants as ends
 

@@ -4,8 +4,8 @@ use Rattle.sievebench.specs.declared.status.End.{End}
 use Rattle.sievebench.specs.declared.status.End.TheVariants.{Session, Test}
 use Rattle.sievebench.specs.declared.status.SessionEnd.{SessionEnd}
 use Rattle.sievebench.specs.declared.status.SessionEnd.TheVariants as session
-use Rattle.sievebench.specs.declared.status.TestEnd.{TestEnd}
-use Rattle.sievebench.specs.declared.status.TestEnd.TheVariants as test
+use Rattle.bench.specs.declared.test_end.TestEnd.{TestEnd}
+use Rattle.bench.specs.declared.test_end.TestEnd.TheVariants as test
 
 -- 2: the session was ended by what it read; 3: a read or a write failed; 4: no memory
 abbrev pub session_status : SessionEnd → ℕ

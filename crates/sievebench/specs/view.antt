@@ -1,6 +1,3 @@
 -- What the program's types stand for in contracts. The other files of specs/ restate the subject.
-pub mod Entry
 pub mod Progress
-pub mod ReportFault
-pub mod Reported
 pub mod Task

@@ -1,7 +1,7 @@
 //! Laws over the definitions. Each of these functions does nothing: its contract is the law.
 
 ghost use Rattle.std.specs.Prelude.{ℕ, List};
-ghost use Rattle.sievebench.specs.Bench.{BenchState};
+ghost use Rattle.bench.specs.Bench.{BenchState};
 ghost use Rattle.sievebench.specs.Session.{CutSession, IsFront};
 
 /// What a session has written of which no more could be written is a front of the text of a session: there is a reply to

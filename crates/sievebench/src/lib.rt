@@ -1,26 +1,15 @@
-//! A test bench for Sieve scripts (RFC 5228): scripts beside sample messages, and a report of what every message
-//! would suffer.
+//! A test bench for Sieve scripts (RFC 5228): scripts beside sample messages, a report of what every message would
+//! suffer, and sessions in which all this is asked for.
 #![tactic(auto)]
 
-mod bench;
-mod dump;
-mod fault;
 pub mod laws;
-mod message;
-mod refusal;
-mod report;
-mod report_lines;
-mod scripts;
 mod server;
-mod sought;
 mod status;
 mod task;
 
-pub use bench::Bench;
+pub use bench::{Bench, EditFault, ReportFault, TestEnd, dump_text};
 pub use command_line::{Argument, Job, UsageFault, command_of};
-pub use dump::dump_text;
-pub use fault::{EditFault, ReportFault};
 pub use server::session;
 pub use sieve_base::{Counted, Faults, Octets, Place, Sink, Source};
 pub use sieve_run::{Meter, ScriptName};
-pub use status::{End, SessionEnd, TestEnd, status_of};
+pub use status::{End, SessionEnd, status_of};

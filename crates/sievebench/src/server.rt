@@ -2,20 +2,18 @@
 ghost use Rattle.std.specs.Prelude.{◌≡◌, ◌≤◌, ◌<◌, ◌+◌, ℕ, List, Option, OnOk, OnErr, Ok, codes, nat_lt, if◌then◌else◌};
 ghost use Rattle.sieve_base.specs.Devices.{HasRisen};
 ghost use Rattle.sieve_base.specs.Writers.{Wrote, WroteFront};
-ghost use Rattle.sievebench.specs.Bench.{BenchState};
-ghost use Rattle.sievebench.specs.Content.{Edit, after, Refuses};
+ghost use Rattle.bench.specs.Bench.{BenchState, Makes};
+ghost use Rattle.bench.specs.Content.{Edit, after, Refuses};
 ghost use Rattle.session_text.specs.view.Input.{unused, fuel, Knows, Reads};
 ghost use Rattle.sievebench.specs.Session.{Request, SessionFrom, BrokenSessionFrom, CutSessionFrom, MatchSessionEnd, MatchFault, ReadsAreMade, TurnsAreSpent, AtLastEnd, with_octets, request_by, dumps, edits, reports, takes_memory};
 ghost use Rattle.session_text.specs.SessionLine as line;
 ghost use Rattle.std.specs.Io.KnownBytes.{IsAtEnd};
-ghost use Rattle.sievebench.specs.view.Task.{Tasks, Makes, edit_by, edit_of};
+ghost use Rattle.sievebench.specs.view.Task.{Tasks, edit_by, edit_of};
 ghost use Rattle.sievebench.specs.view.Progress.{GoesFrom, Serves, RefusesIf, Continues, EndsBy, MatchProgress, OnContinues, TellsFaults, AtLast, MayBeRefused, reply_line};
 
-use crate::bench::Bench;
-use crate::dump::write_dump;
-use crate::fault::{EditFault, ReportFault};
 use crate::status::SessionEnd;
 use crate::task::{Change, Subject, Task, limit_of, task_of};
+use bench::{Bench, EditFault, ReportFault};
 use session_text::{Input, Line, Taken, take_octets};
 use sieve_base::{Octets, Sink, Source, write_out};
 use sieve_run::{Meter, ScriptName};
@@ -226,7 +224,7 @@ fn serve_dump<W: Sink>(bench: &Bench, writer: &mut W, name: &ScriptName) -> Prog
     ensures faults { MatchProgress result (W.fault_count writer.old ≤ W.fault_count writer.new) ⊥ (HasRisen (W.fault_count writer.old) (W.fault_count writer.new)) ⊥ }
     ensures end { AtLast result ⊥ }
 {
-    match write_dump(bench.found(name), writer) {
+    match bench.dump(name, writer) {
         Ok(()) => Progress::Continues,
         Err(_) => Progress::Ends(SessionEnd::Write),
     }

@@ -4,8 +4,7 @@ ghost use Rattle.session_text.specs.SessionLine as line;
 ghost use Rattle.session_text.specs.SessionLine.{command_of_line};
 ghost use Rattle.sievebench.specs.view.Task.{IsTask, Tasks, command_of, change_task, limit_of};
 
-use crate::bench::Bench;
-use crate::fault::EditFault;
+use bench::{Bench, EditFault};
 use session_text::{Command, Word, command_of_line};
 use sieve_base::limits::{MAX_MESSAGE, MAX_TEXT};
 use sieve_base::{Octets, Place};

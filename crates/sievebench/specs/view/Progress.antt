@@ -3,11 +3,11 @@ use Rattle.std.specs.Prelude.{◌≡◌, ⊤, ℕ, ◌≤◌, ◌<◌, Bool, tru
 use Rattle.std.specs.Io.KnownBytes.{Appends}
 use Rattle.sieve_base.specs.Devices.{HasRisen}
 use Rattle.session_text.specs.view.Input.{Input}
-use Rattle.sievebench.specs.Bench.{BenchState}
-use Rattle.sievebench.specs.Content.{Content, Refuses, Answers}
+use Rattle.bench.specs.Bench.{BenchState}
+use Rattle.bench.specs.Content.{Content, Refuses, Answers}
 use Rattle.sievebench.specs.Session.{Request, truncated, Step, Steps, Ends, Answered, MatchSessionEnd, MatchFault, AtLastEnd, refusal_line, request_of, request_so_far}
-use Rattle.sievebench.specs.declared.fault.EditFault.{EditFault}
-use Rattle.sievebench.specs.declared.fault.EditFault.TheVariants.{NoMemory}
+use Rattle.bench.specs.declared.fault.EditFault.{EditFault}
+use Rattle.bench.specs.declared.fault.EditFault.TheVariants.{NoMemory}
 use Rattle.sievebench.specs.declared.status.SessionEnd.{SessionEnd}
 use Rattle.sievebench.specs.declared.status.SessionEnd.TheVariants as ends
 use Rattle.sievebench.specs.declared.server.Progress.{Progress}

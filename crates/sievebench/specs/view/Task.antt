@@ -1,16 +1,15 @@
 -- What the program's tasks stand for.
-use Rattle.std.specs.Prelude.{◌≡◌, ℕ, List, Option, Some, None, Result, Ok, Err, OnOk, OnErr}
+use Rattle.std.specs.Prelude.{◌≡◌, ℕ, List, Option, Some, None, Result, Ok, Err}
 use Rattle.sieve_base.specs.Limits.{text_limit, message_limit}
 use Rattle.session_text.specs.SessionLine.{Command, nothing, script, message, main, no_main, rename, drop_script, drop_message, envelope, mailbox, report, dump}
-use Rattle.sievebench.specs.Bench.{BenchState}
+use Rattle.bench.specs.Bench.{BenchState, Makes}
 use Rattle.sievebench.specs.Session.{edits, request_by}
-use Rattle.sievebench.specs.Content.{Edit, put_script, put_message, set_main, rename_script, remove_script, clear_main, set_envelope, set_mailbox, after, Answers}
+use Rattle.bench.specs.Content.{Edit, put_script, put_message, set_main, rename_script, remove_script, clear_main, set_envelope, set_mailbox}
 use Rattle.sievebench.specs.declared.task.Subject.{Subject}
 use Rattle.sievebench.specs.declared.task.Subject.TheVariants as subjects
 use Rattle.sievebench.specs.declared.task.Change.{Change}
 use Rattle.sievebench.specs.declared.task.Change.TheVariants as changes
 use Rattle.std.specs.declared.alloc.AllocError.{AllocError}
-use Rattle.sievebench.specs.declared.fault.EditFault.{EditFault}
 use Rattle.sievebench.specs.declared.task.Task.{Task}
 use Rattle.sievebench.specs.declared.task.Task.TheVariants as tasks
 
@@ -64,10 +63,6 @@ IsTask tasks.Unreadable command = command ≡ None
 abbrev pub change_task : Result Change AllocError → Task
 change_task (Ok change) = tasks.Change change
 change_task (Err refused) = tasks.Forgotten 0
-
--- an edit that takes no memory is made, or it is said why not
-abbrev pub Makes : Edit → Result Unit EditFault → BenchState → BenchState → Type 0
-Makes edit outcome old new = OnOk outcome (after old.content edit ≡ Ok new.content) × OnErr outcome (new ≡ old) × Answers (after old.content edit) outcome
 
 -- the task is to do what a line asks for, or the edit is made already that it asks for
 abbrev pub Tasks : Task → Option Command → BenchState → BenchState → Type 0

@@ -9,6 +9,9 @@ use Rattle.sievebench.proofs.server.serve.Goals as goal
 pub returns-in-Over-clause-goes : goal.returns-in-Over-clause-goes
 returns-in-Over-clause-goes g c = over_end _ _ _ _ _ c.in-Over.ensures.keeps c.in-Over.ensures.line
 
+pub returns-in-Over-clause-faults : goal.returns-in-Over-clause-faults
+returns-in-Over-clause-faults g c = tt
+
 pub returns-in-TooLong-clause-goes : goal.returns-in-TooLong-clause-goes
 returns-in-TooLong-clause-goes g c =
     ended _ _ _ _ request_of Syntax c.refuse_line.result _ _ _ _ _ (λ Q S q. q) c.refuse_line.ensures

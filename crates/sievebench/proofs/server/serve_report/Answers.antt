@@ -1,5 +1,5 @@
 use Rattle.std.proofs.Common.{inl, refl}
-use Rattle.sievebench.specs.Report.{report_text}
+use Rattle.bench.specs.Report.{report_text}
 use Rattle.sievebench.specs.Session.{reports}
 use Rattle.sievebench.proofs.Serving.{report_replies, step_cut}
 use Rattle.sievebench.proofs.server.serve_report.Goals as goal

@@ -1,7 +1,7 @@
 use Rattle.std.proofs.Common.{◌≡◌, Some, refl, rules}
 use Rattle.session_text.specs.SessionLine as line
 use Rattle.session_text.specs.SessionLine.{command_of_line}
-use Rattle.sievebench.specs.Content.{remove_message}
+use Rattle.bench.specs.Content.{remove_message}
 use Rattle.sievebench.proofs.task.task_of.Goals as goal
 
 pub returns-in-Some-DropMessage : goal.returns-in-Some-DropMessage

@@ -1,0 +1,196 @@
+-- Worked rows of which messages an edit touches.
+use Rattle.std.proofs.Common.{◌≡◌, ℕ, Bool, true, false, List, [], ◌∷◌, length, Some, nat_eq, nat_lt, refl, codes}
+use lib.Pointwise.{pointwise}
+use Rattle.sieve_base.specs.Limits.{text_limit}
+use Rattle.sieve_base.specs.declared.place.Place.TheVariants.{Personal, Global}
+use Rattle.sieve_check.specs.Judgement.{judgement_of, sound, faulty}
+use Rattle.sieve_check.specs.Reading.{keep_leaf}
+use Rattle.sieve_check.specs.Script.{acts, no_commands, script_of}
+use Rattle.sieve_check.specs.Tree.{Node}
+use Rattle.sieve_check.specs.declared.judged.FaultKind.{FaultKind}
+use Rattle.sieve_run.specs.Run.{outcome_of, exec}
+use Rattle.sieve_run.specs.declared.name.ScriptName.{ScriptName}
+use Rattle.bench.specs.Content.{Content, Edit, put_script, put_message, set_main, rename_script, remove_script, remove_message, clear_main, set_envelope, set_mailbox}
+use Rattle.bench.specs.Stale.{touches, stale_after, verdict_on}
+
+abbrev personal : List ℕ → ScriptName
+personal name = record { place = Personal; name = name }
+
+abbrev main : ScriptName
+main = personal (codes "main")
+
+abbrev x : ScriptName
+x = personal (codes "x")
+
+abbrev y : ScriptName
+y = personal (codes "y")
+
+-- the other store's script of the same name is another
+abbrev global_main : ScriptName
+global_main = record { place = Global; name = codes "main" }
+
+-- two messages under a main script, where there are these scripts
+abbrev bench : List (ScriptName × List ℕ) → Content
+bench scripts = record {
+  main = Some main;
+  envelope = record { from = []; to = []; mailbox = codes "INBOX" };
+  scripts = scripts;
+  messages = (codes "m1", codes "Subject: one\n\n") ∷ (codes "m2", codes "Subject: two\n\n") ∷ [];
+}
+
+-- which of m1, m2 and m3 are in a set
+abbrev marks : (List ℕ → Bool) → List Bool
+marks stale = stale (codes "m1") ∷ stale (codes "m2") ∷ stale (codes "m3") ∷ []
+
+abbrev none : List Bool
+none = false ∷ false ∷ false ∷ []
+
+abbrev both : List Bool
+both = true ∷ true ∷ false ∷ []
+
+-- which of them are stale after an edit, where none was
+abbrev touched : Content → Edit → List Bool
+touched content edit = marks (stale_after content edit (λ id. false))
+
+-- and where m1 was
+abbrev first_is : List ℕ → Bool
+first_is id = pointwise nat_eq (codes "m1") id
+
+-- THE MAIN SCRIPT IS MISSING
+
+abbrev missing : Content
+missing = bench ((y, codes "keep;") ∷ [])
+
+put_missing_row : touched missing (put_script main (codes "keep;")) ≡ both
+unfolding touches outcome_of
+put_missing_row = refl
+
+put_unread_row : touched missing (put_script x (codes "keep;")) ≡ none
+unfolding touches outcome_of
+put_unread_row = refl
+
+-- a new name is looked up too, as far as a run missed it
+rename_to_missing_row : touched missing (rename_script y main) ≡ both
+unfolding touches outcome_of
+rename_to_missing_row = refl
+
+rename_unread_row : touched missing (rename_script y x) ≡ none
+unfolding touches outcome_of
+rename_unread_row = refl
+
+-- what isn't there can't be removed
+remove_missing_row : touched missing (remove_script main) ≡ none
+unfolding touches outcome_of
+remove_missing_row = refl
+
+-- THE MAIN SCRIPT IS THERE
+
+-- its text is this
+abbrev present : List ℕ → Content
+present text = bench ((main, text) ∷ (y, codes "keep;") ∷ [])
+
+-- whether a run on a message looks it up, and no other
+abbrev IsAlone : List ℕ → Type 0
+IsAlone text = (bytes : List ℕ) → (verdict_on (present text) bytes).reads ≡ (main, true) ∷ []
+
+-- so it is where the text is past the limit, has a fault, or is one keep
+long_row : (text : List ℕ) → nat_lt text_limit (length text) ≡ true → IsAlone text
+unfolding outcome_of
+long_row text long bytes = rw long refl
+
+faulty_row : (text : List ℕ) (line : ℕ) (kind : FaultKind) → nat_lt text_limit (length text) ≡ false → judgement_of text ≡ faulty line kind → IsAlone text
+unfolding outcome_of
+faulty_row text line kind short judged bytes = rw (short, judged) refl
+
+keep_row : (text : List ℕ) (tree : List Node) → nat_lt text_limit (length text) ≡ false → judgement_of text ≡ sound tree → script_of tree ≡ acts keep_leaf 1 no_commands → IsAlone text
+unfolding outcome_of exec
+keep_row text tree short judged commands bytes = rw (short, judged, commands) refl
+
+-- rows of such a text
+module _ (text : List ℕ) (alone : IsAlone text) where
+  -- another script, which no run looks up, is put, or put anew
+  put_row : touched (present text) (put_script x (codes "keep;")) ≡ none
+  unfolding touches
+  put_row = simp alone
+
+  put_again_row : touched (present text) (put_script y []) ≡ none
+  unfolding touches
+  put_again_row = simp alone
+
+  put_global_row : touched (present text) (put_script global_main []) ≡ none
+  unfolding touches
+  put_global_row = simp alone
+
+  put_main_row : touched (present text) (put_script main []) ≡ both
+  unfolding touches
+  put_main_row = simp alone
+
+  remove_main_row : touched (present text) (remove_script main) ≡ both
+  unfolding touches
+  remove_main_row = simp alone
+
+  remove_row : touched (present text) (remove_script y) ≡ none
+  unfolding touches
+  remove_row = simp alone
+
+  rename_row : touched (present text) (rename_script y x) ≡ none
+  unfolding touches
+  rename_row = simp alone
+
+  rename_main_row : touched (present text) (rename_script main x) ≡ both
+  unfolding touches
+  rename_main_row = simp alone
+
+  -- a name that is taken is refused
+  refused_rename_row : marks (stale_after (present text) (rename_script y main) first_is) ≡ true ∷ false ∷ false ∷ []
+  unfolding touches
+  refused_rename_row = refl
+
+  refused_remove_row : marks (stale_after (present text) (remove_message (codes "m3")) first_is) ≡ true ∷ false ∷ false ∷ []
+  unfolding touches
+  refused_remove_row = refl
+
+  -- a message that is put is touched alone, a new one too
+  message_row : marks (stale_after (present text) (put_message (codes "m2") []) (λ id. false)) ≡ false ∷ true ∷ false ∷ []
+  unfolding touches
+  message_row = refl
+
+  new_message_row : touched (present text) (put_message (codes "m3") []) ≡ false ∷ false ∷ true ∷ []
+  unfolding touches
+  new_message_row = refl
+
+  -- what was stale stays so
+  stays_row : marks (stale_after (present text) (put_message (codes "m2") []) first_is) ≡ both
+  unfolding touches
+  stays_row = refl
+
+  -- but for a message that is removed
+  remove_message_row : marks (stale_after (present text) (remove_message (codes "m1")) first_is) ≡ none
+  unfolding touches
+  remove_message_row = refl
+
+  remove_other_message_row : marks (stale_after (present text) (remove_message (codes "m2")) first_is) ≡ true ∷ false ∷ false ∷ []
+  unfolding touches
+  remove_other_message_row = refl
+
+  -- the settings touch all
+  mailbox_row : touched (present text) (set_mailbox (codes "Inbox2")) ≡ both
+  unfolding touches
+  mailbox_row = refl
+
+  envelope_row : touched (present text) (set_envelope (codes "a@b.example") []) ≡ both
+  unfolding touches
+  envelope_row = refl
+
+  set_main_row : touched (present text) (set_main y) ≡ both
+  unfolding touches
+  set_main_row = refl
+
+  -- even where the main script stays
+  same_main_row : touched (present text) (set_main main) ≡ both
+  unfolding touches
+  same_main_row = refl
+
+  clear_main_row : touched (present text) clear_main ≡ both
+  unfolding touches
+  clear_main_row = refl

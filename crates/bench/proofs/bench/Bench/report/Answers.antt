@@ -1,0 +1,30 @@
+use Rattle.std.proofs.Common.{◌≡◌, List, ℕ, Option, ap, ◌∙◌, subst}
+use Rattle.sieve_base.specs.Writers.{WroteFront}
+use Rattle.sieve_run.specs.declared.name.ScriptName.{ScriptName}
+use Rattle.sieve_run.specs.Verdict.{Verdict}
+use Rattle.bench.specs.Content.{Content}
+use Rattle.bench.specs.Report.{report_with, report_text, verdicts}
+use Rattle.bench.specs.view.Entry.{messages_of}
+use Rattle.bench.proofs.bench.Bench.report.Goals as goal
+
+-- the report of a content's main script and verdicts is the report of the content
+whole_report : (content : Content) (main : Option ScriptName) (judged : List (List ℕ × Verdict))
+    → main ≡ content.main → judged ≡ verdicts main content.envelope content.scripts content.messages → report_with main content.envelope content.scripts judged ≡ report_text content
+whole_report content main judged m j =
+    ap (λ x. report_with main content.envelope content.scripts x) j
+    ∙ ap (λ x. report_with x content.envelope content.scripts (verdicts x content.envelope content.scripts content.messages)) m
+
+pub returns-clause-err : goal.returns-clause-err
+returns-clause-err g c =
+    let content : Content = record { main = c.self.inside.main; envelope = c.self.inside.envelope; scripts = c.self.inside.scripts; messages = messages_of c.self.inside.messages.entries } in
+    rw (← c.self.view_is) (subst (λ (text : List ℕ). WroteFront g.W.Sink.contents g.W.Faults.fault_count c.args.writer.now c.write_report.new.writer text)
+    (whole_report content _ _ c.as_ref-main.ensures.value (rw c.deref.ensures.value c.in-Ok.ensures.verdicts)) c.in-Err.ensures.err)
+
+pub returns-in-Ok-write_report-clause-err : goal.returns-in-Ok-write_report-clause-err
+returns-in-Ok-write_report-clause-err g c = tt
+
+pub returns-in-Ok-write_report-clause-runs : goal.returns-in-Ok-write_report-clause-runs
+returns-in-Ok-write_report-clause-runs g c = rw (← c.self.view_is) c.in-Ok.ensures.meter
+
+pub returns-clause-runs_at_fault : goal.returns-clause-runs_at_fault
+returns-clause-runs_at_fault g c = rw (← c.self.view_is) c.in-Ok.ensures.meter

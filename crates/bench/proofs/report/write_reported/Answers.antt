@@ -1,0 +1,13 @@
+use Rattle.std.proofs.Common.{refl}
+use Rattle.bench.proofs.Writing.{begins, goes_on, stops, stops_last, ends_last}
+use Rattle.bench.proofs.report.write_reported.Goals as goal
+
+pub returns-in_err-write_message-clause-err : goal.returns-in_err-write_message-clause-err
+returns-in_err-write_message-clause-err g c = stops _ _ _ _ _ _ _ _ _ _ (begins _ _ _ _) refl c.in_err-write_message.ensures.err
+
+pub returns-clause-err : goal.returns-clause-err
+returns-clause-err g c = stops_last _ _ _ _ _ _ _ _ (goes_on _ _ _ _ _ _ _ _ (begins _ _ _ _) c.in_ok-write_message.ensures.ok) c.write_verdict.ensures.err
+
+pub returns-clause-ok : goal.returns-clause-ok
+returns-clause-ok g c =
+    ends_last _ _ _ _ _ _ _ _ (goes_on _ _ _ _ _ _ _ _ (begins _ _ _ _) c.in_ok-write_message.ensures.ok) c.write_verdict.ensures.ok

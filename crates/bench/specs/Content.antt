@@ -1,0 +1,148 @@
+-- What a bench holds, and what an edit makes of it.
+use Rattle.std.specs.Prelude.{◌≡◌, ⊤, ℕ, Bool, List, [], length, Option, None, Some, Result, Ok, Err, if◌then◌else◌, ◌||◌, ◌&&◌, is_none, is_some, nat_lt, nat_le, nat_eq, codes}
+use Rattle.std.specs.Map.{lookup, remove_entry}
+use Rattle.std.specs.BTreeMap as tree
+use Rattle.indexmap.specs.IndexMap as ordered
+use lib.Pointwise.{pointwise}
+use Rattle.sieve_base.specs.Limits.{address_limit, id_limit, mailbox_limit, message_count_limit, message_limit, name_limit, script_count_limit, text_limit}
+use Rattle.sieve_run.specs.declared.name.ScriptName.{ScriptName}
+use Rattle.sieve_run.specs.declared.envelope.Envelope.{Envelope}
+use Rattle.sieve_run.specs.Name.{name_cmp}
+use Rattle.bench.specs.declared.fault.EditFault.{EditFault}
+use Rattle.bench.specs.declared.fault.EditFault.TheVariants.{TooLarge, NoSuchScript, NameTaken, NoSuchMessage, Full, NoMemory}
+
+-- the main script's name, the envelope, the scripts in printing order with their texts, and the messages in order
+-- with their octets
+pub record Content : Type 0 where
+  pub main : Option ScriptName
+  pub envelope : Envelope
+  pub scripts : List (ScriptName × List ℕ)
+  pub messages : List (List ℕ × List ℕ)
+
+-- what a new bench holds: mail is kept in the INBOX
+abbrev pub new_content : Content
+new_content = record { main = None; envelope = record { from = []; to = []; mailbox = codes "INBOX" }; scripts = []; messages = [] }
+
+pub data Edit : Type 0 where
+  put_script : (name : ScriptName) (text : List ℕ) → Edit
+  put_message : (id bytes : List ℕ) → Edit
+  set_main : (name : ScriptName) → Edit
+  rename_script : (from to : ScriptName) → Edit
+  remove_script : (name : ScriptName) → Edit
+  remove_message : (id : List ℕ) → Edit
+  clear_main : Edit
+  set_envelope : (from to : List ℕ) → Edit
+  set_mailbox : (mailbox : List ℕ) → Edit
+
+-- the text of the script of that name
+abbrev pub text_at : List (ScriptName × List ℕ) → ScriptName → Option (List ℕ)
+text_at scripts name = lookup (tree.is_at (name_cmp name)) scripts
+
+-- the octets of the message of that id
+abbrev pub message_at : List (List ℕ × List ℕ) → List ℕ → Option (List ℕ)
+message_at messages id = lookup (pointwise nat_eq id) messages
+
+-- the scripts with this text at the name: in the place of the one there, or where it belongs in the order
+abbrev pub with_script : ScriptName → List ℕ → List (ScriptName × List ℕ) → List (ScriptName × List ℕ)
+with_script name text scripts = tree.insert_entry name_cmp scripts name text
+
+-- the messages with these octets at the id: in the place of the one there, or last
+abbrev pub with_message : List ℕ → List ℕ → List (List ℕ × List ℕ) → List (List ℕ × List ℕ)
+with_message id bytes messages = ordered.insert_entry (pointwise nat_eq) messages id bytes
+
+-- the scripts without the one at the name
+abbrev pub without_script : ScriptName → List (ScriptName × List ℕ) → List (ScriptName × List ℕ)
+without_script name scripts = remove_entry (tree.is_at (name_cmp name)) scripts
+
+-- the messages without the one at the id; the others stay in their order
+abbrev pub without_message : List ℕ → List (List ℕ × List ℕ) → List (List ℕ × List ℕ)
+without_message id messages = remove_entry (pointwise nat_eq id) messages
+
+-- the scripts with the text at one name put at another
+abbrev pub with_renamed : ScriptName → Option (List ℕ) → ScriptName → List (ScriptName × List ℕ) → List (ScriptName × List ℕ)
+with_renamed from None to scripts = scripts
+with_renamed from (Some text) to scripts = without_script from (with_script to text scripts)
+
+-- whether a script's name has too many octets
+abbrev pub is_long : List ℕ → Bool
+is_long name = nat_lt name_limit (length name)
+
+-- whether a message's id has
+abbrev pub is_long_id : List ℕ → Bool
+is_long_id id = nat_lt id_limit (length id)
+
+-- the name and the text have their limits, and a new script must find room among the others
+abbrev pub script_refusal : List (ScriptName × List ℕ) → ScriptName → List ℕ → Option EditFault
+script_refusal scripts name text =
+    if is_long name.name || nat_lt text_limit (length text) then Some TooLarge
+    else if is_none (text_at scripts name) && nat_le script_count_limit (length scripts) then Some Full
+    else None
+
+-- the id and the octets have their limits, and a new message must find room among the others
+abbrev pub message_refusal : List (List ℕ × List ℕ) → List ℕ → List ℕ → Option EditFault
+message_refusal messages id bytes =
+    if is_long_id id || nat_lt message_limit (length bytes) then Some TooLarge
+    else if is_none (message_at messages id) && nat_le message_count_limit (length messages) then Some Full
+    else None
+
+abbrev pub main_refusal : ScriptName → Option EditFault
+main_refusal name = if is_long name.name then Some TooLarge else None
+
+-- the name to rename must be there, and the new one must not; they may not be the same
+abbrev pub rename_refusal : List (ScriptName × List ℕ) → ScriptName → ScriptName → Option EditFault
+rename_refusal scripts from to =
+    if is_long from.name || is_long to.name then Some TooLarge
+    else if is_none (text_at scripts from) then Some NoSuchScript
+    else if is_some (text_at scripts to) then Some NameTaken
+    else None
+
+abbrev pub remove_script_refusal : List (ScriptName × List ℕ) → ScriptName → Option EditFault
+remove_script_refusal scripts name =
+    if is_long name.name then Some TooLarge
+    else if is_none (text_at scripts name) then Some NoSuchScript
+    else None
+
+abbrev pub remove_message_refusal : List (List ℕ × List ℕ) → List ℕ → Option EditFault
+remove_message_refusal messages id =
+    if is_long_id id then Some TooLarge
+    else if is_none (message_at messages id) then Some NoSuchMessage
+    else None
+
+-- each address of the envelope has a limit
+abbrev pub envelope_refusal : List ℕ → List ℕ → Option EditFault
+envelope_refusal from to = if nat_lt address_limit (length from) || nat_lt address_limit (length to) then Some TooLarge else None
+
+-- a mailbox's name has a limit
+abbrev pub mailbox_refusal : List ℕ → Option EditFault
+mailbox_refusal mailbox = if nat_lt mailbox_limit (length mailbox) then Some TooLarge else None
+
+-- the first refusal, or else the content
+abbrev pub unless : Option EditFault → Content → Result Content EditFault
+unless None content = Ok content
+unless (Some fault) content = Err fault
+
+-- what an edit makes of the content, or why it is refused
+abbrev pub after : Content → Edit → Result Content EditFault
+after content (put_script name text) = unless (script_refusal content.scripts name text) (record content { scripts = with_script name text content.scripts })
+after content (put_message id bytes) = unless (message_refusal content.messages id bytes) (record content { messages = with_message id bytes content.messages })
+after content (set_main name) = unless (main_refusal name) (record content { main = Some name })
+after content (rename_script from to) = unless (rename_refusal content.scripts from to) (record content { scripts = with_renamed from (text_at content.scripts from) to content.scripts })
+after content (remove_script name) = unless (remove_script_refusal content.scripts name) (record content { scripts = without_script name content.scripts })
+after content (remove_message id) = unless (remove_message_refusal content.messages id) (record content { messages = without_message id content.messages })
+after content clear_main = Ok (record content { main = None })
+after content (set_envelope from to) = unless (envelope_refusal from to) (record content { envelope = record content.envelope { from = from; to = to } })
+after content (set_mailbox mailbox) = unless (mailbox_refusal mailbox) (record content { envelope = record content.envelope { mailbox = mailbox } })
+
+-- an edit that takes no memory answers as it must
+abbrev pub Answers : Result Content EditFault → Result Unit EditFault → Type 0
+Answers (Ok content) (Ok done) = ⊤
+Answers (Ok content) (Err fault) = ⊥
+Answers (Err refusal) (Ok done) = ⊥
+Answers (Err refusal) (Err fault) = fault ≡ refusal
+
+-- an edit answers a refusal exactly where it has one, and else may only be refused for memory
+abbrev pub Refuses : Result Content EditFault → Result Unit EditFault → Type 0
+Refuses (Ok content) (Ok done) = ⊤
+Refuses (Ok content) (Err fault) = fault ≡ NoMemory
+Refuses (Err refusal) (Ok done) = ⊥
+Refuses (Err refusal) (Err fault) = fault ≡ refusal

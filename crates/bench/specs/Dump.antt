@@ -1,0 +1,61 @@
+-- Code as it is printed, and what is replied to `dump`.
+use Rattle.std.specs.Prelude.{◌≡◌, ℕ, ◌+◌, Bool, true, false, ◌||◌, nat_lt, List, [], ◌∷◌, ◌++◌, codes, length}
+use Rattle.sieve_base.specs.Limits.{name_limit, text_limit}
+use Rattle.sieve_check.specs.Judgement.{Judgement, judgement_of, sound, faulty}
+use Rattle.sieve_code.specs.Choice.{code_of}
+use Rattle.sieve_code.specs.Dump.{line_text}
+use Rattle.sieve_code.specs.Operation.{Operation}
+use Rattle.sieve_run.specs.Library.{Lookup, missing, invalid, present, found_at, lookup_of}
+use Rattle.sieve_run.specs.declared.name.ScriptName.{ScriptName}
+use Rattle.bench.specs.Content.{Content, text_at}
+use Rattle.bench.specs.Report.{script_line}
+use Rattle.bench.specs.declared.test_end.TestEnd.{TestEnd}
+use Rattle.bench.specs.declared.test_end.TestEnd.TheVariants as test
+
+-- the lines of operations from a place on
+unfoldable pub lines_from : ℕ → List Operation → List ℕ
+lines_from place [] = []
+lines_from place (op ∷ ops) = line_text place op ++ lines_from (place + 1) ops
+
+-- the lines of code
+abbrev pub code_text : List Operation → List ℕ
+code_text ops = lines_from 0 ops
+
+-- the lines of a script's code and `ok`, or why there are none
+abbrev pub dump_reply : Lookup → List ℕ
+dump_reply missing = codes "no no-such-script\n"
+dump_reply invalid = codes "no invalid-script\n"
+dump_reply (present tree) = code_text (code_of tree) ++ codes "ok\n"
+
+-- the reply to `dump` for a script of a bench; a name past the limit is missing, as in a run
+abbrev pub dump_of : Content → ScriptName → List ℕ
+dump_of content name = dump_reply (found_at (λ other. lookup_of (text_at content.scripts other)) name)
+
+-- A TEXT BY ITSELF
+
+-- whether a script's name or its text is past the limit
+abbrev pub is_too_large : ScriptName → List ℕ → Bool
+is_too_large name text = nat_lt name_limit (length name.name) || nat_lt text_limit (length text)
+
+abbrev pub dump_text_by : ScriptName → List ℕ → Judgement → List ℕ
+dump_text_by name text (sound tree) = code_text (code_of tree)
+dump_text_by name text (faulty line kind) = script_line (name, text)
+
+-- what is printed of a text under a name: its code, or its script's line of a report where it has a fault
+abbrev pub dump_text_of : ScriptName → List ℕ → List ℕ
+dump_text_of name text = dump_text_by name text (judgement_of text)
+
+-- how the printing of a text ends
+abbrev pub dump_end_of : Judgement → TestEnd
+dump_end_of (sound tree) = test.Clean
+dump_end_of (faulty line kind) = test.Faulty
+
+-- What an end says, where `whole` says that a text was written, `front` that a front of it was, and `nothing` that nothing was: that this was so of the
+-- text of the dump, and the end is the due one; that name or text is too large; or that the writer failed, or memory was refused. `Full` is no end of a dump.
+abbrev pub DumpEnds : TestEnd → ScriptName → List ℕ → (List ℕ → Type 0) → (List ℕ → Type 0) → Type 0 → Type 0
+DumpEnds test.Clean name text whole front nothing = (is_too_large name text ≡ false) × (dump_end_of (judgement_of text) ≡ test.Clean) × whole (dump_text_of name text)
+DumpEnds test.Faulty name text whole front nothing = (is_too_large name text ≡ false) × (dump_end_of (judgement_of text) ≡ test.Faulty) × whole (dump_text_of name text)
+DumpEnds test.TooLarge name text whole front nothing = (is_too_large name text ≡ true) × nothing
+DumpEnds test.Full name text whole front nothing = ⊥
+DumpEnds test.Write name text whole front nothing = (is_too_large name text ≡ false) × front (dump_text_of name text)
+DumpEnds test.NoMemory name text whole front nothing = (is_too_large name text ≡ false) × nothing

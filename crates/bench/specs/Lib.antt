@@ -1,0 +1,6 @@
+pub mod Bench
+pub mod Content
+pub mod Dump
+pub mod Report
+pub mod Stale
+pub mod view

@@ -1,0 +1,8 @@
+-- What holds where a report was refused.
+use Rattle.bench.specs.declared.fault.ReportFault.{ReportFault}
+use Rattle.bench.specs.declared.fault.ReportFault.TheVariants.{NoMemory, Write}
+
+-- one fact where memory was refused, and another where the writer failed
+abbrev pub MatchReportFault : ReportFault → Type 0 → Type 0 → Type 0
+MatchReportFault NoMemory P Q = P
+MatchReportFault Write P Q = Q

@@ -1,0 +1,334 @@
+ghost use Rattle.std.specs.Prelude.{◌≡◌, ⊤, ◌≤◌, IfOk, OnOk, OnErr, IfErr, Ok, length, remove, is_some, IfSome};
+ghost use Rattle.bench.specs.Bench.{Makes};
+ghost use Rattle.sieve_base.specs.Writers.{Wrote, WroteFront};
+ghost use Rattle.sieve_run.specs.Library.{found_at, lookup_of};
+ghost use Rattle.sieve_run.specs.Meter.{runs_after};
+ghost use Rattle.sieve_run.specs.view.Found.{FoundAs};
+ghost use Rattle.bench.specs.Dump.{dump_of};
+ghost use Rattle.bench.specs.Report.{report_text};
+ghost use Rattle.bench.specs.view.Entry.{messages_of};
+ghost use Rattle.bench.specs.view.ReportFault.{MatchReportFault};
+ghost use Rattle.bench.specs.Content.{after, Answers, message_at, new_content, Refuses, text_at, without_message};
+ghost use Rattle.bench.specs.Content.{put_script, put_message, set_main, rename_script, remove_script, remove_message, clear_main, set_envelope, set_mailbox};
+
+use crate::dump::write_dump;
+use crate::fault::{EditFault, ReportFault};
+use crate::message::{Entry, message_of};
+use crate::refusal::{
+    is_long, refuse_envelope, refuse_mailbox, refuse_main, refuse_message, refuse_remove_script,
+    refuse_rename, refuse_script,
+};
+use crate::report::{run_all, write_report};
+use crate::scripts::Scripts;
+use crate::sought::Sought;
+use indexmap::IndexMap;
+use session_text::Word;
+use sieve_base::limits::MAX_ID;
+use sieve_base::{Octets, Sink, WriteFault};
+use sieve_run::{Envelope, Found, Library, Meter, ScriptName};
+use std::alloc::{AllocError, Global};
+use std::collections::BTreeMap;
+use std::marker::Model;
+
+/// Scripts beside sample messages, with the main script's name and the envelope. Contracts see what it holds as
+/// plain data.
+#[derive(Debug, Drop)]
+pub struct Bench {
+    alloc: Global,
+    main: Option<ScriptName>,
+    envelope: Envelope,
+    scripts: Scripts,
+    messages: IndexMap<Octets, Entry>,
+}
+
+impl Model for Bench {
+    ghost use Rattle.bench.specs.Bench.{BenchState};
+    ghost use Rattle.bench.specs.Content.{Content};
+    ghost use Rattle.bench.specs.view.Entry.{messages_of};
+
+    ghost Value = { BenchState };
+
+    ghost view = { λ b. record { content = record { main = b.main; envelope = b.envelope; scripts = b.scripts; messages = messages_of b.messages.entries } } };
+}
+
+/// Where among the messages the one of a word's id is. Takes no memory, since the word isn't copied.
+#[tactic(auto, using(crate::proofs::Entries::entries), unfolding(crate::specs::view::Entry::messages_of))]
+fn position_of(messages: &IndexMap<Octets, Entry>, id: &Word<'_>) -> Option<usize>
+    ensures found { IfSome result (λ index. messages_of (remove messages.now.entries index) ≡ without_message id.now (messages_of messages.now.entries)) }
+    ensures is { is_some result ≡ is_some (message_at (messages_of messages.now.entries) id.now) }
+{
+    let mut index = 0;
+    for (other, _) in messages {
+        if id.is(other.as_slice()) {
+            return Some(index);
+        }
+        index += 1;
+    }
+    None
+}
+
+impl Bench {
+    /// The allocator of all that the bench holds.
+    pub fn allocator(&self) -> Global {
+        self.alloc
+    }
+
+    /// What a run finds at a name.
+    fn found(&self, name: &ScriptName) -> Found<'_>
+        ensures { FoundAs result (found_at (λ other. lookup_of (text_at self.now.content.scripts other)) name.now) }
+    {
+        if is_long(&name.name) {
+            Found::Missing
+        } else {
+            self.scripts.find(name)
+        }
+    }
+
+    /// Keeps a script's text at a name, neither of which needs to be copied.
+    pub fn keep_script(&mut self, name: ScriptName, text: Octets) -> Result<(), EditFault>
+        ensures ok { OnOk result (after self.old.content (put_script name text) ≡ Ok self.new.content) }
+        ensures err { OnErr result (self.new ≡ self.old) }
+        ensures refused { Refuses (after self.old.content (put_script name text)) result }
+    {
+        if let Some(fault) = refuse_script(&self.scripts, &name, text.as_slice()) {
+            return Err(fault);
+        }
+        self.scripts.put(self.alloc, name, text)?;
+        Ok(())
+    }
+
+    /// Keeps a message's octets at an id, neither of which needs to be copied.
+    #[tactic(auto, using(crate::proofs::Entries::entries))]
+    pub fn keep_message(&mut self, id: Octets, bytes: Octets) -> Result<(), EditFault>
+        ensures ok { OnOk result (after self.old.content (put_message id bytes) ≡ Ok self.new.content) }
+        ensures err { OnErr result (self.new ≡ self.old) }
+        ensures refused { Refuses (after self.old.content (put_message id bytes)) result }
+    {
+        if let Some(fault) = refuse_message(&self.messages, &id, bytes.as_slice()) {
+            return Err(fault);
+        }
+        let message = message_of(self.alloc, bytes)?;
+        match self.messages.insert(id, Entry { message }) {
+            Ok(_) => Ok(()),
+            Err(_) => Err(EditFault::NoMemory),
+        }
+    }
+
+    /// A bench with no scripts, no messages, no main script, an empty envelope, and the mailbox `INBOX`.
+    #[tactic(auto, unfolding(crate::specs::view::Entry::messages_of))]
+    pub fn new(alloc: Global) -> Result<Bench, AllocError>
+        ensures { IfOk result (λ bench. bench.content ≡ new_content) }
+    {
+        let envelope = Envelope {
+            from: Octets::from_vec(Vec::new(alloc)),
+            to: Octets::from_vec(Vec::new(alloc)),
+            mailbox: Octets::copied(alloc, b"INBOX")?,
+        };
+        Ok(Bench {
+            alloc,
+            main: None,
+            envelope,
+            scripts: Scripts {
+                by_name: BTreeMap::new(alloc),
+            },
+            messages: IndexMap::new(alloc),
+        })
+    }
+
+    /// Puts a script's text at a name, in place of the one there. A text with a fault is kept, and reported.
+    pub fn put_script(&mut self, name: &ScriptName, text: &[u8]) -> Result<(), EditFault>
+        ensures ok { OnOk result (after self.old.content (put_script name.now text.now) ≡ Ok self.new.content) }
+        ensures err { OnErr result (self.new ≡ self.old) }
+        ensures refused { Refuses (after self.old.content (put_script name.now text.now)) result }
+    {
+        if let Some(fault) = refuse_script(&self.scripts, name, text) {
+            return Err(fault);
+        }
+        let text = Octets::copied(self.alloc, text)?;
+        let name = name.copy(self.alloc)?;
+        self.keep_script(name, text)
+    }
+
+    /// Puts a message's octets at an id: a new id goes last, a present one keeps its place.
+    pub fn put_message(&mut self, id: &Octets, bytes: &[u8]) -> Result<(), EditFault>
+        ensures ok { OnOk result (after self.old.content (put_message id.now bytes.now) ≡ Ok self.new.content) }
+        ensures err { OnErr result (self.new ≡ self.old) }
+        ensures refused { Refuses (after self.old.content (put_message id.now bytes.now)) result }
+    {
+        if let Some(fault) = refuse_message(&self.messages, id, bytes) {
+            return Err(fault);
+        }
+        let bytes = Octets::copied(self.alloc, bytes)?;
+        let id = Octets::copied(self.alloc, id.as_slice())?;
+        self.keep_message(id, bytes)
+    }
+
+    /// Makes a script main, whether or not it is there.
+    pub fn set_main(&mut self, name: &ScriptName) -> Result<(), EditFault>
+        ensures ok { OnOk result (after self.old.content (set_main name.now) ≡ Ok self.new.content) }
+        ensures err { OnErr result (self.new ≡ self.old) }
+        ensures refused { Refuses (after self.old.content (set_main name.now)) result }
+    {
+        if let Some(fault) = refuse_main(name) {
+            return Err(fault);
+        }
+        let name = name.copy(self.alloc)?;
+        self.main = Some(name);
+        Ok(())
+    }
+
+    /// Renames a script to a name that no script has. The main script's name stays as it is.
+    pub fn rename_script(&mut self, from: &ScriptName, to: &ScriptName) -> Result<(), EditFault>
+        ensures ok { OnOk result (after self.old.content (rename_script from.now to.now) ≡ Ok self.new.content) }
+        ensures err { OnErr result (self.new ≡ self.old) }
+        ensures refused { Refuses (after self.old.content (rename_script from.now to.now)) result }
+    {
+        if let Some(fault) = refuse_rename(&self.scripts, from, to) {
+            return Err(fault);
+        }
+        self.scripts.rename(self.alloc, from, to)?;
+        Ok(())
+    }
+
+    /// Removes a script. Takes no memory.
+    pub fn remove_script(&mut self, name: &ScriptName) -> Result<(), EditFault>
+        ensures ok { OnOk result (after self.old.content (remove_script name.now) ≡ Ok self.new.content) }
+        ensures err { OnErr result (self.new ≡ self.old) }
+        ensures refused { Answers (after self.old.content (remove_script name.now)) result }
+    {
+        if let Some(fault) = refuse_remove_script(&self.scripts, name) {
+            return Err(fault);
+        }
+        self.scripts.remove(name);
+        Ok(())
+    }
+
+    /// Removes a message. The others stay in their order. Takes no memory.
+    pub fn remove_message(&mut self, id: &Octets) -> Result<(), EditFault>
+        ensures ok { OnOk result (after self.old.content (remove_message id.now) ≡ Ok self.new.content) }
+        ensures err { OnErr result (self.new ≡ self.old) }
+        ensures refused { Answers (after self.old.content (remove_message id.now)) result }
+    {
+        self.drop_sought(Sought {
+            octets: id.as_slice(),
+        })
+    }
+
+    /// Removes the message of an id. Takes no memory.
+    #[tactic(auto, using(crate::proofs::Entries::entries))]
+    fn drop_sought(&mut self, sought: Sought<'_>) -> Result<(), EditFault>
+        ensures { Makes (remove_message sought.entry.octets.now) result self.old self.new }
+    {
+        if sought.octets.len() > MAX_ID {
+            return Err(EditFault::TooLarge);
+        }
+        if !self.messages.contains_key(sought) {
+            return Err(EditFault::NoSuchMessage);
+        }
+        self.messages.shift_remove(sought);
+        Ok(())
+    }
+
+    /// Removes the message of a word, looking at all ids. Takes no memory.
+    fn drop_word(&mut self, id: &Word<'_>) -> Result<(), EditFault>
+        ensures { Makes (remove_message id.now) result self.old self.new }
+    {
+        if id.len() > MAX_ID {
+            return Err(EditFault::TooLarge);
+        }
+        match position_of(&self.messages, id) {
+            Some(index) => {
+                self.messages.shift_remove_index(index);
+                Ok(())
+            }
+            None => Err(EditFault::NoSuchMessage),
+        }
+    }
+
+    /// Removes the message of a word of a session, for which no memory is taken either. A word that stands for other octets than
+    /// are written is compared with all ids.
+    pub fn drop_message(&mut self, id: &Word<'_>) -> Result<(), EditFault>
+        ensures { Makes (remove_message id.now) result self.old self.new }
+    {
+        match id.as_written() {
+            Some(octets) => self.drop_sought(Sought { octets }),
+            None => self.drop_word(id),
+        }
+    }
+
+    /// Leaves no script main. Takes no memory.
+    pub fn clear_main(&mut self)
+        ensures { after self.old.content clear_main ≡ Ok self.new.content }
+    {
+        self.main = None;
+    }
+
+    /// Sets the addresses of the sender and of the recipient.
+    pub fn set_envelope(&mut self, from: &[u8], to: &[u8]) -> Result<(), EditFault>
+        ensures ok { OnOk result (after self.old.content (set_envelope from.now to.now) ≡ Ok self.new.content) }
+        ensures err { OnErr result (self.new ≡ self.old) }
+        ensures refused { Refuses (after self.old.content (set_envelope from.now to.now)) result }
+    {
+        if let Some(fault) = refuse_envelope(from, to) {
+            return Err(fault);
+        }
+        let from = Octets::copied(self.alloc, from)?;
+        let to = Octets::copied(self.alloc, to)?;
+        self.envelope.from = from;
+        self.envelope.to = to;
+        Ok(())
+    }
+
+    /// Sets the mailbox that mail is kept in.
+    pub fn set_mailbox(&mut self, mailbox: &[u8]) -> Result<(), EditFault>
+        ensures ok { OnOk result (after self.old.content (set_mailbox mailbox.now) ≡ Ok self.new.content) }
+        ensures err { OnErr result (self.new ≡ self.old) }
+        ensures refused { Refuses (after self.old.content (set_mailbox mailbox.now)) result }
+    {
+        if let Some(fault) = refuse_mailbox(mailbox) {
+            return Err(fault);
+        }
+        let mailbox = Octets::copied(self.alloc, mailbox)?;
+        self.envelope.mailbox = mailbox;
+        Ok(())
+    }
+
+    /// Runs the main script on each message, and writes the report. A report that memory is refused for writes
+    /// nothing; one whose writer fails has written a front of the report. The scripts, the messages and the settings
+    /// stay as they are.
+    pub fn report<W: Sink>(&mut self, meter: &mut Meter, writer: &mut W) -> Result<(), ReportFault>
+        ensures ok { OnOk result (Wrote W.contents W.fault_count writer.old writer.new (report_text self.old.content)) }
+        // Nothing is written where memory is refused, and a front of the report where the writer fails.
+        ensures err { IfErr result (λ fault. MatchReportFault fault (writer.new ≡ writer.old)
+            (WroteFront W.contents W.fault_count writer.old writer.new (report_text self.old.content))) }
+        ensures content { self.new ≡ self.old }
+        // Each message was run once, unless memory was refused.
+        ensures runs { OnOk result (meter.new ≡ runs_after (length self.old.content.messages) meter.old) }
+        ensures runs_at_fault { IfErr result (λ fault. MatchReportFault fault ⊤
+            (meter.new ≡ runs_after (length self.old.content.messages) meter.old)) }
+    {
+        let main = self.main.as_ref();
+        let Ok(reported) = run_all(
+            self.alloc,
+            &self.scripts,
+            main,
+            &self.envelope,
+            &self.messages,
+            meter,
+        ) else {
+            return Err(ReportFault::NoMemory);
+        };
+        match write_report(main, &self.envelope, &self.scripts, &reported, writer) {
+            Ok(()) => Ok(()),
+            Err(_) => Err(ReportFault::Write),
+        }
+    }
+    /// Writes the lines of a script's code and `ok`, or why there are none: there is no such script, or it has a fault.
+    /// Where the writer fails, a front of that is written.
+    pub fn dump<W: Sink>(&self, name: &ScriptName, writer: &mut W) -> Result<(), WriteFault>
+        ensures ok { OnOk result (Wrote W.contents W.fault_count writer.old writer.new (dump_of self.now.content name.now)) }
+        ensures err { OnErr result (WroteFront W.contents W.fault_count writer.old writer.new (dump_of self.now.content name.now)) }
+    {
+        write_dump(self.found(name), writer)
+    }
+}

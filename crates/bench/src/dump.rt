@@ -1,0 +1,105 @@
+//! Prints the code of a script.
+ghost use Rattle.std.specs.Prelude.{◌≡◌, ◌≤◌, ◌++◌, IfOk, OnErr, OnOk, codes, length};
+ghost use Rattle.sieve_base.specs.Limits.{text_limit};
+ghost use Rattle.sieve_base.specs.Writers.{Wrote, WroteFront};
+ghost use Rattle.sieve_check.specs.Judgement.{judgement_of};
+ghost use Rattle.sieve_code.specs.view.Code.{ops_of};
+ghost use Rattle.sieve_run.specs.Library.{Lookup};
+ghost use Rattle.sieve_run.specs.view.Found.{FoundAs};
+ghost use Rattle.bench.specs.Dump.{DumpEnds, code_text, dump_end_of, dump_reply, dump_text_of, is_too_large};
+
+use crate::report_lines::write_script;
+use crate::test_end::TestEnd;
+use sieve_base::limits::{MAX_NAME, MAX_TEXT};
+use sieve_base::{Octets, Sink, WriteFault, write_out};
+use sieve_code::Code;
+use sieve_run::{Found, Script, ScriptName};
+use std::alloc::{AllocError, Global};
+
+/// Writes the lines of code.
+fn write_code<W: Sink>(code: &Code, writer: &mut W) -> Result<(), WriteFault>
+    ensures ok { OnOk result (Wrote W.contents W.fault_count writer.old writer.new (code_text (ops_of code.now))) }
+    ensures err { OnErr result (WroteFront W.contents W.fault_count writer.old writer.new (code_text (ops_of code.now))) }
+{
+    for i in 0..code.len() {
+        code.dump_line(i, writer)?;
+    }
+    Ok(())
+}
+
+/// Writes the lines of code, and `ok`.
+#[tactic(auto, using(crate::proofs::Writing::writing))]
+fn write_reply<W: Sink>(code: &Code, writer: &mut W) -> Result<(), WriteFault>
+    ensures ok { OnOk result (Wrote W.contents W.fault_count writer.old writer.new (code_text (ops_of code.now) ++ codes "ok\n")) }
+    ensures err { OnErr result (WroteFront W.contents W.fault_count writer.old writer.new (code_text (ops_of code.now) ++ codes "ok\n")) }
+{
+    write_code(code, writer)?;
+    write_out(b"ok\n", writer)
+}
+
+/// Writes the lines of what was found and `ok`, or why there are none.
+pub(crate) fn write_dump<W: Sink>(found: Found<'_>, writer: &mut W) -> Result<(), WriteFault>
+    ensures ok { (lookup : Lookup) → FoundAs found.entry lookup → OnOk result (Wrote W.contents W.fault_count writer.old writer.new (dump_reply lookup)) }
+    ensures err { (lookup : Lookup) → FoundAs found.entry lookup → OnErr result (WroteFront W.contents W.fault_count writer.old writer.new (dump_reply lookup)) }
+{
+    match found {
+        Found::Missing => write_out(b"no no-such-script\n", writer),
+        Found::Invalid => write_out(b"no invalid-script\n", writer),
+        Found::Present(code) => write_reply(code, writer),
+    }
+}
+
+/// Writes the code of a script, or its line of a report where it has a fault.
+fn write_judged<W: Sink>(
+    name: &ScriptName,
+    script: &Script,
+    writer: &mut W,
+) -> Result<(), WriteFault>
+    requires { length script.now ≤ text_limit }
+    ensures ok { OnOk result (Wrote W.contents W.fault_count writer.old writer.new (dump_text_of name.now script.now)) }
+    ensures err { OnErr result (WroteFront W.contents W.fault_count writer.old writer.new (dump_text_of name.now script.now)) }
+{
+    match script.found() {
+        Found::Present(code) => write_code(code, writer),
+        Found::Invalid => write_script(name, script, writer),
+        Found::Missing => unreachable!("the script is there"),
+    }
+}
+
+/// The end that is due for a script.
+fn due_end(script: &Script) -> TestEnd
+    ensures { result ≡ dump_end_of (judgement_of script.now) }
+{
+    match script.fault() {
+        None => TestEnd::Clean,
+        Some(_) => TestEnd::Faulty,
+    }
+}
+
+/// The script of a text.
+fn script_of(alloc: Global, text: &[u8]) -> Result<Script, AllocError>
+    requires { length text.now ≤ text_limit }
+    ensures { IfOk result (λ script. script ≡ text.now) }
+{
+    Script::new(alloc, Octets::copied(alloc, text)?)
+}
+
+/// Writes the code of a script's text, one operation a line, or the script's line of a report where the text has a fault.
+///
+/// `Clean` says that the code was written, and `Faulty` that the line was. `TooLarge`: the text has more than 1,048,576 octets, or the name
+/// more than 1,024; nothing was written. `Write`: the writer failed, and a front was written. `NoMemory`: nothing was written. Never `Full`.
+pub fn dump_text<W: Sink>(alloc: Global, name: &ScriptName, text: &[u8], writer: &mut W) -> TestEnd
+    ensures { DumpEnds result name.now text.now (Wrote W.contents W.fault_count writer.old writer.new)
+        (WroteFront W.contents W.fault_count writer.old writer.new) (writer.new ≡ writer.old) }
+{
+    if name.name.as_slice().len() > MAX_NAME || text.len() > MAX_TEXT {
+        return TestEnd::TooLarge;
+    }
+    let Ok(script) = script_of(alloc, text) else {
+        return TestEnd::NoMemory;
+    };
+    match write_judged(name, &script, writer) {
+        Ok(()) => due_end(&script),
+        Err(_) => TestEnd::Write,
+    }
+}

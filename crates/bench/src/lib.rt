@@ -1,0 +1,19 @@
+//! Sieve scripts (RFC 5228) beside sample messages: the edits of them, a report of what every message would suffer,
+//! and the code of a script as text.
+#![tactic(auto)]
+
+mod bench;
+mod dump;
+mod fault;
+mod message;
+mod refusal;
+mod report;
+mod report_lines;
+mod scripts;
+mod sought;
+mod test_end;
+
+pub use bench::Bench;
+pub use dump::dump_text;
+pub use fault::{EditFault, ReportFault};
+pub use test_end::TestEnd;

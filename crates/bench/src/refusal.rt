@@ -1,0 +1,117 @@
+//! Why an edit is refused, apart from memory.
+ghost use Rattle.std.specs.Prelude.{◌≡◌};
+ghost use Rattle.bench.specs.Content.{is_long, script_refusal, message_refusal, main_refusal, rename_refusal, remove_script_refusal, envelope_refusal, mailbox_refusal};
+ghost use Rattle.bench.specs.view.Entry.{messages_of};
+
+use crate::fault::EditFault;
+use crate::message::Entry;
+use crate::scripts::Scripts;
+use indexmap::IndexMap;
+use sieve_base::Octets;
+use sieve_base::limits::{
+    MAX_ADDRESS, MAX_ID, MAX_MAILBOX, MAX_MESSAGE, MAX_MESSAGES, MAX_NAME, MAX_SCRIPTS, MAX_TEXT,
+};
+use sieve_run::ScriptName;
+
+/// Whether a script's name is past its limit.
+pub(crate) fn is_long(name: &Octets) -> bool
+    ensures { result ≡ is_long name.now }
+{
+    name.as_slice().len() > MAX_NAME
+}
+
+/// Why a script isn't put, apart from memory.
+pub(crate) fn refuse_script(scripts: &Scripts, name: &ScriptName, text: &[u8]) -> Option<EditFault>
+    ensures { result ≡ script_refusal scripts.now name.now text.now }
+{
+    if is_long(&name.name) || text.len() > MAX_TEXT {
+        return Some(EditFault::TooLarge);
+    }
+    if !scripts.contains(name) && scripts.by_name.len() >= MAX_SCRIPTS {
+        return Some(EditFault::Full);
+    }
+    None
+}
+
+/// Why a message isn't put, apart from memory.
+#[tactic(auto, using(crate::proofs::Entries::entries))]
+pub(crate) fn refuse_message(
+    messages: &IndexMap<Octets, Entry>,
+    id: &Octets,
+    bytes: &[u8],
+) -> Option<EditFault>
+    ensures { result ≡ message_refusal (messages_of messages.now.entries) id.now bytes.now }
+{
+    if id.as_slice().len() > MAX_ID || bytes.len() > MAX_MESSAGE {
+        return Some(EditFault::TooLarge);
+    }
+    if !messages.contains_key(id) && messages.len() >= MAX_MESSAGES {
+        return Some(EditFault::Full);
+    }
+    None
+}
+
+/// Why a main script's name isn't taken, apart from memory.
+pub(crate) fn refuse_main(name: &ScriptName) -> Option<EditFault>
+    ensures { result ≡ main_refusal name.now }
+{
+    if is_long(&name.name) {
+        Some(EditFault::TooLarge)
+    } else {
+        None
+    }
+}
+
+/// Why a script isn't renamed, apart from memory.
+pub(crate) fn refuse_rename(
+    scripts: &Scripts,
+    from: &ScriptName,
+    to: &ScriptName,
+) -> Option<EditFault>
+    ensures { result ≡ rename_refusal scripts.now from.now to.now }
+{
+    if is_long(&from.name) || is_long(&to.name) {
+        Some(EditFault::TooLarge)
+    } else if !scripts.contains(from) {
+        Some(EditFault::NoSuchScript)
+    } else if scripts.contains(to) {
+        Some(EditFault::NameTaken)
+    } else {
+        None
+    }
+}
+
+/// Why a script isn't removed.
+pub(crate) fn refuse_remove_script(scripts: &Scripts, name: &ScriptName) -> Option<EditFault>
+    ensures { result ≡ remove_script_refusal scripts.now name.now }
+{
+    if is_long(&name.name) {
+        Some(EditFault::TooLarge)
+    } else if !scripts.contains(name) {
+        Some(EditFault::NoSuchScript)
+    } else {
+        None
+    }
+}
+
+/// Why an envelope isn't taken, apart from memory.
+pub(crate) fn refuse_envelope(from: &[u8], to: &[u8]) -> Option<EditFault>
+    ensures { result ≡ envelope_refusal from.now to.now }
+{
+    if from.len() > MAX_ADDRESS || to.len() > MAX_ADDRESS {
+        Some(EditFault::TooLarge)
+    } else {
+        None
+    }
+}
+
+/// Why a mailbox isn't taken, apart from memory.
+pub(crate) fn refuse_mailbox(mailbox: &[u8]) -> Option<EditFault>
+    ensures { result ≡ mailbox_refusal mailbox.now }
+{
+    if mailbox.len() > MAX_MAILBOX {
+        Some(EditFault::TooLarge)
+    } else {
+        None
+    }
+}

@@ -1,8 +1,0 @@
-use Rattle.sievebench.proofs.Lines.{total_pieces}
-use Rattle.sievebench.proofs.report_lines.write_total.Goals as goal
-
-pub returns-clause-ok : goal.returns-clause-ok
-returns-clause-ok g c = rw (total_pieces c.args.messages c.args.errors) c.write_pieces.ensures.ok
-
-pub returns-clause-err : goal.returns-clause-err
-returns-clause-err g c = rw (total_pieces c.args.messages c.args.errors) c.write_pieces.ensures.err

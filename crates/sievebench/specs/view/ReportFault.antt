@@ -1,8 +1,0 @@
--- What holds where a report was refused.
-use Rattle.sievebench.specs.declared.fault.ReportFault.{ReportFault}
-use Rattle.sievebench.specs.declared.fault.ReportFault.TheVariants.{NoMemory, Write}
-
--- one fact where memory was refused, and another where the writer failed
-abbrev pub MatchReportFault : ReportFault → Type 0 → Type 0 → Type 0
-MatchReportFault NoMemory P Q = P
-MatchReportFault Write P Q = Q
