@@ -55,6 +55,7 @@ mark_in inside.QuotedString is_protected in_angle is_last b = quoted_mark is_pro
 mark_in (inside.Comment depth) is_protected in_angle is_last b = mark.Comment
 mark_in inside.DomainLiteral is_protected in_angle is_last b = mark.Literal
 
+-- the mark of the octet at a place
 abbrev pub mark_at : Spot → (is_last : Bool) → ℕ → Mark
 mark_at spot is_last b = mark_in spot.inside spot.is_protected spot.in_angle is_last b
 

@@ -77,8 +77,9 @@ fn only_the_last_sign_divides(rt: HostRuntime) -> Result<(), Fail> {
             (b"a@b@", b"a@b@|-|-\n"),
             (b"@b", b"@b|-|-\n"),
             (b"@", b"@|-|-\n"),
+            // The standard has no such address: in it an atom holds no `@`.
             (b"a@b@c", b"a@b@c|a@b|c\n"),
-            // One in quotes or in a literal divides nothing. The quote signs themselves go.
+            // One in quotes or in a literal divides nothing. In the standard the quote signs stay with the local part.
             (b"\"a@b\"@c", b"a@b@c|a@b|c\n"),
             (b"\"a@b\"", b"a@b|-|-\n"),
             (b"a@[b@c]", b"a@[b@c]|a|[b@c]\n"),
@@ -92,6 +93,7 @@ fn reads_the_first_angle(rt: HostRuntime) -> Result<(), Fail> {
     check_listed(
         &rt,
         &[
+            // The standard has none of the first three.
             (b"x <a<b@c> y", b"a<b@c|a<b|c\n"),
             (b"<a@b> <c@d>", b"a@b|a|b\n"),
             (b"a>b@c", b"a>b@c|a>b|c\n"),
@@ -129,7 +131,7 @@ fn drops_comments_and_white_space(rt: HostRuntime) -> Result<(), Fail> {
     )
 }
 
-// The examples of RFC 5322, appendices A.1.1 to A.1.3.
+// The examples of RFC 5322, appendices A.1.1 to A.1.3. The standard reads the same addresses in each.
 #[test]
 fn reads_simple_examples(rt: HostRuntime) -> Result<(), Fail> {
     check_listed(
@@ -172,7 +174,7 @@ fn reads_simple_examples(rt: HostRuntime) -> Result<(), Fail> {
     )
 }
 
-// The examples of RFC 5322, appendices A.5 and A.6.1.
+// The examples of RFC 5322, appendices A.5, A.6.1 and A.6.3. The standard reads the same addresses in each.
 #[test]
 fn reads_comments_folds_and_obsolete_forms(rt: HostRuntime) -> Result<(), Fail> {
     check_listed(
@@ -197,6 +199,14 @@ fn reads_comments_folds_and_obsolete_forms(rt: HostRuntime) -> Result<(), Fail> 
             (
                 b" Mary Smith <@node.test:mary@example.net>, , jdoe@test  . example",
                 b"mary@example.net|mary|example.net\njdoe@test.example|jdoe|test.example\n",
+            ),
+            (
+                b"John Doe <jdoe@machine(comment).  example>",
+                b"jdoe@machine.example|jdoe|machine.example\n",
+            ),
+            (
+                b"Mary Smith\r\n  \r\n          <mary@example.net>",
+                b"mary@example.net|mary|example.net\n",
             ),
         ],
     )
