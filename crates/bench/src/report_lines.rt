@@ -127,6 +127,14 @@ pub(crate) fn write_action<W: Sink>(action: &Action, writer: &mut W) -> Result<(
             ],
             writer,
         ),
+        Action::Redirect { address } => write_pieces(
+            &[
+                Piece::Raw(b"  redirect "),
+                Piece::Quoted(address.as_slice()),
+                Piece::Raw(b"\n"),
+            ],
+            writer,
+        ),
         Action::Discard => write_pieces(&[Piece::Raw(b"  discard\n")], writer),
     }
 }

@@ -30,7 +30,8 @@ pub(super) fn joined(alloc: Global, pieces: &[&[u8]]) -> Result<Vec<u8>, AllocEr
 
 /// The report of a script that is main, and of one message.
 pub(super) fn report_text(alloc: Global, line: &[u8], lines: &[u8]) -> Result<Vec<u8>, AllocError> {
-    let errors: &[u8] = if line == OK { b"0" } else { b"1" };
+    let is_error = line != OK || lines.starts_with(b"  implicit \"INBOX\"\n  error ");
+    let errors: &[u8] = if is_error { b"1" } else { b"0" };
     joined(
         alloc,
         &[

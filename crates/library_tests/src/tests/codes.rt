@@ -129,3 +129,20 @@ fn tests_have_their_operations(rt: HostRuntime) -> Result<(), Fail> {
         ],
     )
 }
+
+#[test]
+fn addresses_and_actions_have_their_operations(rt: HostRuntime) -> Result<(), Fail> {
+    check_codes(
+        &rt,
+        &[
+            (
+                b"require [\"envelope\", \"fileinto\"];\nif address :localpart [\"from\", \"To\"] \"jane\" { redirect \"a@b.example\"; }\nelsif envelope :comparator \"i;octet\" :is \"from\" [\"\", \"x\"] { fileinto \"A\"; }\n",
+                b"0: address is casemap localpart [\"from\", \"To\"] [\"jane\"]\n1: jump-if-false 4\n2: redirect \"a@b.example\" @2\n3: jump 7\n4: envelope is octet all [\"from\"] [\"\", \"x\"]\n5: jump-if-false 7\n6: fileinto \"A\" internal @3\n",
+            ),
+            (
+                b"if address :contains :domain \"cc\" \"x\" {}",
+                b"0: address contains casemap domain [\"cc\"] [\"x\"]\n1: jump-if-false 2\n",
+            ),
+        ],
+    )
+}

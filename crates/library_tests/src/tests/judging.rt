@@ -3,7 +3,7 @@
 use super::limits::nested;
 use sieve_check::{
     Ask, CheckFault, Checked, Command, CommandKind, CommandReading, JudgeFault, Judged, Leaf,
-    MatchType, Part, Rule, Test, TestReading, Tests, Text, check, judge,
+    MatchType, Part, Rule, Source, Test, TestReading, Tests, Text, check, judge,
 };
 use sieve_syntax::{Script, parse};
 use std::alloc::Global;
@@ -65,6 +65,9 @@ fn sound_texts(rt: HostRuntime) -> Result<(), Fail> {
             b"if size :over 17179869183G {}",
             b"if header :contains :comparator \"i;octet\" [\"a\"] \"b\" {} elsif exists \"c\" {} else {}",
             b"if anyof (allof (true, false), not exists [\"a\", \"b\"]) { stop; }",
+            // What is required at the top holds in blocks and tests too.
+            b"require \"fileinto\"; require [\"envelope\"]; if envelope :all \"FROM\" \"a\" { fileinto \"x\"; }",
+            b"redirect \"a@b.example\"; if address :localpart :is [\"X-Original-To\", \"errors-TO\"] \"a\" {}",
             // Chains.
             b"if true {} elsif true {} elsif false {} else {}",
             b"if true {} else {} if true {} elsif true {} else {}",
@@ -120,6 +123,42 @@ fn places_and_names(rt: HostRuntime) -> Result<(), Fail> {
                 b"unknown-comparator",
             ),
             (b"if size :over 17179869184G {}", 1, b"number-too-large"),
+            // Parts of an envelope and fields of addresses.
+            (
+                b"require \"envelope\";\nif envelope [\"from\",\n\"auth\"] \"x\" {}",
+                3,
+                b"bad-envelope-part",
+            ),
+            (
+                b"if address\n\"subject\" \"x\" {}",
+                2,
+                b"not-address-header",
+            ),
+            (
+                b"if address [\"to\", \"from \"] \"x\" {}",
+                1,
+                b"not-address-header",
+            ),
+        ],
+    )
+}
+
+#[test]
+fn what_is_needed_is_required(rt: HostRuntime) -> Result<(), Fail> {
+    check_texts(
+        &rt,
+        Some((1, b"not-required".as_slice())),
+        &[
+            b"fileinto \"x\";",
+            b"if envelope \"from\" \"x\" {}",
+            b"if not anyof (true, envelope \"from\" \"x\") {}",
+            // It comes before what is wrong with tags and arguments.
+            b"fileinto :is \"x\";",
+            b"fileinto;",
+            b"if envelope :all :domain \"auth\" {}",
+            // A capability is named octet for octet, by itself, and at the top.
+            b"require \"envelope\"; fileinto \"x\";",
+            b"if true { fileinto \"x\"; } require \"fileinto\";",
         ],
     )
 }
@@ -192,6 +231,11 @@ fn tags(rt: HostRuntime) -> Result<(), Fail> {
             b"if not :is true {}",
             b"if :is true {}",
             b"keep :flags \"x\";",
+            b"if address :all :domain \"to\" \"x\" {}",
+            b"if address :localpart :localpart \"to\" \"x\" {}",
+            b"if header :all \"to\" \"x\" {}",
+            b"redirect :all \"x@y\";",
+            b"require \"fileinto\"; fileinto \"x\" :is;",
         ],
     )
 }
@@ -237,6 +281,12 @@ fn arguments(rt: HostRuntime) -> Result<(), Fail> {
             b"discard (true);",
             b"keep \"x\";",
             b"stop 18446744073709551616;",
+            b"redirect;",
+            b"redirect [\"a@b\"];",
+            b"redirect \"a@b\" \"c@d\";",
+            b"require \"fileinto\"; fileinto 5;",
+            b"if address \"to\" {}",
+            b"require \"envelope\"; if envelope 1 \"x\" {}",
         ],
     )
 }
@@ -268,14 +318,10 @@ fn nested_blocks_and_tests(rt: HostRuntime) -> Result<(), Fail> {
 /// The first command of `keep;\nif NOT size :over 2K {\nStop; }`.
 fn check_keep(rt: &impl Abort, keep: &Command) {
     assert_eq!(rt;
-        (keep.name.as_slice(), keep.line, keep.kind(), keep.reading()),
-        (
-            b"keep".as_slice(),
-            1,
-            Some(CommandKind::Keep),
-            Some(CommandReading::Acts(Leaf::Keep)),
-        )
+        (keep.name.as_slice(), keep.line, keep.kind()),
+        (b"keep".as_slice(), 1, Some(CommandKind::Keep))
     );
+    assert!(rt; matches!(keep.reading(), Some(CommandReading::Acts(Leaf::Keep))));
     assert!(rt; keep.args.is_empty() && keep.block.is_none());
 }
 
@@ -299,22 +345,16 @@ fn check_stop(rt: &impl Abort, block: &[Command]) {
         panic!(rt; "{block:?}");
     };
     assert_eq!(rt;
-        (stop.name.as_slice(), stop.line, stop.kind(), stop.reading()),
-        (
-            b"Stop".as_slice(),
-            3,
-            Some(CommandKind::Stop),
-            Some(CommandReading::Stops),
-        )
+        (stop.name.as_slice(), stop.line, stop.kind()),
+        (b"Stop".as_slice(), 3, Some(CommandKind::Stop))
     );
+    assert!(rt; matches!(stop.reading(), Some(CommandReading::Stops)));
 }
 
 /// Its second command.
 fn check_choice(rt: &impl Abort, choice: &Command) {
-    assert_eq!(rt;
-        (choice.kind(), choice.line, choice.reading()),
-        (Some(CommandKind::If), 2, Some(CommandReading::Opens))
-    );
+    assert_eq!(rt; (choice.kind(), choice.line), (Some(CommandKind::If), 2));
+    assert!(rt; matches!(choice.reading(), Some(CommandReading::Opens)));
     match (&choice.tests, &choice.block) {
         (Tests::One(negation), Some(block)) => {
             check_negation(rt, negation);
@@ -361,10 +401,10 @@ fn check_header(rt: &impl Abort, test: &Test) {
     match test.reading() {
         Some(
             TestReading::Asks(
-                Ask::Header {
+                Ask::Compares {
+                    source: Source::Header { names: [name] },
                     match_type: MatchType::Is,
                     collation: match_text::Collation::Octet,
-                    names: [name],
                     keys: [first, second],
                 },
             ),

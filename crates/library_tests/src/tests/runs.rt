@@ -45,6 +45,11 @@ fn push_action(out: &mut String, action: &Action) -> Result<(), AllocError> {
             push_octets(out, mailbox.as_slice())?;
             out.push_str(" ")
         }
+        Action::Redirect { address } => {
+            out.push_str("redirect=")?;
+            push_octets(out, address.as_slice())?;
+            out.push_str(" ")
+        }
         Action::Discard => out.push_str("discard "),
     }
 }
@@ -343,6 +348,117 @@ fn headers(rt: HostRuntime) -> Result<(), Fail> {
                 b"if exists [\"to\", \"subject\"] { discard; }",
                 b"Subject: a\nTo: b\n\n",
                 "discard main ",
+            ),
+        ],
+    )
+}
+
+/// The message of the next test.
+const PARTIES: &[u8] =
+    b"From: Tim <Tim@Example.com>\nTo: Team: jane@b.example, joe;, \"c@d\"\nSubject: x@y.example\n\n";
+
+/// Tests of addresses (RFC 5228, section 5.1).
+#[test]
+fn addresses_are_found_and_compared(rt: HostRuntime) -> Result<(), Fail> {
+    check_words(
+        &rt,
+        &[
+            (
+                b"if address \"from\" \"tim@example.com\" { discard; }",
+                PARTIES,
+                "discard main ",
+            ),
+            (
+                b"if address :comparator \"i;octet\" \"from\" \"tim@example.com\" { discard; }",
+                PARTIES,
+                "implicit main ",
+            ),
+            // The phrase isn't seen.
+            (
+                b"if address :contains \"from\" \"Tim <\" { discard; }",
+                PARTIES,
+                "implicit main ",
+            ),
+            (
+                b"if address :localpart [\"to\", \"FROM\"] \"tim\" { discard; }",
+                PARTIES,
+                "discard main ",
+            ),
+            (
+                b"if address :domain \"to\" [\"b.example\", \"d\"] { discard; }",
+                PARTIES,
+                "discard main ",
+            ),
+            // What has no parts is seen as a whole alone.
+            (
+                b"if address :localpart \"to\" [\"joe\", \"c\", \"c@d\"] { discard; }",
+                PARTIES,
+                "implicit main ",
+            ),
+            (
+                b"if address :all \"to\" \"joe\" { discard; }",
+                PARTIES,
+                "discard main ",
+            ),
+            (
+                b"if address \"to\" \"c@d\" { discard; }",
+                PARTIES,
+                "discard main ",
+            ),
+            (
+                b"if address :contains \"cc\" \"\" { discard; }",
+                PARTIES,
+                "implicit main ",
+            ),
+        ],
+    )
+}
+
+/// Filing and redirecting (RFC 5228, sections 4.1 and 4.2).
+#[test]
+fn files_and_redirects(rt: HostRuntime) -> Result<(), Fail> {
+    check_words(
+        &rt,
+        &[
+            (
+                b"require \"fileinto\"; fileinto \"A\"; keep; fileinto \"a\"; fileinto \"INBOX\";",
+                b"",
+                "store=A store=INBOX store=a main ",
+            ),
+            (
+                b"redirect \"Jane <a@b.example>\"; redirect \"A@b.example\"; redirect \"a@b.example\";",
+                b"",
+                "redirect=a@b.example redirect=A@b.example main ",
+            ),
+            (
+                b"keep;\nredirect \"\";",
+                b"",
+                "implicit main@2=bad-address main ",
+            ),
+            (
+                b"redirect \"a@b@\";",
+                b"",
+                "implicit main@1=bad-address main ",
+            ),
+            (
+                b"redirect \"x, a@b\";",
+                b"",
+                "implicit main@1=bad-address main ",
+            ),
+            (
+                b"require \"fileinto\";\nfileinto \"a\tb\";",
+                b"",
+                "implicit main@2=bad-mailbox main ",
+            ),
+            (
+                b"require \"fileinto\"; fileinto \"a\x7f\";",
+                b"",
+                "implicit main@1=bad-mailbox main ",
+            ),
+            (
+                b"require \"fileinto\"; fileinto \" \xc3\xa9\";",
+                b"",
+                "store= \u{c3}\u{a9} main ",
             ),
         ],
     )
