@@ -4,7 +4,7 @@ use Rattle.bench.proofs.report.write_actions.Goals as goal
 
 pub returns-in_err-write_action-clause-err : goal.returns-in_err-write_action-clause-err
 returns-in_err-write_action-clause-err g c =
-    rw (← c.actions-actions.ensures) (stops_at _ _ _ _ _ _ action_line c.actions-actions.result.now c.loop-action.action-index c.action-item.result _ c.loop-action-test.true c.action-item.is c.loop-action.invariant c.in_err-write_action.ensures.err)
+    rw (← c.actions-actions.ensures.actions) (stops_at _ _ _ _ _ _ action_line c.actions-actions.result.now c.loop-action.action-index c.action-item.result _ c.loop-action-test.true c.action-item.is c.loop-action.invariant c.in_err-write_action.ensures.err)
 
 pub loop-action-preserved : goal.loop-action-preserved
 loop-action-preserved g c =
