@@ -27,7 +27,7 @@ part_of part.Domain address = address.domain
 
 -- MARKS
 
--- at the start of a value nothing is open
+-- at the start of a value nothing is open; what is opened and not closed lasts to its end
 abbrev pub value_start : Spot
 value_start = record { inside = inside.Nothing; is_protected = false; in_angle = false }
 
@@ -112,6 +112,7 @@ marks_of value = marks_from value_start value
 
 -- STEPS
 
+-- neither in a quoted string, a comment or a literal, nor a sign of one, nor of an angle
 abbrev pub is_mark_plain : Mark → Bool
 is_mark_plain mark.Plain = true
 is_mark_plain mark.AngleOpen = false
@@ -121,7 +122,7 @@ is_mark_plain mark.Quoted = false
 is_mark_plain mark.Comment = false
 is_mark_plain mark.Literal = false
 
--- this octet, outside of quoted strings, comments and literals, and marking none
+-- this octet, outside of quoted strings, comments and literals, and no sign of these or of an angle
 abbrev pub is_free : ℕ → Marked → Bool
 is_free b m = is_mark_plain m.mark && m.octet == b
 
@@ -181,7 +182,7 @@ is_quoted mark.Literal = false
 abbrev pub is_white : ℕ → Bool
 is_white b = b == octet_of " " || (b == octet_of "\t" || (b == octet_of "\r" || b == octet_of "\n"))
 
--- white space outside of quoted strings
+-- white space outside of quoted strings (RFC 5322, section 3.2.2)
 abbrev pub is_gap : Marked → Bool
 is_gap m = is_white m.octet && not (is_quoted m.mark)
 
@@ -194,7 +195,7 @@ begins_route (m ∷ ms) = if is_gap m then begins_route ms else is_free (octet_o
 abbrev pub without_route : List Marked → List Marked
 without_route inside = if begins_route inside && list_any (is_free (octet_of ":")) inside then after_first (is_free (octet_of ":")) inside else inside
 
--- where there is an angle, what stands in the first one, without its source route
+-- where there is an angle, what stands in the first one (RFC 5322, section 3.4), without its source route
 abbrev pub in_first_angle : List Marked → List Marked
 in_first_angle piece =
     if list_any (λ m. opens_angle m.mark) piece
@@ -210,7 +211,7 @@ is_sign mark.Quoted = false
 is_sign mark.Comment = false
 is_sign mark.Literal = false
 
--- neither white space outside of quoted strings nor a sign of one
+-- neither white space outside of quoted strings nor a sign of one (RFC 5322, section 3.2.4: these are no part of its content)
 abbrev pub stays : Marked → Bool
 stays m = not (is_gap m) && not (is_sign m.mark)
 
@@ -227,7 +228,7 @@ divided all [] domain = record { all = all; local_part = None; domain = None }
 divided all (b ∷ bs) [] = record { all = all; local_part = None; domain = None }
 divided all (b ∷ bs) (c ∷ cs) = record { all = all; local_part = Some (b ∷ bs); domain = Some (c ∷ cs) }
 
--- the address of such octets, if there are any: the last free `@` stands between local part and domain
+-- the address of such octets, if there are any: the last free `@` stands between local part and domain (RFC 5322, section 3.4.1)
 abbrev pub address_by : List Marked → Option AddrSpec
 address_by [] = None
 address_by (m ∷ ms) = Some (divided (octets_of (m ∷ ms)) (octets_of (before_last (is_free (octet_of "@")) (m ∷ ms))) (octets_of (after_last (is_free (octet_of "@")) (m ∷ ms))))
@@ -264,7 +265,7 @@ PartsJoin all None (Some domain) = ⊥
 PartsJoin all (Some local_part) None = ⊥
 PartsJoin all (Some local_part) (Some domain) = (all ≡ local_part ++ octet_of "@" ∷ domain) × ((0 < length local_part) × (0 < length domain))
 
--- an address has octets, and its parts join to it
+-- an address of a value has octets, and its parts join to it; the null path of an envelope is none
 pub record IsAddrSpec (address : AddrSpec) : Type 0 where
   pub filled : 0 < length address.all
   pub parts : PartsJoin address.all address.local_part address.domain

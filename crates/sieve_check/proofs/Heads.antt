@@ -103,7 +103,7 @@ module _ (context : Context) (kind : CommandKind) (c : commands.Command) where
 
   found_by : kind_found context kind c ≡ by_places (is_require kind && not context.leads)
   unfolding by_places
-  found_by = let o = commands.out-Command c in 
+  found_by = let o = commands.out-Command c in
       append_assoc (breach_if (is_require kind && not context.leads) o.line RequirePlace)
       (breaches_by (use_breaks (continues_if kind && not context.follows_if) context.required (command_row kind) (map argument_of o.args.items) (tests_of o.tests) (has_block (block_as o.block))) o.line all_rules)
       (breaches_in (command_arguments context (Some kind) (map argument_of o.args.items) (tests_of o.tests) (block_as o.block)))

@@ -9,20 +9,17 @@ use Rattle.sieve_check.specs.Parted.{command_labels, parted, parted_block, parte
 use Rattle.sieve_check.specs.Readable.{IsReadable, ReadsBlock, ReadsNode, ReadsNodes, ReadsTest, ReadsTestList, ReadsTests, Stands, command_takes, may_go_on}
 use Rattle.sieve_check.specs.Reading as reading
 use Rattle.sieve_check.specs.Reading.{Leaf, command_reading, command_reading_by, fileinto_leaf, in_role, part_shape, redirect_leaf, text_in}
-use Rattle.sieve_check.specs.Role.{same_role}
 use Rattle.sieve_table.specs.Table.{command_named, command_row, test_named}
-use Rattle.sieve_check.specs.Tree.{Argument, Block, Part, Tests, no_tests, Nodes, end_nodes, more_nodes, no_block, block, items, nodes}
-use Rattle.sieve_check.specs.Use.{block_fits, has_block, tests_fit}
-use Rattle.sieve_table.specs.declared.row.Form.TheVariants as form
-use Rattle.sieve_table.specs.declared.row.Role.{Role}
+use Rattle.sieve_check.specs.Tree.{Argument, Block, Tests, no_tests, Nodes, end_nodes, more_nodes, no_block, block, items, nodes}
+use Rattle.sieve_check.specs.Use.{block_fits, has_block}
 use Rattle.sieve_table.specs.declared.row.Role.TheVariants as role
 use Rattle.sieve_table.specs.declared.rule.Rule.{Rule}
 use Rattle.sieve_table.specs.declared.rule.Rule.TheVariants.{BadArguments, BadTag, ElsePlace, UnknownCommand}
 use Rattle.sieve_table.specs.declared.table.CommandKind.{CommandKind}
 use Rattle.sieve_table.specs.declared.table.CommandKind.TheVariants as command
-use Rattle.sieve_check.proofs.Asked.{its_labels, maps_some, none_fit, one_fits, test_is_read, text_is_read}
+use Rattle.sieve_check.proofs.Asked.{maps_some, none_fit, one_fits, test_is_read, text_is_read}
 use Rattle.sieve_check.proofs.Filled.{AsRowSays, as_parted, takes}
-use Rattle.sieve_check.proofs.Roles.{AllTake, is_to_come, never_both, not_both}
+use Rattle.sieve_check.proofs.Roles.{never_both, not_both}
 use Rattle.sieve_check.proofs.Unbroken.{keeps, none_in_both, none_in_front}
 
 -- WHERE A COMMAND STANDS

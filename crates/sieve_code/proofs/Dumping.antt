@@ -4,10 +4,8 @@ use Rattle.std.specs.List.{flat_map}
 use Rattle.std.proofs.lemmas.List.{take_rest}
 use Rattle.sieve_base.specs.Writers.{Wrote, WroteFront}
 use Rattle.smallvec.specs.SmallVec.{SmallVec}
-use Rattle.match_text.specs.declared.comparators.Collation.{Collation}
 use Rattle.sieve_check.specs.Tree as tree
 use Rattle.sieve_check.specs.view.Tree.{part_of}
-use Rattle.sieve_check.specs.declared.reading.MatchType.{MatchType}
 use Rattle.sieve_check.specs.declared.tree.Part.{Part}
 use Rattle.sieve_code.specs.Dump.{list_text, part_text, separated, string_text}
 use Rattle.sieve_code.specs.view.Marked.{marked_part, marked_string}

@@ -6,7 +6,7 @@ use Rattle.match_text.specs.declared.comparators.Collation.TheVariants.{Octet, C
 use Rattle.sieve_base.specs.Writers.{quoted}
 use Rattle.message_text.specs.declared.addressing.AddressPart.{AddressPart}
 use Rattle.message_text.specs.declared.addressing.AddressPart.TheVariants as address_part
-use Rattle.sieve_check.specs.Reading.{Source, header_values, address_values, envelope_values, Ask, compares, exists_ask, over_ask, under_ask, Leaf, keep_leaf, fileinto_leaf, redirect_leaf, discard_leaf}
+use Rattle.sieve_check.specs.Reading.{header_values, address_values, envelope_values, Ask, compares, exists_ask, over_ask, under_ask, Leaf, keep_leaf, fileinto_leaf, redirect_leaf, discard_leaf}
 use Rattle.sieve_check.specs.Tree.{Part, literal}
 use Rattle.sieve_check.specs.declared.reading.MatchType.{MatchType}
 use Rattle.sieve_check.specs.declared.reading.MatchType.TheVariants.{Is, Contains}

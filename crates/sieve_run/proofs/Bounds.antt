@@ -1,20 +1,19 @@
 -- A run performs no more actions than it may.
-use Rattle.std.proofs.Common.{◌≡◌, ℕ, ◌+◌, ◌≤◌, Bool, true, false, Option, None, Some, List, [], ◌∷◌, ◌++◌, length, nat_lt, refl, subst, sym, ap, ◌∙◌, arith}
+use Rattle.std.proofs.Common.{◌≡◌, ℕ, ◌≤◌, Bool, true, false, Option, None, Some, List, [], ◌∷◌, ◌++◌, length, nat_lt, refl, subst, sym, ap, ◌∙◌, arith}
 use Rattle.std.proofs.lemmas.Bool.Decides.{nat_tests}
 use Rattle.std.proofs.lemmas.List.{length_push}
 use Rattle.std.specs.Prelude.{if◌then◌else◌}
 use Rattle.std.specs.List.{list_any}
 use Rattle.message_text.specs.Addresses.{addresses_of}
 use Rattle.sieve_base.specs.Limits.{action_limit}
-use Rattle.sieve_check.specs.Reading.{Ask, Leaf, keep_leaf, fileinto_leaf, redirect_leaf, discard_leaf, text_value}
+use Rattle.sieve_check.specs.Reading.{Leaf, keep_leaf, fileinto_leaf, redirect_leaf, discard_leaf, text_value}
 use Rattle.sieve_check.specs.Script.{script_of}
-use Rattle.sieve_check.specs.Tree.{Node}
 use Rattle.sieve_code.specs.Walk.{Walk, at_end, by_stop, cut_off, asked, acted, tree_walk}
 use Rattle.sieve_run.specs.Delivery.{Delivery}
 use Rattle.sieve_run.specs.Library.{Lookup, missing, invalid, present, found_at}
 use Rattle.sieve_run.specs.Matching.{truth_of}
 use Rattle.sieve_run.specs.Perform.{perform}
-use Rattle.sieve_run.specs.Run.{RunState, Ending, goes_on, stopped, failed, Performed, performed, one_too_many, same_action, with_action, ends_with, performs, fails_at, is_mailbox, only_address, redirects, act_of, and_then, answer_of, begun, chosen, exec, verdict_at, verdict_of, outcome_of}
+use Rattle.sieve_run.specs.Run.{RunState, Ending, goes_on, stopped, failed, performed, one_too_many, same_action, ends_with, performs, fails_at, is_mailbox, only_address, redirects, act_of, and_then, answer_of, begun, chosen, exec, verdict_at, verdict_of, outcome_of}
 use Rattle.sieve_run.specs.declared.envelope.Envelope.{Envelope}
 use Rattle.sieve_run.specs.declared.flow.Flow.{Flow}
 use Rattle.sieve_run.specs.declared.flow.Flow.TheVariants as flow

@@ -120,13 +120,7 @@ fn paths_compared(
         collation,
         keys,
     };
-    path_names_match(
-        delivery.alloc,
-        delivery.envelope,
-        part,
-        names,
-        &comparison,
-    )
+    path_names_match(delivery.alloc, delivery.envelope, part, names, &comparison)
 }
 
 /// Whether a test of the envelope holds. All strings are expanded before the first comparison.

@@ -68,12 +68,7 @@ fn first_read(
 }
 
 /// The outcome of a run of the main script that ended so.
-fn ended(
-    alloc: Global,
-    main: &ScriptName,
-    flow: Flow,
-    state: State,
-) -> Result<Outcome, AllocError>
+fn ended(alloc: Global, main: &ScriptName, flow: Flow, state: State) -> Result<Outcome, AllocError>
     requires { length state.actions.items ≤ action_limit }
     ensures { IfOk result (λ outcome. outcome ≡ verdict_by main.now flow (state_of state)) }
 {

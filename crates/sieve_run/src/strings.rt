@@ -41,7 +41,10 @@ pub(crate) fn expanded_string(alloc: Global, parts: &[Part]) -> Result<CowSlice<
 }
 
 /// The octets that each string stands for.
-pub(crate) fn expanded(alloc: Global, strings: &[Parts]) -> Result<Vec<CowSlice<'_, u8>>, AllocError>
+pub(crate) fn expanded(
+    alloc: Global,
+    strings: &[Parts],
+) -> Result<Vec<CowSlice<'_, u8>>, AllocError>
     ensures { IfOk result (λ values. octets_of_each values.items ≡ map text_value (strings_of strings.now)) }
 {
     let mut values = Vec::new(alloc);

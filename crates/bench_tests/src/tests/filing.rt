@@ -171,24 +171,58 @@ fn check_envelope(
 #[test]
 fn envelopes_are_tested(rt: HostRuntime) -> Result<(), Fail> {
     for (from, to, test, lines) in [
-        (b"".as_slice(), b"".as_slice(), b":domain \"from\" \"\"".as_slice(), DISCARD),
+        (
+            b"".as_slice(),
+            b"".as_slice(),
+            b":domain \"from\" \"\"".as_slice(),
+            DISCARD,
+        ),
         (b"a@example.org", b"", b":domain \"from\" \"\"", IMPLICIT),
         (b"<>", b"", b":localpart \"FROM\" \"\"", DISCARD),
         (b"<>", b"", b"\"from\" \"<>\"", IMPLICIT),
-        (b"<a@example.org>", b"", b"\"from\" \"A@EXAMPLE.ORG\"", DISCARD),
-        (b"a@example.org", b"b@c.example", b":domain [\"from\", \"to\"] \"c.example\"", DISCARD),
-        (b"a@example.org", b"b@c.example", b":localpart \"to\" \"a\"", IMPLICIT),
+        (
+            b"<a@example.org>",
+            b"",
+            b"\"from\" \"A@EXAMPLE.ORG\"",
+            DISCARD,
+        ),
+        (
+            b"a@example.org",
+            b"b@c.example",
+            b":domain [\"from\", \"to\"] \"c.example\"",
+            DISCARD,
+        ),
+        (
+            b"a@example.org",
+            b"b@c.example",
+            b":localpart \"to\" \"a\"",
+            IMPLICIT,
+        ),
         // What isn't one address is seen as a whole alone.
         (b"a@b, c@d", b"", b"\"from\" \"a@b, c@d\"", DISCARD),
-        (b"a@b, c@d", b"", b":domain :contains \"from\" \"\"", IMPLICIT),
+        (
+            b"a@b, c@d",
+            b"",
+            b":domain :contains \"from\" \"\"",
+            IMPLICIT,
+        ),
         (b" <> ", b"", b"\"from\" \" <> \"", DISCARD),
         (b" <> ", b"", b":domain :contains \"from\" \"\"", IMPLICIT),
         (b"postmaster", b"", b"\"from\" \"postmaster\"", DISCARD),
-        (b"postmaster", b"", b":localpart \"from\" \"postmaster\"", IMPLICIT),
+        (
+            b"postmaster",
+            b"",
+            b":localpart \"from\" \"postmaster\"",
+            IMPLICIT,
+        ),
     ] {
         let script = joined(
             rt.alloc(),
-            &[b"require \"envelope\"; if envelope ", test, b" { discard; }"],
+            &[
+                b"require \"envelope\"; if envelope ",
+                test,
+                b" { discard; }",
+            ],
         )?;
         check_envelope(&rt, from, to, &script, lines)?;
     }

@@ -9,7 +9,6 @@ use Rattle.message_text.specs.Fields.{Field}
 use Rattle.message_text.specs.declared.addressing.AddressPart.{AddressPart}
 use Rattle.sieve_check.specs.Reading.{Source, address_values, header_values}
 use Rattle.sieve_check.specs.Tree.{Part}
-use Rattle.sieve_check.specs.declared.reading.MatchType.{MatchType}
 use Rattle.sieve_table.specs.Address.{is_address_field}
 use Rattle.sieve_run.specs.Matching.{envelope_text, fold_of, is_field_named, pairs_with, some_matches}
 use Rattle.sieve_run.specs.declared.envelope.Envelope.{Envelope}
