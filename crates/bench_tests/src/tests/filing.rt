@@ -134,26 +134,14 @@ fn names_of_mailboxes_have_their_limit(rt: HostRuntime) -> Result<(), Fail> {
     )
 }
 
-/// Runs a script on an empty message in this envelope, and compares the lines of the verdict.
-fn check_envelope(
+/// Reports a script on an empty message in this envelope, and compares.
+fn check_envelope<'a>(
     rt: &(impl AllocGlobal + Abort),
-    from: &[u8],
-    to: &[u8],
-    script: &[u8],
-    lines: &[u8],
+    from: &'a [u8],
+    to: &'a [u8],
+    script: &'a [u8],
+    text: &'a [u8],
 ) -> Result<(), Fail> {
-    let text = joined(
-        rt.alloc(),
-        &[
-            b"main personal \"main\"\nenvelope \"",
-            from,
-            b"\" \"",
-            to,
-            b"\" mailbox \"INBOX\"\nscript personal \"main\" ok\nmessage \"m\"\n",
-            lines,
-            b"  read personal \"main\"\ntotal 1 messages 0 errors\n",
-        ],
-    )?;
     check_stages(
         rt,
         &[(
@@ -163,68 +151,96 @@ fn check_envelope(
                 (Edit::SetMain(b"main"), Ok(())),
                 (Edit::SetEnvelope(from, to), Ok(())),
             ],
-            Some(&text),
+            Some(text),
         )],
     )
 }
 
-#[test]
-fn envelopes_are_tested(rt: HostRuntime) -> Result<(), Fail> {
-    for (from, to, test, lines) in [
-        (
-            b"".as_slice(),
-            b"".as_slice(),
-            b":domain \"from\" \"\"".as_slice(),
-            DISCARD,
-        ),
-        (b"a@example.org", b"", b":domain \"from\" \"\"", IMPLICIT),
-        (b"<>", b"", b":localpart \"FROM\" \"\"", DISCARD),
-        (b"<>", b"", b"\"from\" \"<>\"", IMPLICIT),
-        (
-            b"<a@example.org>",
-            b"",
-            b"\"from\" \"A@EXAMPLE.ORG\"",
-            DISCARD,
-        ),
-        (
-            b"a@example.org",
-            b"b@c.example",
-            b":domain [\"from\", \"to\"] \"c.example\"",
-            DISCARD,
-        ),
-        (
-            b"a@example.org",
-            b"b@c.example",
-            b":localpart \"to\" \"a\"",
-            IMPLICIT,
-        ),
-        // What isn't one address is seen as a whole alone.
-        (b"a@b, c@d", b"", b"\"from\" \"a@b, c@d\"", DISCARD),
-        (
-            b"a@b, c@d",
-            b"",
-            b":domain :contains \"from\" \"\"",
-            IMPLICIT,
-        ),
-        (b" <> ", b"", b"\"from\" \" <> \"", DISCARD),
-        (b" <> ", b"", b":domain :contains \"from\" \"\"", IMPLICIT),
-        (b"postmaster", b"", b"\"from\" \"postmaster\"", DISCARD),
-        (
-            b"postmaster",
-            b"",
-            b":localpart \"from\" \"postmaster\"",
-            IMPLICIT,
-        ),
-    ] {
+/// The report of a script that is main, and of one message in this envelope.
+fn envelope_text(
+    alloc: Global,
+    from: &[u8],
+    to: &[u8],
+    lines: &[u8],
+) -> Result<Vec<u8>, AllocError> {
+    joined(
+        alloc,
+        &[
+            b"main personal \"main\"\nenvelope \"",
+            from,
+            b"\" \"",
+            to,
+            b"\" mailbox \"INBOX\"\nscript personal \"main\" ok\nmessage \"m\"\n",
+            lines,
+            b"  read personal \"main\"\ntotal 1 messages 0 errors\n",
+        ],
+    )
+}
+
+/// A sender, a recipient, the arguments of a test of the envelope, and the lines of the verdict where what it holds of is discarded.
+type Envelope<'a> = (&'a [u8], &'a [u8], &'a [u8], &'a [u8]);
+
+/// Tests each envelope, and compares.
+fn check_envelopes(rt: &(impl AllocGlobal + Abort), rows: &[Envelope<'_>]) -> Result<(), Fail> {
+    for (from, to, test, lines) in rows {
         let script = joined(
             rt.alloc(),
             &[
                 b"require \"envelope\"; if envelope ",
-                test,
+                *test,
                 b" { discard; }",
             ],
         )?;
-        check_envelope(&rt, from, to, &script, lines)?;
+        let text = envelope_text(rt.alloc(), *from, *to, *lines)?;
+        check_envelope(rt, *from, *to, script.as_slice(), text.as_slice())?;
     }
     Ok(())
+}
+
+#[test]
+fn envelopes_are_tested(rt: HostRuntime) -> Result<(), Fail> {
+    check_envelopes(
+        &rt,
+        &[
+            (b"", b"", b":domain \"from\" \"\"", DISCARD),
+            (b"a@example.org", b"", b":domain \"from\" \"\"", IMPLICIT),
+            (b"<>", b"", b":localpart \"FROM\" \"\"", DISCARD),
+            (b"<>", b"", b"\"from\" \"<>\"", IMPLICIT),
+            (
+                b"<a@example.org>",
+                b"",
+                b"\"from\" \"A@EXAMPLE.ORG\"",
+                DISCARD,
+            ),
+            (
+                b"a@example.org",
+                b"b@c.example",
+                b":domain [\"from\", \"to\"] \"c.example\"",
+                DISCARD,
+            ),
+            (
+                b"a@example.org",
+                b"b@c.example",
+                b":localpart \"to\" \"a\"",
+                IMPLICIT,
+            ),
+            // What isn't one address is seen as a whole alone.
+            (b"a@b, c@d", b"", b"\"from\" \"a@b, c@d\"", DISCARD),
+            (
+                b"a@b, c@d",
+                b"",
+                b":domain :contains \"from\" \"\"",
+                IMPLICIT,
+            ),
+            (b" <> ", b"", b"\"from\" \" <> \"", DISCARD),
+            (b" <> ", b"", b":domain :contains \"from\" \"\"", IMPLICIT),
+            (b"postmaster", b"", b"\"from\" \"postmaster\"", DISCARD),
+            (
+                b"postmaster",
+                b"",
+                b":localpart \"from\" \"postmaster\"",
+                IMPLICIT,
+            ),
+        ],
+    )
 }
