@@ -18,7 +18,7 @@ use Rattle.sieve_check.specs.declared.label.Label.TheVariants.{Tagged, OtherTag,
 use Rattle.sieve_check.specs.declared.label.Shape.{Shape}
 use Rattle.sieve_check.specs.declared.label.Shape.TheVariants as shape
 use Rattle.sieve_check.specs.declared.reading.MatchType.{MatchType}
-use Rattle.sieve_check.specs.declared.reading.MatchType.TheVariants.{Is, Contains}
+use Rattle.sieve_check.specs.declared.reading.MatchType.TheVariants.{Is, Contains, Matches}
 use Rattle.sieve_table.specs.declared.row.Role.{Role}
 use Rattle.sieve_table.specs.declared.row.Role.TheVariants as role
 use Rattle.sieve_table.specs.declared.table.CommandKind.{CommandKind}
@@ -93,11 +93,12 @@ abbrev pub tag_number : Tag → ℕ
 tag_number tag.Comparator = 0
 tag_number tag.Is = 1
 tag_number tag.Contains = 2
-tag_number tag.All = 3
-tag_number tag.LocalPart = 4
-tag_number tag.Domain = 5
-tag_number tag.Over = 6
-tag_number tag.Under = 7
+tag_number tag.Matches = 3
+tag_number tag.All = 4
+tag_number tag.LocalPart = 5
+tag_number tag.Domain = 6
+tag_number tag.Over = 7
+tag_number tag.Under = 8
 
 abbrev pub is_tagged : Tag → Label → Bool
 is_tagged wanted (Tagged taken) = nat_eq (tag_number wanted) (tag_number taken)
@@ -133,7 +134,7 @@ collation_by (Some (tag name line)) = None
 
 -- the match type, which is `:is` where none is given (RFC 5228, section 2.7.1)
 abbrev pub match_type_of : List Label → MatchType
-match_type_of labels = if has_tag tag.Contains labels then Contains else Is
+match_type_of labels = if has_tag tag.Matches labels then Matches else if has_tag tag.Contains labels then Contains else Is
 
 -- the part of an address, which is all of it where none is named (RFC 5228, section 2.7.4)
 abbrev pub address_part_of : List Label → AddressPart

@@ -21,6 +21,8 @@ pub enum MatchType {
     Is,
     /// A value contains a key.
     Contains,
+    /// A value is what the wildcards of a key may stand for.
+    Matches,
 }
 
 /// Where a test takes values from.
@@ -183,7 +185,9 @@ fn part_value(part: &Part) -> &[u8]
 fn match_type_of(row: &Row, args: &[Argument]) -> MatchType
     ensures { result ≡ match_type_of (labels_in (row_as row.now) (map argument_of args.now)) }
 {
-    if has_tag(row, Tag::Contains, args) {
+    if has_tag(row, Tag::Matches, args) {
+        MatchType::Matches
+    } else if has_tag(row, Tag::Contains, args) {
         MatchType::Contains
     } else {
         MatchType::Is

@@ -9,7 +9,7 @@ use Rattle.message_text.specs.declared.addressing.AddressPart.TheVariants as add
 use Rattle.sieve_check.specs.Reading.{header_values, address_values, envelope_values, Ask, compares, exists_ask, over_ask, under_ask, Leaf, keep_leaf, fileinto_leaf, redirect_leaf, discard_leaf}
 use Rattle.sieve_check.specs.Tree.{Part, literal}
 use Rattle.sieve_check.specs.declared.reading.MatchType.{MatchType}
-use Rattle.sieve_check.specs.declared.reading.MatchType.TheVariants.{Is, Contains}
+use Rattle.sieve_check.specs.declared.reading.MatchType.TheVariants.{Is, Contains, Matches}
 use Rattle.sieve_code.specs.Operation.{Operation, sets, inverts, asks, jumps, jumps_if, acts, stops}
 
 -- the texts of items in order, each but the first behind a mark
@@ -32,6 +32,7 @@ list_text strings = codes "[" ++ separated (codes ", ") string_text strings ++ c
 abbrev pub match_word : MatchType → List ℕ
 match_word Is = codes "is"
 match_word Contains = codes "contains"
+match_word Matches = codes "matches"
 
 abbrev pub collation_word : Collation → List ℕ
 collation_word Octet = codes "octet"

@@ -20,6 +20,7 @@ fn match_word(match_type: MatchType) -> &'static [u8]
     match match_type {
         MatchType::Is => b"is",
         MatchType::Contains => b"contains",
+        MatchType::Matches => b"matches",
     }
 }
 

@@ -1,21 +1,20 @@
--- What one field or one name answers, in the answer of all of them.
-use Rattle.std.proofs.Common.{◌≡◌, ℕ, zero, suc, ◌+◌, Bool, true, false, ◌&&◌, ◌||◌, List, [], ◌∷◌, map, filter, length, drop, cond, Option, None, Some, Result, refl, subst, sym, ap, ◌∙◌, add-one}
+-- What one field or one name gives, in what all of them give.
+use Rattle.std.proofs.Common.{◌≡◌, ℕ, zero, suc, ◌+◌, Bool, true, false, ◌||◌, List, [], ◌∷◌, ◌++◌, map, filter, length, drop, cond, Option, None, Some, Result, refl, subst, sym, ap, ◌∙◌, add-one}
 use Rattle.std.specs.Prelude.{IfOk, if◌then◌else◌}
 use Rattle.std.specs.List.{cons_option, flat_map, list_any, slice_get}
-use Rattle.std.specs.Option.{option_map}
-use Rattle.std.proofs.Math.Bool.{or-false, or-true}
-use Rattle.std.proofs.lemmas.List.Folds.{list_any-append}
+use Rattle.std.specs.Option.{option_and_then, option_map, option_or}
+use Rattle.std.proofs.Math.Bool.{or-true}
 use Rattle.match_text.specs.declared.comparators.Collation.{Collation}
 use Rattle.message_text.specs.Addresses.{AddrSpec, addresses_of, envelope_address_of, part_of}
 use Rattle.message_text.specs.Fields.{Field, fields_of}
 use Rattle.message_text.specs.declared.addressing.AddressPart.{AddressPart}
-use Rattle.sieve_check.specs.Reading.{compares, envelope_values, text_value}
+use Rattle.sieve_check.specs.Reading.{envelope_values, text_value}
 use Rattle.sieve_check.specs.Tree.{Part}
 use Rattle.sieve_check.specs.declared.reading.MatchType.{MatchType}
 use Rattle.sieve_table.specs.Address.{is_address_field}
 use Rattle.sieve_run.specs.Delivery.{Delivery}
-use Rattle.sieve_run.specs.Matching.{envelope_named, envelope_text, fold_of, is_field_named, matches, pairs_with, parts_in, parts_named, parts_of_envelope, parts_of_value, some_matches, truth_of, values_named, values_of}
-use Rattle.sieve_run.specs.view.FieldTests.{field_source, holds_in, name_holds, part_holds, path_found, path_name_holds, value_holds}
+use Rattle.sieve_run.specs.Matching.{envelope_named, envelope_text, first_match, first_some, fold_of, is_field_named, match_found, match_of, pairs_with, parts_in, parts_named, parts_of_envelope, parts_of_value, values_named, values_of}
+use Rattle.sieve_run.specs.view.FieldTests.{field_source, name_found, part_found, path_found, path_name_found, value_found}
 
 -- a function of an element that is known at a place
 pub get-mapped : {X Y Z : Type 0} (h : X → Y) (k : Y → Z) (xs : List X) (i : ℕ) (y : Y) → slice_get (map h xs) i ≡ Some y → slice_get (map (λ x. k (h x)) xs) i ≡ Some (k y)
@@ -23,17 +22,17 @@ get-mapped h k [] i y at = cc
 get-mapped h k (x ∷ xs) zero y at = ap (option_map k) at
 get-mapped h k (x ∷ xs) (suc i) y at = get-mapped h k xs i y at
 
-module _ {X : Type 0} (p q : X → Bool) where
-  -- the second test isn't asked where the first fails
-  pub get-fails : (xs : List X) (i : ℕ) → slice_get (map p xs) i ≡ Some false → slice_get (map (λ x. p x && q x) xs) i ≡ Some false
+module _ {X Y : Type 0} (p : X → Bool) (f : X → Option Y) where
+  -- an element gives nothing where the test fails, and else what it gives
+  pub get-fails : (xs : List X) (i : ℕ) → slice_get (map p xs) i ≡ Some false → slice_get (map (λ x. if p x then f x else None) xs) i ≡ Some None
   get-fails [] i at = cc
-  get-fails (x ∷ xs) zero at = let e : p x ≡ false = cc in ap (λ b. Some (b && q x)) e
+  get-fails (x ∷ xs) zero at = let e : p x ≡ false = cc in ap (λ b. Some (if b then f x else None)) e
   get-fails (x ∷ xs) (suc i) at = get-fails xs i at
 
-  pub get-passes : (xs : List X) (i : ℕ) (b : Bool) → slice_get (map p xs) i ≡ Some true → slice_get (map q xs) i ≡ Some b → slice_get (map (λ x. p x && q x) xs) i ≡ Some b
-  get-passes [] i b first second = cc
-  get-passes (x ∷ xs) zero b first second = let e : p x ≡ true = cc in ap (λ a. Some (a && q x)) e ∙ second
-  get-passes (x ∷ xs) (suc i) b first second = get-passes xs i b first second
+  pub get-passes : (xs : List X) (i : ℕ) (o : Option Y) → slice_get (map p xs) i ≡ Some true → slice_get (map f xs) i ≡ Some o → slice_get (map (λ x. if p x then f x else None) xs) i ≡ Some o
+  get-passes [] i o first second = cc
+  get-passes (x ∷ xs) zero o first second = let e : p x ≡ true = cc in ap (λ b. Some (if b then f x else None)) e ∙ second
+  get-passes (x ∷ xs) (suc i) o first second = get-passes xs i o first second
 
 module _ {X : Type 0} (q : X → Bool) where
   -- an element that passes
@@ -58,95 +57,130 @@ module _ {X : Type 0} (q : X → Bool) where
       nothing [] = refl
       nothing (y ∷ ys) = nothing ys
 
+module _ {X Y : Type 0} (f : X → Option Y) where
+  -- an element that gives something
+  pub first_at : (xs : List X) (i : ℕ) (y : Y) (o : Option Y) → first_some f (drop i xs) ≡ o → slice_get (map f xs) i ≡ Some (Some y) → Some y ≡ o
+  first_at [] i y o so at = cc
+  first_at (x ∷ xs) zero y o so at = let e : f x ≡ Some y = cc in sym (ap (λ a. option_or a (first_some f xs)) e) ∙ so
+  first_at (x ∷ xs) (suc i) y o so at = first_at xs i y o so at
+
+  first_past : (xs : List X) (i : ℕ) → slice_get (map f xs) i ≡ Some None → first_some f (drop (suc i) xs) ≡ first_some f (drop i xs)
+  first_past [] i at = cc
+  first_past (x ∷ xs) zero at = let e : f x ≡ None = cc in sym (ap (λ a. option_or a (first_some f xs)) e)
+  first_past (x ∷ xs) (suc i) at = first_past xs i at
+
+  -- one that gives nothing leaves it to those behind it
+  pub first_after : (xs : List X) (i : ℕ) (o : Option Y) → first_some f (drop i xs) ≡ o → slice_get (map f xs) i ≡ Some None → first_some f (drop (i + 1) xs) ≡ o
+  first_after xs i o so at = ap (λ n. first_some f (drop n xs)) (add-one i) ∙ first_past xs i at ∙ so
+
+  pub first_of_none : (xs : List X) (n : ℕ) (o : Option Y) → first_some f (drop n xs) ≡ o → n ≡ length xs → None ≡ o
+  first_of_none xs n o so all = sym (nothing xs) ∙ sym (ap (λ k. first_some f (drop k xs)) all) ∙ so
+    where
+      nothing : (ys : List X) → first_some f (drop (length ys) ys) ≡ None
+      nothing [] = refl
+      nothing (y ∷ ys) = nothing ys
+
 -- an answer by another equation
-pub answers_so : {E : Type 0} (answer : Result Bool E) (x y : Bool) → x ≡ y → IfOk answer (λ truth. truth ≡ x) → IfOk answer (λ truth. truth ≡ y)
-answers_so answer x y same is = subst (λ b. IfOk answer (λ truth. truth ≡ b)) same is
+pub answers_so : {A E : Type 0} (answer : Result A E) (x y : A) → x ≡ y → IfOk answer (λ found. found ≡ x) → IfOk answer (λ found. found ≡ y)
+answers_so answer x y same is = subst (λ b. IfOk answer (λ found. found ≡ b)) same is
 
 -- IN TURN
 
-any_flat : {X Y : Type 0} (p : Y → Bool) (f : X → List Y) (xs : List X) → list_any p (flat_map f xs) ≡ list_any (λ x. list_any p (f x)) xs
-any_flat p f [] = refl
-any_flat p f (x ∷ xs) = list_any-append p (f x) (flat_map f xs) ∙ ap (λ b. list_any p (f x) || b) (any_flat p f xs)
+or_in_turn : {Y : Type 0} (a b c : Option Y) → option_or (option_or a b) c ≡ option_or a (option_or b c)
+or_in_turn None b c = refl
+or_in_turn (Some y) b c = refl
 
-any_same : {X : Type 0} (p q : X → Bool) → ((x : X) → p x ≡ q x) → (xs : List X) → list_any p xs ≡ list_any q xs
-any_same p q same [] = refl
-any_same p q same (x ∷ xs) = ap (λ b. b || list_any p xs) (same x) ∙ ap (λ b. q x || b) (any_same p q same xs)
+first_append : {X Y : Type 0} (f : X → Option Y) (xs ys : List X) → first_some f (xs ++ ys) ≡ option_or (first_some f xs) (first_some f ys)
+first_append f [] ys = refl
+first_append f (x ∷ xs) ys = ap (option_or (f x)) (first_append f xs ys) ∙ sym (or_in_turn (f x) (first_some f xs) (first_some f ys))
+
+first_flat : {X Y Z : Type 0} (f : Y → Option Z) (g : X → List Y) (xs : List X) → first_some f (flat_map g xs) ≡ first_some (λ x. first_some f (g x)) xs
+first_flat f g [] = refl
+first_flat f g (x ∷ xs) = first_append f (g x) (flat_map g xs) ∙ ap (option_or (first_some f (g x))) (first_flat f g xs)
+
+first_same : {X Y : Type 0} (f g : X → Option Y) → ((x : X) → f x ≡ g x) → (xs : List X) → first_some f xs ≡ first_some g xs
+first_same f g same [] = refl
+first_same f g same (x ∷ xs) = ap (λ o. option_or o (first_some f xs)) (same x) ∙ ap (option_or (g x)) (first_same f g same xs)
+
+or_none : {Y : Type 0} (o : Option Y) → option_or o None ≡ o
+or_none None = refl
+or_none (Some y) = refl
 
 -- VALUES
 
-module _ (holds : List ℕ → Bool) where
-  one_field : (field : Field) (fields : List Field) (b : Bool) → list_any holds (map (λ f. f.value) (cond b (field ∷ fields) fields)) ≡ ((b && holds field.value) || list_any holds (map (λ f. f.value) fields))
+module _ (find : List ℕ → Option (List (List ℕ))) where
+  one_field : (field : Field) (fields : List Field) (b : Bool) → first_some find (map (λ f. f.value) (cond b (field ∷ fields) fields)) ≡ option_or (if b then find field.value else None) (first_some find (map (λ f. f.value) fields))
   one_field field fields true = refl
   one_field field fields false = refl
 
-  -- a value of a name holds where some field has the name and its value holds
-  any_named : (name : List ℕ) (fields : List Field) → list_any holds (values_named fields name) ≡ list_any (λ field. is_field_named name field && holds field.value) fields
-  any_named name [] = refl
-  any_named name (field ∷ fields) =
+  -- what the values of a name give is what the fields give that have it
+  first_named : (name : List ℕ) (fields : List Field) → first_some find (values_named fields name) ≡ first_some (λ field. if is_field_named name field then find field.value else None) fields
+  first_named name [] = refl
+  first_named name (field ∷ fields) =
       one_field field (filter (is_field_named name) fields) (is_field_named name field)
-      ∙ ap (λ b. (is_field_named name field && holds field.value) || b) (any_named name fields)
+      ∙ ap (option_or (if is_field_named name field then find field.value else None)) (first_named name fields)
 
-module _ (holds : List ℕ → Bool) where
-  one_part : (o : Option (List ℕ)) (octets : List (List ℕ)) → list_any holds (cons_option o octets) ≡ (holds_in holds o || list_any holds octets)
+module _ (find : List ℕ → Option (List (List ℕ))) where
+  one_part : (o : Option (List ℕ)) (octets : List (List ℕ)) → first_some find (cons_option o octets) ≡ option_or (option_and_then find o) (first_some find octets)
   one_part None octets = refl
   one_part (Some x) octets = refl
 
-  -- a part of addresses holds where that of some address does
-  any_part : (part : AddressPart) (addresses : List AddrSpec) → list_any holds (parts_in part addresses) ≡ list_any (part_holds holds part) addresses
-  any_part part [] = refl
-  any_part part (address ∷ addresses) = one_part (part_of part address) (parts_in part addresses) ∙ ap (λ b. part_holds holds part address || b) (any_part part addresses)
+  -- what parts of addresses give is what the addresses give
+  first_part : (part : AddressPart) (addresses : List AddrSpec) → first_some find (parts_in part addresses) ≡ first_some (part_found find part) addresses
+  first_part part [] = refl
+  first_part part (address ∷ addresses) = one_part (part_of part address) (parts_in part addresses) ∙ ap (option_or (part_found find part address)) (first_part part addresses)
 
-  where_open : (b : Bool) (octets : List (List ℕ)) → list_any holds (if b then octets else []) ≡ (b && list_any holds octets)
-  where_open true octets = refl
-  where_open false octets = refl
+  where_so : (b : Bool) (octets : List (List ℕ)) → first_some find (if b then octets else []) ≡ (if b then first_some find octets else None)
+  where_so true octets = refl
+  where_so false octets = refl
 
-  any_parts_named : (part : AddressPart) (fields : List Field) (name : List ℕ) → list_any holds (parts_named part fields name) ≡ name_holds (Some part) holds fields name
-  any_parts_named part fields name =
-      where_open (is_address_field name) (flat_map (parts_of_value part) (values_named fields name))
-      ∙ ap (λ b. is_address_field name && b)
-      (any_flat holds (parts_of_value part) (values_named fields name)
-      ∙ any_same (λ value. list_any holds (parts_of_value part value)) (value_holds (Some part) holds) (λ value. any_part part (addresses_of value)) (values_named fields name)
-      ∙ any_named (value_holds (Some part) holds) name fields)
+  first_parts_named : (part : AddressPart) (fields : List Field) (name : List ℕ) → first_some find (parts_named part fields name) ≡ name_found find (Some part) fields name
+  first_parts_named part fields name =
+      where_so (is_address_field name) (flat_map (parts_of_value part) (values_named fields name))
+      ∙ ap (λ o. if is_address_field name then o else None)
+      (first_flat find (parts_of_value part) (values_named fields name)
+      ∙ first_same (λ value. first_some find (parts_of_value part value)) (value_found find (Some part)) (λ value. first_part part (addresses_of value)) (values_named fields name)
+      ∙ first_named (value_found find (Some part)) name fields)
 
-  any_of_names : (part : Option AddressPart) (delivery : Delivery) (names : List (List Part)) → list_any holds (values_of delivery (field_source part names)) ≡ list_any (name_holds part holds (fields_of delivery.message)) (map text_value names)
-  any_of_names None delivery names =
-      any_flat holds (values_named (fields_of delivery.message)) (map text_value names)
-      ∙ any_same (λ name. list_any holds (values_named (fields_of delivery.message) name)) (name_holds None holds (fields_of delivery.message)) (λ name. any_named holds name (fields_of delivery.message)) (map text_value names)
-  any_of_names (Some part) delivery names =
-      any_flat holds (parts_named part (fields_of delivery.message)) (map text_value names)
-      ∙ any_same (λ name. list_any holds (parts_named part (fields_of delivery.message) name)) (name_holds (Some part) holds (fields_of delivery.message)) (λ name. any_parts_named part (fields_of delivery.message) name) (map text_value names)
+  first_of_names : (part : Option AddressPart) (delivery : Delivery) (names : List (List Part)) → first_some find (values_of delivery (field_source part names)) ≡ first_some (name_found find part (fields_of delivery.message)) (map text_value names)
+  first_of_names None delivery names =
+      first_flat find (values_named (fields_of delivery.message)) (map text_value names)
+      ∙ first_same (λ name. first_some find (values_named (fields_of delivery.message) name)) (name_found find None (fields_of delivery.message)) (λ name. first_named find name (fields_of delivery.message)) (map text_value names)
+  first_of_names (Some part) delivery names =
+      first_flat find (parts_named part (fields_of delivery.message)) (map text_value names)
+      ∙ first_same (λ name. first_some find (parts_named part (fields_of delivery.message) name)) (name_found find (Some part) (fields_of delivery.message)) (λ name. first_parts_named part (fields_of delivery.message) name) (map text_value names)
 
-  any_of_path : (part : AddressPart) (path : Option (List ℕ)) → list_any holds (parts_of_envelope part path) ≡ path_found holds part path
-  any_of_path part None = refl
-  any_of_path part (Some text) = one_part (part_of part (envelope_address_of text)) [] ∙ or-false (part_holds holds part (envelope_address_of text))
+  first_of_path : (part : AddressPart) (path : Option (List ℕ)) → first_some find (parts_of_envelope part path) ≡ option_and_then (path_found find part) path
+  first_of_path part None = refl
+  first_of_path part (Some text) = one_part (part_of part (envelope_address_of text)) [] ∙ or_none (part_found find part (envelope_address_of text))
 
-  any_of_paths : (part : AddressPart) (delivery : Delivery) (names : List (List Part)) → list_any holds (values_of delivery (envelope_values part names)) ≡ list_any (path_name_holds holds part delivery.envelope) (map text_value names)
-  any_of_paths part delivery names =
-      any_flat holds (envelope_named part delivery.envelope) (map text_value names)
-      ∙ any_same (λ name. list_any holds (envelope_named part delivery.envelope name)) (path_name_holds holds part delivery.envelope) (λ name. any_of_path part (envelope_text delivery.envelope name)) (map text_value names)
+  first_of_paths : (part : AddressPart) (delivery : Delivery) (names : List (List Part)) → first_some find (values_of delivery (envelope_values part names)) ≡ first_some (path_name_found find part delivery.envelope) (map text_value names)
+  first_of_paths part delivery names =
+      first_flat find (envelope_named part delivery.envelope) (map text_value names)
+      ∙ first_same (λ name. first_some find (envelope_named part delivery.envelope name)) (path_name_found find part delivery.envelope) (λ name. first_of_path part (envelope_text delivery.envelope name)) (map text_value names)
 
 -- TESTS
 
 module _ (match_type : MatchType) (collation : Collation) where
-  abbrev holds_with : List (List ℕ) → List ℕ → Bool
-  holds_with keys value = some_matches match_type (fold_of collation) (pairs_with keys value)
+  abbrev found_by : List (List ℕ) → List ℕ → Option (List (List ℕ))
+  found_by keys value = first_match match_type (fold_of collation) (pairs_with keys value)
 
   -- what a test finds in fields, where these are its names' and its keys' octets
   pub fields_found : (part : Option AddressPart) (delivery : Delivery) (names keys : List (List Part)) (named keyed : List (List ℕ)) → named ≡ map text_value names → keyed ≡ map text_value keys
-      → list_any (name_holds part (λ value. some_matches match_type (fold_of collation) (pairs_with keyed value)) (fields_of delivery.message)) named ≡ truth_of delivery (compares (field_source part names) match_type collation keys)
-  unfolding truth_of
+      → first_some (name_found (λ value. first_match match_type (fold_of collation) (pairs_with keyed value)) part (fields_of delivery.message)) named ≡ match_found delivery (field_source part names) match_type collation keys
+  unfolding match_found
   fields_found part delivery names keys named keyed n k =
-      ap (λ ns. list_any (name_holds part (holds_with keyed) (fields_of delivery.message)) ns) n
-      ∙ sym (any_of_names (holds_with keyed) part delivery names)
-      ∙ ap (λ ks. list_any (holds_with ks) (values_of delivery (field_source part names))) k
-      ∙ sym (any_flat (λ pair. matches match_type (fold_of collation) pair.value pair.key) (pairs_with (map text_value keys)) (values_of delivery (field_source part names)))
+      ap (λ ns. first_some (name_found (found_by keyed) part (fields_of delivery.message)) ns) n
+      ∙ sym (first_of_names (found_by keyed) part delivery names)
+      ∙ ap (λ ks. first_some (found_by ks) (values_of delivery (field_source part names))) k
+      ∙ sym (first_flat (λ pair. match_of match_type (fold_of collation) pair.value pair.key) (pairs_with (map text_value keys)) (values_of delivery (field_source part names)))
 
   -- and what it finds in the envelope
   pub paths_found : (part : AddressPart) (delivery : Delivery) (names keys : List (List Part)) (named keyed : List (List ℕ)) → named ≡ map text_value names → keyed ≡ map text_value keys
-      → list_any (path_name_holds (λ value. some_matches match_type (fold_of collation) (pairs_with keyed value)) part delivery.envelope) named ≡ truth_of delivery (compares (envelope_values part names) match_type collation keys)
-  unfolding truth_of
+      → first_some (path_name_found (λ value. first_match match_type (fold_of collation) (pairs_with keyed value)) part delivery.envelope) named ≡ match_found delivery (envelope_values part names) match_type collation keys
+  unfolding match_found
   paths_found part delivery names keys named keyed n k =
-      ap (λ ns. list_any (path_name_holds (holds_with keyed) part delivery.envelope) ns) n
-      ∙ sym (any_of_paths (holds_with keyed) part delivery names)
-      ∙ ap (λ ks. list_any (holds_with ks) (values_of delivery (envelope_values part names))) k
-      ∙ sym (any_flat (λ pair. matches match_type (fold_of collation) pair.value pair.key) (pairs_with (map text_value keys)) (values_of delivery (envelope_values part names)))
+      ap (λ ns. first_some (path_name_found (found_by keyed) part delivery.envelope) ns) n
+      ∙ sym (first_of_paths (found_by keyed) part delivery names)
+      ∙ ap (λ ks. first_some (found_by ks) (values_of delivery (envelope_values part names))) k
+      ∙ sym (first_flat (λ pair. match_of match_type (fold_of collation) pair.value pair.key) (pairs_with (map text_value keys)) (values_of delivery (envelope_values part names)))

@@ -1,17 +1,20 @@
 -- What tests find in a delivery: fields, addresses and parts of the envelope by name, and whether a value matches a key (RFC 5228,
 -- sections 2.7 and 5).
-use Rattle.std.specs.Prelude.{ℕ, Bool, List, [], ◌∷◌, Option, None, Some, map, filter, length, nat_lt, if◌then◌else◌, codes}
+use Rattle.std.specs.Prelude.{ℕ, Bool, List, [], ◌∷◌, Option, None, Some, is_some, map, filter, length, nat_lt, if◌then◌else◌, codes}
 use Rattle.std.specs.List.{filter_map, flat_map, list_any, list_all}
+use Rattle.std.specs.Option.{option_or}
 use Rattle.std.specs.Str.{str_eq_ignore_ascii_case}
 use Rattle.match_text.specs.Comparator.{same, is_part, octet, ascii_casemap}
+use Rattle.match_text.specs.Wildcard.{matched}
 use Rattle.match_text.specs.declared.comparators.Collation.{Collation}
 use Rattle.match_text.specs.declared.comparators.Collation.TheVariants.{Octet, Casemap}
 use Rattle.message_text.specs.Addresses.{AddrSpec, part_of, addresses_of, envelope_address_of}
 use Rattle.message_text.specs.Fields.{Field, fields_of}
 use Rattle.message_text.specs.declared.addressing.AddressPart.{AddressPart}
 use Rattle.sieve_check.specs.Reading.{text_value, Source, header_values, address_values, envelope_values, Ask, compares, exists_ask, over_ask, under_ask}
+use Rattle.sieve_check.specs.Tree.{Part}
 use Rattle.sieve_check.specs.declared.reading.MatchType.{MatchType}
-use Rattle.sieve_check.specs.declared.reading.MatchType.TheVariants.{Is, Contains}
+use Rattle.sieve_check.specs.declared.reading.MatchType.TheVariants.{Is, Contains, Matches}
 use Rattle.sieve_table.specs.Address.{is_address_field}
 use Rattle.sieve_run.specs.Delivery.{Delivery}
 use Rattle.sieve_run.specs.declared.envelope.Envelope.{Envelope}
@@ -21,10 +24,12 @@ abbrev pub fold_of : Collation → ℕ → ℕ
 fold_of Octet = octet
 fold_of Casemap = ascii_casemap
 
--- whether a value matches a key (RFC 5228, section 2.7.1)
-abbrev pub matches : MatchType → (ℕ → ℕ) → List ℕ → List ℕ → Bool
-matches Is fold value key = same fold value key
-matches Contains fold value key = is_part fold value key
+-- Whether a value matches a key (RFC 5228, section 2.7.1), and what `${0}`, `${1}` and so on are behind it (RFC 5229, section 3.2): under `:matches` the
+-- value and what each wildcard took; the other match types set none of them.
+abbrev pub match_of : MatchType → (ℕ → ℕ) → List ℕ → List ℕ → Option (List (List ℕ))
+match_of Is fold value key = if same fold value key then Some [] else None
+match_of Contains fold value key = if is_part fold value key then Some [] else None
+match_of Matches fold value key = matched fold value key
 
 -- a value and a key to compare
 pub record Pair : Type 0 where
@@ -82,14 +87,23 @@ pairs_of values keys = flat_map (pairs_with keys) values
 abbrev pub has_field : List Field → List ℕ → Bool
 has_field fields name = list_any (is_field_named name) fields
 
--- whether some pair matches (RFC 5228, section 5.7)
-abbrev pub some_matches : MatchType → (ℕ → ℕ) → List Pair → Bool
-some_matches match_type fold pairs = list_any (λ pair. matches match_type fold pair.value pair.key) pairs
+-- the answer of the first that has one
+abbrev pub first_some : {X Y : Type 0} → (X → Option Y) → List X → Option Y
+first_some f [] = None
+first_some f (x ∷ xs) = option_or (f x) (first_some f xs)
 
--- Whether what a test asks is so: header, address and envelope (RFC 5228, sections 5.7, 5.1 and 5.4), exists (section 5.5), size
+-- what the first pair that matches gives (RFC 5228, section 5.7)
+abbrev pub first_match : MatchType → (ℕ → ℕ) → List Pair → Option (List (List ℕ))
+first_match match_type fold pairs = first_some (λ pair. match_of match_type fold pair.value pair.key) pairs
+
+-- what a test finds that compares values with keys
+unfoldable pub match_found : Delivery → Source → MatchType → Collation → List (List Part) → Option (List (List ℕ))
+match_found delivery source match_type collation keys = first_match match_type (fold_of collation) (pairs_of (values_of delivery source) (map text_value keys))
+
+-- Whether what a test asks is so: header, address and envelope, where some pair matches (RFC 5228, sections 5.7, 5.1 and 5.4), exists (section 5.5), size
 -- (section 5.9), where a message of exactly the limit's octets is neither over nor under it.
 unfoldable pub truth_of : Delivery → Ask → Bool
-truth_of delivery (compares source match_type collation keys) = some_matches match_type (fold_of collation) (pairs_of (values_of delivery source) (map text_value keys))
+truth_of delivery (compares source match_type collation keys) = is_some (match_found delivery source match_type collation keys)
 truth_of delivery (exists_ask names) = list_all (has_field (fields_of delivery.message)) (map text_value names)
 truth_of delivery (over_ask limit) = nat_lt limit (length delivery.message)
 truth_of delivery (under_ask limit) = nat_lt (length delivery.message) limit

@@ -1,17 +1,17 @@
 //! What tests ask of an envelope (RFC 5228, section 5.4).
 ghost use Rattle.std.specs.Prelude.{◌≡◌, None, IfOk};
-ghost use Rattle.std.specs.List.{list_any};
 ghost use Rattle.std.specs.Option.{option_map};
 ghost use Rattle.message_text.specs.Addresses.{envelope_address_of, is_null_path, part_of};
 ghost use Rattle.sieve_check.specs.Reading.{compares, envelope_values};
 ghost use Rattle.sieve_code.specs.view.Op.{strings_of};
-ghost use Rattle.sieve_run.specs.Matching.{envelope_text, fold_of, pairs_with, some_matches, truth_of};
+ghost use Rattle.sieve_run.specs.Matching.{envelope_text, first_match, first_some, fold_of, match_found, pairs_with, truth_of};
 ghost use Rattle.sieve_run.specs.view.Delivery.{delivery_as};
-ghost use Rattle.sieve_run.specs.view.FieldTests.{holds_by, holds_in, octets_of_each, path_holds, path_name_holds};
+ghost use Rattle.sieve_run.specs.view.FieldTests.{found_with, octets_of_each, path_found, path_name_found};
 
+use crate::comparison::{Comparison, MatchValues};
 use crate::delivery::Delivery;
 use crate::envelope::Envelope;
-use crate::matching::{Comparison, part_matches};
+use crate::matching::find_in_part;
 use crate::strings::expanded;
 use match_text::Collation;
 use message_text::{AddressPart, addresses};
@@ -50,80 +50,99 @@ fn seen_part(part: AddressPart, text: &[u8]) -> Option<&[u8]>
     }
 }
 
-/// Whether that part of an envelope's address matches some key.
+/// What that part of an envelope's address gives.
 #[tactic(auto, unfolding(message_text::specs::Addresses::envelope_address_of))]
-fn path_matches(
+fn find_in_path(
     alloc: Global,
     part: AddressPart,
     text: &[u8],
     comparison: &Comparison<'_>,
-) -> Result<bool, AllocError>
-    ensures { IfOk result (λ truth. truth ≡ path_holds (holds_by comparison.now) part text.now) }
+) -> Result<Option<MatchValues>, AllocError>
+    ensures { IfOk result (λ found. found ≡ path_found (found_with comparison.now) part text.now) }
 {
     if is_null_path(text) {
-        return comparison.matches_some(alloc, b"");
+        return comparison.first_match(alloc, b"");
     }
-    let found = addresses(alloc, text)?;
-    match found.as_slice() {
-        [one] => part_matches(alloc, one.part(part), comparison),
-        _ => part_matches(alloc, seen_part(part, text), comparison),
+    let listed = addresses(alloc, text)?;
+    match listed.as_slice() {
+        [one] => find_in_part(alloc, one.part(part), comparison),
+        _ => find_in_part(alloc, seen_part(part, text), comparison),
     }
 }
 
-/// Whether that part of the address in the envelope's part of that name matches some key.
-fn path_name_matches(
+/// What that part of the address gives in the envelope's part of that name.
+fn find_by_path_name(
     alloc: Global,
     envelope: &Envelope,
     part: AddressPart,
     name: &[u8],
     comparison: &Comparison<'_>,
-) -> Result<bool, AllocError>
-    ensures { IfOk result (λ truth. truth ≡ path_name_holds (holds_by comparison.now) part envelope.now name.now) }
+) -> Result<Option<MatchValues>, AllocError>
+    ensures { IfOk result (λ found. found ≡ path_name_found (found_with comparison.now) part envelope.now name.now) }
 {
     match envelope_text(envelope, name) {
-        Some(text) => path_matches(alloc, part, text, comparison),
-        None => Ok(false),
+        Some(text) => find_in_path(alloc, part, text, comparison),
+        None => Ok(None),
     }
 }
 
-/// Whether that part of an address in some named part of the envelope matches some key.
-fn path_names_match(
+/// What the first named part of the envelope gives whose address matches.
+fn find_by_path_names(
     alloc: Global,
     envelope: &Envelope,
     part: AddressPart,
     names: &[CowSlice<'_, u8>],
     comparison: &Comparison<'_>,
-) -> Result<bool, AllocError>
-    ensures { IfOk result (λ truth. truth ≡ list_any (path_name_holds (holds_by comparison.now) part envelope.now) (octets_of_each names.now)) }
+) -> Result<Option<MatchValues>, AllocError>
+    ensures { IfOk result (λ found. found ≡ first_some (path_name_found (found_with comparison.now) part envelope.now) (octets_of_each names.now)) }
 {
     for name in names {
-        if path_name_matches(alloc, envelope, part, name.as_slice(), comparison)? {
-            return Ok(true);
+        if let Some(values) =
+            find_by_path_name(alloc, envelope, part, name.as_slice(), comparison)?
+        {
+            return Ok(Some(values));
         }
     }
-    Ok(false)
+    Ok(None)
 }
 
-/// Whether that part of an address in some named part of the envelope matches some key.
-fn paths_compared(
+/// What that part of the first address in some named part of the envelope gives that matches some key.
+fn find_compared(
     delivery: &Delivery<'_>,
     part: AddressPart,
     match_type: MatchType,
     collation: Collation,
     names: &[CowSlice<'_, u8>],
     keys: &[CowSlice<'_, u8>],
-) -> Result<bool, AllocError>
-    ensures { IfOk result (λ truth. truth ≡ list_any (path_name_holds (λ value. some_matches match_type (fold_of collation) (pairs_with (octets_of_each keys.now) value)) part delivery.now.envelope.now) (octets_of_each names.now)) }
+) -> Result<Option<MatchValues>, AllocError>
+    ensures { IfOk result (λ found. found ≡ first_some (path_name_found (λ value. first_match match_type (fold_of collation) (pairs_with (octets_of_each keys.now) value)) part delivery.now.envelope.now) (octets_of_each names.now)) }
 {
     let comparison = Comparison {
         match_type,
         collation,
         keys,
     };
-    path_names_match(delivery.alloc, delivery.envelope, part, names, &comparison)
+    find_by_path_names(delivery.alloc, delivery.envelope, part, names, &comparison)
 }
 
-/// Whether a test of the envelope holds. All strings are expanded before the first comparison.
+/// What a test of the envelope finds. All strings are expanded before the first comparison.
+fn find_match(
+    delivery: &Delivery<'_>,
+    part: AddressPart,
+    match_type: MatchType,
+    collation: Collation,
+    names: &[Parts],
+    keys: &[Parts],
+) -> Result<Option<MatchValues>, AllocError>
+    ensures { IfOk result (λ found. found ≡ match_found (delivery_as delivery.now) (envelope_values part (strings_of names.now)) match_type collation (strings_of keys.now)) }
+{
+    let names = expanded(delivery.alloc, names)?;
+    let keys = expanded(delivery.alloc, keys)?;
+    find_compared(delivery, part, match_type, collation, &names, &keys)
+}
+
+/// Whether a test of the envelope holds.
+#[tactic(auto, unfolding(crate::specs::Matching::truth_of))]
 pub(crate) fn envelope_holds(
     delivery: &Delivery<'_>,
     part: AddressPart,
@@ -134,7 +153,6 @@ pub(crate) fn envelope_holds(
 ) -> Result<bool, AllocError>
     ensures { IfOk result (λ truth. truth ≡ truth_of (delivery_as delivery.now) (compares (envelope_values part (strings_of names.now)) match_type collation (strings_of keys.now))) }
 {
-    let names = expanded(delivery.alloc, names)?;
-    let keys = expanded(delivery.alloc, keys)?;
-    paths_compared(delivery, part, match_type, collation, &names, &keys)
+    let found = find_match(delivery, part, match_type, collation, names, keys)?;
+    Ok(found.is_some())
 }

@@ -3,6 +3,7 @@
 #![tactic(auto)]
 
 mod acting;
+mod comparison;
 mod delivery;
 mod envelope;
 mod envelope_tests;

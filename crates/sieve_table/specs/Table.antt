@@ -71,6 +71,7 @@ tag_row tag.Comparator = record (bare_tag (codes "comparator") kind.Comparator) 
 -- RFC 5228, section 2.7.1
 tag_row tag.Is = bare_tag (codes "is") kind.MatchType
 tag_row tag.Contains = bare_tag (codes "contains") kind.MatchType
+tag_row tag.Matches = bare_tag (codes "matches") kind.MatchType
 -- RFC 5228, section 2.7.4
 tag_row tag.All = bare_tag (codes "all") kind.AddressPart
 tag_row tag.LocalPart = bare_tag (codes "localpart") kind.AddressPart
@@ -81,7 +82,7 @@ tag_row tag.Under = bare_tag (codes "under") kind.Bound
 
 -- the match types
 abbrev pub match_tags : List Tag
-match_tags = tag.Is ∷ tag.Contains ∷ []
+match_tags = tag.Is ∷ tag.Contains ∷ tag.Matches ∷ []
 
 -- how values are compared with keys (RFC 5228, section 2.7)
 abbrev pub comparing_tags : List Tag

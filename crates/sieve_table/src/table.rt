@@ -63,6 +63,8 @@ pub enum Tag {
     Is,
     /// `:contains` (RFC 5228, section 2.7.1).
     Contains,
+    /// `:matches` (RFC 5228, section 2.7.1).
+    Matches,
     /// `:all` (RFC 5228, section 2.7.4).
     All,
     /// `:localpart` (RFC 5228, section 2.7.4).
@@ -141,6 +143,11 @@ impl Tag {
             },
             Tag::Contains => TagRow {
                 name: b"contains",
+                kind: TagKind::MatchType,
+                ..BARE_TAG
+            },
+            Tag::Matches => TagRow {
+                name: b"matches",
                 kind: TagKind::MatchType,
                 ..BARE_TAG
             },
@@ -241,16 +248,17 @@ impl CommandKind {
 }
 
 /// The tags that say how values are compared with keys (RFC 5228, section 2.7).
-const COMPARING_TAGS: [Tag; 3] = [Tag::Comparator, Tag::Is, Tag::Contains];
+const COMPARING_TAGS: [Tag; 4] = [Tag::Comparator, Tag::Is, Tag::Contains, Tag::Matches];
 
 /// Those that name a part of an address too (RFC 5228, section 2.7.4).
-const ADDRESS_TAGS: [Tag; 6] = [
+const ADDRESS_TAGS: [Tag; 7] = [
     Tag::All,
     Tag::LocalPart,
     Tag::Domain,
     Tag::Comparator,
     Tag::Is,
     Tag::Contains,
+    Tag::Matches,
 ];
 
 /// A list of the names of header fields.

@@ -1,8 +1,0 @@
-use Rattle.std.proofs.Common.{◌≡◌, drop}
-use Rattle.sieve_run.specs.Matching.{fold_of, pairs_with, some_matches}
-use Rattle.sieve_run.specs.view.FieldTests.{octets_of_each}
-use Rattle.sieve_run.proofs.matching.Comparison.matches_some.Given as goal
-
--- the keys that are left decide
-abbrev pub invariant-loop-key : goal.invariant-loop-key
-invariant-loop-key l = some_matches l.self.match_type (fold_of l.self.collation) (pairs_with (octets_of_each (drop l.key-index l.self.keys.now)) l.value) ≡ some_matches l.self.match_type (fold_of l.self.collation) (pairs_with (octets_of_each l.self.keys.now) l.value)

@@ -1,0 +1,4 @@
+# A tag stands before the strings.
+if header "Subject" :contains "offer" {
+    discard;
+}

@@ -1,0 +1,4 @@
+# Jane's own filter.
+if header :is "X-Priority" "5" {
+    discard;
+}

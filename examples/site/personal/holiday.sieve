@@ -1,0 +1,1 @@
+redirect "deputy@example.org";

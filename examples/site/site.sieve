@@ -1,0 +1,1 @@
+# Nothing is done: the mail is kept.
