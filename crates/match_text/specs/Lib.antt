@@ -1,1 +1,3 @@
 pub mod Comparator
+pub mod Wildcard
+pub mod view

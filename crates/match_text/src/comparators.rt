@@ -148,8 +148,8 @@ pub fn contains<C: Comparator>(value: &[u8], key: &[u8]) -> bool
 /// The longest key that [`contains_in`] looks for without copies.
 const MAX_SHORT_KEY: usize = 64;
 
-// The folds of the octets.
-fn folded<C: Comparator>(alloc: Global, octets: &[u8]) -> Result<Vec<u8>, AllocError>
+/// The folds of the octets.
+pub(crate) fn folded<C: Comparator>(alloc: Global, octets: &[u8]) -> Result<Vec<u8>, AllocError>
     ensures { IfOk result (λ copy. copy.items ≡ map C.folded octets.now) }
 {
     let mut copy = Vec::new(alloc);

@@ -1,11 +1,16 @@
-//! How Sieve compares texts: comparators, equality and search.
+//! How Sieve compares texts: comparators, equality, search and patterns.
 //!
-//! Texts are octet strings. A [`Comparator`] says which octets are equal (RFC 4790); [`is`] and
-//! [`contains`] are the match types of RFC 5228, section 2.7.1, at a comparator.
+//! Texts are octet strings. A [`Comparator`] says which octets are equal (RFC 4790); [`is`],
+//! [`contains`] and [`matches`] are the match types of RFC 5228, section 2.7.1, at a comparator.
 #![tactic(auto)]
 
 mod comparators;
+pub mod laws;
+mod pattern;
+mod segments;
+mod wildcards;
 
 pub use crate::comparators::{
     AsciiCasemap, Collation, Comparator, Octet, contains, contains_in, is,
 };
+pub use crate::wildcards::{Captures, matches};

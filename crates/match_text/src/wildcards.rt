@@ -1,0 +1,135 @@
+//! Patterns with wildcards, and what the wildcards take.
+ghost use Rattle.std.specs.Prelude.{◌≡◌, ◌↔◌, ◌+◌, ◌≤◌, ◌++◌, ℕ, List, [], ◌∷◌, IfOk, IfSome, IfNone, IsNone, None, Some, drop, length, map, slice_get, unwrap_or};
+ghost use Rattle.std.specs.Option.{option_map};
+ghost use Rattle.match_text.specs.Wildcard.{Fits, items_of, matched, wildcard_count};
+ghost use Rattle.match_text.specs.view.Segment.{captures_of, questions};
+
+use crate::comparators::{Comparator, folded};
+use crate::pattern::{Item, folded_items};
+use crate::segments::{begins, cut, place_of};
+use std::alloc::{AllocError, Global};
+use std::marker::Model;
+
+/// What the wildcards of a pattern took of a value (RFC 5229, section 3).
+#[derive(Drop)]
+pub struct Captures<'v> {
+    // The whole value, then what each wildcard took.
+    texts: Vec<&'v [u8]>,
+}
+
+impl<'v> Model for Captures<'v> {
+    ghost use Rattle.std.specs.Prelude.{ℕ, ◌<◌, List, map, vec_len};
+
+    ghost Value = { List (List ℕ) };
+
+    ghost view = { λ a. map (λ text. text.now) a.texts.items };
+
+    ghost invariant = { λ a. 0 < vec_len a.texts };
+}
+
+impl<'v> Captures<'v> {
+    /// How many wildcards the pattern has.
+    pub fn count(&self) -> usize
+        ensures { result + 1 ≡ length self.now }
+    {
+        self.texts.len() - 1
+    }
+
+    /// The octets that the wildcard of this number took, the first being 1; the whole value at 0, and
+    /// no octets past the count. It takes no memory.
+    pub fn get(&self, k: usize) -> &'v [u8]
+        ensures { result.now ≡ unwrap_or (slice_get self.now k) [] }
+    {
+        match self.texts.get(k) {
+            Some(text) => text,
+            None => &[],
+        }
+    }
+}
+
+/// Whether the whole value matches the pattern under the comparator, and what the wildcards then take: the match type
+/// `:matches` (RFC 5228, section 2.7.1; RFC 5229, section 3).
+///
+/// In a pattern `*` stands for any octets or none, `?` for one octet, and any other octet for those equal to it. `\` takes its
+/// meaning from the octet behind it, and at the end of the pattern it stands for itself. The first wildcard takes as little as
+/// it can, then the second, and so on.
+///
+/// It takes memory in the octets of the value and of the pattern, and fails only for want of it. Its time is linear in both,
+/// however many stars there are, but for octets between two stars with a `?` among them: these are tried at each place.
+pub fn matches<'v, C: Comparator>(
+    alloc: Global,
+    value: &'v [u8],
+    pattern: &[u8],
+) -> Result<Option<Captures<'v>>, AllocError>
+    ensures exact { IfOk result (λ found. found ≡ matched C.folded value.now pattern.now) }
+    ensures none { IfOk result (λ found. IsNone found
+        ↔ ((lengths : List ℕ) → ¬ Fits C.folded (items_of pattern.now) value.now lengths)) }
+    ensures count { IfOk result (λ found. IfSome found
+        (λ captures. length captures ≡ wildcard_count (items_of pattern.now) + 1)) }
+{
+    let items = folded_items::<C>(alloc, pattern)?;
+    let text = folded::<C>(alloc, value)?;
+    match captured_texts(alloc, &items, &text, value)? {
+        Some(texts) => Ok(Some(Captures { texts })),
+        None => Ok(None),
+    }
+}
+
+// The whole value and what the wildcards take of it, for items and a text that are folded.
+fn captured_texts<'v>(
+    alloc: Global,
+    items: &[Item],
+    text: &[u8],
+    value: &'v [u8],
+) -> Result<Option<Vec<&'v [u8]>>, AllocError>
+    requires { length text.now ≡ length value.now }
+    ensures { IfOk result (λ found. option_map (λ texts. map (λ octets. octets.now) texts.items) found
+        ≡ option_map (λ texts. value.now ∷ texts) (captures_of items.now text.now value.now)) }
+{
+    let (segment, mut items_left) = cut(items);
+    if !begins(segment, text) {
+        return Ok(None);
+    }
+    let mut texts = Vec::new(alloc);
+    texts.push(value)?;
+    let mut value_left = push_questions(&mut texts, segment, value)?;
+    let mut text_left = &text[segment.len()..];
+    while let [_, behind_star @ ..] = items_left {
+        let (segment, behind) = cut(behind_star);
+        let Some(place) = place_of(alloc, segment, behind, text_left)? else {
+            return Ok(None);
+        };
+        let (taken, from_place) = value_left.split_at(place);
+        texts.push(taken)?;
+        value_left = push_questions(&mut texts, segment, from_place)?;
+        text_left = &text_left[place + segment.len()..];
+        items_left = behind;
+    }
+    if text_left.is_empty() {
+        Ok(Some(texts))
+    } else {
+        Ok(None)
+    }
+}
+
+// Adds what the `?` of a segment take of the value that begins with it; what stands behind the segment.
+fn push_questions<'v>(
+    texts: &mut Vec<&'v [u8]>,
+    segment: &[Item],
+    value: &'v [u8],
+) -> Result<&'v [u8], AllocError>
+    requires { length segment.now ≤ length value.now }
+    ensures taken { IfOk result (λ _. map (λ octets. octets.now) texts.new.items
+        ≡ map (λ octets. octets.now) texts.old.items ++ questions segment.now value.now) }
+    ensures behind { IfOk result (λ behind. behind.now ≡ drop (length segment.now) value.now) }
+{
+    let mut rest = value;
+    for item in segment {
+        let (octet, behind) = rest.split_at(1);
+        if let Item::Question = item {
+            texts.push(octet)?;
+        }
+        rest = behind;
+    }
+    Ok(rest)
+}
