@@ -8,7 +8,7 @@ use Rattle.sieve_check.specs.Script.{Condition, always, never, asks, negated, bo
 use Rattle.sieve_table.specs.Table.{command_named}
 use Rattle.sieve_check.specs.Tree.{Part, literal, node, no_tests, no_block}
 use Rattle.sieve_check.specs.declared.reading.MatchType.{MatchType}
-use Rattle.sieve_check.specs.declared.reading.MatchType.TheVariants.{Is, Contains}
+use Rattle.sieve_check.specs.declared.reading.MatchType.TheVariants.{Is, Contains, Matches}
 use Rattle.sieve_base.specs.declared.place.Place.TheVariants.{Personal}
 use Rattle.sieve_base.specs.Limits.{name_limit}
 use Rattle.message_text.specs.Addresses.{addresses_of, envelope_address_of, marks_from}
@@ -16,7 +16,8 @@ use Rattle.message_text.specs.declared.addressing.AddressPart.TheVariants as par
 use Rattle.sieve_table.specs.Address.{is_address_field}
 use Rattle.sieve_run.specs.Delivery.{Delivery}
 use Rattle.sieve_run.specs.Library.{Lookup, missing, invalid, present}
-use Rattle.sieve_run.specs.Matching.{truth_of, values_named, values_of, pairs_of}
+use Rattle.match_text.specs.Wildcard.{least_fit, matched}
+use Rattle.sieve_run.specs.Matching.{match_found, truth_of, values_named, values_of, pairs_of}
 use Rattle.sieve_run.specs.Run.{RunState, Ending, goes_on, stopped, failed, Answer, answer_of, act_of, decide, exec, begun, verdict_at, outcome_of}
 use Rattle.sieve_run.specs.declared.envelope.Envelope.{Envelope}
 use Rattle.sieve_run.specs.declared.name.ScriptName.{ScriptName}
@@ -58,44 +59,62 @@ header match_type collation name key = compares (header_values (text name ∷ []
 
 -- an absent field contains nothing, not even the empty key
 absent_row : truth_of (delivered (headed (codes "Subject: a"))) (header Contains Casemap (codes "X-None") []) ≡ false
-unfolding truth_of fields_of field_groups
+unfolding truth_of match_found fields_of field_groups
 absent_row = refl
 
 -- an empty field contains the empty key
 empty_row : truth_of (delivered (headed (codes "X-None:"))) (header Contains Casemap (codes "X-None") []) ≡ true
-unfolding truth_of fields_of field_groups
+unfolding truth_of match_found fields_of field_groups
 empty_row = refl
 
 -- i;ascii-casemap ignores the case of a value
 casemap_row : truth_of (delivered (headed (codes "Subject: HELLO"))) (header Is Casemap (codes "subject") (codes "hello")) ≡ true
-unfolding truth_of fields_of field_groups
+unfolding truth_of match_found fields_of field_groups
 casemap_row = refl
 
 -- i;octet minds it, though names of fields still ignore it
 octet_row : truth_of (delivered (headed (codes "Subject: HELLO"))) (header Is Octet (codes "subject") (codes "hello")) ≡ false
-unfolding truth_of fields_of field_groups
+unfolding truth_of match_found fields_of field_groups
 octet_row = refl
 
 octet_same_row : truth_of (delivered (headed (codes "Subject: HELLO"))) (header Is Octet (codes "subject") (codes "HELLO")) ≡ true
-unfolding truth_of fields_of field_groups
+unfolding truth_of match_found fields_of field_groups
 octet_same_row = refl
 
 -- a part of a value is contained, and isn't the value
 is_row : truth_of (delivered (headed (codes "Subject: hello"))) (header Is Casemap (codes "Subject") (codes "ell")) ≡ false
-unfolding truth_of fields_of field_groups
+unfolding truth_of match_found fields_of field_groups
 is_row = refl
 
 contains_row : truth_of (delivered (headed (codes "Subject: hello"))) (header Contains Casemap (codes "Subject") (codes "ell")) ≡ true
-unfolding truth_of fields_of field_groups
+unfolding truth_of match_found fields_of field_groups
 contains_row = refl
+
+-- all of a value has to match a pattern
+wildcard_row : truth_of (delivered (headed (codes "Subject: hello"))) (header Matches Casemap (codes "Subject") (codes "H*L?")) ≡ true
+unfolding truth_of match_found matched least_fit fields_of field_groups
+wildcard_row = refl
+
+front_row : truth_of (delivered (headed (codes "Subject: hello"))) (header Matches Casemap (codes "Subject") (codes "H*L")) ≡ false
+unfolding truth_of match_found matched least_fit fields_of field_groups
+front_row = refl
+
+-- what the first pair that matches gives: the value and what each wildcard took; without wildcards nothing
+first_row : match_found (delivered (headed_twice (codes "A: x1") (codes "A: y2"))) (header_values (text (codes "A") ∷ [])) Matches Octet (text (codes "y*") ∷ text (codes "*1") ∷ []) ≡ Some (codes "x1" ∷ codes "x" ∷ [])
+unfolding match_found matched least_fit fields_of field_groups
+first_row = refl
+
+plain_match_row : match_found (delivered (headed (codes "A: x"))) (header_values (text (codes "A") ∷ [])) Is Octet (text (codes "x") ∷ []) ≡ Some []
+unfolding match_found fields_of field_groups
+plain_match_row = refl
 
 -- exists asks for all names
 exists_row : truth_of (delivered (headed_twice (codes "From: a") (codes "To: b"))) (exists_ask (text (codes "to") ∷ text (codes "from") ∷ [])) ≡ true
-unfolding truth_of fields_of field_groups
+unfolding truth_of match_found fields_of field_groups
 exists_row = refl
 
 one_absent_row : truth_of (delivered (headed_twice (codes "From: a") (codes "To: b"))) (exists_ask (text (codes "From") ∷ text (codes "Cc") ∷ [])) ≡ false
-unfolding truth_of fields_of field_groups
+unfolding truth_of match_found fields_of field_groups
 one_absent_row = refl
 
 -- the values of a name stand in the order of the fields; the body has none
@@ -130,11 +149,11 @@ no_part_row = refl
 
 -- no sender is the empty string, whatever part is asked for
 no_sender_row : truth_of (sent_by []) (compares (envelope_values part.Domain (text (codes "from") ∷ [])) Is Casemap (text [] ∷ [])) ≡ true
-unfolding truth_of envelope_address_of
+unfolding truth_of match_found envelope_address_of
 no_sender_row = refl
 
 sender_row : truth_of (sent_by (codes "a@example.org")) (compares (envelope_values part.Domain (text (codes "from") ∷ [])) Is Casemap (text [] ∷ [])) ≡ false
-unfolding truth_of envelope_address_of addresses_of marks_from
+unfolding truth_of match_found envelope_address_of addresses_of marks_from
 sender_row = refl
 
 -- SIZE
@@ -174,7 +193,7 @@ second_row ask a state = refl
 
 -- not size :over 3, of three octets
 negated_row : (state : RunState) → decide (answer_of (delivered (codes "abc"))) (negated (asks (over_ask 3))) state ≡ record { truth = true; state = state }
-unfolding decide truth_of
+unfolding decide truth_of match_found
 negated_row state = refl
 
 -- COMMANDS
@@ -239,15 +258,15 @@ abbrev branches : Commands
 branches = chooses (asks (over_ask 3)) (acts keep_leaf 1 no_commands) (chooses (asks (over_ask 2)) (acts discard_leaf 2 no_commands) (stops no_commands) no_commands) (acts keep_leaf 4 no_commands)
 
 if_row : done (codes "abcd") branches ≡ goes_on (after (inbox ∷ []) true)
-unfolding exec decide truth_of
+unfolding exec decide truth_of match_found
 if_row = refl
 
 elsif_row : done (codes "abc") branches ≡ goes_on (after (Discard ∷ inbox ∷ []) true)
-unfolding exec decide truth_of
+unfolding exec decide truth_of match_found
 elsif_row = refl
 
 else_row : done (codes "ab") branches ≡ stopped (after [] false)
-unfolding exec decide truth_of
+unfolding exec decide truth_of match_found
 else_row = refl
 
 -- OUTCOMES

@@ -143,6 +143,10 @@ fn addresses_and_actions_have_their_operations(rt: HostRuntime) -> Result<(), Fa
                 b"if address :contains :domain \"cc\" \"x\" {}",
                 b"0: address contains casemap domain [\"cc\"] [\"x\"]\n1: jump-if-false 2\n",
             ),
+            (
+                b"if header :matches \"subject\" \"a*\" { discard; }",
+                b"0: header matches casemap [\"subject\"] [\"a*\"]\n1: jump-if-false 3\n2: discard @1\n",
+            ),
         ],
     )
 }

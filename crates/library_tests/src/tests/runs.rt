@@ -353,7 +353,80 @@ fn headers(rt: HostRuntime) -> Result<(), Fail> {
     )
 }
 
-/// The message of the next test.
+/// Values that match patterns (RFC 5228, section 2.7.1).
+#[test]
+fn wildcards_are_compared(rt: HostRuntime) -> Result<(), Fail> {
+    check_words(
+        &rt,
+        &[
+            (
+                b"if header :matches \"Subject\" \"one two?three\" { discard; }",
+                b"Subject: one\r\n two\r\n\tthree\r\n\r\n",
+                "discard main ",
+            ),
+            (
+                b"if header :matches \"Subject\" \"one two?three\" { discard; }",
+                b"Subject: one\n two\n\tthree\n\n",
+                "discard main ",
+            ),
+            // The whole value has to match.
+            (
+                b"if header :matches \"Subject\" \"one\" { discard; }",
+                b"Subject: one two\n\n",
+                "implicit main ",
+            ),
+            (
+                b"if header :matches \"Subject\" [\"\", \"*TWO\"] { discard; }",
+                b"Subject: one two\n\n",
+                "discard main ",
+            ),
+            (
+                b"if header :comparator \"i;octet\" :matches \"Subject\" \"*TWO\" { discard; }",
+                b"Subject: one two\n\n",
+                "implicit main ",
+            ),
+            // An escape in a quoted string, and one in a pattern.
+            (
+                b"if header :matches \"Subject\" \"a\\\\*\" { discard; }",
+                b"Subject: ab\n\n",
+                "implicit main ",
+            ),
+            (
+                b"if header :matches \"Subject\" \"a\\\\*\" { discard; }",
+                b"Subject: a*\n\n",
+                "discard main ",
+            ),
+            // An absent field matches nothing, an empty one the empty pattern and a star.
+            (
+                b"if header :matches \"Subject\" \"*\" { discard; }",
+                b"A: x\n\n",
+                "implicit main ",
+            ),
+            (
+                b"if allof (header :matches \"A\" \"\", header :matches \"A\" \"*\", not header :matches \"A\" \"?\") { discard; }",
+                b"A:\n\n",
+                "discard main ",
+            ),
+            (
+                b"if address :matches :localpart \"from\" \"t?m\" { discard; }",
+                PARTIES,
+                "discard main ",
+            ),
+            (
+                b"if address :matches \"from\" \"*@*.*.*\" { discard; }",
+                PARTIES,
+                "implicit main ",
+            ),
+            (
+                b"require \"envelope\"; if envelope :matches \"from\" \"?*\" { discard; }",
+                PARTIES,
+                "implicit main ",
+            ),
+        ],
+    )
+}
+
+/// A message to and from several.
 const PARTIES: &[u8] =
     b"From: Tim <Tim@Example.com>\nTo: Team: jane@b.example, joe;, \"c@d\"\nSubject: x@y.example\n\n";
 
