@@ -7,4 +7,5 @@ pub mod Greedy
 pub mod FoldedItems
 pub mod Standing
 pub mod Taking
+pub mod Passing
 mod Rows

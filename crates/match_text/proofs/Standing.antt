@@ -22,9 +22,9 @@ ends-other segment text other = ap (λ b. b && begins segment text) (ne_eqb (len
 ends-not : (segment : List Item) (text : List ℕ) → begins segment text ≡ false → ends segment text ≡ false
 ends-not segment text is = and_false (length segment == length text) (begins segment text) is
   where
-  and_false : (a b : Bool) → b ≡ false → (a && b) ≡ false
-  and_false true b is = is
-  and_false false b is = refl
+    and_false : (a b : Bool) → b ≡ false → (a && b) ≡ false
+    and_false true b is = is
+    and_false false b is = refl
 
 pub end_too_long : (segment : List Item) (text : List ℕ) → length text < length segment → None ≡ first_place (ends segment) text
 end_too_long segment text long = sym (first_place-none (ends segment) text (λ k within.

@@ -1,13 +1,9 @@
 -- What the `?` of a segment take, one after another.
 use Rattle.std.proofs.Common.{◌≡◌, ℕ, ◌+◌, ◌<◌, Bor, List, [], ◌∷◌, ◌++◌, length, get_or, map, take, drop, refl, sym, ◌∙◌, ap}
 use Rattle.std.proofs.lemmas.List.{append_assoc, at_drop_more, map_push}
-use Rattle.match_text.specs.view.Segment.{questions}
+use Rattle.match_text.specs.view.Segment.{questions, texts_of}
 use Rattle.match_text.specs.declared.pattern.Item.{Item}
 use Rattle.match_text.specs.declared.pattern.Item.TheVariants.{Star, Question, Literal}
-
--- the octets of slices
-abbrev pub texts_of : List (Bor (List ℕ)) → List (List ℕ)
-texts_of slices = map (λ octets. octets.now) slices
 
 pub question_taken : (old : List (Bor (List ℕ))) (slice : Bor (List ℕ)) (segment : List Item) (i : ℕ) (rest : List ℕ) → i < length segment → get_or segment i Star ≡ Question → slice.now ≡ take 1 rest → texts_of (old ++ slice ∷ []) ++ questions (drop (i + 1) segment) (drop 1 rest) ≡ texts_of old ++ questions (drop i segment) rest
 question_taken old slice segment i rest within is took =

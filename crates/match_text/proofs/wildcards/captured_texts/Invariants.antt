@@ -1,8 +1,7 @@
 use Rattle.std.proofs.Common.{◌≡◌, ◌∷◌, ◌++◌, length}
 use Rattle.std.specs.Option.{option_map}
-use Rattle.match_text.specs.view.Segment.{captures_of}
+use Rattle.match_text.specs.view.Segment.{captures_of, texts_of}
 use Rattle.match_text.proofs.Greedy.{IsStarred}
-use Rattle.match_text.proofs.Taking.{texts_of}
 use Rattle.match_text.proofs.wildcards.captured_texts.Given as goal
 
 -- a star is next, and the texts so far stand in front of what the items that are left take
