@@ -43,3 +43,6 @@ module _ (fold : ℕ → ℕ) where
   folded_captures value pattern =
       whole_in_front (items_of pattern) value (least_fit octet (map (folded_item fold) (items_of pattern)) (map fold value))
       ∙ ap (option_map (λ lengths. value ∷ taken (items_of pattern) lengths value)) (least_fit-map (items_of pattern) value)
+
+  pub matched_from : (value pattern : List ℕ) (items : List Item) (text : List ℕ) → items ≡ map (folded_item fold) (items_of pattern) → text ≡ map fold value → option_map (λ texts. value ∷ texts) (captures_of items text value) ≡ matched fold value pattern
+  matched_from value pattern items text items_are text_is = rw (items_are, text_is) (folded_captures value pattern)

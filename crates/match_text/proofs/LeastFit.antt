@@ -1,7 +1,7 @@
 -- The least fit is the fit that is least in dictionary order.
 use Rattle.std.proofs.Common.{◌≡◌, ℕ, zero, suc, ◌+◌, ◌<◌, ◌≤◌, ◌⊎◌, inl, inr, ⊎_elim, Bool, true, false, ◌==◌, cond, List, [], ◌∷◌, length, drop, Option, None, Some, refl, sym, ◌∙◌, ap, subst, arith}
-use Rattle.std.specs.Option.{MatchOption, option_map, option_or}
-use Rattle.std.proofs.lemmas.Bool.{eqb-false, eqb-true}
+use Rattle.std.specs.Option.{MatchOption, is_some, option_map, option_or}
+use Rattle.std.proofs.lemmas.Bool.{eqb-false, eqb-true, false≢true}
 use Rattle.match_text.specs.Wildcard.{AtMost, Fits, IsLeastFit, items_of, least_fit, matched, one_more, star_fit, taken, wildcard_count}
 use Rattle.match_text.specs.declared.pattern.Item.{Item}
 use Rattle.match_text.specs.declared.pattern.Item.TheVariants.{Star, Question, Literal}
@@ -206,3 +206,8 @@ module _ (fold : ℕ → ℕ) where
   pub matched-none : (value pattern : List ℕ) → (matched fold value pattern ≡ None → (lengths : List ℕ) → Fits fold (items_of pattern) value lengths → ⊥) × (((lengths : List ℕ) → Fits fold (items_of pattern) value lengths → ⊥) → matched fold value pattern ≡ None)
   unfolding matched
   matched-none value pattern = none_matched (items_of pattern) value (least_fit fold (items_of pattern) value) (answers (items_of pattern) value)
+
+  -- an answer is absent exactly where no fit exists
+  pub none_answered : (value pattern : List ℕ) (r : Option (List (List ℕ))) → r ≡ matched fold value pattern → (is_some r ≡ false → (lengths : List ℕ) → Fits fold (items_of pattern) value lengths → ⊥) × (((lengths : List ℕ) → Fits fold (items_of pattern) value lengths → ⊥) → is_some r ≡ false)
+  none_answered value pattern None is = (λ none. (matched-none value pattern).0 (sym is), λ none. refl)
+  none_answered value pattern (Some captures) is = (λ none. absurd (false≢true (sym none)), λ none. let nothing = (matched-none value pattern).1 none in cc)
