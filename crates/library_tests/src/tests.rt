@@ -11,4 +11,5 @@ mod print;
 mod runs;
 mod scripts;
 mod spellings;
+mod wildcards;
 mod writers;

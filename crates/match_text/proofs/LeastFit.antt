@@ -1,8 +1,8 @@
 -- The least fit is the fit that is least in dictionary order.
-use Rattle.std.proofs.Common.{◌≡◌, ℕ, zero, suc, ◌<◌, ◌≤◌, ◌⊎◌, inl, inr, ⊎_elim, Bool, true, false, ◌==◌, cond, List, [], ◌∷◌, length, drop, Option, None, Some, refl, sym, ◌∙◌, ap, subst, arith}
-use Rattle.std.specs.Option.{MatchOption, option_map, option_or}
-use Rattle.std.proofs.lemmas.Bool.{eqb-false, eqb-true}
-use Rattle.match_text.specs.Wildcard.{AtMost, Fits, IsLeastFit, least_fit, one_more, star_fit}
+use Rattle.std.proofs.Common.{◌≡◌, ℕ, zero, suc, ◌+◌, ◌<◌, ◌≤◌, ◌⊎◌, inl, inr, ⊎_elim, Bool, true, false, ◌==◌, cond, List, [], ◌∷◌, length, drop, Option, None, Some, refl, sym, ◌∙◌, ap, subst, arith}
+use Rattle.std.specs.Option.{MatchOption, is_some, option_map, option_or}
+use Rattle.std.proofs.lemmas.Bool.{eqb-false, eqb-true, false≢true}
+use Rattle.match_text.specs.Wildcard.{AtMost, Fits, IsLeastFit, items_of, least_fit, matched, one_more, star_fit, taken, wildcard_count}
 use Rattle.match_text.specs.declared.pattern.Item.{Item}
 use Rattle.match_text.specs.declared.pattern.Item.TheVariants.{Star, Question, Literal}
 
@@ -163,3 +163,51 @@ module _ (fold : ℕ → ℕ) where
 
   pub least_fit-none : (items : List Item) (value : List ℕ) → (least_fit fold items value ≡ None → (lengths : List ℕ) → Fits fold items value lengths → ⊥) × (((lengths : List ℕ) → Fits fold items value lengths → ⊥) → least_fit fold items value ≡ None)
   least_fit-none items value = (at_none items value _ (answers items value), to_none items value _ (answers items value))
+
+  -- a fit has a length for each wildcard
+  pub fit_lengths : (items : List Item) (value lengths : List ℕ) → Fits fold items value lengths → length lengths ≡ wildcard_count items
+  fit_lengths [] [] [] fits = refl
+  fit_lengths [] [] (n ∷ lengths) fits = absurd fits
+  fit_lengths [] (x ∷ value) lengths fits = absurd fits
+  fit_lengths (Literal b ∷ items) [] lengths fits = absurd fits
+  fit_lengths (Literal b ∷ items) (x ∷ value) lengths fits = fit_lengths items value lengths fits.1
+  fit_lengths (Question ∷ items) [] lengths fits = absurd fits
+  fit_lengths (Question ∷ items) (x ∷ value) [] fits = absurd fits
+  fit_lengths (Question ∷ items) (x ∷ value) (n ∷ lengths) fits = ap suc (fit_lengths items value lengths fits.1)
+  fit_lengths (Star ∷ items) value [] fits = absurd fits
+  fit_lengths (Star ∷ items) value (n ∷ lengths) fits = ap suc (fit_lengths items (drop n value) lengths fits.1)
+
+  -- and each length takes a slice
+  taken_count : (items : List Item) (lengths value : List ℕ) → length lengths ≡ wildcard_count items → length (taken items lengths value) ≡ wildcard_count items
+  taken_count [] lengths value same = refl
+  taken_count (Literal b ∷ items) lengths value same = taken_count items lengths (drop 1 value) same
+  taken_count (Question ∷ items) [] value same = absurd (omega (arith, same))
+  taken_count (Question ∷ items) (n ∷ lengths) value same = ap suc (taken_count items lengths (drop n value) (omega (arith, same)))
+  taken_count (Star ∷ items) [] value same = absurd (omega (arith, same))
+  taken_count (Star ∷ items) (n ∷ lengths) value same = ap suc (taken_count items lengths (drop n value) (omega (arith, same)))
+
+  count_matched : (items : List Item) (value : List ℕ) (r : Option (List ℕ)) (captures : List (List ℕ)) → Answers (Fits fold items value) r → option_map (λ lengths. value ∷ taken items lengths value) r ≡ Some captures → length captures ≡ wildcard_count items + 1
+  count_matched items value None captures answers is = cc
+  count_matched items value (Some lengths) captures answers is =
+      let same : value ∷ taken items lengths value ≡ captures = cc in
+      let count = taken_count items lengths value (fit_lengths items value lengths answers.fits) in
+      rw (← same) (omega (arith, count))
+
+  -- the whole value, and a text for each wildcard
+  pub matched-count : (value pattern : List ℕ) (captures : List (List ℕ)) → matched fold value pattern ≡ Some captures → length captures ≡ wildcard_count (items_of pattern) + 1
+  unfolding matched
+  matched-count value pattern captures is = count_matched (items_of pattern) value (least_fit fold (items_of pattern) value) captures (answers (items_of pattern) value) is
+
+  none_matched : (items : List Item) (value : List ℕ) (r : Option (List ℕ)) → Answers (Fits fold items value) r → (option_map (λ lengths. value ∷ taken items lengths value) r ≡ None → (lengths : List ℕ) → Fits fold items value lengths → ⊥) × (((lengths : List ℕ) → Fits fold items value lengths → ⊥) → option_map (λ lengths. value ∷ taken items lengths value) r ≡ None)
+  none_matched items value None nowhere = (λ is. nowhere, λ none. refl)
+  none_matched items value (Some lengths) least = (λ is. cc, λ none. absurd (none lengths least.fits))
+
+  -- nothing is matched exactly where no fit exists
+  pub matched-none : (value pattern : List ℕ) → (matched fold value pattern ≡ None → (lengths : List ℕ) → Fits fold (items_of pattern) value lengths → ⊥) × (((lengths : List ℕ) → Fits fold (items_of pattern) value lengths → ⊥) → matched fold value pattern ≡ None)
+  unfolding matched
+  matched-none value pattern = none_matched (items_of pattern) value (least_fit fold (items_of pattern) value) (answers (items_of pattern) value)
+
+  -- an answer is absent exactly where no fit exists
+  pub none_answered : (value pattern : List ℕ) (r : Option (List (List ℕ))) → r ≡ matched fold value pattern → (is_some r ≡ false → (lengths : List ℕ) → Fits fold (items_of pattern) value lengths → ⊥) × (((lengths : List ℕ) → Fits fold (items_of pattern) value lengths → ⊥) → is_some r ≡ false)
+  none_answered value pattern None is = (λ none. (matched-none value pattern).0 (sym is), λ none. refl)
+  none_answered value pattern (Some captures) is = (λ none. absurd (false≢true (sym none)), λ none. let nothing = (matched-none value pattern).1 none in cc)

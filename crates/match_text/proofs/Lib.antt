@@ -3,4 +3,9 @@ pub mod Letters
 pub mod Deciding
 pub mod Folding
 pub mod LeastFit
+pub mod Greedy
+pub mod FoldedItems
+pub mod Standing
+pub mod Taking
+pub mod Passing
 mod Rows

@@ -89,7 +89,7 @@ fn find_place(segment: &[Item], text: &[u8]) -> Option<usize>
 {
     let mut place = 0;
     let mut rest = text;
-    loop {
+    'places: loop {
         if begins(segment, rest) {
             return Some(place);
         }

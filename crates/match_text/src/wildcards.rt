@@ -1,8 +1,8 @@
 //! Patterns with wildcards, and what the wildcards take.
-ghost use Rattle.std.specs.Prelude.{◌≡◌, ◌↔◌, ◌+◌, ◌≤◌, ◌++◌, ℕ, List, [], ◌∷◌, IfOk, IfSome, IfNone, IsNone, None, Some, drop, length, map, slice_get, unwrap_or};
+ghost use Rattle.std.specs.Prelude.{◌≡◌, ◌↔◌, ◌+◌, ◌≤◌, ◌++◌, ℕ, List, [], ◌∷◌, IfOk, IfSome, IfNone, IsNone, None, Some, drop, length, slice_get, take, unwrap_or};
 ghost use Rattle.std.specs.Option.{option_map};
 ghost use Rattle.match_text.specs.Wildcard.{Fits, items_of, matched, wildcard_count};
-ghost use Rattle.match_text.specs.view.Segment.{captures_of, questions};
+ghost use Rattle.match_text.specs.view.Segment.{captures_of, questions, texts_of};
 
 use crate::comparators::{Comparator, folded};
 use crate::pattern::{Item, folded_items};
@@ -18,11 +18,12 @@ pub struct Captures<'v> {
 }
 
 impl<'v> Model for Captures<'v> {
-    ghost use Rattle.std.specs.Prelude.{ℕ, ◌<◌, List, map, vec_len};
+    ghost use Rattle.std.specs.Prelude.{ℕ, ◌<◌, List, vec_len};
+    ghost use Rattle.match_text.specs.view.Segment.{texts_of};
 
     ghost Value = { List (List ℕ) };
 
-    ghost view = { λ a. map (λ text. text.now) a.texts.items };
+    ghost view = { λ a. texts_of a.texts.items };
 
     ghost invariant = { λ a. 0 < vec_len a.texts };
 }
@@ -83,7 +84,7 @@ fn captured_texts<'v>(
     value: &'v [u8],
 ) -> Result<Option<Vec<&'v [u8]>>, AllocError>
     requires { length text.now ≡ length value.now }
-    ensures { IfOk result (λ found. option_map (λ texts. map (λ octets. octets.now) texts.items) found
+    ensures { IfOk result (λ found. option_map (λ texts. texts_of texts.items) found
         ≡ option_map (λ texts. value.now ∷ texts) (captures_of items.now text.now value.now)) }
 {
     let (segment, mut items_left) = cut(items);
@@ -92,17 +93,15 @@ fn captured_texts<'v>(
     }
     let mut texts = Vec::new(alloc);
     texts.push(value)?;
-    let mut value_left = push_questions(&mut texts, segment, value)?;
-    let mut text_left = &text[segment.len()..];
+    let (mut text_left, mut value_left) = take_segment(&mut texts, segment, text, value)?;
     while let [_, behind_star @ ..] = items_left {
         let (segment, behind) = cut(behind_star);
         let Some(place) = place_of(alloc, segment, behind, text_left)? else {
             return Ok(None);
         };
-        let (taken, from_place) = value_left.split_at(place);
-        texts.push(taken)?;
-        value_left = push_questions(&mut texts, segment, from_place)?;
-        text_left = &text_left[place + segment.len()..];
+        let left = take_star(&mut texts, place, segment, text_left, value_left)?;
+        text_left = left.0;
+        value_left = left.1;
         items_left = behind;
     }
     if text_left.is_empty() {
@@ -112,15 +111,55 @@ fn captured_texts<'v>(
     }
 }
 
-// Adds what the `?` of a segment take of the value that begins with it; what stands behind the segment.
+// Adds what a star takes of the value up to a place, and then what the `?` of the segment that stands there take; what
+// stands behind the segment, of the text and of the value.
+fn take_star<'t, 'v>(
+    texts: &mut Vec<&'v [u8]>,
+    place: usize,
+    segment: &[Item],
+    text: &'t [u8],
+    value: &'v [u8],
+) -> Result<(&'t [u8], &'v [u8]), AllocError>
+    requires within { place + length segment.now ≤ length text.now }
+    requires as_long { length text.now ≡ length value.now }
+    ensures taken { IfOk result (λ _. texts_of texts.new.items
+        ≡ texts_of texts.old.items ++ take place value.now ∷ questions segment.now (drop place value.now)) }
+    ensures text { IfOk result (λ left. left.0.now ≡ drop (length segment.now) (drop place text.now)) }
+    ensures value { IfOk result (λ left. left.1.now ≡ drop (length segment.now) (drop place value.now)) }
+{
+    let (taken, value_left) = value.split_at(place);
+    let (_, text_left) = text.split_at(place);
+    texts.push(taken)?;
+    take_segment(texts, segment, text_left, value_left)
+}
+
+// Adds what the `?` of a segment take of the value, which begins with it; what stands behind the segment, of the text and
+// of the value.
+fn take_segment<'t, 'v>(
+    texts: &mut Vec<&'v [u8]>,
+    segment: &[Item],
+    text: &'t [u8],
+    value: &'v [u8],
+) -> Result<(&'t [u8], &'v [u8]), AllocError>
+    requires within { length segment.now ≤ length text.now }
+    requires as_long { length text.now ≡ length value.now }
+    ensures taken { IfOk result (λ _. texts_of texts.new.items ≡ texts_of texts.old.items ++ questions segment.now value.now) }
+    ensures text { IfOk result (λ left. left.0.now ≡ drop (length segment.now) text.now) }
+    ensures value { IfOk result (λ left. left.1.now ≡ drop (length segment.now) value.now) }
+{
+    let (_, text_left) = text.split_at(segment.len());
+    let value_left = push_questions(texts, segment, value)?;
+    Ok((text_left, value_left))
+}
+
+// Adds what the `?` of a segment take of the value, which begins with it; what stands behind the segment.
 fn push_questions<'v>(
     texts: &mut Vec<&'v [u8]>,
     segment: &[Item],
     value: &'v [u8],
 ) -> Result<&'v [u8], AllocError>
     requires { length segment.now ≤ length value.now }
-    ensures taken { IfOk result (λ _. map (λ octets. octets.now) texts.new.items
-        ≡ map (λ octets. octets.now) texts.old.items ++ questions segment.now value.now) }
+    ensures taken { IfOk result (λ _. texts_of texts.new.items ≡ texts_of texts.old.items ++ questions segment.now value.now) }
     ensures behind { IfOk result (λ behind. behind.now ≡ drop (length segment.now) value.now) }
 {
     let mut rest = value;

@@ -1,5 +1,6 @@
 -- Items between the stars of a pattern: how they are found, and where they stand in a text.
 use Rattle.std.specs.Prelude.{◌≡◌, ℕ, suc, ◌+◌, ◌-◌, ◌≤◌, nat_le, Bool, true, false, ◌&&◌, ◌==◌, if◌then◌else◌, List, [], ◌∷◌, ◌++◌, length, map, take, drop, Option, None, Some}
+use denote.Ref.{Bor}
 use Rattle.std.specs.Option.{option_map}
 use Rattle.match_text.specs.Wildcard.{least_fit, taken}
 use Rattle.match_text.specs.Comparator.{octet}
@@ -66,3 +67,7 @@ questions (Question ∷ segment) value = take 1 value ∷ questions segment (dro
 -- what the wildcards take of the value under the least fit for a folded text
 unfoldable pub captures_of : List Item → (text value : List ℕ) → Option (List (List ℕ))
 captures_of items text value = option_map (λ lengths. taken items lengths value) (least_fit octet items text)
+
+-- the octets of slices
+abbrev pub texts_of : List (Bor (List ℕ)) → List (List ℕ)
+texts_of slices = map (λ octets. octets.now) slices

@@ -1,0 +1,16 @@
+use Rattle.std.proofs.Common.{◌≡◌, ◌∷◌, ◌++◌, length}
+use Rattle.std.specs.Option.{option_map}
+use Rattle.match_text.specs.view.Segment.{captures_of, texts_of}
+use Rattle.match_text.proofs.Greedy.{IsStarred}
+use Rattle.match_text.proofs.wildcards.captured_texts.Given as goal
+
+-- a star is next, and the texts so far stand in front of what the items that are left take
+abbrev pub invariant-loop-items_left : goal.invariant-loop-items_left
+invariant-loop-items_left l = record {
+  starred : IsStarred l.items_left;
+  as_long : length l.text_left ≡ length l.value_left;
+  taken : option_map (λ texts. texts_of l.texts.items ++ texts) (captures_of l.items_left l.text_left l.value_left) ≡ option_map (λ texts. l.value ∷ texts) (captures_of l.items l.text l.value);
+}
+
+abbrev pub decreases-loop-items_left : goal.decreases-loop-items_left
+decreases-loop-items_left l = length l.items_left
