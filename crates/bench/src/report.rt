@@ -130,7 +130,7 @@ fn write_all_reported<W: Sink>(
 }
 
 /// How many of the verdicts have an error.
-fn error_count(reported: &[Reported<'_>]) -> usize
+pub(crate) fn error_count(reported: &[Reported<'_>]) -> usize
     ensures { result ≡ error_count (map reported_of reported.now) }
 {
     reported

@@ -27,13 +27,23 @@ impl Model for Scripts {
 
 impl Scripts {
     ghost use Rattle.std.specs.Prelude.{OnOk, OnErr, is_some};
+    ghost use Rattle.std.specs.List.{list_all};
+    ghost use Rattle.sieve_check.specs.Judgement.{judgement_of};
     ghost use Rattle.bench.specs.Content.{text_at, with_script, without_script, with_renamed};
+    ghost use Rattle.bench.specs.Test.{is_sound};
 
     /// Whether there is a script of that name.
     pub(crate) fn contains(&self, name: &ScriptName) -> bool
         ensures { result ≡ is_some (text_at self.now name.now) }
     {
         self.by_name.contains_key(name)
+    }
+
+    /// Whether no script has a fault.
+    pub(crate) fn are_sound(&self) -> bool
+        ensures { result ≡ list_all (λ e. is_sound (judgement_of e.1)) self.now }
+    {
+        self.by_name.values().all(|script| script.fault().is_none())
     }
 
     /// Keeps a script at a name, in place of the one there. An error changes nothing.
