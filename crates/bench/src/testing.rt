@@ -1,8 +1,8 @@
 //! Tests a message by a bench that is made for it.
 ghost use Rattle.std.specs.Prelude.{◌≡◌, [], ◌∷◌, IfErr, IfOk, Ok, OnOk, length, map};
 ghost use Rattle.sieve_base.specs.Writers.{Wrote, WroteFront};
-ghost use Rattle.bench.specs.Content.{new_content, put_message, set_envelope, set_mailbox, set_main};
-ghost use Rattle.bench.specs.Test.{TestEnds, TestRuns, after_all, made_by, put_of};
+ghost use Rattle.bench.specs.Content.{put_message, set_envelope, set_mailbox, set_main};
+ghost use Rattle.bench.specs.Test.{TestEnds, TestRuns, after_all, edits_of, made_by, put_of};
 ghost use Rattle.bench.specs.view.Refused.{Refused};
 ghost use Rattle.bench.specs.view.Tested.{ReportEnds};
 
@@ -43,15 +43,24 @@ fn put_sample(bench: &mut Bench, job: &TestJob) -> Result<(), EditFault>
     bench.put_message(&job.id, job.message.as_slice())
 }
 
+/// Makes the edits of a job on a bench.
+fn make_edits(bench: &mut Bench, job: &TestJob) -> Result<(), EditFault>
+    ensures ok { OnOk result (after_all bench.old.content (edits_of job.now) ≡ Ok bench.new.content) }
+    ensures err { IfErr result (λ fault. Refused fault (after_all bench.old.content (edits_of job.now))) }
+{
+    set_delivery(bench, job)?;
+    put_scripts(bench, &job.scripts)?;
+    put_sample(bench, job)
+}
+
 /// A new bench with the edits of a job.
+#[tactic(auto, unfolding(crate::specs::Test::made_by))]
 fn bench_of(alloc: Global, job: &TestJob) -> Result<Bench, EditFault>
     ensures ok { IfOk result (λ bench. made_by job.now ≡ Ok bench.content) }
     ensures err { IfErr result (λ fault. Refused fault (made_by job.now)) }
 {
     let mut bench = Bench::new(alloc)?;
-    set_delivery(&mut bench, job)?;
-    put_scripts(&mut bench, &job.scripts)?;
-    put_sample(&mut bench, job)?;
+    make_edits(&mut bench, job)?;
     Ok(bench)
 }
 
