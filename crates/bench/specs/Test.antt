@@ -3,6 +3,8 @@ use Rattle.std.specs.Prelude.{◌≡◌, ⊤, ℕ, Bool, true, false, ◌&&◌, 
 use Rattle.std.specs.List.{list_all}
 use Rattle.sieve_check.specs.Judgement.{Judgement, judgement_of, sound, faulty}
 use Rattle.sieve_run.specs.Meter.{next_run}
+use Rattle.sieve_run.specs.Verdict.{Verdict}
+use Rattle.sieve_run.specs.declared.name.ScriptName.{ScriptName}
 use Rattle.bench.specs.Content.{Content, Edit, after, new_content, put_script, put_message, set_main, set_envelope, set_mailbox}
 use Rattle.bench.specs.Report.{error_count, report_text, verdicts}
 use Rattle.bench.specs.declared.fault.EditFault.{EditFault}
@@ -43,10 +45,13 @@ abbrev pub is_sound : Judgement → Bool
 is_sound (sound tree) = true
 is_sound (faulty line kind) = false
 
--- whether a report has nothing to complain of: each script's line says `ok`, and no message has an error
+-- whether a report of scripts with these verdicts has nothing to complain of: each script's line says `ok`, and no message has an error
+abbrev pub is_clean_with : List (ScriptName × List ℕ) → List (List ℕ × Verdict) → Bool
+is_clean_with scripts judged = list_all (λ e. is_sound (judgement_of e.1)) scripts && (error_count judged == 0)
+
+-- whether the report of a content has
 unfoldable pub is_clean : Content → Bool
-is_clean content =
-    list_all (λ e. is_sound (judgement_of e.1)) content.scripts && (error_count (verdicts content.main content.envelope content.scripts content.messages) == 0)
+is_clean content = is_clean_with content.scripts (verdicts content.main content.envelope content.scripts content.messages)
 
 -- how a test ends whose report is written
 abbrev pub test_end_of : Content → TestEnd

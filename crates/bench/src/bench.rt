@@ -19,7 +19,7 @@ use crate::refusal::{
     is_long, refuse_envelope, refuse_mailbox, refuse_main, refuse_message, refuse_remove_script,
     refuse_rename, refuse_script,
 };
-use crate::report::{error_count, run_all, write_report};
+use crate::report::{is_clean, run_all, write_report};
 use crate::scripts::Scripts;
 use crate::sought::Sought;
 use indexmap::IndexMap;
@@ -341,7 +341,7 @@ impl Bench {
             return Err(ReportFault::NoMemory);
         };
         match write_report(main, &self.envelope, &self.scripts, &reported, writer) {
-            Ok(()) => Ok(self.scripts.are_sound() && error_count(&reported) == 0),
+            Ok(()) => Ok(is_clean(&self.scripts, &reported)),
             Err(_) => Err(ReportFault::Write),
         }
     }
