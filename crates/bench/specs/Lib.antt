@@ -3,4 +3,5 @@ pub mod Content
 pub mod Dump
 pub mod Report
 pub mod Stale
+pub mod Test
 pub mod view

@@ -2,3 +2,5 @@
 pub mod Entry
 pub mod ReportFault
 pub mod Reported
+pub mod Refused
+pub mod Tested

@@ -6,6 +6,7 @@ ghost use Rattle.sieve_run.specs.Meter.{runs_after};
 ghost use Rattle.sieve_run.specs.view.Found.{FoundAs};
 ghost use Rattle.bench.specs.Dump.{dump_of};
 ghost use Rattle.bench.specs.Report.{report_text};
+ghost use Rattle.bench.specs.Test.{is_clean};
 ghost use Rattle.bench.specs.view.Entry.{messages_of};
 ghost use Rattle.bench.specs.view.ReportFault.{MatchReportFault};
 ghost use Rattle.bench.specs.Content.{after, Answers, message_at, new_content, Refuses, text_at, without_message};
@@ -18,7 +19,7 @@ use crate::refusal::{
     is_long, refuse_envelope, refuse_mailbox, refuse_main, refuse_message, refuse_remove_script,
     refuse_rename, refuse_script,
 };
-use crate::report::{run_all, write_report};
+use crate::report::{is_clean, run_all, write_report};
 use crate::scripts::Scripts;
 use crate::sought::Sought;
 use indexmap::IndexMap;
@@ -307,6 +308,27 @@ impl Bench {
         ensures runs_at_fault { IfErr result (λ fault. MatchReportFault fault ⊤
             (meter.new ≡ runs_after (length self.old.content.messages) meter.old)) }
     {
+        match self.report_and_judge(meter, writer) {
+            Ok(_clean) => Ok(()),
+            Err(fault) => Err(fault),
+        }
+    }
+
+    /// Reports, and answers whether no script has a fault and no message an error.
+    pub(crate) fn report_and_judge<W: Sink>(
+        &mut self,
+        meter: &mut Meter,
+        writer: &mut W,
+    ) -> Result<bool, ReportFault>
+        ensures ok { OnOk result (Wrote W.contents W.fault_count writer.old writer.new (report_text self.old.content)) }
+        ensures clean { IfOk result (λ clean. clean ≡ is_clean self.old.content) }
+        ensures err { IfErr result (λ fault. MatchReportFault fault (writer.new ≡ writer.old)
+            (WroteFront W.contents W.fault_count writer.old writer.new (report_text self.old.content))) }
+        ensures content { self.new ≡ self.old }
+        ensures runs { OnOk result (meter.new ≡ runs_after (length self.old.content.messages) meter.old) }
+        ensures runs_at_fault { IfErr result (λ fault. MatchReportFault fault ⊤
+            (meter.new ≡ runs_after (length self.old.content.messages) meter.old)) }
+    {
         let main = self.main.as_ref();
         let Ok(reported) = run_all(
             self.alloc,
@@ -319,10 +341,11 @@ impl Bench {
             return Err(ReportFault::NoMemory);
         };
         match write_report(main, &self.envelope, &self.scripts, &reported, writer) {
-            Ok(()) => Ok(()),
+            Ok(()) => Ok(is_clean(&self.scripts, &reported)),
             Err(_) => Err(ReportFault::Write),
         }
     }
+
     /// Writes the lines of a script's code and `ok`, or why there are none: there is no such script, or it has a fault.
     /// Where the writer fails, a front of that is written.
     pub fn dump<W: Sink>(&self, name: &ScriptName, writer: &mut W) -> Result<(), WriteFault>

@@ -12,8 +12,12 @@ mod report_lines;
 mod scripts;
 mod sought;
 mod test_end;
+mod test_job;
+mod testing;
 
 pub use bench::Bench;
 pub use dump::dump_text;
 pub use fault::{EditFault, ReportFault};
 pub use test_end::TestEnd;
+pub use test_job::{TestJob, TestScript};
+pub use testing::test_bench;

@@ -4,6 +4,7 @@ ghost use Rattle.std.specs.Option.{option_copied};
 ghost use Rattle.sieve_base.specs.Writers.{Wrote, WroteFront};
 ghost use Rattle.bench.specs.Report.{action_line, read_line, script_line, verdict_lines, message_lines, error_count, total_line, report_with, verdicts};
 ghost use Rattle.sieve_run.specs.Meter.{runs_after};
+ghost use Rattle.bench.specs.Test.{is_clean_with};
 ghost use Rattle.bench.specs.view.Entry.{messages_of};
 ghost use Rattle.bench.specs.view.Reported.{reported_of};
 
@@ -137,6 +138,13 @@ fn error_count(reported: &[Reported<'_>]) -> usize
         .iter()
         .filter(|one| one.outcome.error().is_some())
         .count()
+}
+
+/// Whether no script has a fault, and no verdict an error.
+pub(crate) fn is_clean(scripts: &Scripts, reported: &[Reported<'_>]) -> bool
+    ensures { result ≡ is_clean_with scripts.now (map reported_of reported.now) }
+{
+    scripts.are_sound() && error_count(reported) == 0
 }
 
 /// Writes a report with these verdicts.

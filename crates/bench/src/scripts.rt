@@ -2,7 +2,9 @@ ghost use Rattle.std.specs.Prelude.{◌≡◌, ◌≤◌, IfOk, length};
 ghost use Rattle.std.specs.BTreeMap.{is_at};
 ghost use Rattle.std.specs.Map.{lookup};
 ghost use Rattle.sieve_base.specs.Limits.{text_limit};
+ghost use Rattle.sieve_check.specs.Judgement.{judgement_of};
 ghost use Rattle.sieve_run.specs.Name.{name_cmp};
+ghost use Rattle.bench.specs.Test.{is_sound};
 
 use sieve_base::Octets;
 use sieve_run::{Found, Library, Script, ScriptName};
@@ -25,8 +27,16 @@ impl Model for Scripts {
     ghost view = { λ a. a.by_name.entries };
 }
 
+/// Whether a script has no fault.
+fn is_sound(script: &Script) -> bool
+    ensures { result ≡ is_sound (judgement_of script.now) }
+{
+    script.fault().is_none()
+}
+
 impl Scripts {
     ghost use Rattle.std.specs.Prelude.{OnOk, OnErr, is_some};
+    ghost use Rattle.std.specs.List.{list_all};
     ghost use Rattle.bench.specs.Content.{text_at, with_script, without_script, with_renamed};
 
     /// Whether there is a script of that name.
@@ -34,6 +44,13 @@ impl Scripts {
         ensures { result ≡ is_some (text_at self.now name.now) }
     {
         self.by_name.contains_key(name)
+    }
+
+    /// Whether no script has a fault.
+    pub(crate) fn are_sound(&self) -> bool
+        ensures { result ≡ list_all (λ e. is_sound (judgement_of e.1)) self.now }
+    {
+        self.by_name.iter().all(|(_, script)| is_sound(script))
     }
 
     /// Keeps a script at a name, in place of the one there. An error changes nothing.

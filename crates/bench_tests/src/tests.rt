@@ -16,6 +16,7 @@ mod refusals;
 mod reports;
 mod sessions;
 mod standard;
+mod test_jobs;
 mod usage;
 
 use sievebench::{Bench, Counted, Meter, Place, ScriptName, SessionEnd, Sink, Source, session};

@@ -7,7 +7,9 @@ mod server;
 mod status;
 mod task;
 
-pub use bench::{Bench, EditFault, ReportFault, TestEnd, dump_text};
+pub use bench::{
+    Bench, EditFault, ReportFault, TestEnd, TestJob, TestScript, dump_text, test_bench,
+};
 pub use command_line::{Argument, Job, UsageFault, command_of};
 pub use server::session;
 pub use sieve_base::{Counted, Faults, Octets, Place, Sink, Source};

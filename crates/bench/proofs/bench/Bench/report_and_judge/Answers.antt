@@ -5,7 +5,7 @@ use Rattle.sieve_run.specs.Verdict.{Verdict}
 use Rattle.bench.specs.Content.{Content}
 use Rattle.bench.specs.Report.{report_with, report_text, verdicts}
 use Rattle.bench.specs.view.Entry.{messages_of}
-use Rattle.bench.proofs.bench.Bench.report.Goals as goal
+use Rattle.bench.proofs.bench.Bench.report_and_judge.Goals as goal
 
 -- the report of a content's main script and verdicts is the report of the content
 whole_report : (content : Content) (main : Option ScriptName) (judged : List (List ℕ × Verdict))

@@ -1,0 +1,61 @@
+-- Worked rows of what the edits of a job make of a new bench, and which of their refusals is the first.
+use Rattle.std.proofs.Common.{◌≡◌, ℕ, Bool, true, List, [], ◌∷◌, ◌++◌, ◌||◌, length, map, nat_lt, replicate, codes, if◌then◌else◌, None, Some, Ok, Err, fold, refl, ap, ◌∙◌}
+use Rattle.sieve_base.specs.Limits.{address_limit}
+use Rattle.sieve_base.specs.Octet.{octet_of}
+use Rattle.sieve_base.specs.declared.place.Place.TheVariants.{Personal}
+use Rattle.sieve_run.specs.declared.name.ScriptName.{ScriptName}
+use Rattle.bench.specs.Content.{Content, Edit, new_content, put_script, put_message, set_main, set_envelope, set_mailbox, unless}
+use Rattle.bench.specs.Test.{after_all, made_by, put_of, then_edit}
+use Rattle.bench.specs.declared.fault.EditFault.TheVariants.{TooLarge, Full}
+use Rattle.bench.specs.declared.test_job.TestJob.{TestJob}
+use Rattle.bench.proofs.Jobs.{refusal_stays}
+
+abbrev personal : List ℕ → ScriptName
+personal name = record { place = Personal; name = name }
+
+abbrev main : ScriptName
+main = personal (codes "main")
+
+abbrev other : ScriptName
+other = personal (codes "a")
+
+-- so many octets
+abbrev many : ℕ → List ℕ
+many count = replicate count (octet_of "n")
+
+-- scripts stand in the order of their names, and the last of a name is the one that is there
+made_row : after_all new_content (set_envelope (codes "a@b.example") [] ∷ set_mailbox (codes "Box") ∷ put_script main (codes "kep;") ∷ put_script other (codes "stop;")
+    ∷ put_script main (codes "keep;") ∷ set_main main ∷ put_message (codes "m") (codes "x") ∷ [])
+    ≡ Ok (record {
+      main = Some main;
+      envelope = record { from = codes "a@b.example"; to = []; mailbox = codes "Box" };
+      scripts = (other, codes "stop;") ∷ (main, codes "keep;") ∷ [];
+      messages = (codes "m", codes "x") ∷ [];
+    })
+made_row = refl
+
+-- a bench that has no room for a new script
+abbrev crowded : Content
+crowded = record new_content { scripts = replicate 1024 (other, []) }
+
+-- the main script's name is looked at only behind the scripts
+full_row : after_all crowded (put_script main [] ∷ set_main (personal (many 1025)) ∷ put_message (many 1025) [] ∷ []) ≡ Err Full
+full_row = refl
+
+-- and the mailbox before them
+too_large_row : after_all crowded (set_mailbox (many 256) ∷ put_script main [] ∷ []) ≡ Err TooLarge
+too_large_row = refl
+
+-- a text past its limit is refused before there is room for it
+replaced_row : after_all crowded (put_script (personal (many 1025)) [] ∷ []) ≡ Err TooLarge
+replaced_row = refl
+
+refused_first : (long other : Bool) (content : Content) (edits : List Edit) → long ≡ true → fold then_edit (unless (if long || other then Some TooLarge else None) content) edits ≡ Err TooLarge
+refused_first long other content edits is = ap (λ b. fold then_edit (unless (if b || other then Some TooLarge else None) content) edits) is ∙ refusal_stays TooLarge edits
+
+-- a job whose sender has too many octets is too large, however many scripts it has
+long_sender_row : (job : TestJob) → nat_lt address_limit (length job.from) ≡ true → made_by job ≡ Err TooLarge
+unfolding made_by
+long_sender_row job long =
+    refused_first (nat_lt address_limit (length job.from)) (nat_lt address_limit (length job.to)) (record new_content { envelope = record { from = job.from; to = job.to; mailbox = codes "INBOX" } })
+    (set_mailbox job.mailbox ∷ (map put_of job.scripts.items ++ set_main job.main ∷ put_message job.id job.message ∷ [])) long

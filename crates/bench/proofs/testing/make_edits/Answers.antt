@@ -1,0 +1,12 @@
+use Rattle.std.proofs.Common.{[], ◌∷◌, ◌++◌, map, rules}
+use Rattle.bench.specs.Content.{put_message, set_envelope, set_mailbox, set_main}
+use Rattle.bench.specs.Test.{after_all, put_of}
+use Rattle.bench.proofs.Jobs.{still_refused}
+use Rattle.bench.proofs.testing.make_edits.Goals as goal
+
+pub returns-in_err-set_delivery-clause-err : goal.returns-in_err-set_delivery-clause-err
+returns-in_err-set_delivery-clause-err c =
+    let job = c.args.job.now in
+    let refused = still_refused c.in_err-set_delivery.field-0.0 (after_all c.args.bench.now.content (set_envelope job.from job.to ∷ set_mailbox job.mailbox ∷ []))
+        (map put_of job.scripts.items ++ set_main job.main ∷ put_message job.id job.message ∷ []) c.in_err-set_delivery.ensures.err in
+    search (rules, refused)

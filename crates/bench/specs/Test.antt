@@ -1,0 +1,77 @@
+-- The test of a message: the edits that a job makes of a new bench, and how the report of that bench ends.
+use Rattle.std.specs.Prelude.{◌≡◌, ⊤, ℕ, Bool, true, false, ◌&&◌, ◌==◌, if◌then◌else◌, List, [], ◌∷◌, ◌++◌, map, fold, Result, Ok, Err, IsOkAnd}
+use Rattle.std.specs.List.{list_all}
+use Rattle.sieve_check.specs.Judgement.{Judgement, judgement_of, sound, faulty}
+use Rattle.sieve_run.specs.Meter.{next_run}
+use Rattle.sieve_run.specs.Verdict.{Verdict}
+use Rattle.sieve_run.specs.declared.name.ScriptName.{ScriptName}
+use Rattle.bench.specs.Content.{Content, Edit, after, new_content, put_script, put_message, set_main, set_envelope, set_mailbox}
+use Rattle.bench.specs.Report.{error_count, report_text, verdicts}
+use Rattle.bench.specs.declared.fault.EditFault.{EditFault}
+use Rattle.bench.specs.declared.fault.EditFault.TheVariants as edit
+use Rattle.bench.specs.declared.test_end.TestEnd.{TestEnd}
+use Rattle.bench.specs.declared.test_end.TestEnd.TheVariants as test
+use Rattle.bench.specs.declared.test_job.TestJob.{TestJob}
+use Rattle.bench.specs.declared.test_job.TestScript.{TestScript}
+
+-- THE EDITS OF A JOB
+
+-- the edit that a script of a job is
+abbrev pub put_of : TestScript → Edit
+put_of script = put_script script.name script.text
+
+-- the edits of a job, in the order in which they are made
+abbrev pub edits_of : TestJob → List Edit
+edits_of job =
+    set_envelope job.from job.to ∷ set_mailbox job.mailbox ∷ (map put_of job.scripts.items ++ set_main job.main ∷ put_message job.id job.message ∷ [])
+
+-- one edit more, unless one before it was refused
+abbrev pub then_edit : Result Content EditFault → Edit → Result Content EditFault
+then_edit (Ok content) edit = after content edit
+then_edit (Err refusal) edit = Err refusal
+
+-- what edits in turn make of a content, or the refusal of the first one that is refused
+abbrev pub after_all : Content → List Edit → Result Content EditFault
+after_all content edits = fold then_edit (Ok content) edits
+
+-- what the edits of a job make of a new bench, or the first refusal
+unfoldable pub made_by : TestJob → Result Content EditFault
+made_by job = after_all new_content (edits_of job)
+
+-- HOW ITS REPORT ENDS
+
+-- whether a script's line of a report says `ok`
+abbrev pub is_sound : Judgement → Bool
+is_sound (sound tree) = true
+is_sound (faulty line kind) = false
+
+-- whether a report of scripts with these verdicts has nothing to complain of: each script's line says `ok`, and no message has an error
+abbrev pub is_clean_with : List (ScriptName × List ℕ) → List (List ℕ × Verdict) → Bool
+is_clean_with scripts judged = list_all (λ e. is_sound (judgement_of e.1)) scripts && (error_count judged == 0)
+
+-- whether the report of a content has
+unfoldable pub is_clean : Content → Bool
+is_clean content = is_clean_with content.scripts (verdicts content.main content.envelope content.scripts content.messages)
+
+-- how a test ends whose report is written
+abbrev pub test_end_of : Content → TestEnd
+test_end_of content = if is_clean content then test.Clean else test.Faulty
+
+-- What an end says, where `whole` says that a text was written, `front` that a front of it was, and `nothing` that nothing was: that this was so of the
+-- report of what the edits of the job make, and the end is the due one; that their first refusal is this one; or that the writer failed, or memory was refused.
+abbrev pub TestEnds : TestEnd → TestJob → (List ℕ → Type 0) → (List ℕ → Type 0) → Type 0 → Type 0
+TestEnds test.Clean job whole front nothing = IsOkAnd (made_by job) (λ content. (test_end_of content ≡ test.Clean) × whole (report_text content))
+TestEnds test.Faulty job whole front nothing = IsOkAnd (made_by job) (λ content. (test_end_of content ≡ test.Faulty) × whole (report_text content))
+TestEnds test.TooLarge job whole front nothing = (made_by job ≡ Err edit.TooLarge) × nothing
+TestEnds test.Full job whole front nothing = (made_by job ≡ Err edit.Full) × nothing
+TestEnds test.Write job whole front nothing = IsOkAnd (made_by job) (λ content. front (report_text content))
+TestEnds test.NoMemory job whole front nothing = nothing
+
+-- How many runs were made by an end: one where a report was made, and none where an edit was refused. Memory may have been refused before the run or in it.
+abbrev pub TestRuns : TestEnd → ℕ → ℕ → Type 0
+TestRuns test.Clean old new = new ≡ next_run old
+TestRuns test.Faulty old new = new ≡ next_run old
+TestRuns test.TooLarge old new = new ≡ old
+TestRuns test.Full old new = new ≡ old
+TestRuns test.Write old new = new ≡ next_run old
+TestRuns test.NoMemory old new = ⊤

@@ -1,0 +1,106 @@
+//! Tests a message by a bench that is made for it.
+ghost use Rattle.std.specs.Prelude.{◌≡◌, [], ◌∷◌, IfErr, IfOk, Ok, OnOk, length, map};
+ghost use Rattle.sieve_base.specs.Writers.{Wrote, WroteFront};
+ghost use Rattle.bench.specs.Content.{put_message, set_envelope, set_mailbox, set_main};
+ghost use Rattle.bench.specs.Test.{TestEnds, TestRuns, after_all, edits_of, made_by, put_of};
+ghost use Rattle.bench.specs.view.Refused.{Refused};
+ghost use Rattle.bench.specs.view.Tested.{ReportEnds};
+
+use crate::bench::Bench;
+use crate::fault::{EditFault, ReportFault};
+use crate::test_end::TestEnd;
+use crate::test_job::{TestJob, TestScript};
+use sieve_base::Sink;
+use sieve_run::Meter;
+use std::alloc::Global;
+
+/// Makes the settings of a job: the addresses, then the mailbox.
+fn set_delivery(bench: &mut Bench, job: &TestJob) -> Result<(), EditFault>
+    ensures ok { OnOk result (after_all bench.old.content (set_envelope job.now.from job.now.to ∷ set_mailbox job.now.mailbox ∷ []) ≡ Ok bench.new.content) }
+    ensures err { IfErr result (λ fault. Refused fault (after_all bench.old.content (set_envelope job.now.from job.now.to ∷ set_mailbox job.now.mailbox ∷ []))) }
+{
+    bench.set_envelope(job.from.as_slice(), job.to.as_slice())?;
+    bench.set_mailbox(job.mailbox.as_slice())
+}
+
+/// Puts the scripts of a job, in their order.
+fn put_scripts(bench: &mut Bench, scripts: &[TestScript]) -> Result<(), EditFault>
+    ensures ok { OnOk result (after_all bench.old.content (map put_of scripts.now) ≡ Ok bench.new.content) }
+    ensures err { IfErr result (λ fault. Refused fault (after_all bench.old.content (map put_of scripts.now))) }
+{
+    for script in scripts {
+        bench.put_script(&script.name, script.text.as_slice())?;
+    }
+    Ok(())
+}
+
+/// Names the script of a job that is run, then puts its message.
+fn put_sample(bench: &mut Bench, job: &TestJob) -> Result<(), EditFault>
+    ensures ok { OnOk result (after_all bench.old.content (set_main job.now.main ∷ put_message job.now.id job.now.message ∷ []) ≡ Ok bench.new.content) }
+    ensures err { IfErr result (λ fault. Refused fault (after_all bench.old.content (set_main job.now.main ∷ put_message job.now.id job.now.message ∷ []))) }
+{
+    bench.set_main(&job.main)?;
+    bench.put_message(&job.id, job.message.as_slice())
+}
+
+/// Makes the edits of a job on a bench.
+fn make_edits(bench: &mut Bench, job: &TestJob) -> Result<(), EditFault>
+    ensures ok { OnOk result (after_all bench.old.content (edits_of job.now) ≡ Ok bench.new.content) }
+    ensures err { IfErr result (λ fault. Refused fault (after_all bench.old.content (edits_of job.now))) }
+{
+    set_delivery(bench, job)?;
+    put_scripts(bench, &job.scripts)?;
+    put_sample(bench, job)
+}
+
+/// A new bench with the edits of a job.
+#[tactic(auto, unfolding(crate::specs::Test::made_by))]
+fn bench_of(alloc: Global, job: &TestJob) -> Result<Bench, EditFault>
+    ensures ok { IfOk result (λ bench. made_by job.now ≡ Ok bench.content) }
+    ensures err { IfErr result (λ fault. Refused fault (made_by job.now)) }
+{
+    let mut bench = Bench::new(alloc)?;
+    make_edits(&mut bench, job)?;
+    Ok(bench)
+}
+
+/// Writes the report of a bench, and says how that ends.
+fn report_end<W: Sink>(bench: &mut Bench, meter: &mut Meter, writer: &mut W) -> TestEnd
+    requires { length bench.old.content.messages ≡ 1 }
+    ensures ends { ReportEnds result bench.old.content (Wrote W.contents W.fault_count writer.old writer.new)
+        (WroteFront W.contents W.fault_count writer.old writer.new) (writer.new ≡ writer.old) }
+    ensures runs { TestRuns result meter.old meter.new }
+{
+    match bench.report_and_judge(meter, writer) {
+        Ok(true) => TestEnd::Clean,
+        Ok(false) => TestEnd::Faulty,
+        Err(ReportFault::Write) => TestEnd::Write,
+        Err(ReportFault::NoMemory) => TestEnd::NoMemory,
+    }
+}
+
+/// Makes the edits of a job on a new bench, in the order envelope, mailbox, scripts, main script, message, and writes the report of that bench.
+///
+/// `Clean` says that the report was written, that no script has a fault, and that the message has no error; `Faulty` that it was written and one of them has.
+/// `TooLarge` and `Full` are the refusal of the first edit that is refused; nothing was written. `Write`: the writer failed, and a front of the report was
+/// written. `NoMemory`: memory was refused to the bench, an edit or the report; nothing was written. The meter counts one run for a report.
+pub fn test_bench<W: Sink>(
+    alloc: Global,
+    job: &TestJob,
+    meter: &mut Meter,
+    writer: &mut W,
+) -> TestEnd
+    ensures ends { TestEnds result job.now (Wrote W.contents W.fault_count writer.old writer.new)
+        (WroteFront W.contents W.fault_count writer.old writer.new) (writer.new ≡ writer.old) }
+    ensures runs { TestRuns result meter.old meter.new }
+{
+    match bench_of(alloc, job) {
+        Ok(mut bench) => report_end(&mut bench, meter, writer),
+        Err(EditFault::TooLarge) => TestEnd::TooLarge,
+        Err(EditFault::Full) => TestEnd::Full,
+        Err(EditFault::NoMemory) => TestEnd::NoMemory,
+        Err(EditFault::NoSuchScript | EditFault::NameTaken | EditFault::NoSuchMessage) => {
+            unreachable!("a job removes and renames nothing")
+        }
+    }
+}
