@@ -11,8 +11,7 @@ use Rattle.clap.specs.Simple.{argument_words, built, entered, label_of, names_of
 use Rattle.clap.specs.Faults.{built_fault, check_fault, defaults_fault, entered_fault, settle_fault}
 use Rattle.clap.specs.Facts.{explicit_source}
 use Rattle.clap.specs.Takes.{is_given}
-use Rattle.command_line.specs.CommandLine.{dump_shape, script_rule, session_shape, job_of, the_app, top_app, value_in}
-use Rattle.command_line.specs.declared.words.Job.TheVariants as job
+use Rattle.command_line.specs.CommandLine.{dump_shape, letter_rule, name_rule, path_rule, session_shape, test_shape, job_named, job_of, the_app, top_app}
 use Rattle.clap.specs.Lexer.{long_of}
 use Rattle.clap.specs.declared.error.kind.ErrorKind.{ErrorKind}
 use Rattle.clap.specs.Faults.{other_fault, step_fault, turn_fault, walk_fault, word_fault}
@@ -156,44 +155,53 @@ not_answering name other answers =
     let is_help : codes "help" ≡ name = (bytes_eq-Decides (codes "help") name).0 (or_false _ answers) in
     false≢true (sym other ∙ ap (λ n. bytes_eq n (codes "help")) (sym is_help))
 
--- of three subcommands one of the first two was met, where the third was not
-one_met : (x y z : Bool) (first second third : Shape) (rest : List Text) → (z ≡ true → ⊥) → bytes_eq first.name (codes "session") ≡ true
-    → bytes_eq second.name (codes "session") ≡ false → bytes_eq second.name (codes "dump") ≡ true
-    → is_some (option_map (λ s. rows_at s rest) (cond x (Some first) (cond y (Some second) (cond z (Some third) None)))) ≡ true
-    → is_some (job_of (option_map (λ s. rows_at s rest) (cond x (Some first) (cond y (Some second) (cond z (Some third) None))))) ≡ true
-one_met true y z first second third rest other is_session not_session is_dump met =
-    let value = value_in (rows_at first rest).1 (codes "script") in
-    ap (λ b. is_some (cond b (Some job.Session) (cond (bytes_eq first.name (codes "dump")) (Some (job.Dump value)) None))) is_session
-one_met false true z first second third rest other is_session not_session is_dump met =
-    let value = value_in (rows_at second rest).1 (codes "script") in
-    ap₂ (λ a b. is_some (cond a (Some job.Session) (cond b (Some (job.Dump value)) None))) not_session is_dump
-one_met false false true first second third rest other is_session not_session is_dump met = absurd (other refl)
-one_met false false false first second third rest other is_session not_session is_dump met = absurd (cc)
+-- of four subcommands one of the first three was met, where the fourth was not; each has its own name
+abbrev AreNamed : Shape → Shape → Shape → Type 0
+AreNamed first second third = (first.name ≡ codes "session") × (second.name ≡ codes "dump") × (third.name ≡ codes "test")
 
-job_met : (first second third : Shape) (top : Shape) (stop : Option (Text × List Text)) → first.name ≡ codes "session" → second.name ≡ codes "dump"
-    → third.name ≡ codes "help" → third.aliases ≡ [] → StopsElsewhere stop
-    → is_some (entered record { top = top; subs = first ∷ second ∷ third ∷ [] } stop) ≡ true
-    → is_some (job_of (entered record { top = top; subs = first ∷ second ∷ third ∷ [] } stop)) ≡ true
-job_met first second third top None is_first is_second is_third no_alias elsewhere met = absurd (cc)
-job_met first second third top (Some p) is_first is_second is_third no_alias elsewhere met =
-    one_met (answers_to p.0 (label_of first)) (answers_to p.0 (label_of second)) (answers_to p.0 (label_of third)) first second third p.1
-    (λ answers. not_answering p.0 elsewhere (sym (ap₂ (λ (n : Text) (alias : List Text). answers_to p.0 (n, alias)) is_third no_alias) ∙ answers))
-    (ap (λ n. bytes_eq n (codes "session")) is_first) (ap (λ n. bytes_eq n (codes "session")) is_second)
-    (ap (λ n. bytes_eq n (codes "dump")) is_second) met
+-- the subcommand of four that answers, with what it makes of the words
+abbrev one_of_four : Bool → Bool → Bool → Bool → Shape → Shape → Shape → Shape → List Text → Option (Text × List Row)
+one_of_four x y z w first second third fourth rest =
+    option_map (λ s. rows_at s rest) (cond x (Some first) (cond y (Some second) (cond z (Some third) (cond w (Some fourth) None))))
 
--- the same of a program that has these three
-job_in : (a : App) (first second third : Shape) (stop : Option (Text × List Text)) → a.subs ≡ first ∷ second ∷ third ∷ [] → first.name ≡ codes "session"
-    → second.name ≡ codes "dump" → third.name ≡ codes "help" → third.aliases ≡ [] → StopsElsewhere stop → is_some (entered a stop) ≡ true
+job_at : (name : Text) (rows : List Row) (wanted : Text) → name ≡ wanted → is_some (job_named wanted rows) ≡ true → is_some (job_named name rows) ≡ true
+job_at name rows wanted is named = ap (λ n. is_some (job_named n rows)) is ∙ named
+
+one_met : (x y z w : Bool) (first second third fourth : Shape) (rest : List Text) → (w ≡ true → ⊥) → AreNamed first second third
+    → is_some (one_of_four x y z w first second third fourth rest) ≡ true → is_some (job_of (one_of_four x y z w first second third fourth rest)) ≡ true
+one_met true y z w first second third fourth rest other named met = job_at first.name (rows_at first rest).1 (codes "session") named.0 refl
+one_met false true z w first second third fourth rest other named met = job_at second.name (rows_at second rest).1 (codes "dump") named.1 refl
+one_met false false true w first second third fourth rest other named met = job_at third.name (rows_at third rest).1 (codes "test") named.2 refl
+one_met false false false true first second third fourth rest other named met = absurd (other refl)
+one_met false false false false first second third fourth rest other named met = absurd (cc)
+
+-- a program that has these four
+abbrev four : Shape → Shape → Shape → Shape → Shape → App
+four top first second third fourth = record { top = top; subs = first ∷ second ∷ third ∷ fourth ∷ [] }
+
+job_met : (first second third fourth : Shape) (top : Shape) (stop : Option (Text × List Text)) → AreNamed first second third
+    → fourth.name ≡ codes "help" → fourth.aliases ≡ [] → StopsElsewhere stop → is_some (entered (four top first second third fourth) stop) ≡ true
+    → is_some (job_of (entered (four top first second third fourth) stop)) ≡ true
+job_met first second third fourth top None named is_fourth no_alias elsewhere met = absurd (cc)
+job_met first second third fourth top (Some p) named is_fourth no_alias elsewhere met =
+    one_met (answers_to p.0 (label_of first)) (answers_to p.0 (label_of second)) (answers_to p.0 (label_of third)) (answers_to p.0 (label_of fourth))
+    first second third fourth p.1
+    (λ answers. not_answering p.0 elsewhere (sym (ap₂ (λ (n : Text) (alias : List Text). answers_to p.0 (n, alias)) is_fourth no_alias) ∙ answers))
+    named met
+
+-- the same of any program that has these four
+job_in : (a : App) (first second third fourth : Shape) (stop : Option (Text × List Text)) → a.subs ≡ first ∷ second ∷ third ∷ fourth ∷ []
+    → AreNamed first second third → fourth.name ≡ codes "help" → fourth.aliases ≡ [] → StopsElsewhere stop → is_some (entered a stop) ≡ true
     → is_some (job_of (entered a stop)) ≡ true
-job_in a first second third stop all is_first is_second is_third no_alias elsewhere =
+job_in a first second third fourth stop all named is_fourth no_alias elsewhere =
     let IsNamed : List Shape → Type 0 = λ subs. is_some (entered record { top = a.top; subs = subs } stop) ≡ true
     → is_some (job_of (entered record { top = a.top; subs = subs } stop)) ≡ true in
-    subst IsNamed (sym all) (job_met first second third a.top stop is_first is_second is_third no_alias elsewhere)
+    subst IsNamed (sym all) (job_met first second third fourth a.top stop named is_fourth no_alias elsewhere)
 
 -- where the program takes the words, they name a job
 pub always_named : (words : List Text) → fault_of the_app words ≡ [] → is_some (job_of (subcommand_of the_app words)) ≡ true
-unfolding the_app top_app session_shape dump_shape script_rule
+unfolding the_app top_app session_shape dump_shape test_shape path_rule letter_rule name_rule
 always_named words none =
-    job_in (built the_app) _ _ _ (stop_in (built the_app) (argument_words the_app words)) refl refl refl refl refl
+    job_in (built the_app) _ _ _ _ (stop_in (built the_app) (argument_words the_app words)) refl (refl, refl, refl) refl refl
     (built_stops (built the_app) (argument_words the_app words) refl none)
     (built_enters (built the_app) (argument_words the_app words) refl none)

@@ -1,5 +1,6 @@
 -- What the words of a command line ask for.
-use Rattle.std.specs.Prelude.{◌≡◌, ◌≢◌, Bool, true, false, List, [], ◌∷◌, Option, Some, None, codes, if◌then◌else◌, unwrap_or}
+use Rattle.std.specs.Prelude.{◌≡◌, ◌≢◌, ℕ, Bool, true, false, List, [], ◌∷◌, Option, Some, None, codes, if◌then◌else◌, unwrap_or}
+use Prim.Native.Char.{code}
 use Rattle.std.specs.Str.{bytes_eq}
 use Rattle.clap.specs.Words.{App, IsAmong, Kinds, Row, Shape, Text, fault_of, new_app, subcommand_of, with_subcommand}
 use Rattle.clap.specs.Simple.{new_rule, new_shape, on_top}
@@ -15,31 +16,52 @@ use Rattle.command_line.specs.declared.words.UsageFault.TheVariants.{Usage, NoMe
 unfoldable pub session_shape : Shape
 session_shape = new_shape (codes "session")
 
--- the path of a script, which must be there; help calls its one value by one name
-unfoldable pub script_rule : Rule
-script_rule = record (new_rule (codes "script")) { value_names = 1; required = true }
+-- a path that must be there; help calls its one value by one name
+unfoldable pub path_rule : Text → Rule
+path_rule id = record (new_rule id) { value_names = 1; required = true }
+
+-- an option with one value: a letter names it, as `-f ADDRESS`
+unfoldable pub letter_rule : Text → ℕ → Rule
+letter_rule id letter = record (new_rule id) { short = Some letter; value_names = 1 }
+
+-- an option with one value: its name names it, as `--to ADDRESS`
+unfoldable pub name_rule : Text → Rule
+name_rule name = record (new_rule name) { long = Some name; value_names = 1 }
 
 -- `dump SCRIPT`
 unfoldable pub dump_shape : Shape
-dump_shape = record (new_shape (codes "dump")) { rules = script_rule ∷ [] }
+dump_shape = record (new_shape (codes "dump")) { rules = path_rule (codes "script") ∷ [] }
 
--- the program, which wants a subcommand
+-- `test [-f ADDRESS] [--to ADDRESS] [-m BOX] [--personal DIR] [--global DIR] SCRIPT MAIL`
+unfoldable pub test_shape : Shape
+test_shape = record (new_shape (codes "test")) {
+  rules = letter_rule (codes "from") (code "f") ∷ name_rule (codes "to") ∷ letter_rule (codes "mailbox") (code "m")
+      ∷ name_rule (codes "personal") ∷ name_rule (codes "global") ∷ path_rule (codes "script") ∷ path_rule (codes "mail") ∷ [];
+}
+
+-- the program, which wants a subcommand and has a version
 unfoldable pub top_app : App
-top_app = on_top (λ s. record s { subcommand_required = true; arg_required_else_help = true }) (new_app (codes "sievebench"))
+top_app = on_top (λ s. record s { has_version = true; subcommand_required = true; arg_required_else_help = true }) (new_app (codes "sievebench"))
 
 -- the program and its subcommands
 unfoldable pub the_app : App
-the_app = with_subcommand (with_subcommand top_app session_shape) dump_shape
+the_app = with_subcommand (with_subcommand (with_subcommand top_app session_shape) dump_shape) test_shape
 
 -- the value of an argument that must be there: where nothing is wrong it has one, and the empty text stands for none
 abbrev pub value_in : List Row → Text → Text
 value_in rows argument = unwrap_or (first_of argument rows) []
+
+-- the job of `test` with these matches: each word is the value of its own argument
+abbrev pub test_job : List Row → Job
+test_job rows = job.Test (first_of (codes "from") rows) (first_of (codes "to") rows) (first_of (codes "mailbox") rows)
+    (first_of (codes "personal") rows) (first_of (codes "global") rows) (value_in rows (codes "script")) (value_in rows (codes "mail"))
 
 -- the job of a subcommand of this name with these matches
 abbrev pub job_named : Text → List Row → Option Job
 job_named name rows =
     if bytes_eq name (codes "session") then Some job.Session
     else if bytes_eq name (codes "dump") then Some (job.Dump (value_in rows (codes "script")))
+    else if bytes_eq name (codes "test") then Some (test_job rows)
     else None
 
 -- the job of the subcommand that was met

@@ -2,6 +2,8 @@
 #![tactic(auto)]
 
 mod argument;
+mod commands;
+mod help;
 mod words;
 
 pub use argument::Argument;

@@ -1,14 +1,13 @@
 //! What the words of a command line ask for.
 ghost use Rattle.std.specs.Prelude.{◌≡◌, ◌↔◌, IfOk, IfErr, IfSome, Some, false, true, map, IsTrue, option_map, IsSome, IsOkUnless, codes};
-ghost use Rattle.clap.specs.Words.{app_of, fault_of, kind_of, rows_of, shape_of, subcommand_rows_of};
+ghost use Rattle.clap.specs.Words.{fault_of, first_of, kind_of, rows_of, subcommand_rows_of};
 ghost use Rattle.clap.specs.Matches.{found_of};
-ghost use Rattle.clap.specs.Walk.{rule_of};
-ghost use Rattle.clap.specs.declared.builder.command.Command.TheViews.{out-Command};
-ghost use Rattle.command_line.specs.CommandLine.{the_app, top_app, dump_shape, script_rule, session_shape, job_named, job_of, named_job, value_in, IsFaultFor, IsRefusalFor};
+ghost use Rattle.command_line.specs.CommandLine.{the_app, job_named, job_of, named_job, test_job, value_in, IsFaultFor, IsRefusalFor};
 
 use crate::argument::Argument;
+use crate::commands::program;
 use clap::error::ErrorKind;
-use clap::{Arg, ArgMatches, Command, Error};
+use clap::{ArgMatches, Error};
 use std::alloc::{AllocError, Global};
 use std::convert::AsStr;
 
@@ -21,6 +20,23 @@ pub enum Job {
     Dump {
         /// The file's path.
         script: Argument,
+    },
+    /// To print the report of a script and a message in files.
+    Test {
+        /// The sender's address in the envelope (RFC 5228, 5.4).
+        from: Option<Argument>,
+        /// The recipient's address in the envelope.
+        to: Option<Argument>,
+        /// The mailbox that mail is kept in.
+        mailbox: Option<Argument>,
+        /// The path of a folder of personal scripts (RFC 6609, 3.2).
+        personal: Option<Argument>,
+        /// The path of a folder of global scripts.
+        global: Option<Argument>,
+        /// The path of the main script.
+        script: Argument,
+        /// The path of the message.
+        mail: Argument,
     },
 }
 
@@ -46,57 +62,6 @@ impl From<AllocError> for UsageFault {
     }
 }
 
-// The subcommand `session`.
-fn session_command<'a>(alloc: Global) -> Command<'a>
-    ensures shape { shape_of result ≡ session_shape }
-    ensures local { (out-Command result).has_globals ≡ false }
-{
-    Command::new(alloc, "session").about(
-        "Reads a session from standard input and writes its replies to standard output",
-    )
-}
-
-// The path of a script.
-fn script_argument<'a>(alloc: Global) -> Arg<'a>
-    ensures rule { rule_of result ≡ script_rule }
-    ensures local { result.global ≡ false }
-{
-    Arg::new(alloc, "script")
-        .value_name("SCRIPT")
-        .help("The file that the script is in")
-        .required(true)
-}
-
-// The subcommand `dump`.
-fn dump_command<'a>(alloc: Global) -> Result<Command<'a>, AllocError>
-    ensures shape { IfOk result (λ command. shape_of command ≡ dump_shape) }
-    ensures local { IfOk result (λ command. (out-Command command).has_globals ≡ false) }
-{
-    Command::new(alloc, "dump")
-        .about("Prints the code that a script is compiled to, or the line of its first fault")
-        .arg(script_argument(alloc))
-}
-
-// The program, which wants a subcommand. Its usage has this name, whatever its file is called.
-fn top_command<'a>(alloc: Global) -> Result<Command<'a>, AllocError>
-    ensures { IfOk result (λ command. app_of command ≡ top_app) }
-{
-    Command::new(alloc, "sievebench")
-        .about("Runs Sieve scripts against sample messages and prints what would happen")
-        .subcommand_required(true)
-        .arg_required_else_help(true)
-        .bin_name("sievebench")
-}
-
-// The program and its subcommands.
-fn program<'a>(alloc: Global) -> Result<Command<'a>, AllocError>
-    ensures { IfOk result (λ command. app_of command ≡ the_app) }
-{
-    top_command(alloc)?
-        .subcommand(session_command(alloc))?
-        .subcommand(dump_command(alloc)?)
-}
-
 // What `clap` answers in place of matches, for the user.
 fn usage_fault(alloc: Global, error: &Error) -> UsageFault
     ensures memory { kind_of error.now ≡ ErrorKind.OutOfMemory → result ≡ UsageFault.NoMemory }
@@ -114,11 +79,40 @@ fn usage_fault(alloc: Global, error: &Error) -> UsageFault
     }
 }
 
-// The path of a script among the words of a subcommand, which requires it.
-fn script_in(alloc: Global, matches: &ArgMatches<'_>) -> Result<Argument, AllocError>
-    ensures { IfOk result (λ script. script ≡ value_in (rows_of (found_of matches.now)) (codes "script")) }
+// The value of an argument that a subcommand requires.
+fn required_in(alloc: Global, matches: &ArgMatches<'_>, id: &str) -> Result<Argument, AllocError>
+    ensures { IfOk result (λ value. value ≡ value_in (rows_of (found_of matches.now)) id.now) }
 {
-    Argument::copied(alloc, matches.get_str("script").unwrap_or(""))
+    Argument::copied(alloc, matches.get_str(id).unwrap_or(""))
+}
+
+// The value of an option, where it is given.
+fn option_in(
+    alloc: Global,
+    matches: &ArgMatches<'_>,
+    id: &str,
+) -> Result<Option<Argument>, AllocError>
+    ensures { IfOk result (λ value. value ≡ first_of id.now (rows_of (found_of matches.now))) }
+{
+    match matches.get_str(id) {
+        Some(text) => Ok(Some(Argument::copied(alloc, text)?)),
+        None => Ok(None),
+    }
+}
+
+// The job of `test` with these matches.
+fn test_job(alloc: Global, matches: &ArgMatches<'_>) -> Result<Job, AllocError>
+    ensures { IfOk result (λ job. job ≡ test_job (rows_of (found_of matches.now))) }
+{
+    Ok(Job::Test {
+        from: option_in(alloc, matches, "from")?,
+        to: option_in(alloc, matches, "to")?,
+        mailbox: option_in(alloc, matches, "mailbox")?,
+        personal: option_in(alloc, matches, "personal")?,
+        global: option_in(alloc, matches, "global")?,
+        script: required_in(alloc, matches, "script")?,
+        mail: required_in(alloc, matches, "mail")?,
+    })
 }
 
 // The job of a subcommand of that name with these matches.
@@ -128,8 +122,9 @@ fn job_named(alloc: Global, name: &str, matches: &ArgMatches<'_>) -> Result<Opti
     match name {
         "session" => Ok(Some(Job::Session)),
         "dump" => Ok(Some(Job::Dump {
-            script: script_in(alloc, matches)?,
+            script: required_in(alloc, matches, "script")?,
         })),
+        "test" => Ok(Some(test_job(alloc, matches)?)),
         _ => Ok(None),
     }
 }

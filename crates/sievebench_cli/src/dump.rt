@@ -1,10 +1,10 @@
 //! Prints the code of the script in a file.
 
-use crate::complain;
+use crate::complaints::{complain, complain_of};
 use crate::files::{octets_in, script_name};
 use crate::streams::Output;
+use sieve_base::Counted;
 use sieve_base::limits::MAX_TEXT;
-use sieve_base::{Counted, write_quoted};
 use sievebench::{End, Place, ScriptName, SessionEnd, TestEnd, dump_text, status_of};
 use std::alloc::{AllocError, Global};
 use std::io;
@@ -22,7 +22,7 @@ pub(crate) fn run_dump(rt: &(impl AllocGlobal + Files + Print + Eprint), path: &
             TestEnd::NoMemory,
         ),
         Err(_) => {
-            complain_of(rt, "cannot read", path);
+            complain_of(rt, "cannot read", path.as_bytes());
             return status_of(End::Session(SessionEnd::Read));
         }
     };
@@ -33,7 +33,7 @@ pub(crate) fn run_dump(rt: &(impl AllocGlobal + Files + Print + Eprint), path: &
 /// Says on standard error what went wrong, and answers the status.
 fn end_with(rt: &(impl AllocGlobal + Eprint), path: &str, end: TestEnd) -> u8 {
     match end {
-        TestEnd::TooLarge => complain_of(rt, "too large", path),
+        TestEnd::TooLarge => complain_of(rt, "too large", path.as_bytes()),
         TestEnd::Write => complain(rt, "cannot write"),
         TestEnd::NoMemory => complain(rt, "out of memory"),
         TestEnd::Clean | TestEnd::Faulty | TestEnd::Full => {}
@@ -61,21 +61,4 @@ fn dump_over<W: Write + Drop>(alloc: Global, path: &str, text: &[u8], output: W)
 fn named(alloc: Global, path: &str) -> Result<ScriptName, AllocError> {
     let name = Vec::from_slice(alloc, script_name(path).as_bytes())?;
     Ok(ScriptName::new(Place::Personal, name))
-}
-
-/// Says on standard error what is wrong with a file.
-fn complain_of(rt: &(impl AllocGlobal + Eprint), complaint: &str, path: &str) {
-    match quoted(rt.alloc(), path) {
-        Some(path) => {
-            let _ = eprintln!(rt; "sievebench: {complaint} {path}");
-        }
-        None => complain(rt, complaint),
-    }
-}
-
-/// A text in quotes, in visible characters of ASCII, if there is memory for it.
-fn quoted(alloc: Global, text: &str) -> Option<String> {
-    let mut writer = Counted::new(Vec::new(alloc));
-    write_quoted(text.as_bytes(), &mut writer).ok()?;
-    String::from_utf8(writer.into_inner()).ok()
 }

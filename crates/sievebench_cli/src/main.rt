@@ -1,12 +1,17 @@
 //! `sievebench`: runs Sieve scripts against sample messages and prints what would happen.
 #![tactic(auto)]
 
+mod complaints;
 mod dump;
 mod files;
+mod folder;
 mod streams;
+mod test_files;
+mod test_run;
 #[cfg(test)]
 mod tests;
 
+use complaints::complain;
 use dump::run_dump;
 use sieve_base::Counted;
 use sievebench::{Bench, End, Job, Meter, SessionEnd, UsageFault, command_of, session, status_of};
@@ -17,6 +22,8 @@ use std::process::ExitCode;
 use std::rt::{Env, Files};
 use std::{env, io};
 use streams::{Output, Replies, Requests};
+use test_files::TestWords;
+use test_run::run_test;
 
 // How many reads a session may make.
 const SESSION_TURNS: u64 = 1_000_000_000;
@@ -41,6 +48,28 @@ fn run(rt: &(impl Env + AllocGlobal + Input + Print + Eprint + Files)) -> u8 {
             status_of(End::Session(end))
         }
         Ok(Job::Dump { script }) => run_dump(rt, script.as_str()),
+        Ok(
+            Job::Test {
+                from,
+                to,
+                mailbox,
+                personal,
+                global,
+                script,
+                mail,
+            },
+        ) => {
+            let words = TestWords {
+                from,
+                to,
+                mailbox,
+                personal,
+                global,
+                script,
+                mail,
+            };
+            run_test(rt, &words)
+        }
         Err(fault) => answer_usage(rt, fault),
     }
 }
@@ -127,9 +156,4 @@ fn complaint_of(end: SessionEnd) -> Option<&'static str> {
         SessionEnd::NoMemory => Some("out of memory"),
         SessionEnd::Done | SessionEnd::Syntax | SessionEnd::Truncated => None,
     }
-}
-
-// Says on standard error what went wrong. Where that can't be written either, the status tells.
-fn complain(rt: &impl Eprint, complaint: &str) {
-    let _ = eprintln!(rt; "sievebench: {complaint}");
 }

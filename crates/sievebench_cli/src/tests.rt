@@ -5,3 +5,4 @@ mod dumps;
 mod machine;
 mod outputs;
 mod program;
+mod trials;

@@ -1,6 +1,6 @@
 //! Files that are made, and can be read and nothing else.
 
-use super::machine::{Given, Machine};
+use super::machine::{Given, Machine, Paths};
 use std::alloc::Allocator;
 use std::fs::{Metadata, OpenFile, OpenOptions};
 use std::io;
@@ -10,6 +10,24 @@ use std::rt::Files;
 /// What a file does that can be read alone.
 fn unsupported<T>() -> io::Result<T> {
     Err(io::Error::from(ErrorKind::Unsupported))
+}
+
+/// What is at a path.
+fn given_at<'a>(paths: Paths<'a>, path: &str) -> Option<Given<'a>> {
+    for (place, given) in paths {
+        if *place == path || is_under(place, path) {
+            return Some(*given);
+        }
+    }
+    None
+}
+
+/// Whether a place that ends in `*` stands for a path.
+fn is_under(place: &str, path: &str) -> bool {
+    match place.strip_suffix('*') {
+        Some(front) => path.starts_with(front),
+        None => false,
+    }
 }
 
 /// An open file.
@@ -64,18 +82,27 @@ impl<'a> Files for Machine<'a> {
     type Dir = Opened<'a>;
 
     fn open_file(&self, _how: &OpenOptions, path: &str) -> io::Result<Opened<'a>> {
-        match self.files.iter().find(|file| file.0 == path) {
-            Some((_, given)) => Ok(Opened { given: *given }),
-            None => Err(io::Error::from(ErrorKind::NotFound)),
+        match given_at(self.files, path) {
+            Some(given) => Ok(Opened { given }),
+            None => Err(io::Error::from(self.missing)),
         }
     }
 
-    fn open_dir(&self, _path: &str) -> io::Result<Opened<'a>> {
-        unsupported()
+    fn open_dir(&self, path: &str) -> io::Result<Opened<'a>> {
+        match given_at(self.folders, path) {
+            Some(given) => Ok(Opened { given }),
+            None => Err(io::Error::from(self.missing)),
+        }
     }
 
-    fn metadata(&self, _path: &str) -> io::Result<Metadata> {
-        unsupported()
+    fn metadata(&self, path: &str) -> io::Result<Metadata> {
+        if let Some(given) = given_at(self.files, path) {
+            return Ok(Metadata::of_file(given.octets.len() as u64));
+        }
+        match given_at(self.folders, path) {
+            Some(_) => Ok(Metadata::of_dir()),
+            None => Err(io::Error::from(ErrorKind::NotFound)),
+        }
     }
 
     fn symlink_metadata(&self, _path: &str) -> io::Result<Metadata> {

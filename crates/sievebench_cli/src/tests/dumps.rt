@@ -3,6 +3,7 @@
 use super::machine::{Given, Machine, Room, Written};
 use super::program::{check_kept, whole};
 use crate::run;
+use std::io::ErrorKind;
 use std::process::Abort;
 use std::test::Fail;
 
@@ -22,6 +23,8 @@ fn check_dump(
         words: &[b"sievebench", b"dump", path.as_bytes()],
         input: whole(b""),
         files,
+        folders: &[],
+        missing: ErrorKind::NotFound,
         room: Room::of(room),
         written: &written,
     };

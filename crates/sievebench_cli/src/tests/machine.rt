@@ -82,13 +82,20 @@ impl Room {
     }
 }
 
-/// A system with these words, this input, these files, and an output of this room.
+/// Files by their paths. A path that ends in `*` stands for all that go on from there.
+pub(crate) type Paths<'a> = &'a [(&'a str, Given<'a>)];
+
+/// A system with these words, this input, these files and folders, and an output of this room.
 #[derive(Drop)]
 pub(crate) struct Machine<'a> {
     pub alloc: Global,
     pub words: &'a [&'a [u8]],
     pub input: Given<'a>,
-    pub files: &'a [(&'a str, Given<'a>)],
+    pub files: Paths<'a>,
+    /// The folders by their paths with a slash: the names in them, with a NUL behind each.
+    pub folders: Paths<'a>,
+    /// How a file fails that is not there.
+    pub missing: ErrorKind,
     pub room: Room,
     pub written: &'a Written,
 }

@@ -101,6 +101,8 @@ fn failing_dump(alloc: Global, files: &[(&str, Given<'_>)], written: &Written) -
         words: &[b"sievebench", b"dump", b"a.sieve"],
         input: whole(b""),
         files,
+        folders: &[],
+        missing: ErrorKind::NotFound,
         room: Room {
             octets: 1_000,
             failure: Some((0, ErrorKind::Other)),

@@ -6,6 +6,7 @@ use sievebench::{SessionEnd, UsageFault};
 use std::alloc::Global;
 use std::cell::RefCell;
 use std::fmt::Debug;
+use std::io::ErrorKind;
 use std::process::Abort;
 use std::test::Fail;
 
@@ -41,6 +42,8 @@ pub(crate) fn status_with(
         words,
         input,
         files: &[],
+        folders: &[],
+        missing: ErrorKind::NotFound,
         room,
         written,
     };
@@ -217,7 +220,7 @@ fn has_part(octets: &[u8], part: &[u8]) -> bool {
 
 #[test]
 fn help_is_printed_and_mistakes_are_complained_of(rt: HostRuntime) -> Result<(), Fail> {
-    let rows: [(&[&[u8]], usize, u8, &[u8], &[u8]); 6] = [
+    let rows: [(&[&[u8]], usize, u8, &[u8], &[u8]); 10] = [
         (
             &[b"sievebench", b"--help"],
             1_000,
@@ -254,6 +257,28 @@ fn help_is_printed_and_mistakes_are_complained_of(rt: HostRuntime) -> Result<(),
             b"'frobnicate'",
         ),
         (&[b"sievebench", b"\xff"], 1_000, 2, b"", b"not UTF-8 text"),
+        (&[b"sievebench", b"-h"], 1_000, 0, b"Exit status:", b""),
+        (
+            &[b"sievebench", b"-V"],
+            1_000,
+            0,
+            b"sievebench 0.1.0\n",
+            b"",
+        ),
+        (
+            &[b"sievebench", b"test", b"--help"],
+            1_000,
+            0,
+            b"Usage: sievebench test [OPTIONS] <SCRIPT> <MAIL>",
+            b"",
+        ),
+        (
+            &[b"sievebench", b"test", b"main.sieve"],
+            1_000,
+            2,
+            b"",
+            b"<MAIL>",
+        ),
     ];
     for (words, room, status, output, errors) in rows {
         check_words(&rt, words, room, status, output, errors)?;
@@ -284,6 +309,8 @@ fn status_without_memory(alloc: Global, written: &Written) -> u8 {
         words: SESSION_WORDS,
         input: whole(b""),
         files: &[],
+        folders: &[],
+        missing: ErrorKind::NotFound,
         room: Room::of(1_000),
         written,
     };

@@ -5,7 +5,7 @@ use Rattle.clap.specs.declared.error.Error.{Error}
 use Rattle.clap.specs.declared.parser.matches.ArgMatches.{ArgMatches}
 use Rattle.clap.specs.declared.error.kind.ErrorKind.TheVariants.{OutOfMemory}
 use Rattle.clap.proofs.OnLiterals.{clap_on_literals}
-use Rattle.command_line.specs.CommandLine.{IsFaultFor, IsRefusalFor, dump_shape, job_of, named_job, script_rule, session_shape, the_app, top_app, where_taken}
+use Rattle.command_line.specs.CommandLine.{IsFaultFor, IsRefusalFor, dump_shape, job_of, letter_rule, name_rule, named_job, path_rule, session_shape, test_shape, the_app, top_app, where_taken}
 use Rattle.command_line.specs.declared.words.Job.{Job}
 use Rattle.command_line.specs.declared.words.UsageFault.{UsageFault}
 use Rattle.command_line.specs.declared.words.UsageFault.TheVariants.{Usage, NoMemory}
@@ -13,11 +13,11 @@ use Rattle.command_line.proofs.Named.{always_named}
 use Rattle.command_line.proofs.words.command_of.Goals as goal
 
 simple : is_simple the_app ≡ true
-unfolding the_app top_app session_shape dump_shape script_rule clap_on_literals
+unfolding the_app top_app session_shape dump_shape test_shape path_rule letter_rule name_rule clap_on_literals
 simple = refl
 
 simple_and_free : is_simple_and_free the_app ≡ true
-unfolding the_app top_app session_shape dump_shape script_rule clap_on_literals
+unfolding the_app top_app session_shape dump_shape test_shape path_rule letter_rule name_rule clap_on_literals
 simple_and_free = refl
 
 -- words that name a job have no fault

@@ -3,11 +3,11 @@ use Rattle.std.proofs.Common.{ap, ap₂, ◌∙◌}
 use Rattle.std.proofs.lemmas.Result.{IfOk-weaker}
 use Rattle.clap.specs.Simple.{App, app_of_fields, with_rule}
 use Rattle.command_line.specs.CommandLine.{dump_shape}
-use Rattle.command_line.proofs.words.dump_command.Goals as goal
+use Rattle.command_line.proofs.commands.dump_command.Goals as goal
 
 pub returns-clause-shape : goal.returns-clause-shape
 unfolding dump_shape
 returns-clause-shape c = IfOk-weaker c.arg.result _ _
-    (λ r added. ap (λ (a : App). a.top) (added.shape c.script_argument.ensures.local
-    ∙ ap₂ with_rule (ap app_of_fields c.about.ensures ∙ c.new.ensures.app) c.script_argument.ensures.rule))
+    (λ r added. ap (λ (a : App). a.top) (added.shape c.path_argument-script.ensures.local
+    ∙ ap₂ with_rule (ap app_of_fields c.after_help.ensures ∙ ap app_of_fields c.about.ensures ∙ c.new.ensures.app) c.path_argument-script.ensures.rule))
     c.arg.ensures

@@ -3,12 +3,14 @@ use Rattle.std.proofs.Common.{ap₂, ◌∙◌}
 use Rattle.std.proofs.lemmas.Result.{IfOk-weaker}
 use Rattle.clap.specs.Simple.{with_subcommand}
 use Rattle.command_line.specs.CommandLine.{the_app}
-use Rattle.command_line.proofs.words.program.Goals as goal
+use Rattle.command_line.proofs.commands.program.Goals as goal
 
 pub returns : goal.returns
 unfolding the_app
-returns c = IfOk-weaker c.subcommand-2.result _ _
-    (λ r added. added.shape c.in_ok-dump_command.ensures.local ∙ ap₂ with_subcommand
+returns c = IfOk-weaker c.subcommand-3.result _ _
+    (λ r added. added.shape c.in_ok-test_command.ensures.local ∙ ap₂ with_subcommand
+    (c.in_ok-subcommand-2.ensures.shape c.in_ok-dump_command.ensures.local ∙ ap₂ with_subcommand
     (c.in_ok-subcommand.ensures.shape c.session_command.ensures.local ∙ ap₂ with_subcommand c.in_ok-top_command.ensures c.session_command.ensures.shape)
     c.in_ok-dump_command.ensures.shape)
-    c.subcommand-2.ensures
+    c.in_ok-test_command.ensures.shape)
+    c.subcommand-3.ensures

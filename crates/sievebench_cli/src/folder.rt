@@ -1,0 +1,97 @@
+//! The scripts of a folder.
+
+use crate::files::{ReadFault, SCRIPT_END, octets_at};
+use crate::test_files::TestFiles;
+use sieve_base::limits::MAX_TEXT;
+use sievebench::{Place, ScriptName};
+use std::alloc::{AllocError, Global};
+use std::fs::Metadata;
+use std::io::{BufReader, ErrorKind, Read};
+use std::rt::Files;
+use std::{fs, io, str};
+
+/// How much of a folder is listed at once: room for any one name.
+const LISTING_ROOM: usize = 65_536;
+
+/// Adds the scripts of a folder: its plain files, and symbolic links to such, that are named `NAME.sieve` with a NAME of one octet or more. They
+/// come in the order of the octets of these file names. No other file is opened.
+pub(crate) fn read_folder<R: Files + AllocGlobal>(
+    rt: &R,
+    place: Place,
+    folder: &str,
+    files: &mut TestFiles,
+) -> Result<(), ReadFault> {
+    let listing = match listing_of(rt, folder) {
+        Ok(listing) => listing,
+        Err(e) => return Err(ReadFault::at(rt.alloc(), folder.as_bytes(), &e)),
+    };
+    let names = file_names(rt.alloc(), listing.as_slice())?;
+    for file in names.iter() {
+        let path = path_in(rt.alloc(), folder, file)?;
+        if is_plain(rt, path.as_slice())? {
+            let name = file.strip_suffix(SCRIPT_END.as_bytes()).unwrap_or(file);
+            let name = ScriptName::new(place, Vec::from_slice(rt.alloc(), name)?);
+            let text = octets_at(rt, path.as_slice(), MAX_TEXT)?;
+            files.add(name, text, path)?;
+        }
+    }
+    Ok(())
+}
+
+/// The names of a folder's files, with a NUL behind each.
+fn listing_of<R: Files + AllocGlobal>(rt: &R, folder: &str) -> io::Result<Vec<u8>> {
+    let path = with_slash(rt.alloc(), folder)?;
+    let mut reader = BufReader::with_capacity(
+        rt.alloc(),
+        LISTING_ROOM,
+        rt.open_dir(path.as_str())?,
+    )?;
+    let mut listing = Vec::new(rt.alloc());
+    reader.read_to_end(&mut listing)?;
+    Ok(listing)
+}
+
+/// A path with a slash behind it, so that a symbolic link to a folder is followed.
+fn with_slash(alloc: Global, path: &str) -> Result<String, AllocError> {
+    let mut with_slash = String::from_str(alloc, path)?;
+    if !path.is_empty() && !path.ends_with('/') {
+        with_slash.push('/')?;
+    }
+    Ok(with_slash)
+}
+
+/// The names in a listing that are `NAME.sieve` with a NAME of one octet or more, in the order of their octets.
+fn file_names(alloc: Global, listing: &[u8]) -> Result<Vec<&[u8]>, AllocError> {
+    let mut names: Vec<&[u8]> = Vec::new(alloc);
+    for name in listing.split(|octet| *octet == 0) {
+        if name.ends_with(SCRIPT_END.as_bytes()) && name.len() > SCRIPT_END.len() {
+            names.push(name)?;
+        }
+    }
+    names.sort_unstable();
+    Ok(names)
+}
+
+/// The path of a file in a folder.
+fn path_in(alloc: Global, folder: &str, file: &[u8]) -> Result<Vec<u8>, AllocError> {
+    let mut path = Vec::from_slice(alloc, with_slash(alloc, folder)?.as_bytes())?;
+    path.extend_from_slice(file)?;
+    Ok(path)
+}
+
+/// Whether a plain file is at a path, where symbolic links are followed. A link to nothing is none.
+fn is_plain<R: Files + AllocGlobal>(rt: &R, path: &[u8]) -> Result<bool, ReadFault> {
+    match metadata_at(rt, path) {
+        Ok(metadata) => Ok(metadata.is_file()),
+        Err(e) if e.kind() == ErrorKind::NotFound => Ok(false),
+        Err(e) => Err(ReadFault::at(rt.alloc(), path, &e)),
+    }
+}
+
+/// What is known of the file at a path. A path has to be UTF-8 to be asked for.
+fn metadata_at(rt: &impl Files, path: &[u8]) -> io::Result<Metadata> {
+    match str::from_utf8(path) {
+        Ok(path) => fs::metadata(rt, path),
+        Err(_) => Err(io::Error::from(ErrorKind::InvalidFilename)),
+    }
+}

@@ -1,0 +1,54 @@
+//! Runs a script against a message, both in files.
+
+use crate::complaints::{complain, complain_of};
+use crate::files::ReadFault;
+use crate::streams::Output;
+use crate::test_files::{TestInput, TestWords, read_test};
+use sieve_base::Counted;
+use sievebench::{End, Meter, SessionEnd, TestEnd, TestJob, status_of, test_bench};
+use std::alloc::Global;
+use std::io;
+use std::io::Write;
+use std::rt::Files;
+
+/// Reads all that the words name, and then prints the report of a bench of that message. Answers the status of the process.
+pub(crate) fn run_test(rt: &(impl AllocGlobal + Files + Print + Eprint), words: &TestWords) -> u8 {
+    match read_test(rt, words) {
+        Ok(input) => report_test(rt, &input),
+        Err(ReadFault::Unreadable(path)) => {
+            complain_of(rt, "cannot read", path.as_slice());
+            status_of(End::Session(SessionEnd::Read))
+        }
+        Err(ReadFault::NoMemory) => {
+            complain(rt, "out of memory");
+            status_of(End::Test(TestEnd::NoMemory))
+        }
+    }
+}
+
+/// Prints the report, says on standard error what went wrong, and answers the status.
+fn report_test(rt: &(impl AllocGlobal + Print + Eprint), input: &TestInput) -> u8 {
+    let end = test_over(rt.alloc(), &input.job, io::writer(rt));
+    match end {
+        TestEnd::TooLarge => complain_of(rt, "too large", input.first_too_large()),
+        TestEnd::Full => complain(rt, "too many scripts"),
+        TestEnd::Write => complain(rt, "cannot write"),
+        TestEnd::NoMemory => complain(rt, "out of memory"),
+        TestEnd::Clean | TestEnd::Faulty => {}
+    }
+    status_of(End::Test(end))
+}
+
+/// Writes the report of a job, and writes out what is left of it.
+fn test_over<W: Write + Drop>(alloc: Global, job: &TestJob, output: W) -> TestEnd {
+    let Ok(held) = Output::held(alloc, output) else {
+        return TestEnd::NoMemory;
+    };
+    let mut writer = Counted::new(held);
+    let mut meter = Meter::new();
+    let end = test_bench(alloc, job, &mut meter, &mut writer);
+    match writer.into_inner().flush() {
+        Ok(()) => end,
+        Err(_) => TestEnd::Write,
+    }
+}
