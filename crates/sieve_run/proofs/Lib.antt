@@ -2,6 +2,7 @@ mod Bounds
 mod Paths
 mod Rows
 pub mod Unchanged
+pub mod Copying
 pub mod Performing
 pub mod Searching
 pub mod Stepping

@@ -43,8 +43,9 @@ impl MatchValues {
         ensures { IfOk result (λ values. values ≡ captures.now) }
     {
         let mut texts = Vec::new(alloc);
-        for k in 0..captures.count() + 1 {
-            texts.push(Octets::copied(alloc, captures.get(k))?)?;
+        texts.push(Octets::copied(alloc, captures.get(0))?)?;
+        for k in 0..captures.count() {
+            texts.push(Octets::copied(alloc, captures.get(k + 1))?)?;
         }
         Ok(MatchValues { texts })
     }
