@@ -8,5 +8,5 @@ pub returns-in_err-set_delivery-clause-err : goal.returns-in_err-set_delivery-cl
 returns-in_err-set_delivery-clause-err c =
     let job = c.args.job.now in
     let refused = still_refused c.in_err-set_delivery.field-0.0 (after_all c.args.bench.now.content (set_envelope job.from job.to ∷ set_mailbox job.mailbox ∷ []))
-        (map put_of job.scripts.items ++ set_main job.main ∷ put_message job.id job.message ∷ []) c.in_err-set_delivery.ensures.err in
+    (map put_of job.scripts.items ++ set_main job.main ∷ put_message job.id job.message ∷ []) c.in_err-set_delivery.ensures.err in
     search (rules, refused)

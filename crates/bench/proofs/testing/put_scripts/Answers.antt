@@ -1,5 +1,4 @@
 use Rattle.std.proofs.Common.{rules}
-use Rattle.bench.specs.view.Refused.{Refused}
 use Rattle.bench.proofs.Jobs.{put_next, put_refused}
 use Rattle.bench.proofs.testing.put_scripts.Goals as goal
 

@@ -1,10 +1,12 @@
-use Rattle.std.proofs.Common.{◌≡◌, List, ℕ, Option, ap, ◌∙◌, subst}
+use Rattle.std.proofs.Common.{◌≡◌, Bool, List, ℕ, Option, ap, ◌∙◌, map, option_copied, subst}
 use Rattle.sieve_base.specs.Writers.{WroteFront}
 use Rattle.sieve_run.specs.declared.name.ScriptName.{ScriptName}
 use Rattle.sieve_run.specs.Verdict.{Verdict}
 use Rattle.bench.specs.Content.{Content}
 use Rattle.bench.specs.Report.{report_with, report_text, verdicts}
+use Rattle.bench.specs.Test.{is_clean, is_clean_with}
 use Rattle.bench.specs.view.Entry.{messages_of}
+use Rattle.bench.specs.view.Reported.{reported_of}
 use Rattle.bench.proofs.bench.Bench.report_and_judge.Goals as goal
 
 -- the report of a content's main script and verdicts is the report of the content
@@ -13,6 +15,23 @@ whole_report : (content : Content) (main : Option ScriptName) (judged : List (Li
 whole_report content main judged m j =
     ap (λ x. report_with main content.envelope content.scripts x) j
     ∙ ap (λ x. report_with x content.envelope content.scripts (verdicts x content.envelope content.scripts content.messages)) m
+
+-- and what is found in these verdicts is found in it
+clean_report : (content : Content) (main : Option ScriptName) (judged : List (List ℕ × Verdict)) (clean : Bool)
+    → main ≡ content.main → judged ≡ verdicts main content.envelope content.scripts content.messages → clean ≡ is_clean_with content.scripts judged → clean ≡ is_clean content
+unfolding is_clean
+clean_report content main judged clean m j c =
+    c
+    ∙ ap (λ x. is_clean_with content.scripts x) j
+    ∙ ap (λ x. is_clean_with content.scripts (verdicts x content.envelope content.scripts content.messages)) m
+
+pub returns-in-Ok-write_report-clause-clean : goal.returns-in-Ok-write_report-clause-clean
+returns-in-Ok-write_report-clause-clean g c =
+    let content : Content = record { main = c.self.inside.main; envelope = c.self.inside.envelope; scripts = c.self.inside.scripts; messages = messages_of c.self.inside.messages.entries } in
+    let main : Option ScriptName = option_copied c.as_ref-main.result in
+    let judged : List (List ℕ × Verdict) = map reported_of c.deref-in-Ok-write_report.result.now in
+    let found : judged ≡ verdicts main content.envelope content.scripts content.messages = rw c.deref-in-Ok-write_report.ensures.value c.in-Ok.ensures.verdicts in
+    rw (← c.self.view_is) (clean_report content main judged c.is_clean.result c.as_ref-main.ensures.value found c.is_clean.ensures)
 
 pub returns-clause-err : goal.returns-clause-err
 returns-clause-err g c =
