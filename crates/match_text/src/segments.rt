@@ -49,8 +49,6 @@ pub(crate) fn begins(segment: &[Item], text: &[u8]) -> bool
 
 /// The place of a segment that stands behind a star: its first place in the text, or the one at the end of the text where
 /// nothing stands behind the segment.
-///
-/// A segment of octets alone is looked for in linear time. One with a `?` is tried at each place.
 pub(crate) fn place_of(
     alloc: Global,
     segment: &[Item],
@@ -62,6 +60,14 @@ pub(crate) fn place_of(
     if behind.is_empty() {
         return Ok(end_place(segment, text));
     }
+    first_place(alloc, segment, text)
+}
+
+// The first place where the segment stands. Octets alone are looked for in linear time; a segment with a `?` is tried at
+// each place.
+fn first_place(alloc: Global, segment: &[Item], text: &[u8]) -> Result<Option<usize>, AllocError>
+    ensures { IfOk result (λ place. place ≡ first_place (begins segment.now) text.now) }
+{
     match literals(alloc, segment)? {
         Some(octets) => Ok(memmem::find(text, &octets)),
         None => Ok(find_place(segment, text)),
