@@ -1,9 +1,8 @@
 -- Small values and patterns, computed.
-use Rattle.std.specs.Prelude.{◌≡◌, ℕ, List, [], ◌∷◌, Option, None, Some, codes, refl}
+use Rattle.std.specs.Prelude.{◌≡◌, [], ◌∷◌, None, Some, codes, refl}
 use Rattle.match_text.specs.Comparator.{ascii_casemap, octet}
 use Rattle.match_text.specs.Wildcard.{least_fit, matched, items_of}
-use Rattle.match_text.specs.declared.pattern.Item.{Item}
-use Rattle.match_text.specs.declared.pattern.Item.TheVariants.{Star, Question, Literal}
+use Rattle.match_text.specs.declared.pattern.Item.TheVariants.{Star, Literal}
 
 last_star_row : matched octet (codes "abcbc") (codes "a*b*c") ≡ Some (codes "abcbc" ∷ [] ∷ codes "cb" ∷ [])
 unfolding matched least_fit

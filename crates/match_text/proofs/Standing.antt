@@ -1,7 +1,7 @@
 -- Where a segment stands in a text: at the end, at a needle, at no place so far.
-use Rattle.std.proofs.Common.{◌≡◌, ◌≢◌, ℕ, zero, suc, ◌+◌, ◌-◌, ◌<◌, ◌≤◌, Bool, true, false, ◌&&◌, ◌==◌, List, [], ◌∷◌, length, map, slice_index, slice_range, take, drop, Option, None, Some, refl, sym, ◌∙◌, ap, ⊎_elim, arith}
+use Rattle.std.proofs.Common.{◌≡◌, ◌≢◌, ℕ, zero, suc, ◌-◌, ◌<◌, ◌≤◌, Bool, true, false, ◌&&◌, ◌==◌, List, [], ◌∷◌, length, slice_index, drop, Option, None, Some, refl, sym, ◌∙◌, ap, ⊎_elim, arith}
 use Rattle.std.proofs.lemmas.Bool.{and_from, and_parts, cases_eq, eqb-true, eq-eqb, false≢true, ne_eqb}
-use Rattle.std.proofs.lemmas.List.{drop-drop, get_or-drop, length-drop, length-map, take_rest}
+use Rattle.std.proofs.lemmas.List.{get_or-drop, length-drop, length-map}
 use Rattle.memchr.specs.Find.{FindsNeedle, OccursAt}
 use Rattle.match_text.specs.view.Segment.{begins, ends, first_place, literals}
 use Rattle.match_text.specs.declared.pattern.Item.{Item}

@@ -1,5 +1,5 @@
 //! The items between the stars of a pattern, and where they stand in a text.
-ghost use Rattle.std.specs.Prelude.{◌≡◌, ◌+◌, ◌≤◌, ◌++◌, IfOk, IfSome, IsSome, length, map};
+ghost use Rattle.std.specs.Prelude.{◌≡◌, IfOk, IfSome};
 ghost use Rattle.match_text.specs.view.Segment.{before_star, begins, ends, first_place, from_star, literals, place_of, takes};
 
 use crate::pattern::Item;

@@ -1,5 +1,5 @@
 //! Patterns with wildcards, and what the wildcards take.
-ghost use Rattle.std.specs.Prelude.{◌≡◌, ◌↔◌, ◌+◌, ◌≤◌, ◌++◌, ℕ, List, [], ◌∷◌, IfOk, IfSome, IfNone, IsNone, None, Some, drop, length, slice_get, take, unwrap_or};
+ghost use Rattle.std.specs.Prelude.{◌≡◌, ◌↔◌, ◌+◌, ◌≤◌, ◌++◌, ℕ, List, [], ◌∷◌, IfOk, IfSome, IsNone, None, Some, drop, length, slice_get, take, unwrap_or};
 ghost use Rattle.std.specs.Option.{option_map};
 ghost use Rattle.match_text.specs.Wildcard.{Fits, items_of, matched, wildcard_count};
 ghost use Rattle.match_text.specs.view.Segment.{captures_of, questions, texts_of};
