@@ -56,7 +56,8 @@ impl<'v> Captures<'v> {
 /// it can, then the second, and so on.
 ///
 /// It takes memory in the octets of the value and of the pattern, and fails only for want of it. Its time is linear in both,
-/// however many stars there are, but for octets between two stars with a `?` among them: these are tried at each place.
+/// however many stars there are, but for octets between two stars with a `?` among them: these are tried at each place, which
+/// takes at worst as many steps as the product of their number and the value's.
 pub fn matches<'v, C: Comparator>(
     alloc: Global,
     value: &'v [u8],
