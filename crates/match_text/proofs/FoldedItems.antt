@@ -1,5 +1,5 @@
 -- A least fit over folded items and a folded value.
-use Rattle.std.proofs.Common.{◌≡◌, ℕ, ◌==◌, cond, List, [], ◌∷◌, map, take, drop, Option, None, Some, refl, sym, ◌∙◌, ap}
+use Rattle.std.proofs.Common.{◌≡◌, ℕ, ◌==◌, cond, List, [], ◌∷◌, map, take, drop, Option, None, Some, refl, ◌∙◌, ap}
 use Rattle.std.specs.Option.{option_map, option_or}
 use Rattle.match_text.specs.Comparator.{octet}
 use Rattle.match_text.specs.Wildcard.{items_of, least_fit, matched, one_more, star_fit, taken}

@@ -1,5 +1,5 @@
 -- The least fit is the fit that is least in dictionary order.
-use Rattle.std.proofs.Common.{◌≡◌, ℕ, zero, suc, ◌+◌, ◌<◌, ◌≤◌, ◌⊎◌, inl, inr, ⊎_elim, Bool, true, false, ◌==◌, cond, List, [], ◌∷◌, length, drop, Option, None, Some, refl, sym, ◌∙◌, ap, subst, arith}
+use Rattle.std.proofs.Common.{◌≡◌, ℕ, zero, suc, ◌+◌, ◌<◌, ◌≤◌, inl, inr, ⊎_elim, Bool, true, false, ◌==◌, cond, List, [], ◌∷◌, length, drop, Option, None, Some, refl, sym, ap, subst, arith}
 use Rattle.std.specs.Option.{MatchOption, is_some, option_map, option_or}
 use Rattle.std.proofs.lemmas.Bool.{eqb-false, eqb-true, false≢true}
 use Rattle.match_text.specs.Wildcard.{AtMost, Fits, IsLeastFit, items_of, least_fit, matched, one_more, star_fit, taken, wildcard_count}

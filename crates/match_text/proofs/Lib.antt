@@ -8,4 +8,5 @@ pub mod FoldedItems
 pub mod Standing
 pub mod Taking
 pub mod Passing
+pub mod Slices
 mod Rows

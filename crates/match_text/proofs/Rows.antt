@@ -1,9 +1,9 @@
 -- Small values and patterns, computed.
-use Rattle.std.specs.Prelude.{◌≡◌, ℕ, List, [], ◌∷◌, Option, None, Some, codes, refl}
+use Rattle.std.specs.Prelude.{◌≡◌, [], ◌∷◌, None, Some, codes, refl}
+use Rattle.sieve_base.specs.Octet.{octet_of}
 use Rattle.match_text.specs.Comparator.{ascii_casemap, octet}
 use Rattle.match_text.specs.Wildcard.{least_fit, matched, items_of}
-use Rattle.match_text.specs.declared.pattern.Item.{Item}
-use Rattle.match_text.specs.declared.pattern.Item.TheVariants.{Star, Question, Literal}
+use Rattle.match_text.specs.declared.pattern.Item.TheVariants.{Star, Literal}
 
 last_star_row : matched octet (codes "abcbc") (codes "a*b*c") ≡ Some (codes "abcbc" ∷ [] ∷ codes "cb" ∷ [])
 unfolding matched least_fit
@@ -29,7 +29,7 @@ last_backslash_row : matched octet (codes "a\\") (codes "a\\") ≡ Some (codes "
 unfolding matched least_fit
 last_backslash_row = refl
 
-two_backslashes_row : items_of (codes "\\\\*\\?\\a\\") ≡ Literal 92 ∷ Star ∷ Literal 63 ∷ Literal 97 ∷ Literal 92 ∷ []
+two_backslashes_row : items_of (codes "\\\\*\\?\\a\\") ≡ Literal (octet_of "\\") ∷ Star ∷ Literal (octet_of "?") ∷ Literal (octet_of "a") ∷ Literal (octet_of "\\") ∷ []
 two_backslashes_row = refl
 
 no_octet_row : matched octet [] (codes "?") ≡ None

@@ -1,9 +1,9 @@
 -- Where a segment stands in a text: at the end, at a needle, at no place so far.
-use Rattle.std.proofs.Common.{◌≡◌, ◌≢◌, ℕ, zero, suc, ◌+◌, ◌-◌, ◌<◌, ◌≤◌, Bool, true, false, ◌&&◌, ◌==◌, List, [], ◌∷◌, length, map, slice_index, slice_range, take, drop, Option, None, Some, refl, sym, ◌∙◌, ap, ⊎_elim, arith}
+use Rattle.std.proofs.Common.{◌≡◌, ◌≢◌, ℕ, zero, suc, ◌-◌, ◌<◌, ◌≤◌, Bool, true, false, ◌&&◌, ◌==◌, List, [], ◌∷◌, length, slice_index, drop, Option, None, Some, refl, sym, ◌∙◌, ap, ⊎_elim, arith}
 use Rattle.std.proofs.lemmas.Bool.{and_from, and_parts, cases_eq, eqb-true, eq-eqb, false≢true, ne_eqb}
-use Rattle.std.proofs.lemmas.List.{drop-drop, get_or-drop, length-drop, length-map, take_rest}
+use Rattle.std.proofs.lemmas.List.{get_or-drop, length-drop, length-map}
 use Rattle.memchr.specs.Find.{FindsNeedle, OccursAt}
-use Rattle.match_text.specs.view.Segment.{begins, ends, first_place, literals, place_of, takes}
+use Rattle.match_text.specs.view.Segment.{begins, ends, first_place, literals}
 use Rattle.match_text.specs.declared.pattern.Item.{Item}
 use Rattle.match_text.specs.declared.pattern.Item.TheVariants.{Literal}
 use Rattle.match_text.proofs.Greedy.{begins-within, first_place-at, first_place-none}
@@ -100,11 +100,5 @@ needle_place octets text (Some p) found =
     sym (first_place-at (begins (literals octets)) text p (omega arith) (begins_where_occurs octets text p found.1)
     (λ k below. not_true _ (λ is. first.before k (omega arith) below (occurs_where_begins octets text k (omega arith) is))))
 
--- where a star follows, the first place counts
-place_of-more : (segment behind : List Item) (text : List ℕ) → 0 < length behind → place_of segment behind text ≡ first_place (begins segment) text
-place_of-more segment [] text some = absurd (omega arith)
-place_of-more segment (item ∷ behind) text some = refl
-
-pub place_of-needle : (segment behind : List Item) (octets text : List ℕ) (r : Option ℕ) → segment ≡ literals octets → 0 < length behind → FindsNeedle text octets 0 r → r ≡ place_of segment behind text
-place_of-needle segment behind octets text r is some found =
-    needle_place octets text r found ∙ ap (λ items. first_place (begins items) text) (sym is) ∙ sym (place_of-more segment behind text some)
+pub segment_place : (segment : List Item) (octets text : List ℕ) (r : Option ℕ) → segment ≡ literals octets → FindsNeedle text octets 0 r → r ≡ first_place (begins segment) text
+segment_place segment octets text r is found = needle_place octets text r found ∙ ap (λ items. first_place (begins items) text) (sym is)

@@ -1,5 +1,5 @@
 -- What the `?` of a segment take, one after another.
-use Rattle.std.proofs.Common.{◌≡◌, ℕ, ◌+◌, ◌<◌, Bor, List, [], ◌∷◌, ◌++◌, length, get_or, map, take, drop, refl, sym, ◌∙◌, ap}
+use Rattle.std.proofs.Common.{◌≡◌, ℕ, ◌+◌, ◌<◌, Bor, List, [], ◌∷◌, ◌++◌, length, get_or, take, drop, refl, sym, ◌∙◌, ap}
 use Rattle.std.proofs.lemmas.List.{append_assoc, at_drop_more, map_push}
 use Rattle.match_text.specs.view.Segment.{questions, texts_of}
 use Rattle.match_text.specs.declared.pattern.Item.{Item}

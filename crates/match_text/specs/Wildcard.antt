@@ -96,6 +96,19 @@ taken (Question ∷ items) (n ∷ lengths) value = take n value ∷ taken items 
 taken (Star ∷ items) [] value = []
 taken (Star ∷ items) (n ∷ lengths) value = take n value ∷ taken items lengths (drop n value)
 
+-- The items take the value in turn: each wildcard the text beside it, a `?` one of one octet, and an octet one that is equal to
+-- it after folding. This is what slices are taken under a fit, by `laws::captures_are_slices`.
+abbrev pub TakeInTurn : (fold : ℕ → ℕ) → List Item → (value : List ℕ) → (texts : List (List ℕ)) → Type 0
+TakeInTurn fold [] value texts = (value ≡ []) × (texts ≡ [])
+TakeInTurn fold (Literal b ∷ items) [] texts = ⊥
+TakeInTurn fold (Literal b ∷ items) (x ∷ value) texts = (fold x ≡ fold b) × TakeInTurn fold items value texts
+TakeInTurn fold (Question ∷ items) value [] = ⊥
+TakeInTurn fold (Question ∷ items) value (text ∷ texts) =
+    (length text ≡ 1) × ((rest : List ℕ) × ((value ≡ text ++ rest) × TakeInTurn fold items rest texts))
+TakeInTurn fold (Star ∷ items) value [] = ⊥
+TakeInTurn fold (Star ∷ items) value (text ∷ texts) =
+    (rest : List ℕ) × ((value ≡ text ++ rest) × TakeInTurn fold items rest texts)
+
 -- What the wildcards of a pattern take under the least fit, behind the whole value; nothing where no fit exists.
 unfoldable pub matched : (fold : ℕ → ℕ) → (value pattern : List ℕ) → Option (List (List ℕ))
 matched fold value pattern =

@@ -1,5 +1,5 @@
 //! The items between the stars of a pattern, and where they stand in a text.
-ghost use Rattle.std.specs.Prelude.{◌≡◌, ◌+◌, ◌≤◌, ◌++◌, IfOk, IfSome, IsSome, length, map};
+ghost use Rattle.std.specs.Prelude.{◌≡◌, IfOk, IfSome};
 ghost use Rattle.match_text.specs.view.Segment.{before_star, begins, ends, first_place, from_star, literals, place_of, takes};
 
 use crate::pattern::Item;
@@ -49,8 +49,6 @@ pub(crate) fn begins(segment: &[Item], text: &[u8]) -> bool
 
 /// The place of a segment that stands behind a star: its first place in the text, or the one at the end of the text where
 /// nothing stands behind the segment.
-///
-/// A segment of octets alone is looked for in linear time. One with a `?` is tried at each place.
 pub(crate) fn place_of(
     alloc: Global,
     segment: &[Item],
@@ -62,6 +60,14 @@ pub(crate) fn place_of(
     if behind.is_empty() {
         return Ok(end_place(segment, text));
     }
+    first_place(alloc, segment, text)
+}
+
+// The first place where the segment stands. Octets alone are looked for in linear time; a segment with a `?` is tried at
+// each place.
+fn first_place(alloc: Global, segment: &[Item], text: &[u8]) -> Result<Option<usize>, AllocError>
+    ensures { IfOk result (λ place. place ≡ first_place (begins segment.now) text.now) }
+{
     match literals(alloc, segment)? {
         Some(octets) => Ok(memmem::find(text, &octets)),
         None => Ok(find_place(segment, text)),

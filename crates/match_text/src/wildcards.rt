@@ -1,5 +1,5 @@
 //! Patterns with wildcards, and what the wildcards take.
-ghost use Rattle.std.specs.Prelude.{◌≡◌, ◌↔◌, ◌+◌, ◌≤◌, ◌++◌, ℕ, List, [], ◌∷◌, IfOk, IfSome, IfNone, IsNone, None, Some, drop, length, slice_get, take, unwrap_or};
+ghost use Rattle.std.specs.Prelude.{◌≡◌, ◌↔◌, ◌+◌, ◌≤◌, ◌++◌, ℕ, List, [], ◌∷◌, IfOk, IfSome, IsNone, None, Some, drop, length, slice_get, take, unwrap_or};
 ghost use Rattle.std.specs.Option.{option_map};
 ghost use Rattle.match_text.specs.Wildcard.{Fits, items_of, matched, wildcard_count};
 ghost use Rattle.match_text.specs.view.Segment.{captures_of, questions, texts_of};
@@ -56,7 +56,8 @@ impl<'v> Captures<'v> {
 /// it can, then the second, and so on.
 ///
 /// It takes memory in the octets of the value and of the pattern, and fails only for want of it. Its time is linear in both,
-/// however many stars there are, but for octets between two stars with a `?` among them: these are tried at each place.
+/// however many stars there are, but for octets between two stars with a `?` among them: these are tried at each place, which
+/// takes at worst as many steps as the product of their number and the value's.
 pub fn matches<'v, C: Comparator>(
     alloc: Global,
     value: &'v [u8],

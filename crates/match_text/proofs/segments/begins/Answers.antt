@@ -1,4 +1,4 @@
-use Rattle.std.proofs.Common.{length, drop, sym, ◌∙◌, arith}
+use Rattle.std.proofs.Common.{drop, sym, ◌∙◌, arith}
 use Rattle.std.proofs.lemmas.List.{length-drop}
 use Rattle.match_text.proofs.Standing.{begins-ended}
 use Rattle.match_text.proofs.segments.begins.Goals as goal

@@ -1,4 +1,4 @@
-use Rattle.std.proofs.Common.{length, sym, ◌∙◌, ap, arith}
+use Rattle.std.proofs.Common.{sym, ◌∙◌, ap, arith}
 use Rattle.std.proofs.lemmas.List.{take_rest}
 use Rattle.match_text.specs.view.Segment.{begins}
 use Rattle.match_text.proofs.Standing.{end_found, end_missed, end_too_long}

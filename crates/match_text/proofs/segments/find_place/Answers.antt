@@ -1,4 +1,4 @@
-use Rattle.std.proofs.Common.{◌≡◌, length, drop, false, true, sym, ◌∙◌, ap, arith, below_more}
+use Rattle.std.proofs.Common.{◌≡◌, drop, false, sym, ◌∙◌, ap, arith, below_more}
 use Rattle.std.proofs.lemmas.List.{drop-drop, length-drop, take_rest}
 use Rattle.match_text.specs.view.Segment.{begins}
 use Rattle.match_text.proofs.Greedy.{first_place-at}

@@ -1,7 +1,7 @@
-use Rattle.std.proofs.Common.{◌≡◌, ◌≤◌, ◌+◌, ◌∷◌, [], List, Some, length, drop, false, true, sym, ◌∙◌, ap, arith}
+use Rattle.std.proofs.Common.{◌≡◌, ◌∷◌, [], length, drop, sym, ◌∙◌, ap, arith}
 use Rattle.std.proofs.lemmas.Bool.{eqb-false, eqb-true}
 use Rattle.std.proofs.lemmas.List.{length-drop, take_rest}
-use Rattle.match_text.specs.view.Segment.{before_star, begins, from_star, place_of, texts_of}
+use Rattle.match_text.specs.view.Segment.{before_star, from_star, texts_of}
 use Rattle.match_text.proofs.Greedy.{begins-within, from_star-starred, place_of-within}
 use Rattle.match_text.proofs.Passing.{both_shorter, end_failed, end_passed, front_missed, front_passed, items_fall, star_nowhere, star_passed}
 use Rattle.match_text.proofs.wildcards.captured_texts.Goals as goal

@@ -1,6 +1,5 @@
-use Rattle.std.proofs.Common.{◌≡◌, List, Option, None, Some, sym, ◌∙◌, ap}
+use Rattle.std.proofs.Common.{None, Some, sym, ◌∙◌, ap}
 use Rattle.std.specs.Option.{option_map}
-use Rattle.match_text.specs.Wildcard.{matched}
 use Rattle.match_text.specs.view.Segment.{texts_of}
 use Rattle.match_text.proofs.FoldedItems.{matched_from}
 use Rattle.match_text.proofs.LeastFit.{matched-count, none_answered}

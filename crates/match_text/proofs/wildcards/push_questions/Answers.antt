@@ -1,6 +1,6 @@
 use Rattle.std.proofs.Common.{◌≡◌, ◌+◌, ◌++◌, drop, ap, ◌∙◌}
 use Rattle.std.proofs.lemmas.List.{drop-drop}
-use Rattle.match_text.specs.view.Segment.{questions, texts_of}
+use Rattle.match_text.specs.view.Segment.{texts_of}
 use Rattle.match_text.proofs.Taking.{other_passed, question_taken}
 use Rattle.match_text.proofs.wildcards.push_questions.Goals as goal
 use Rattle.match_text.proofs.wildcards.push_questions.Goals.{in-Question+in_ok-push, in_default}
