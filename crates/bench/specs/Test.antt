@@ -49,7 +49,7 @@ is_sound (faulty line kind) = false
 abbrev pub is_clean_with : List (ScriptName × List ℕ) → List (List ℕ × Verdict) → Bool
 is_clean_with scripts judged = list_all (λ e. is_sound (judgement_of e.1)) scripts && (error_count judged == 0)
 
--- whether the report of a content has
+-- whether the report of a content has nothing to complain of
 unfoldable pub is_clean : Content → Bool
 is_clean content = is_clean_with content.scripts (verdicts content.main content.envelope content.scripts content.messages)
 

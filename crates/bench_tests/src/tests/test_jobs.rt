@@ -23,7 +23,8 @@ fn script_of(alloc: Global, name: &[u8], text: &[u8]) -> Result<TestScript, Allo
 fn job_of(alloc: Global, texts: Texts<'_>) -> Result<TestJob, AllocError> {
     let mut scripts = Vec::new(alloc);
     for (name, text) in texts {
-        scripts.push(script_of(alloc, *name, *text)?)?;
+        let script = script_of(alloc, *name, *text)?;
+        scripts.push(script)?;
     }
     Ok(TestJob {
         from: Octets::copied(alloc, b"a@b.example")?,
@@ -47,7 +48,10 @@ fn check_job(
     let mut meter = Meter::new();
     let mut writer = Counted::new(Vec::new(rt.alloc()));
     let end = test_bench(rt.alloc(), job, &mut meter, &mut writer);
-    assert_eq!(rt; (end, meter.runs(), writer.into_inner().as_slice()), (wanted, runs, text));
+    assert_eq!(rt;
+        (end, meter.runs(), writer.into_inner().as_slice()),
+        (wanted, runs, text)
+    );
 }
 
 /// Makes a test of scripts, and compares.
@@ -145,47 +149,13 @@ fn lengthen(alloc: Global, job: &mut TestJob, part: Part, count: usize) -> Resul
     Ok(())
 }
 
-/// How a test ends of which a part has so many octets, and whether something was written.
-fn end_at(
-    rt: &impl AllocGlobal,
-    part: Part,
-    count: usize,
-) -> Result<(TestEnd, bool), AllocError> {
-    let mut job = job_of(rt.alloc(), &[(b"main", b"stop;")])?;
-    lengthen(rt.alloc(), &mut job, part, count)?;
-    let mut meter = Meter::new();
-    let mut writer = Counted::new(Vec::new(rt.alloc()));
-    let end = test_bench(rt.alloc(), &job, &mut meter, &mut writer);
-    Ok((end, !writer.into_inner().is_empty()))
-}
-
-#[test]
-fn each_part_of_a_job_has_its_limit(rt: HostRuntime) -> Result<(), Fail> {
-    let rows = [
-        (Part::From, 1_024, TestEnd::Clean),
-        (Part::To, 1_024, TestEnd::Clean),
-        (Part::Mailbox, 255, TestEnd::Clean),
-        (Part::Name, 1_024, TestEnd::Clean),
-        (Part::Text, 1_048_576, TestEnd::Faulty),
-        (Part::Main, 1_024, TestEnd::Faulty),
-        (Part::Id, 1_024, TestEnd::Clean),
-        (Part::Message, 16_777_216, TestEnd::Clean),
-    ];
-    for (part, count, end) in rows {
-        let within = end_at(&rt, part, count)?;
-        let past = end_at(&rt, part, count + 1)?;
-        assert_eq!(rt; within, (end, true), "at {part:?}");
-        assert_eq!(rt; past, (TestEnd::TooLarge, false), "at {part:?}");
-    }
-    Ok(())
-}
-
 /// A job with so many scripts, `main` among them.
 fn crowded(alloc: Global, count: u64) -> Result<TestJob, AllocError> {
     let mut job = job_of(alloc, &[(b"main", b"stop;")])?;
     for number in 1..count {
         let name = format!(in alloc; "{number}")?;
-        job.scripts.push(script_of(alloc, name.as_bytes(), b"")?)?;
+        let script = script_of(alloc, name.as_bytes(), b"")?;
+        job.scripts.push(script)?;
     }
     Ok(job)
 }
@@ -206,6 +176,34 @@ fn end_of(
 }
 
 #[test]
+fn each_part_of_a_job_has_its_limit(rt: HostRuntime) -> Result<(), Fail> {
+    let large = (TestEnd::TooLarge, false);
+    let rows = [
+        (Part::From, 1_024, (TestEnd::Clean, true)),
+        (Part::From, 1_025, large),
+        (Part::To, 1_024, (TestEnd::Clean, true)),
+        (Part::To, 1_025, large),
+        (Part::Mailbox, 255, (TestEnd::Clean, true)),
+        (Part::Mailbox, 256, large),
+        (Part::Name, 1_024, (TestEnd::Clean, true)),
+        (Part::Name, 1_025, large),
+        (Part::Text, 1_048_576, (TestEnd::Faulty, true)),
+        (Part::Text, 1_048_577, large),
+        (Part::Main, 1_024, (TestEnd::Faulty, true)),
+        (Part::Main, 1_025, large),
+        (Part::Id, 1_024, (TestEnd::Clean, true)),
+        (Part::Id, 1_025, large),
+        (Part::Message, 16_777_216, (TestEnd::Clean, true)),
+        (Part::Message, 16_777_217, large),
+    ];
+    for (part, count, wanted) in rows {
+        let end = end_of(&rt, 1, part, count)?;
+        assert_eq!(rt; end, wanted, "at {count} octets of {part:?}");
+    }
+    Ok(())
+}
+
+#[test]
 fn the_first_refusal_is_told(rt: HostRuntime) -> Result<(), Fail> {
     let rows = [
         // 1,024 scripts are as many as there may be.
@@ -223,7 +221,11 @@ fn the_first_refusal_is_told(rt: HostRuntime) -> Result<(), Fail> {
     ];
     for (scripts, part, count, wanted) in rows {
         let end = end_of(&rt, scripts, part, count)?;
-        assert_eq!(rt; end, wanted, "at {scripts} scripts and {count} octets of {part:?}");
+        assert_eq!(rt;
+            end,
+            wanted,
+            "at {scripts} scripts and {count} octets of {part:?}"
+        );
     }
     Ok(())
 }
