@@ -4,5 +4,6 @@ mod disk;
 mod dumps;
 mod machine;
 mod outputs;
+mod oversizes;
 mod program;
 mod trials;
