@@ -20,7 +20,7 @@ Standard error, each line behind \"sievebench: \":
   too many scripts            test: more than there may be
   too many reads              a session made 1000000000 reads, and its input had not ended
   out of memory               memory was refused
-A mistake in the command line is told in words of its own, with the usage.
+A mistake in the command line is told in words of its own.
 
 Quoted text, as \"PATH\" above, has a \\ before \" and \\, and \\xHH with two hexadecimal digits for
 each octet outside 32 to 126.
@@ -42,7 +42,8 @@ A line of the input is a command; each is answered by a reply:
   drop-message ID                 remove a message
   envelope FROM TO                set the addresses of the sender and of the recipient
   mailbox BOX                     set the mailbox that mail is kept in
-  report                          print the report, as 'sievebench help test' shows it
+  report                          print the report, as 'sievebench help test' shows it, of all
+                                  messages; its first line is \"main none\" where no script is run
   dump PLACE NAME                 print a script's code, and then ok
 
 PLACE is personal or global. Words stand between spaces; a name, an id, an address or a mailbox
@@ -76,7 +77,8 @@ pub(crate) fn of_test() -> &'static str {
 Each plain file NAME.sieve of a folder is the script NAME; other files are passed over. SCRIPT is
 a personal script, named by the last part of its path without a final .sieve; it takes the place
 of one of that name in the personal folder. Nothing is delivered, and no file is written. A value
-that begins with - is joined to its option, as in --to=-x or -f-x; such a path stands behind --.
+that begins with - is joined to its option, as in --to=-x or -f-x; a path that begins with - stands
+behind --.
 
 Standard output is the report:
   main personal \"NAME\"

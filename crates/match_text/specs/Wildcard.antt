@@ -1,5 +1,5 @@
 -- Which patterns a value matches (`:matches` of RFC 5228, section 2.7.1), and what their wildcards take (match variables of
--- RFC 5229, section 3).
+-- RFC 5229, section 3.2).
 use Rattle.std.specs.Prelude.{◌≡◌, ℕ, suc, ◌<◌, ◌≤◌, Bool, true, false, not, ◌&&◌, ◌==◌, ◌⊎◌, if◌then◌else◌, List, [], ◌∷◌, ◌++◌, length, take, drop, filter, option_to_list, Option, None, Some}
 use Rattle.std.specs.Option.{option_map, option_or}
 use Rattle.sieve_base.specs.Octet.{octet_of}
@@ -57,7 +57,7 @@ AtMost [] others = Unit {0}
 AtMost (m ∷ lengths) [] = ⊥
 AtMost (m ∷ lengths) (n ∷ others) = (m < n) ⊎ ((m ≡ n) × AtMost lengths others)
 
--- the first wildcard takes as little as it can, then the second, and so on (RFC 5229, section 3)
+-- the first wildcard takes as little as it can, then the second, and so on (RFC 5229, section 3.2)
 pub record IsLeastFit (fold : ℕ → ℕ) (items : List Item) (value lengths : List ℕ) : Type 0 where
   pub fits : Fits fold items value lengths
   pub least : (others : List ℕ) → Fits fold items value others → AtMost lengths others
@@ -85,7 +85,7 @@ least_fit fold (Question ∷ items) [] = None
 least_fit fold (Question ∷ items) (x ∷ value) = option_map (λ lengths. 1 ∷ lengths) (least_fit fold items value)
 least_fit fold (Star ∷ items) value = star_fit (least_fit fold items) value
 
--- CAPTURES (RFC 5229, section 3)
+-- CAPTURES (RFC 5229, section 3.2)
 
 -- the slice of the value that each wildcard takes, in order
 abbrev pub taken : List Item → (lengths value : List ℕ) → List (List ℕ)

@@ -10,7 +10,7 @@ use crate::segments::{begins, cut, place_of};
 use std::alloc::{AllocError, Global};
 use std::marker::Model;
 
-/// What the wildcards of a pattern took of a value (RFC 5229, section 3).
+/// What the wildcards of a pattern took of a value (RFC 5229, section 3.2).
 #[derive(Drop)]
 pub struct Captures<'v> {
     // The whole value, then what each wildcard took.
@@ -49,7 +49,7 @@ impl<'v> Captures<'v> {
 }
 
 /// Whether the whole value matches the pattern under the comparator, and what the wildcards then take: the match type
-/// `:matches` (RFC 5228, section 2.7.1; RFC 5229, section 3).
+/// `:matches` (RFC 5228, section 2.7.1; RFC 5229, section 3.2).
 ///
 /// In a pattern `*` stands for any octets or none, `?` for one octet, and any other octet for those equal to it. `\` takes its
 /// meaning from the octet behind it, and at the end of the pattern it stands for itself. The first wildcard takes as little as

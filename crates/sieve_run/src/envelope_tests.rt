@@ -97,9 +97,13 @@ fn find_by_path_names(
     ensures { IfOk result (λ found. found ≡ first_some (path_name_found (found_with comparison.now) part envelope.now) (octets_of_each names.now)) }
 {
     for name in names {
-        if let Some(values) =
-            find_by_path_name(alloc, envelope, part, name.as_slice(), comparison)?
-        {
+        if let Some(values) = find_by_path_name(
+            alloc,
+            envelope,
+            part,
+            name.as_slice(),
+            comparison,
+        )? {
             return Ok(Some(values));
         }
     }

@@ -83,9 +83,16 @@ fn path_in(alloc: Global, folder: &str, file: &[u8]) -> Result<Vec<u8>, AllocErr
 fn is_plain<R: Files + AllocGlobal>(rt: &R, path: &[u8]) -> Result<bool, ReadFault> {
     match metadata_at(rt, path) {
         Ok(metadata) => Ok(metadata.is_file()),
-        Err(e) if e.kind() == ErrorKind::NotFound => Ok(false),
+        Err(e) if leads_nowhere(e.kind()) => Ok(false),
         Err(e) => Err(ReadFault::at(rt.alloc(), path, &e)),
     }
+}
+
+/// Whether an error says that a path leads to no file: that of a link to nothing, through a plain file, or in a ring.
+fn leads_nowhere(kind: ErrorKind) -> bool {
+    kind == ErrorKind::NotFound
+        || kind == ErrorKind::NotADirectory
+        || kind == ErrorKind::FilesystemLoop
 }
 
 /// What is known of the file at a path. A path has to be UTF-8 to be asked for.
