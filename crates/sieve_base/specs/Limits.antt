@@ -53,6 +53,20 @@ mailbox_limit = 255
 abbrev pub action_limit : ℕ
 action_limit = 32
 
+-- VARIABLES
+
+-- the most octets of a variable's value; what is longer is cut (RFC 5229, section 6, asks for 4000 at least)
+abbrev pub value_limit : ℕ
+value_limit = 4096
+
+-- the most local variables that a script sets (RFC 5229, section 6, asks for 128 at least)
+abbrev pub local_limit : ℕ
+local_limit = 128
+
+-- the greatest number of a match variable (RFC 5229, section 6, asks for 9 at least)
+abbrev pub match_limit : ℕ
+match_limit = 99
+
 -- SESSIONS
 
 -- the most octets of a session's line, without the line end

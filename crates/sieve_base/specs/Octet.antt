@@ -1,4 +1,4 @@
--- Octets by the characters of ASCII that they stand for, and classes of octets (RFC 5234, appendix B.1).
+-- Octets by the characters of ASCII that they stand for, and classes of octets (RFC 5234, appendix B.1; RFC 5228, section 8.1).
 use Prim.Native.Char.{Char, code}
 use Rattle.std.specs.Prelude.{ℕ, Bool, ◌&&◌, ◌||◌, ◌==◌, nat_le}
 
@@ -21,3 +21,11 @@ is_blank octet = octet == octet_of " " || octet == octet_of "\t"
 -- a visible character of ASCII: VCHAR
 abbrev pub is_visible : ℕ → Bool
 is_visible octet = is_between (octet_of "!") (octet_of "~") octet
+
+-- a letter or `_`, with which an identifier begins (RFC 5228, section 8.1)
+abbrev pub begins_name : ℕ → Bool
+begins_name octet = is_between (octet_of "a") (octet_of "z") octet || (is_between (octet_of "A") (octet_of "Z") octet || (octet == octet_of "_"))
+
+-- a letter, a digit or `_`, of which it goes on (RFC 5228, section 8.1)
+abbrev pub is_name_octet : ℕ → Bool
+is_name_octet octet = begins_name octet || is_digit octet

@@ -1,7 +1,7 @@
 //! The limits of the project, each once, for code. Contracts name the limits of the definitions.
 
 ghost use Rattle.std.specs.Prelude.{◌≡◌};
-ghost use Rattle.sieve_base.specs.Limits.{action_limit, address_limit, block_room, id_limit, line_limit, mailbox_limit, message_count_limit, message_limit, name_limit, script_count_limit, test_depth, text_limit};
+ghost use Rattle.sieve_base.specs.Limits.{action_limit, address_limit, block_room, id_limit, line_limit, local_limit, mailbox_limit, match_limit, message_count_limit, message_limit, name_limit, script_count_limit, test_depth, text_limit, value_limit};
 
 /// The most octets of a script's text.
 pub const MAX_TEXT: usize = 1_048_576;
@@ -25,6 +25,12 @@ pub const MAX_ADDRESS: usize = 1_024;
 pub const MAX_MAILBOX: usize = 255;
 /// The most actions of a run.
 pub const MAX_ACTIONS: usize = 32;
+/// The most octets of a variable's value. What is longer is cut.
+pub const MAX_VALUE: usize = 4_096;
+/// The most local variables that a script sets.
+pub const MAX_LOCALS: usize = 128;
+/// The greatest number of a match variable.
+pub const MAX_MATCH: u8 = 99;
 /// The most octets of a session's line, without the line end.
 pub const MAX_LINE: usize = 16_384;
 
@@ -41,5 +47,8 @@ pub fn constants_are_limits()
     ensures address { MAX_ADDRESS ≡ address_limit }
     ensures mailbox { MAX_MAILBOX ≡ mailbox_limit }
     ensures actions { MAX_ACTIONS ≡ action_limit }
+    ensures value { MAX_VALUE ≡ value_limit }
+    ensures locals { MAX_LOCALS ≡ local_limit }
+    ensures matched { MAX_MATCH ≡ match_limit }
     ensures line { MAX_LINE ≡ line_limit }
 {}

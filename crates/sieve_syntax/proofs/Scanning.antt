@@ -2,8 +2,8 @@
 use Rattle.std.proofs.Common.{◌≡◌, ℕ, zero, suc, ◌<◌, ◌≤◌, ◌==◌, ◌&&◌, Bool, true, false, if◌then◌else◌, List, [], ◌∷◌, length, take, Option, Some, None, refl, sym, ap, ◌∙◌, subst, arith}
 use Rattle.std.specs.List.{list_all}
 use Rattle.std.specs.Option.{option_map}
-use Rattle.sieve_base.specs.Octet.{is_digit}
-use Rattle.sieve_syntax.specs.Octet.{is_name_octet, is_unit}
+use Rattle.sieve_base.specs.Octet.{is_digit, is_name_octet}
+use Rattle.sieve_syntax.specs.Octet.{is_unit}
 use Rattle.sieve_syntax.specs.Spelling.{is_none, ends_number, ends_quoted, ends_protected}
 use Rattle.sieve_syntax.specs.Scan.{name_length, number_length, quoted_length, protected_length}
 use Rattle.sieve_syntax.proofs.Cases.{by_cases, and_left, and_right, both_true}

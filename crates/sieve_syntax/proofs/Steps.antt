@@ -4,9 +4,9 @@ use Rattle.std.specs.Option.{option_map}
 use Rattle.std.proofs.lemmas.List.{take_all, take_rest, at_drop_more, at_drop_all, take-take, drop-take, drop_more, drop_all, drop-drop, length-drop, length-take-le}
 use Rattle.std.proofs.lemmas.List.Sums.{sum_by-take-drop}
 use Rattle.std.proofs.Math.Numerals.{add-one}
-use Rattle.sieve_base.specs.Octet.{is_digit, is_blank}
+use Rattle.sieve_base.specs.Octet.{is_digit, is_blank, is_name_octet}
 use Rattle.sieve_syntax.specs.Line.{line_length, lines_of, is_dot_line}
-use Rattle.sieve_syntax.specs.Octet.{is_name_octet, is_unit}
+use Rattle.sieve_syntax.specs.Octet.{is_unit}
 use Rattle.sieve_syntax.specs.Scan.{shifted, opening_stop, opening_end, dot_length, name_length, number_length, quoted_length, protected_length}
 use Rattle.sieve_syntax.specs.Token.{line_feeds}
 use Rattle.sieve_syntax.specs.White.{begins_with, comment_length}

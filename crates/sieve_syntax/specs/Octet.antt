@@ -1,14 +1,6 @@
 -- Classes of octets (RFC 5228, section 8.1).
 use Rattle.std.specs.Prelude.{ℕ, Bool, ◌==◌, ◌||◌}
-use Rattle.sieve_base.specs.Octet.{octet_of, is_between, is_digit}
-
--- a letter or `_`, with which an identifier begins (RFC 5228, section 8.1)
-abbrev pub begins_name : ℕ → Bool
-begins_name octet = is_between (octet_of "a") (octet_of "z") octet || (is_between (octet_of "A") (octet_of "Z") octet || (octet == octet_of "_"))
-
--- a letter, a digit or `_`, of which it goes on (RFC 5228, section 8.1)
-abbrev pub is_name_octet : ℕ → Bool
-is_name_octet octet = begins_name octet || is_digit octet
+use Rattle.sieve_base.specs.Octet.{octet_of}
 
 -- the unit of a number: `K`, `M` or `G` in either case (RFC 5228, section 8.1: QUANTIFIER)
 abbrev pub is_unit : ℕ → Bool

@@ -1,8 +1,8 @@
 //! Classes of octets (RFC 5228, section 8.1).
 
 ghost use Rattle.std.specs.Prelude.{◌≡◌};
-ghost use Rattle.sieve_base.specs.Octet.{is_digit, is_blank};
-ghost use Rattle.sieve_syntax.specs.Octet.{begins_name, is_white, is_name_octet, is_unit};
+ghost use Rattle.sieve_base.specs.Octet.{is_digit, is_blank, begins_name, is_name_octet};
+ghost use Rattle.sieve_syntax.specs.Octet.{is_white, is_unit};
 
 /// Whether the octet is a space or a tab.
 pub(crate) fn is_blank(octet: u8) -> bool
