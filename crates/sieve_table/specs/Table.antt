@@ -79,6 +79,13 @@ tag_row tag.Domain = bare_tag (codes "domain") kind.AddressPart
 -- RFC 5228, section 5.9
 tag_row tag.Over = bare_tag (codes "over") kind.Bound
 tag_row tag.Under = bare_tag (codes "under") kind.Bound
+-- RFC 5229, section 4.1
+tag_row tag.Lower = bare_tag (codes "lower") kind.Case
+tag_row tag.Upper = bare_tag (codes "upper") kind.Case
+tag_row tag.LowerFirst = bare_tag (codes "lowerfirst") kind.FirstLetter
+tag_row tag.UpperFirst = bare_tag (codes "upperfirst") kind.FirstLetter
+tag_row tag.QuoteWildcard = bare_tag (codes "quotewildcard") kind.QuoteWildcard
+tag_row tag.Length = bare_tag (codes "length") kind.Length
 
 -- the match types
 abbrev pub match_tags : List Tag
@@ -91,6 +98,10 @@ comparing_tags = tag.Comparator ∷ match_tags
 -- the parts of an address too (RFC 5228, section 2.7.4)
 abbrev pub address_tags : List Tag
 address_tags = tag.All ∷ tag.LocalPart ∷ tag.Domain ∷ comparing_tags
+
+-- the modifiers of a value; those of one precedence are of one kind (RFC 5229, section 4.1)
+abbrev pub modifier_tags : List Tag
+modifier_tags = tag.Lower ∷ tag.Upper ∷ tag.LowerFirst ∷ tag.UpperFirst ∷ tag.QuoteWildcard ∷ tag.Length ∷ []
 
 abbrev pub command_row : CommandKind → Row
 -- RFC 5228, section 3.2
@@ -109,6 +120,8 @@ command_row command.Redirect = record (bare (codes "redirect")) { slots = slot f
 command_row command.Discard = bare (codes "discard")
 -- RFC 5228, section 3.3
 command_row command.Stop = bare (codes "stop")
+-- RFC 5229, section 4
+command_row command.Set = record (bare (codes "set")) { tags = modifier_tags; slots = slot form.One role.NameToSet ∷ slot form.One role.Text ∷ []; needs = capability.Variables ∷ [] }
 
 abbrev pub test_row : TestKind → Row
 -- RFC 5228, section 5.7
@@ -129,6 +142,8 @@ test_row test.Not = record (bare (codes "not")) { tests = inner.One }
 -- RFC 5228, sections 5.10 and 5.6
 test_row test.True = bare (codes "true")
 test_row test.False = bare (codes "false")
+-- RFC 5229, section 5
+test_row test.String = record (bare (codes "string")) { tags = comparing_tags; slots = slot form.List role.Text ∷ slot form.List role.Keys ∷ []; needs = capability.Variables ∷ [] }
 
 -- THE LOOK-UP
 
@@ -137,10 +152,10 @@ abbrev pub is_named : List ℕ → List ℕ → Bool
 is_named name written = str_eq_ignore_ascii_case name written
 
 abbrev pub commands : List CommandKind
-commands = command.Require ∷ command.If ∷ command.Elsif ∷ command.Else ∷ command.Keep ∷ command.Fileinto ∷ command.Redirect ∷ command.Discard ∷ command.Stop ∷ []
+commands = command.Require ∷ command.If ∷ command.Elsif ∷ command.Else ∷ command.Keep ∷ command.Fileinto ∷ command.Redirect ∷ command.Discard ∷ command.Stop ∷ command.Set ∷ []
 
 abbrev pub tests : List TestKind
-tests = test.Header ∷ test.Address ∷ test.Envelope ∷ test.Exists ∷ test.Size ∷ test.AllOf ∷ test.AnyOf ∷ test.Not ∷ test.True ∷ test.False ∷ []
+tests = test.Header ∷ test.Address ∷ test.Envelope ∷ test.Exists ∷ test.Size ∷ test.AllOf ∷ test.AnyOf ∷ test.Not ∷ test.True ∷ test.False ∷ test.String ∷ []
 
 -- the command of that name
 unfoldable pub command_named : List ℕ → Option CommandKind

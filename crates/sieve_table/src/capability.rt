@@ -22,9 +22,10 @@ pub enum Capability {
 }
 
 /// The capabilities that there are.
-const CAPABILITIES: [Capability; 4] = [
+const CAPABILITIES: [Capability; 5] = [
     Capability::Fileinto,
     Capability::Envelope,
+    Capability::Variables,
     Capability::OctetComparator,
     Capability::CasemapComparator,
 ];

@@ -27,6 +27,8 @@ pub enum CommandKind {
     Discard,
     /// `stop` (RFC 5228, section 3.3).
     Stop,
+    /// `set` (RFC 5229, section 4).
+    Set,
 }
 
 /// A test that there is.
@@ -52,6 +54,8 @@ pub enum TestKind {
     True,
     /// `false` (RFC 5228, section 5.6).
     False,
+    /// `string` (RFC 5229, section 5).
+    String,
 }
 
 /// A tag that there is.
@@ -75,10 +79,22 @@ pub enum Tag {
     Over,
     /// `:under` (RFC 5228, section 5.9).
     Under,
+    /// `:lower` (RFC 5229, section 4.1.1).
+    Lower,
+    /// `:upper` (RFC 5229, section 4.1.1).
+    Upper,
+    /// `:lowerfirst` (RFC 5229, section 4.1.1).
+    LowerFirst,
+    /// `:upperfirst` (RFC 5229, section 4.1.1).
+    UpperFirst,
+    /// `:quotewildcard` (RFC 5229, section 4.1.2).
+    QuoteWildcard,
+    /// `:length` (RFC 5229, section 4.1.3).
+    Length,
 }
 
 /// All commands.
-const COMMANDS: [CommandKind; 9] = [
+const COMMANDS: [CommandKind; 10] = [
     CommandKind::Require,
     CommandKind::If,
     CommandKind::Elsif,
@@ -88,10 +104,11 @@ const COMMANDS: [CommandKind; 9] = [
     CommandKind::Redirect,
     CommandKind::Discard,
     CommandKind::Stop,
+    CommandKind::Set,
 ];
 
 /// All tests.
-const TESTS: [TestKind; 10] = [
+const TESTS: [TestKind; 11] = [
     TestKind::Header,
     TestKind::Address,
     TestKind::Envelope,
@@ -102,6 +119,7 @@ const TESTS: [TestKind; 10] = [
     TestKind::Not,
     TestKind::True,
     TestKind::False,
+    TestKind::String,
 ];
 
 /// What takes nothing, and has no name yet.
@@ -176,6 +194,36 @@ impl Tag {
                 kind: TagKind::Bound,
                 ..BARE_TAG
             },
+            Tag::Lower => TagRow {
+                name: b"lower",
+                kind: TagKind::Case,
+                ..BARE_TAG
+            },
+            Tag::Upper => TagRow {
+                name: b"upper",
+                kind: TagKind::Case,
+                ..BARE_TAG
+            },
+            Tag::LowerFirst => TagRow {
+                name: b"lowerfirst",
+                kind: TagKind::FirstLetter,
+                ..BARE_TAG
+            },
+            Tag::UpperFirst => TagRow {
+                name: b"upperfirst",
+                kind: TagKind::FirstLetter,
+                ..BARE_TAG
+            },
+            Tag::QuoteWildcard => TagRow {
+                name: b"quotewildcard",
+                kind: TagKind::QuoteWildcard,
+                ..BARE_TAG
+            },
+            Tag::Length => TagRow {
+                name: b"length",
+                kind: TagKind::Length,
+                ..BARE_TAG
+            },
         }
     }
 }
@@ -241,6 +289,31 @@ impl CommandKind {
             },
             CommandKind::Stop => Row {
                 name: b"stop",
+                ..BARE
+            },
+            CommandKind::Set => Row {
+                name: b"set",
+                tags: &[
+                    Tag::Lower,
+                    Tag::Upper,
+                    Tag::LowerFirst,
+                    Tag::UpperFirst,
+                    Tag::QuoteWildcard,
+                    Tag::Length,
+                ],
+                slots: &[
+                    Slot {
+                        form: Form::One,
+                        role: Role::NameToSet,
+                        needs: None,
+                    },
+                    Slot {
+                        form: Form::One,
+                        role: Role::Text,
+                        needs: None,
+                    },
+                ],
+                needs: &[Capability::Variables],
                 ..BARE
             },
         }
@@ -351,6 +424,20 @@ impl TestKind {
             },
             TestKind::False => Row {
                 name: b"false",
+                ..BARE
+            },
+            TestKind::String => Row {
+                name: b"string",
+                tags: &COMPARING_TAGS,
+                slots: &[
+                    Slot {
+                        form: Form::List,
+                        role: Role::Text,
+                        needs: None,
+                    },
+                    KEYS,
+                ],
+                needs: &[Capability::Variables],
                 ..BARE
             },
         }
