@@ -1,0 +1,43 @@
+-- The names of variables (RFC 5229, section 3).
+use Rattle.std.specs.Prelude.{ℕ, Bool, false, ◌&&◌, ◌*◌, ◌+◌, ◌-◌, List, [], ◌∷◌, length, take, drop, min, codes, if◌then◌else◌}
+use Rattle.std.specs.List.{list_all}
+use Rattle.std.specs.Str.{str_eq_ignore_ascii_case, str_to_ascii_lowercase}
+use Rattle.sieve_base.specs.Limits.{match_limit}
+use Rattle.sieve_base.specs.Octet.{octet_of, begins_name, is_name_octet, is_digit}
+use Rattle.sieve_variables.specs.declared.name.NameKind.{NameKind}
+use Rattle.sieve_variables.specs.declared.name.NameKind.TheVariants.{Local, Global, Bad}
+
+-- an identifier (RFC 5228, section 8.1)
+abbrev pub is_identifier : List ℕ → Bool
+is_identifier [] = false
+is_identifier (c ∷ cs) = begins_name c && list_all is_name_octet cs
+
+-- the number of a match variable: digits (num-variable)
+abbrev pub is_number : List ℕ → Bool
+is_number [] = false
+is_number (c ∷ cs) = is_digit c && list_all is_digit cs
+
+-- what digits stand for in base 10, behind those that gave n
+abbrev pub decimal_from : ℕ → List ℕ → ℕ
+decimal_from n [] = n
+decimal_from n (c ∷ cs) = decimal_from (10 * n + (c - octet_of "0")) cs
+
+-- The number of a match variable, by its decimal value. All past the limit are refused alike, so they count as the first of them.
+abbrev pub index_of : List ℕ → ℕ
+index_of digits = min (decimal_from 0 digits) (match_limit + 1)
+
+-- names ignore the case of ASCII: this is how they are kept
+abbrev pub folded_name : List ℕ → List ℕ
+folded_name name = str_to_ascii_lowercase name
+
+-- the namespace of the variables that scripts share, and its dot (RFC 6609, section 3.4.2)
+abbrev pub global_prefix : List ℕ
+global_prefix = codes "global."
+
+-- whether it names one of them
+abbrev pub is_global_name : List ℕ → Bool
+is_global_name name = str_eq_ignore_ascii_case global_prefix (take (length global_prefix) name) && is_identifier (drop (length global_prefix) name)
+
+-- what a string names where the name of a variable is taken: a variable of the script, one that scripts share, or nothing
+abbrev pub name_kind : List ℕ → NameKind
+name_kind name = if is_identifier name then Local else if is_global_name name then Global else Bad

@@ -1,0 +1,45 @@
+-- The references to variables in a string (RFC 5229, section 3): `${`, words with dots between them, and `}`. The last word is the
+-- name of a variable, an identifier or the number of a match variable; those before it are its namespace, and the first of a
+-- namespace is an identifier.
+use Rattle.std.specs.Prelude.{◌≡◌, ⊥, ℕ, Bool, true, false, ◌&&◌, ◌||◌, not, List, [], ◌∷◌, ◌++◌, codes}
+use Rattle.std.specs.List.{flat_map, list_any, list_all}
+use Rattle.sieve_base.specs.Octet.{octet_of}
+use Rattle.sieve_variables.specs.Name.{is_identifier, is_number}
+
+-- variable-name, sub-namespace
+abbrev pub is_name : List ℕ → Bool
+is_name word = is_identifier word || is_number word
+
+-- whether words are those of a reference
+abbrev pub is_legal : List (List ℕ) → Bool
+is_legal [] = false
+is_legal (name ∷ []) = is_name name
+is_legal (namespace ∷ word ∷ words) = is_identifier namespace && list_all is_name (word ∷ words)
+
+-- words with dots between them
+abbrev pub dotted : List (List ℕ) → List ℕ
+dotted [] = []
+dotted (word ∷ words) = word ++ flat_map (λ further. octet_of "." ∷ further) words
+
+-- a reference as it is written
+abbrev pub written : List (List ℕ) → List ℕ
+written words = codes "${" ++ dotted words ++ codes "}"
+
+-- a text that begins with a reference
+pub record Begins (text : List ℕ) : Type 0 where
+  pub words : List (List ℕ)
+  pub rest : List ℕ
+  pub legal : is_legal words ≡ true
+  pub is : text ≡ written words ++ rest
+
+-- a piece of a text: a reference, by its words, or an octet
+pub data Piece : Type 0 where
+  reference : (words : List (List ℕ)) → Piece
+  octet : (octet : ℕ) → Piece
+
+-- A text is cut from the left into references and single octets, and no reference begins where an octet stands alone (RFC 5229,
+-- section 3: what isn't a reference stands as it is).
+abbrev pub Cuts : List Piece → List ℕ → Type 0
+Cuts [] text = text ≡ []
+Cuts (reference words ∷ pieces) text = (is_legal words ≡ true) × (rest : List ℕ) × (text ≡ written words ++ rest) × Cuts pieces rest
+Cuts (octet c ∷ pieces) text = (Begins text → ⊥) × (rest : List ℕ) × (text ≡ c ∷ rest) × Cuts pieces rest
