@@ -1,7 +1,8 @@
 //! Strings as their parts (RFC 5229, section 3).
 
 use smallvec::SmallVec;
-use std::alloc::{Global, MadeWith};
+use std::alloc::Global;
+use std::default::MadeWith;
 
 /// Octets of which up to 16 lie in the value itself.
 pub type SmallOctets = SmallVec<u8, 16>;
