@@ -1,18 +1,22 @@
 -- The breaches of the validator's rules in a script, in the order of the text and then of the rules.
-use Rattle.std.specs.Prelude.{◌≡◌, ℕ, Bool, true, false, not, ◌&&◌, ◌||◌, List, [], ◌∷◌, ◌++◌, Option, Some, None, is_none, slice_get, nat_eq, codes, if◌then◌else◌}
+use Rattle.std.specs.Prelude.{◌≡◌, ℕ, Bool, true, false, not, ◌&&◌, ◌||◌, List, [], ◌∷◌, ◌++◌, Option, Some, None, is_none, length, slice_get, nat_eq, nat_lt, codes, if◌then◌else◌}
 use Rattle.std.specs.List.{flat_map}
 use lib.Pointwise.{pointwise}
 use Rattle.sieve_syntax.specs.Tree.{Node, Block, Tests, Argument}
+use Rattle.sieve_base.specs.Limits.{local_limit}
 use Rattle.sieve_table.specs.Address.{is_address_field, is_envelope_part}
+use Rattle.sieve_variables.specs.Name.{is_global_name, is_identifier}
+use Rattle.sieve_variables.specs.Scan.{has_reference, has_namespace, has_far_index}
+use Rattle.sieve_check.specs.Assigned.{is_new_local}
 use Rattle.sieve_table.specs.Capability.{is_capability}
 use Rattle.sieve_check.specs.Context.{Context, Required, is_require, continues_if}
 use Rattle.sieve_check.specs.Element.{Element, the_command, the_test, the_text, the_number, elements_of}
-use Rattle.sieve_check.specs.Role.{has_role}
+use Rattle.sieve_check.specs.Role.{has_role, is_expanded}
 use Rattle.sieve_check.specs.Shape.{row_labels, shapes_of}
 use Rattle.sieve_table.specs.Table.{Row, command_named, test_named, command_row, test_row}
 use Rattle.sieve_check.specs.Use.{has_bad_tag, has_bad_arguments, has_block, lacks_required}
 use Rattle.sieve_table.specs.declared.row.Role.{Role}
-use Rattle.sieve_table.specs.declared.row.Role.TheVariants.{Capabilities, ComparatorName, AddressFields, EnvelopeParts}
+use Rattle.sieve_table.specs.declared.row.Role.TheVariants.{Capabilities, ComparatorName, AddressFields, EnvelopeParts, NameToSet}
 use Rattle.sieve_table.specs.declared.rule.Rule.{Rule}
 use Rattle.sieve_table.specs.declared.rule.Rule.TheVariants.{RequirePlace, UnknownCapability, UnknownCommand, NotRequired, ElsePlace, BadTag, BadArguments, UnknownComparator, BadVariableName, GlobalAfterSet, BadNamespace, MatchIndex, NumberTooLarge, BadEnvelopePart, NotAddressHeader, TooManyVariables}
 use Rattle.sieve_table.specs.declared.table.CommandKind.{CommandKind}
@@ -54,13 +58,39 @@ test_breaks context (Some kind) args ts rule = row_breaks context.required (test
 abbrev pub is_comparator_name : List ℕ → Bool
 is_comparator_name name = pointwise nat_eq (codes "i;octet") name || pointwise nat_eq (codes "i;ascii-casemap") name
 
+-- whether references in a string stand for values, where it is in a role
+abbrev pub takes_references : Required → Option Role → Bool
+takes_references required None = false
+takes_references required (Some role) = is_expanded role && required.variables
+
+-- one that has no reference in it is known before the script runs
+abbrev pub is_known : Required → Option Role → List ℕ → Bool
+is_known required role octets = not (takes_references required role && has_reference octets)
+
+-- a name of a variable that is neither one of the script nor one that scripts share (RFC 5229, section 3)
+abbrev pub is_bad_name : List ℕ → Bool
+is_bad_name octets = not (is_identifier octets) && not (is_global_name octets)
+
+-- a variable in a namespace, of which there is none
+abbrev pub names_namespace : Required → Option Role → List ℕ → Bool
+names_namespace required role octets = (has_role NameToSet role && (not (is_identifier octets) && is_global_name octets)) || (takes_references required role && has_namespace octets)
+
+-- the name of one local variable too many
+abbrev pub is_past_locals : List ℕ → List (List ℕ) → Bool
+is_past_locals octets assigned = is_new_local octets assigned && not (nat_lt (length assigned) local_limit)
+
 -- a string: that of a leading `require` (RFC 5228, section 3.2), of a comparator (section 2.7.3), a part of an envelope (section
--- 5.4), or a field that holds addresses (section 5.1)
+-- 5.4), a field that holds addresses (section 5.1), the name of a variable (RFC 5229, section 3), or one with references to
+-- variables (sections 3 and 3.2)
 abbrev pub text_breaks : Context → Option Role → List ℕ → Rule → Bool
 text_breaks context role octets UnknownCapability = has_role Capabilities role && (context.leads && not (is_capability octets))
 text_breaks context role octets UnknownComparator = has_role ComparatorName role && not (is_comparator_name octets)
-text_breaks context role octets BadEnvelopePart = has_role EnvelopeParts role && not (is_envelope_part octets)
-text_breaks context role octets NotAddressHeader = has_role AddressFields role && not (is_address_field octets)
+text_breaks context role octets BadVariableName = has_role NameToSet role && is_bad_name octets
+text_breaks context role octets BadNamespace = names_namespace context.required role octets
+text_breaks context role octets MatchIndex = takes_references context.required role && has_far_index octets
+text_breaks context role octets BadEnvelopePart = has_role EnvelopeParts role && (not (is_envelope_part octets) && is_known context.required role octets)
+text_breaks context role octets NotAddressHeader = has_role AddressFields role && (not (is_address_field octets) && is_known context.required role octets)
+text_breaks context role octets TooManyVariables = has_role NameToSet role && is_past_locals octets context.assigned
 text_breaks context role octets rule = false
 
 -- a number past 64 bits (RFC 5228, section 2.4.1)

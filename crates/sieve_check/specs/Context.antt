@@ -1,12 +1,14 @@
 -- What stands before a command in its text, as far as rules ask.
 use Rattle.std.specs.Prelude.{ℕ, Bool, true, false, ◌&&◌, ◌||◌, List, [], ◌∷◌, Option, Some, None, if◌then◌else◌}
-use Rattle.sieve_syntax.specs.Tree.{Node, node, Text, Argument, strings, number, tag}
+use Rattle.sieve_syntax.specs.Tree.{Node, node, Nodes, end_nodes, more_nodes, Block, no_block, block, Text, Argument, strings, number, tag}
+use Rattle.sieve_check.specs.Assigned.{assigning_arguments}
+use Rattle.sieve_check.specs.Shape.{row_labels}
 use Rattle.sieve_table.specs.Capability.{is_name_of}
-use Rattle.sieve_table.specs.Table.{command_named}
+use Rattle.sieve_table.specs.Table.{command_named, command_row}
 use Rattle.sieve_table.specs.declared.capability.Capability.{Capability}
 use Rattle.sieve_table.specs.declared.capability.Capability.TheVariants as capability
 use Rattle.sieve_table.specs.declared.table.CommandKind.{CommandKind}
-use Rattle.sieve_table.specs.declared.table.CommandKind.TheVariants.{Require, If, Elsif, Else, Keep, Fileinto, Redirect, Discard, Stop}
+use Rattle.sieve_table.specs.declared.table.CommandKind.TheVariants.{Require, If, Elsif, Else, Keep, Fileinto, Redirect, Discard, Stop, Set}
 
 -- what is required, of what commands, tests, tags and arguments may need (RFC 5228, section 2.10.5)
 pub record Required : Type 0 where
@@ -61,10 +63,12 @@ pub record Context : Type 0 where
   -- what the requires at the top of the script name that stand before it; behind them that is all that is required (RFC 5228,
   -- section 3.2)
   pub required : Required
+  -- the local variables that the text before it sets, each once (RFC 5229, section 4)
+  pub assigned : List (List ℕ)
 
 -- at the start of a script
 abbrev pub script_start : Context
-script_start = record { leads = true; follows_if = false; required = nothing_required }
+script_start = record { leads = true; follows_if = false; required = nothing_required; assigned = [] }
 
 abbrev pub is_require : CommandKind → Bool
 is_require Require = true
@@ -76,6 +80,7 @@ is_require Fileinto = false
 is_require Redirect = false
 is_require Discard = false
 is_require Stop = false
+is_require Set = false
 
 -- an elsif or else may follow if and elsif
 abbrev pub allows_else : CommandKind → Bool
@@ -88,6 +93,7 @@ allows_else Fileinto = false
 allows_else Redirect = false
 allows_else Discard = false
 allows_else Stop = false
+allows_else Set = false
 
 -- elsif and else go on with what an if began
 abbrev pub continues_if : CommandKind → Bool
@@ -100,20 +106,46 @@ continues_if Fileinto = false
 continues_if Redirect = false
 continues_if Discard = false
 continues_if Stop = false
+continues_if Set = false
 
 -- what is required behind a command with such arguments: a `require` at the top adds what it names
 abbrev pub required_behind : Context → CommandKind → List Argument → Required
 required_behind context kind args = if context.leads && is_require kind then requiring_arguments context.required args else context.required
 
--- behind a command of a kind, with its arguments
+-- behind a command of a kind, with its arguments, and before its block
 abbrev pub behind_kind : Context → Option CommandKind → List Argument → Context
 behind_kind context None args = record context { leads = false; follows_if = false }
-behind_kind context (Some kind) args = record { leads = context.leads && is_require kind; follows_if = allows_else kind; required = required_behind context kind args }
+behind_kind context (Some kind) args = record {
+  leads = context.leads && is_require kind;
+  follows_if = allows_else kind;
+  required = required_behind context kind args;
+  assigned = assigning_arguments context.assigned (row_labels (command_row kind) args) args;
+}
 
 -- at the start of a block
 abbrev pub inside : Context → Context
 inside context = record context { leads = false; follows_if = false }
 
--- behind a whole command
-abbrev pub behind : Context → Node → Context
-behind context (node name line args ts ending) = behind_kind context (command_named name) args
+unfoldable mutual
+  -- behind a whole command
+  pub behind : Context → Node → Context
+  behind context (node name line args ts ending) = behind_block (behind_kind context (command_named name) args) ending
+
+  -- behind its block, in which variables may be set
+  pub behind_block : Context → Block → Context
+  behind_block context no_block = context
+  behind_block context (block ns) = record context { assigned = (behind_nodes (inside context) ns).assigned }
+
+  -- behind commands in turn
+  pub behind_nodes : Context → Nodes → Context
+  behind_nodes context end_nodes = context
+  behind_nodes context (more_nodes n ns) = behind_nodes (behind context n) ns
+
+-- what the requires at the top of a script name, which is all that is required in it (RFC 5228, section 3.2)
+abbrev pub requires_kind : Option CommandKind → Bool
+requires_kind None = false
+requires_kind (Some kind) = is_require kind
+
+abbrev pub required_from : Required → Nodes → Required
+required_from required end_nodes = required
+required_from required (more_nodes (node name line args ts ending) ns) = if requires_kind (command_named name) then required_from (requiring_arguments required args) ns else required

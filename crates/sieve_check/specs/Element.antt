@@ -2,7 +2,7 @@
 -- writes them, each with what stands before it.
 use Rattle.std.specs.Prelude.{ℕ, Bool, true, false, List, [], ◌∷◌, ◌++◌, Option, Some, None, drop}
 use Rattle.sieve_syntax.specs.Tree.{Node, node, Nodes, end_nodes, more_nodes, nodes, Block, no_block, block, Test, test, Tests, no_tests, one_test, test_list, TestList, end_tests, more_tests, Text, Argument, strings, number, tag}
-use Rattle.sieve_check.specs.Context.{Context, script_start, inside, behind}
+use Rattle.sieve_check.specs.Context.{Context, script_start, inside, behind, behind_kind}
 use Rattle.sieve_check.specs.Role.{first_role}
 use Rattle.sieve_check.specs.Shape.{row_labels, shapes_of}
 use Rattle.sieve_table.specs.Table.{Row, command_named, test_named, command_row, test_row}
@@ -75,7 +75,7 @@ unfoldable mutual
   -- a command, its arguments, its tests, and its block
   pub node_elements : Context → Node → List Element
   node_elements context (node name line args ts ending) =
-      the_command context name line args ts ending ∷ command_arguments context (command_named name) args ts ending ++ (tests_elements context ts ++ block_elements context ending)
+      the_command context name line args ts ending ∷ command_arguments context (command_named name) args ts ending ++ (tests_elements context ts ++ block_elements (behind_kind context (command_named name) args) ending)
 
   pub block_elements : Context → Block → List Element
   block_elements context no_block = []

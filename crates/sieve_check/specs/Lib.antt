@@ -1,3 +1,4 @@
+pub mod Assigned
 pub mod Breach
 pub mod CheckFault
 pub mod Context

@@ -12,7 +12,7 @@ use Rattle.sieve_check.specs.Label.{labels_of}
 use Rattle.sieve_check.specs.Role.{has_role, first_role}
 use Rattle.sieve_check.specs.Shape.{texts_shape}
 use Rattle.sieve_table.specs.Table.{Row, command_named, test_named, tag_named, test_row, command_row}
-use Rattle.sieve_check.specs.Tree.{Part, literal, Argument, strings, number, tag, Test, test, Node, node}
+use Rattle.sieve_check.specs.Tree.{Argument, strings, number, tag, Test, test, Node, node}
 use Rattle.sieve_check.specs.declared.label.Label.{Label}
 use Rattle.sieve_check.specs.declared.label.Label.TheVariants.{Tagged, OtherTag, Own, InSlot, Unfit}
 use Rattle.sieve_check.specs.declared.label.Shape.{Shape}
@@ -27,13 +27,19 @@ use Rattle.sieve_table.specs.declared.table.Tag.{Tag}
 use Rattle.sieve_table.specs.declared.table.Tag.TheVariants as tag
 use Rattle.sieve_table.specs.declared.table.TestKind.{TestKind}
 use Rattle.sieve_table.specs.declared.table.TestKind.TheVariants as kind
+use Rattle.sieve_variables.specs.Part.{Part, literal, local_part, match_part}
+use Rattle.sieve_variables.specs.declared.modifier.LetterCase.{LetterCase}
+use Rattle.sieve_variables.specs.declared.modifier.LetterCase.TheVariants as letter_case
+use Rattle.sieve_variables.specs.declared.modifier.Modifiers.{Modifiers}
 
 -- Where a test takes values from: the fields of some names (RFC 5228, section 5.7), a part of the addresses in such fields
--- (section 5.1), or a part of an envelope's addresses (section 5.4). A string is its parts.
+-- (section 5.1), a part of an envelope's addresses (section 5.4), or strings themselves (RFC 5229, section 5). A string is its
+-- parts.
 pub data Source : Type 0 where
   header_values : (names : List (List Part)) → Source
   address_values : (part : AddressPart) (names : List (List Part)) → Source
   envelope_values : (part : AddressPart) (names : List (List Part)) → Source
+  string_values : (texts : List (List Part)) → Source
 
 -- a test without tests in it (RFC 5228, section 5): it compares values with keys (section 2.7), or looks at the message
 pub data Ask : Type 0 where
@@ -48,6 +54,7 @@ pub data Leaf : Type 0 where
   fileinto_leaf : (mailbox : List Part) → Leaf
   redirect_leaf : (address : List Part) → Leaf
   discard_leaf : Leaf
+  set_leaf : (name : List ℕ) (modifiers : Modifiers) (value : List Part) → Leaf
 
 -- ARGUMENTS
 
@@ -81,6 +88,22 @@ text_in (Some (strings (t ∷ s ∷ ts) bracketed)) = None
 text_in (Some (number value line)) = None
 text_in (Some (tag name line)) = None
 
+-- the variable of the script that an argument names, by its name in lower case (RFC 5229, section 3)
+abbrev pub local_in_parts : List Part → Option (List ℕ)
+local_in_parts [] = None
+local_in_parts (literal octets ∷ parts) = None
+local_in_parts (local_part name ∷ []) = Some name
+local_in_parts (local_part name ∷ part ∷ parts) = None
+local_in_parts (match_part index ∷ parts) = None
+
+abbrev pub local_in : Option Argument → Option (List ℕ)
+local_in None = None
+local_in (Some (strings [] bracketed)) = None
+local_in (Some (strings (t ∷ []) bracketed)) = local_in_parts t.parts
+local_in (Some (strings (t ∷ s ∷ ts) bracketed)) = None
+local_in (Some (number value line)) = None
+local_in (Some (tag name line)) = None
+
 -- the number that an argument is
 abbrev pub number_in : Option Argument → Option ℕ
 number_in None = None
@@ -99,6 +122,16 @@ tag_number tag.LocalPart = 5
 tag_number tag.Domain = 6
 tag_number tag.Over = 7
 tag_number tag.Under = 8
+tag_number tag.Lower = 9
+tag_number tag.Upper = 10
+tag_number tag.LowerFirst = 11
+tag_number tag.UpperFirst = 12
+tag_number tag.QuoteWildcard = 13
+tag_number tag.Length = 14
+
+-- the tags in the order of their numbers
+abbrev pub all_tags : List Tag
+all_tags = tag.Comparator ∷ tag.Is ∷ tag.Contains ∷ tag.Matches ∷ tag.All ∷ tag.LocalPart ∷ tag.Domain ∷ tag.Over ∷ tag.Under ∷ tag.Lower ∷ tag.Upper ∷ tag.LowerFirst ∷ tag.UpperFirst ∷ tag.QuoteWildcard ∷ tag.Length ∷ []
 
 abbrev pub is_tagged : Tag → Label → Bool
 is_tagged wanted (Tagged taken) = nat_eq (tag_number wanted) (tag_number taken)
@@ -110,12 +143,14 @@ is_tagged wanted Unfit = false
 abbrev pub has_tag : Tag → List Label → Bool
 has_tag wanted labels = list_any (is_tagged wanted) labels
 
--- the octets of a part, and of a string
-abbrev pub part_value : Part → List ℕ
-part_value (literal octets) = octets
+-- the octets of a part that stand for themselves, and those of a string
+abbrev pub plain_part : Part → List ℕ
+plain_part (literal octets) = octets
+plain_part (local_part name) = []
+plain_part (match_part index) = []
 
-abbrev pub text_value : List Part → List ℕ
-text_value parts = flat_map part_value parts
+abbrev pub plain_text : List Part → List ℕ
+plain_text parts = flat_map plain_part parts
 
 -- TESTS
 
@@ -127,7 +162,7 @@ collation_named name = if pointwise nat_eq (codes "i;octet") name then Some Octe
 abbrev pub collation_by : Option Argument → Option Collation
 collation_by None = Some Casemap
 collation_by (Some (strings [] bracketed)) = None
-collation_by (Some (strings (t ∷ []) bracketed)) = collation_named (text_value t.parts)
+collation_by (Some (strings (t ∷ []) bracketed)) = collation_named (plain_text t.parts)
 collation_by (Some (strings (t ∷ s ∷ ts) bracketed)) = None
 collation_by (Some (number value line)) = None
 collation_by (Some (tag name line)) = None
@@ -161,6 +196,10 @@ address_source labels args = option_map (address_values (address_part_of labels)
 -- an `envelope` test (RFC 5228, section 5.4)
 abbrev pub envelope_source : List Label → List Argument → Option Source
 envelope_source labels args = option_map (envelope_values (address_part_of labels)) (texts_in (in_role role.EnvelopeParts labels args))
+
+-- a `string` test (RFC 5229, section 5)
+abbrev pub string_source : List Label → List Argument → Option Source
+string_source labels args = option_map string_values (texts_in (in_role role.Text labels args))
 
 -- what an `exists` test asks (RFC 5228, section 5.5)
 abbrev pub exists_by : List Label → List Argument → Option Ask
@@ -198,11 +237,36 @@ test_reading_by (Some kind.AnyOf) args = Some reads_any
 test_reading_by (Some kind.Not) args = Some reads_not
 test_reading_by (Some kind.True) args = Some reads_always
 test_reading_by (Some kind.False) args = Some reads_never
+test_reading_by (Some kind.String) args = let labels = labels_in (test_row kind.String) args in option_map reads_ask (compares_by (string_source labels args) labels args)
 
 abbrev pub test_reading : Test → Option TestReading
 test_reading (test name line args ts) = test_reading_by (test_named name) args
 
 -- COMMANDS
+
+-- the case that one of two tags asks for
+abbrev pub case_of : (lower upper : Bool) → Option LetterCase
+case_of true upper = Some letter_case.Lower
+case_of false true = Some letter_case.Upper
+case_of false false = None
+
+-- the modifiers of a `set` (RFC 5229, section 4.1)
+abbrev pub modifiers_of : List Label → Modifiers
+modifiers_of labels = record {
+  letter_case = case_of (has_tag tag.Lower labels) (has_tag tag.Upper labels);
+  first_letter = case_of (has_tag tag.LowerFirst labels) (has_tag tag.UpperFirst labels);
+  quote_wildcard = has_tag tag.QuoteWildcard labels;
+  length = has_tag tag.Length labels;
+}
+
+-- what a `set` does (RFC 5229, section 4)
+abbrev pub set_from : Option (List ℕ) → Modifiers → Option (List Part) → Option Leaf
+set_from (Some name) modifiers (Some value) = Some (set_leaf name modifiers value)
+set_from (Some name) modifiers None = None
+set_from None modifiers value = None
+
+abbrev pub set_by : List Label → List Argument → Option Leaf
+set_by labels args = set_from (local_in (in_role role.NameToSet labels args)) (modifiers_of labels) (text_in (in_role role.Text labels args))
 
 -- a command apart from its test and its block: it opens a chain of branches, goes on with one, or ends it (RFC 5228, section
 -- 3.1), stops (section 3.3), does nothing, or acts
@@ -225,6 +289,7 @@ command_reading_by (Some command.Fileinto) args = option_map acts (option_map fi
 command_reading_by (Some command.Redirect) args = option_map acts (option_map redirect_leaf (text_in (in_role role.Address (labels_in (command_row command.Redirect) args) args)))
 command_reading_by (Some command.Discard) args = Some (acts discard_leaf)
 command_reading_by (Some command.Stop) args = Some stops
+command_reading_by (Some command.Set) args = option_map acts (set_by (labels_in (command_row command.Set) args) args)
 
 -- the kind of a command
 abbrev pub kind_of : Node → Option CommandKind

@@ -35,6 +35,25 @@ abbrev pub has_role : Role → Option Role → Bool
 has_role wanted None = false
 has_role wanted (Some role) = same_role wanted role
 
+-- strings in which references to variables stand for values; not so those of `require` and of comparators, and names (RFC 5229,
+-- section 3)
+abbrev pub is_expanded : Role → Bool
+is_expanded role.Capabilities = false
+is_expanded role.ComparatorName = false
+is_expanded role.FieldNames = true
+is_expanded role.AddressFields = true
+is_expanded role.EnvelopeParts = true
+is_expanded role.Keys = true
+is_expanded role.Limit = false
+is_expanded role.Mailbox = true
+is_expanded role.Address = true
+is_expanded role.Flags = true
+is_expanded role.NameToSet = false
+is_expanded role.NamesToRead = false
+is_expanded role.NamesToDeclare = false
+is_expanded role.ScriptName = false
+is_expanded role.Text = true
+
 -- the role of an argument
 abbrev pub role_of : Label → Option Role
 role_of (Tagged taken) = None

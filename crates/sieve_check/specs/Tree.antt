@@ -1,10 +1,7 @@
 -- The tree of a checked script as plain data. It has the shape of the text's tree (RFC 5228, section 8.2), with each string
 -- cut into parts (RFC 5229, section 3).
 use Rattle.std.specs.Prelude.{ℕ, Bool, List, [], ◌∷◌, Option}
-
--- a piece of a string
-pub data Part : Type 0 where
-  literal : (octets : List ℕ) → Part
+use Rattle.sieve_variables.specs.Part.{Part}
 
 -- a string: its parts, and the line where it begins
 pub record Text : Type 0 where

@@ -7,4 +7,4 @@ abbrev pub required_as : requireds.Required → Required
 required_as r = record { fileinto = r.fileinto; envelope = r.envelope; variables = r.variables; imap4flags = r.imap4flags; include = r.include }
 
 abbrev pub context_as : contexts.Context → Context
-context_as c = record { leads = c.leads; follows_if = c.follows_if; required = required_as c.required }
+context_as c = record { leads = c.leads; follows_if = c.follows_if; required = required_as c.required; assigned = c.assigned.now }

@@ -1,14 +1,15 @@
 -- The program's readings of commands and tests.
 use Rattle.std.specs.Prelude.{List, map}
 use Rattle.sieve_check.specs.Reading as reading
-use Rattle.sieve_check.specs.Tree.{Part}
-use Rattle.sieve_check.specs.view.Tree.{part_of, text_of}
+use Rattle.sieve_check.specs.view.Tree.{text_of}
+use Rattle.sieve_variables.specs.Part.{Part}
+use Rattle.sieve_variables.specs.view.Part.{part_of}
 use Rattle.sieve_check.specs.declared.reading.Ask.{Ask}
 use Rattle.sieve_check.specs.declared.reading.Ask.TheVariants.{Compares, Exists, Over, Under}
 use Rattle.sieve_check.specs.declared.reading.CommandReading.{CommandReading}
 use Rattle.sieve_check.specs.declared.reading.CommandReading.TheVariants.{Opens, Continues, Otherwise, Stops, Nothing, Acts}
 use Rattle.sieve_check.specs.declared.reading.Leaf.{Leaf}
-use Rattle.sieve_check.specs.declared.reading.Leaf.TheVariants.{Keep, Fileinto, Redirect, Discard}
+use Rattle.sieve_check.specs.declared.reading.Leaf.TheVariants.{Keep, Fileinto, Redirect, Discard, Set}
 use Rattle.sieve_check.specs.declared.reading.Source.{Source}
 use Rattle.sieve_check.specs.declared.reading.Source.TheVariants as source
 use Rattle.sieve_check.specs.declared.reading.TestReading.{TestReading}
@@ -23,6 +24,7 @@ abbrev pub source_as : Source → reading.Source
 source_as (source.Header names) = reading.header_values (texts_as names.now)
 source_as (source.Address part names) = reading.address_values part (texts_as names.now)
 source_as (source.Envelope part names) = reading.envelope_values part (texts_as names.now)
+source_as (source.String texts) = reading.string_values (texts_as texts.now)
 
 abbrev pub ask_as : Ask → reading.Ask
 ask_as (Compares source match_type collation keys) = reading.compares (source_as source) match_type collation (texts_as keys.now)
@@ -43,6 +45,7 @@ leaf_as Keep = reading.keep_leaf
 leaf_as (Fileinto mailbox) = reading.fileinto_leaf (map part_of mailbox.now)
 leaf_as (Redirect address) = reading.redirect_leaf (map part_of address.now)
 leaf_as Discard = reading.discard_leaf
+leaf_as (Set name modifiers value) = reading.set_leaf name.now modifiers (map part_of value.now)
 
 abbrev pub command_reading_as : CommandReading → reading.CommandReading
 command_reading_as Opens = reading.opens

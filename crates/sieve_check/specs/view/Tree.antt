@@ -2,19 +2,15 @@
 use Rattle.std.specs.Prelude.{Option, Some, None, map}
 use Rattle.std.specs.declared.vec.Vec.{Vec}
 use Rattle.std.specs.declared.alloc.Global.{Global}
-use Rattle.sieve_check.specs.Tree.{Part, literal, Text, Argument, strings, number, tag, Test, test, Tests, no_tests, one_test, test_list, tests, Node, node, Block, no_block, block, nodes}
+use Rattle.sieve_check.specs.Tree.{Text, Argument, strings, number, tag, Test, test, Tests, no_tests, one_test, test_list, tests, Node, node, Block, no_block, block, nodes}
 use Rattle.sieve_check.specs.declared.tree.Argument as arguments
 use Rattle.sieve_check.specs.declared.tree.Command as commands
-use Rattle.sieve_check.specs.declared.tree.Part as parts
 use Rattle.sieve_check.specs.declared.tree.Test as one_tests
 use Rattle.sieve_check.specs.declared.tree.Tests as some_tests
 use Rattle.sieve_check.specs.declared.tree.Text as texts
 use Rattle.sieve_check.specs.declared.tree.Argument.TheVariants as argument_variants
-use Rattle.sieve_check.specs.declared.tree.Part.TheVariants as part_variants
 use Rattle.sieve_check.specs.declared.tree.Tests.TheOpen as test_layers
-
-abbrev pub part_of : parts.Part → Part
-part_of (part_variants.Literal octets) = literal octets.items
+use Rattle.sieve_variables.specs.view.Part.{part_of}
 
 abbrev pub text_of : texts.Text → Text
 text_of t = record { parts = map part_of t.parts.items; line = t.line }
