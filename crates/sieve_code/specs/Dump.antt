@@ -6,10 +6,13 @@ use Rattle.match_text.specs.declared.comparators.Collation.TheVariants.{Octet, C
 use Rattle.sieve_base.specs.Writers.{quoted}
 use Rattle.message_text.specs.declared.addressing.AddressPart.{AddressPart}
 use Rattle.message_text.specs.declared.addressing.AddressPart.TheVariants as address_part
-use Rattle.sieve_check.specs.Reading.{header_values, address_values, envelope_values, Ask, compares, exists_ask, over_ask, under_ask, Leaf, keep_leaf, fileinto_leaf, redirect_leaf, discard_leaf}
-use Rattle.sieve_check.specs.Tree.{Part, literal}
+use Rattle.sieve_check.specs.Reading.{header_values, address_values, envelope_values, string_values, Ask, compares, exists_ask, over_ask, under_ask, Leaf, keep_leaf, fileinto_leaf, redirect_leaf, discard_leaf, set_leaf}
 use Rattle.sieve_check.specs.declared.reading.MatchType.{MatchType}
 use Rattle.sieve_check.specs.declared.reading.MatchType.TheVariants.{Is, Contains, Matches}
+use Rattle.sieve_variables.specs.Part.{Part, literal, local_part, match_part}
+use Rattle.sieve_variables.specs.declared.modifier.LetterCase.{LetterCase}
+use Rattle.sieve_variables.specs.declared.modifier.LetterCase.TheVariants as letter_case
+use Rattle.sieve_variables.specs.declared.modifier.Modifiers.{Modifiers}
 use Rattle.sieve_code.specs.Operation.{Operation, sets, inverts, asks, jumps, jumps_if, acts, stops}
 
 -- the texts of items in order, each but the first behind a mark
@@ -19,6 +22,8 @@ separated mark text (x ∷ xs) = text x ++ flat_map (λ y. mark ++ text y) xs
 
 abbrev pub part_text : Part → List ℕ
 part_text (literal octets) = quoted octets
+part_text (local_part name) = codes "local(" ++ name ++ codes ")"
+part_text (match_part index) = codes "match(" ++ decimal index ++ codes ")"
 
 -- a string: its parts, joined by `+`; one without parts is empty
 unfoldable pub string_text : List Part → List ℕ
@@ -63,6 +68,7 @@ unfoldable pub ask_text : Ask → List ℕ
 ask_text (compares (header_values names) match_type collation keys) = comparing_words (codes "header") match_type collation ++ two_lists names keys
 ask_text (compares (address_values part names) match_type collation keys) = address_words (codes "address") match_type collation part ++ two_lists names keys
 ask_text (compares (envelope_values part names) match_type collation keys) = address_words (codes "envelope") match_type collation part ++ two_lists names keys
+ask_text (compares (string_values texts) match_type collation keys) = comparing_words (codes "string") match_type collation ++ two_lists texts keys
 ask_text (exists_ask names) = codes "exists " ++ list_text names
 ask_text (over_ask limit) = codes "size over " ++ decimal limit
 ask_text (under_ask limit) = codes "size under " ++ decimal limit
@@ -71,11 +77,31 @@ ask_text (under_ask limit) = codes "size under " ++ decimal limit
 unfoldable pub worded_text : List ℕ → List Part → List ℕ
 worded_text word string = word ++ string_text string
 
+-- the words of modifiers, those of higher precedence first
+abbrev pub case_word : Option LetterCase → List ℕ
+case_word None = []
+case_word (Some letter_case.Lower) = codes " lower"
+case_word (Some letter_case.Upper) = codes " upper"
+
+abbrev pub first_word : Option LetterCase → List ℕ
+first_word None = []
+first_word (Some letter_case.Lower) = codes " lowerfirst"
+first_word (Some letter_case.Upper) = codes " upperfirst"
+
+abbrev pub given_word : Bool → List ℕ → List ℕ
+given_word false word = []
+given_word true word = word
+
+-- what a `set` does, apart from the value
+unfoldable pub set_words : List ℕ → Modifiers → List ℕ
+set_words name modifiers = codes "set local(" ++ name ++ codes ")" ++ case_word modifiers.letter_case ++ first_word modifiers.first_letter ++ given_word modifiers.quote_wildcard (codes " quotewildcard") ++ given_word modifiers.length (codes " length") ++ codes " "
+
 abbrev pub leaf_text : Leaf → List ℕ
 leaf_text keep_leaf = codes "keep internal"
 leaf_text (fileinto_leaf mailbox) = worded_text (codes "fileinto ") mailbox ++ codes " internal"
 leaf_text (redirect_leaf address) = worded_text (codes "redirect ") address
 leaf_text discard_leaf = codes "discard"
+leaf_text (set_leaf name modifiers value) = worded_text (set_words name modifiers) value
 
 unfoldable pub operation_text : Operation → List ℕ
 operation_text (sets true) = codes "true"

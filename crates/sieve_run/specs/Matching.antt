@@ -11,13 +11,14 @@ use Rattle.match_text.specs.declared.comparators.Collation.TheVariants.{Octet, C
 use Rattle.message_text.specs.Addresses.{AddrSpec, part_of, addresses_of, envelope_address_of}
 use Rattle.message_text.specs.Fields.{Field, fields_of}
 use Rattle.message_text.specs.declared.addressing.AddressPart.{AddressPart}
-use Rattle.sieve_check.specs.Reading.{text_value, Source, header_values, address_values, envelope_values, Ask, compares, exists_ask, over_ask, under_ask}
-use Rattle.sieve_check.specs.Tree.{Part}
+use Rattle.sieve_check.specs.Reading.{Source, header_values, address_values, envelope_values, string_values, Ask, compares, exists_ask, over_ask, under_ask}
 use Rattle.sieve_check.specs.declared.reading.MatchType.{MatchType}
 use Rattle.sieve_check.specs.declared.reading.MatchType.TheVariants.{Is, Contains, Matches}
 use Rattle.sieve_table.specs.Address.{is_address_field}
 use Rattle.sieve_run.specs.Delivery.{Delivery}
 use Rattle.sieve_run.specs.declared.envelope.Envelope.{Envelope}
+use Rattle.sieve_variables.specs.Part.{Part}
+use Rattle.sieve_variables.specs.Value.{Values, text_value, with_matched}
 
 -- the fold by which a comparator takes octets as equal (RFC 5228, section 2.7.3)
 abbrev pub fold_of : Collation → ℕ → ℕ
@@ -73,11 +74,13 @@ parts_of_envelope part (Some text) = parts_in part (envelope_address_of text ∷
 abbrev pub envelope_named : AddressPart → Envelope → List ℕ → List (List ℕ)
 envelope_named part envelope name = parts_of_envelope part (envelope_text envelope name)
 
--- what a test compares with its keys, by names, then by fields, then by addresses; an absent field gives nothing
-abbrev pub values_of : Delivery → Source → List (List ℕ)
-values_of delivery (header_values names) = flat_map (values_named (fields_of delivery.message)) (map text_value names)
-values_of delivery (address_values part names) = flat_map (parts_named part (fields_of delivery.message)) (map text_value names)
-values_of delivery (envelope_values part names) = flat_map (envelope_named part delivery.envelope) (map text_value names)
+-- What a test compares with its keys, by names, then by fields, then by addresses; an absent field gives nothing. Strings stand for
+-- what they do when the test begins.
+abbrev pub values_of : Delivery → Values → Source → List (List ℕ)
+values_of delivery values (header_values names) = flat_map (values_named (fields_of delivery.message)) (map (text_value values) names)
+values_of delivery values (address_values part names) = flat_map (parts_named part (fields_of delivery.message)) (map (text_value values) names)
+values_of delivery values (envelope_values part names) = flat_map (envelope_named part delivery.envelope) (map (text_value values) names)
+values_of delivery values (string_values texts) = map (text_value values) texts
 
 -- each value with each key, in this order (RFC 5228, section 5.7)
 abbrev pub pairs_of : List (List ℕ) → List (List ℕ) → List Pair
@@ -97,13 +100,28 @@ abbrev pub first_match : MatchType → (ℕ → ℕ) → List Pair → Option (L
 first_match match_type fold pairs = first_some (λ pair. match_of match_type fold pair.value pair.key) pairs
 
 -- what a test finds that compares values with keys
-unfoldable pub match_found : Delivery → Source → MatchType → Collation → List (List Part) → Option (List (List ℕ))
-match_found delivery source match_type collation keys = first_match match_type (fold_of collation) (pairs_of (values_of delivery source) (map text_value keys))
+unfoldable pub match_found : Delivery → Values → Source → MatchType → Collation → List (List Part) → Option (List (List ℕ))
+match_found delivery values source match_type collation keys = first_match match_type (fold_of collation) (pairs_of (values_of delivery values source) (map (text_value values) keys))
 
 -- Whether what a test asks is so: header, address and envelope, where some pair matches (RFC 5228, sections 5.7, 5.1 and 5.4), exists (section 5.5), size
 -- (section 5.9), where a message of exactly the limit's octets is neither over nor under it.
-unfoldable pub truth_of : Delivery → Ask → Bool
-truth_of delivery (compares source match_type collation keys) = is_some (match_found delivery source match_type collation keys)
-truth_of delivery (exists_ask names) = list_all (has_field (fields_of delivery.message)) (map text_value names)
-truth_of delivery (over_ask limit) = nat_lt limit (length delivery.message)
-truth_of delivery (under_ask limit) = nat_lt (length delivery.message) limit
+unfoldable pub truth_of : Delivery → Values → Ask → Bool
+truth_of delivery values (compares source match_type collation keys) = is_some (match_found delivery values source match_type collation keys)
+truth_of delivery values (exists_ask names) = list_all (has_field (fields_of delivery.message)) (map (text_value values) names)
+truth_of delivery values (over_ask limit) = nat_lt limit (length delivery.message)
+truth_of delivery values (under_ask limit) = nat_lt (length delivery.message) limit
+
+-- under `:matches`, the match variables are what the first pair that matches gives; where none does, and under the other match
+-- types, they stay (RFC 5229, section 3.2)
+abbrev pub with_found : MatchType → Option (List (List ℕ)) → Values → Values
+with_found Matches (Some matched) values = with_matched matched values
+with_found Matches None values = values
+with_found Is found values = values
+with_found Contains found values = values
+
+-- the variables behind what a test asks
+unfoldable pub values_behind : Delivery → Values → Ask → Values
+values_behind delivery values (compares source match_type collation keys) = with_found match_type (match_found delivery values source match_type collation keys) values
+values_behind delivery values (exists_ask names) = values
+values_behind delivery values (over_ask limit) = values
+values_behind delivery values (under_ask limit) = values

@@ -4,7 +4,7 @@ use Rattle.std.specs.List.{list_all, list_any}
 use lib.Pointwise.{pointwise}
 use Rattle.message_text.specs.Addresses.{AddrSpec, addresses_of}
 use Rattle.sieve_base.specs.Limits.{action_limit, mailbox_limit}
-use Rattle.sieve_check.specs.Reading.{Ask, Leaf, keep_leaf, fileinto_leaf, redirect_leaf, discard_leaf, text_value}
+use Rattle.sieve_check.specs.Reading.{Ask, Leaf, keep_leaf, fileinto_leaf, redirect_leaf, discard_leaf, set_leaf}
 use Rattle.sieve_check.specs.Script.{Condition, always, never, asks, negated, both, either, Commands, no_commands, stops, acts, chooses, script_of}
 use Rattle.sieve_run.specs.declared.name.ScriptName.{ScriptName}
 use Rattle.sieve_run.specs.declared.envelope.Envelope.{Envelope}
@@ -14,16 +14,19 @@ use Rattle.sieve_run.specs.declared.outcome.RunError.{RunError}
 use Rattle.sieve_run.specs.declared.outcome.ErrorKind.{ErrorKind}
 use Rattle.sieve_run.specs.declared.outcome.ErrorKind.TheVariants.{MissingScript, InvalidScript, BadAddress, TooManyActions, BadMailbox}
 use Rattle.sieve_run.specs.Delivery.{Delivery}
-use Rattle.sieve_run.specs.Matching.{truth_of}
+use Rattle.sieve_run.specs.Matching.{truth_of, values_behind}
 use Rattle.sieve_run.specs.Library.{Lookup, missing, invalid, present, found_at}
 use Rattle.sieve_run.specs.Verdict.{Verdict}
+use Rattle.sieve_variables.specs.Modifier.{modified}
+use Rattle.sieve_variables.specs.Value.{Values, no_values, text_value, with_local}
 
--- the state of a run: the actions in order, whether one of them cancelled the implicit keep, and the names looked
--- up so far
+-- the state of a run: the actions in order, whether one of them cancelled the implicit keep, the names looked up so far, and the
+-- variables of the script that runs
 pub record RunState : Type 0 where
   pub actions : List Action
   pub cancelled : Bool
   pub reads : List (ScriptName × Bool)
+  pub values : Values
 
 -- how a list of commands ends
 pub data Ending : Type 0 where
@@ -96,13 +99,16 @@ redirects delivery line None state = fails_at delivery line BadAddress state
 redirects delivery line (Some address) state = performs delivery line (Redirect address) state
 
 -- what a command that acts does: keep stores into the delivery's mailbox (RFC 5228, section 4.3), fileinto into the one that it
--- names (section 4.1), redirect sends the message on to an address (section 4.2), discard discards (section 4.4)
+-- names (section 4.1), redirect sends the message on to an address (section 4.2), discard discards (section 4.4), set gives a
+-- variable a value (RFC 5229, section 4)
 abbrev pub act_of : Delivery → Leaf → ℕ → RunState → Ending
 act_of delivery keep_leaf line state = performs delivery line (Store delivery.envelope.mailbox) state
 act_of delivery (fileinto_leaf mailbox) line state =
-    if is_mailbox (text_value mailbox) then performs delivery line (Store (text_value mailbox)) state else fails_at delivery line BadMailbox state
-act_of delivery (redirect_leaf address) line state = redirects delivery line (only_address (addresses_of (text_value address))) state
+    let name = text_value state.values mailbox in
+    if is_mailbox name then performs delivery line (Store name) state else fails_at delivery line BadMailbox state
+act_of delivery (redirect_leaf address) line state = redirects delivery line (only_address (addresses_of (text_value state.values address))) state
 act_of delivery discard_leaf line state = performs delivery line Discard state
+act_of delivery (set_leaf name modifiers value) line state = goes_on (record state { values = with_local name (modified modifiers (text_value state.values value)) state.values })
 
 -- what follows runs only where nothing has ended the run
 abbrev pub and_then : Ending → (RunState → Ending) → Ending
@@ -117,9 +123,9 @@ pub record Answer : Type 0 where
   pub truth : Bool
   pub state : RunState
 
--- what a test asks of the delivery, which leaves the state as it is
+-- what a test asks of the delivery, which sets match variables at most
 abbrev pub answer_of : Delivery → Ask → RunState → Answer
-answer_of delivery ask state = record { truth = truth_of delivery ask; state = state }
+answer_of delivery ask state = record { truth = truth_of delivery state.values ask; state = record state { values = values_behind delivery state.values ask } }
 
 abbrev pub inverted : Answer → Answer
 inverted answer = record { truth = not answer.truth; state = answer.state }
@@ -168,7 +174,7 @@ verdict_of (failed error state) = record { actions = []; implicit = true; error 
 
 -- the state in which the main script begins
 abbrev pub begun : ScriptName → RunState
-begun main = record { actions = []; cancelled = false; reads = (main, true) ∷ [] }
+begun main = record { actions = []; cancelled = false; reads = (main, true) ∷ []; values = no_values }
 
 -- the verdict where the main script is this
 abbrev pub verdict_at : Envelope → List ℕ → ScriptName → Lookup → Verdict
