@@ -7,5 +7,5 @@ mod name;
 mod part;
 
 pub use modifier::{LetterCase, Modifiers};
-pub use name::NameKind;
+pub use name::{NameKind, folded, name_kind};
 pub use part::{Part, Parts, SmallOctets};

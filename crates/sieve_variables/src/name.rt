@@ -1,4 +1,16 @@
 //! The names of variables (RFC 5229, section 3).
+ghost use Rattle.std.specs.Prelude.{◌≡◌, IfOk};
+ghost use Rattle.std.specs.List.{list_all};
+ghost use Rattle.sieve_base.specs.Octet.{begins_name, is_digit, is_name_octet};
+ghost use Rattle.sieve_variables.specs.Reference.{is_name};
+ghost use Rattle.sieve_variables.specs.Name.{folded_name, index_of, is_global_name, is_identifier, is_number, name_kind};
+
+use crate::part::SmallOctets;
+use sieve_base::limits::MAX_MATCH;
+use std::alloc::{AllocError, Global};
+
+/// The first number that no match variable has.
+const PAST_MATCH_LIMIT: u16 = MAX_MATCH as u16 + 1;
 
 /// What a string names where the name of a variable is taken.
 #[derive(Clone, Copy, Debug, PartialEq, Eq)]
@@ -9,4 +21,102 @@ pub enum NameKind {
     Global,
     /// None: it isn't a name.
     Bad,
+}
+
+/// What the string names.
+pub fn name_kind(name: &[u8]) -> NameKind
+    ensures { result ≡ name_kind name.now }
+{
+    if is_identifier(name) {
+        NameKind::Local
+    } else if is_global_name(name) {
+        NameKind::Global
+    } else {
+        NameKind::Bad
+    }
+}
+
+/// The name as variables are kept under it: in lower case.
+pub fn folded(alloc: Global, name: &[u8]) -> Result<SmallOctets, AllocError>
+    ensures { IfOk result (λ octets. octets.items ≡ folded_name name.now) }
+{
+    let mut octets = SmallOctets::new(alloc);
+    for octet in name {
+        octets.push(octet.to_ascii_lowercase())?;
+    }
+    Ok(octets)
+}
+
+/// Whether an identifier begins with the octet.
+fn begins_name(octet: u8) -> bool
+    ensures { result ≡ begins_name octet }
+{
+    matches!(octet, b'a'..=b'z' | b'A'..=b'Z' | b'_')
+}
+
+/// Whether an identifier goes on with the octet.
+pub(crate) fn is_name_octet(octet: u8) -> bool
+    ensures { result ≡ is_name_octet octet }
+{
+    begins_name(octet) || octet.is_ascii_digit()
+}
+
+// Whether an identifier goes on with each of the octets.
+fn are_name_octets(octets: &[u8]) -> bool
+    ensures { result ≡ list_all is_name_octet octets.now }
+{
+    octets.iter().all(|octet| is_name_octet(*octet))
+}
+
+/// Whether it is an identifier (RFC 5228, section 8.1).
+pub(crate) fn is_identifier(name: &[u8]) -> bool
+    ensures { result ≡ is_identifier name.now }
+{
+    match name {
+        [] => false,
+        [first, rest @ ..] => begins_name(*first) && are_name_octets(rest),
+    }
+}
+
+// Whether it is the name of a variable that scripts share.
+fn is_global_name(name: &[u8]) -> bool
+    ensures { result ≡ is_global_name name.now }
+{
+    let (prefix, rest) = name.split_at(name.len().min(7));
+    b"global.".eq_ignore_ascii_case(prefix) && is_identifier(rest)
+}
+
+// Whether all of the octets are digits.
+fn are_digits(octets: &[u8]) -> bool
+    ensures { result ≡ list_all is_digit octets.now }
+{
+    octets.iter().all(|octet| octet.is_ascii_digit())
+}
+
+/// Whether it is the number of a match variable.
+pub(crate) fn is_number(word: &[u8]) -> bool
+    ensures { result ≡ is_number word.now }
+{
+    match word {
+        [] => false,
+        [first, rest @ ..] => first.is_ascii_digit() && are_digits(rest),
+    }
+}
+
+/// Whether it is the name of a variable of the script or the number of a match variable.
+pub(crate) fn is_name(word: &[u8]) -> bool
+    ensures { result ≡ is_name word.now }
+{
+    is_identifier(word) || is_number(word)
+}
+
+/// The number of a match variable, or the first past the limit for all that are past it.
+pub(crate) fn index_of(digits: &[u8]) -> u8
+    ensures { result ≡ index_of digits.now }
+{
+    let mut index: u16 = 0;
+    for digit in digits {
+        index = (10 * index + u16::from(digit.saturating_sub(b'0'))).min(PAST_MATCH_LIMIT);
+    }
+    index as u8
 }

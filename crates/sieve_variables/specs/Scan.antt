@@ -1,0 +1,90 @@
+-- The one cut of a text into references and octets (RFC 5229, section 3), and the parts of it, computed.
+use Rattle.std.specs.Prelude.{ℕ, zero, suc, ◌+◌, Bool, true, false, ◌==◌, ◌&&◌, ◌||◌, nat_lt, List, [], ◌∷◌, length, Option, None, Some, if◌then◌else◌}
+use Rattle.std.specs.List.{list_any, slice_split}
+use Rattle.std.specs.Option.{option_map}
+use Rattle.sieve_base.specs.Limits.{match_limit}
+use Rattle.sieve_base.specs.Octet.{octet_of, is_name_octet}
+use Rattle.sieve_variables.specs.Name.{is_number, index_of}
+use Rattle.sieve_variables.specs.Reference.{is_legal, Piece, reference, octet}
+use Rattle.sieve_variables.specs.Part.{Part, grouped}
+
+-- what stands between the words of a reference
+abbrev pub is_dot : ℕ → Bool
+is_dot c = c == octet_of "."
+
+-- an octet that may stand between `${` and `}`
+abbrev pub is_inside : ℕ → Bool
+is_inside c = is_name_octet c || is_dot c
+
+-- the words that stand between dots
+abbrev pub words_of : List ℕ → List (List ℕ)
+words_of inside = slice_split is_dot inside
+
+-- what stands in front of the first `}`, where only octets of words and dots do
+unfoldable pub before_brace : List ℕ → Option (List ℕ)
+before_brace [] = None
+before_brace (c ∷ rest) = if c == octet_of "}" then Some [] else if is_inside c then option_map (λ inside. c ∷ inside) (before_brace rest) else None
+
+-- where its words are those of a reference
+abbrev pub if_legal : Option (List ℕ) → Option (List ℕ)
+if_legal None = None
+if_legal (Some inside) = if is_legal (words_of inside) then Some inside else None
+
+-- what stands between `${` and `}` where a text begins with a reference
+unfoldable pub inside_at : List ℕ → Option (List ℕ)
+inside_at [] = None
+inside_at (c ∷ []) = None
+inside_at (c ∷ d ∷ rest) = if c == octet_of "$" && d == octet_of "{" then if_legal (before_brace rest) else None
+
+-- the piece with which a text begins, by its first octet and by the reference with which it begins, if it does
+abbrev pub first_piece : ℕ → Option (List ℕ) → Piece
+first_piece c None = octet c
+first_piece c (Some inside) = reference (words_of inside)
+
+-- how many octets of that piece stand behind its first: `{`, what stands inside, and `}`
+abbrev pub further_octets : Option (List ℕ) → ℕ
+further_octets None = 0
+further_octets (Some inside) = length inside + 2
+
+-- the pieces of a text, of which the first octets, as many as `skip`, belong to the piece before
+unfoldable pub pieces_from : (skip : ℕ) → List ℕ → List Piece
+pieces_from skip [] = []
+pieces_from zero (c ∷ rest) = first_piece c (inside_at (c ∷ rest)) ∷ pieces_from (further_octets (inside_at (c ∷ rest))) rest
+pieces_from (suc skip) (c ∷ rest) = pieces_from skip rest
+
+-- the pieces of a text
+abbrev pub pieces_of : List ℕ → List Piece
+pieces_of text = pieces_from 0 text
+
+-- the parts of a text
+abbrev pub parts_of : List ℕ → List Part
+parts_of text = grouped (pieces_of text)
+
+-- a reference
+abbrev pub is_reference : Piece → Bool
+is_reference (octet c) = false
+is_reference (reference words) = true
+
+-- a reference with a namespace
+abbrev pub has_words_before : Piece → Bool
+has_words_before (octet c) = false
+has_words_before (reference []) = false
+has_words_before (reference (name ∷ [])) = false
+has_words_before (reference (namespace ∷ word ∷ words)) = true
+
+-- a match variable whose number is past the limit
+abbrev pub is_far : Piece → Bool
+is_far (octet c) = false
+is_far (reference []) = false
+is_far (reference (name ∷ [])) = is_number name && nat_lt match_limit (index_of name)
+is_far (reference (namespace ∷ word ∷ words)) = false
+
+-- whether some piece of a text is one
+abbrev pub has_reference : List ℕ → Bool
+has_reference text = list_any is_reference (pieces_of text)
+
+abbrev pub has_namespace : List ℕ → Bool
+has_namespace text = list_any has_words_before (pieces_of text)
+
+abbrev pub has_far_index : List ℕ → Bool
+has_far_index text = list_any is_far (pieces_of text)
