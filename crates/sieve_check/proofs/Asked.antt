@@ -1,21 +1,22 @@
 -- A test that breaks no rule is read as something.
-use Rattle.std.proofs.Common.{◌≡◌, ℕ, Bool, true, false, not, List, [], ◌∷◌, map, Option, None, Some, is_some, refl, sym, ap, ◌∙◌}
+use Rattle.std.proofs.Common.{◌≡◌, ℕ, Bool, true, false, not, ◌&&◌, ◌||◌, nat_eq, List, [], ◌∷◌, map, Option, None, Some, is_some, refl, sym, ap, ◌∙◌}
 use Rattle.std.proofs.lemmas.Bool.{or_parts, and_parts}
 use Rattle.std.specs.List.{list_any}
 use Rattle.std.specs.Option.{option_map}
 use Rattle.match_text.specs.declared.comparators.Collation.{Collation}
 use Rattle.sieve_syntax.specs.Tree as syntax
 use Rattle.sieve_check.specs.Breach.{test_breaks, breaches_in}
-use Rattle.sieve_check.specs.Context.{Context}
+use Rattle.sieve_check.specs.Context.{Context, Required}
 use Rattle.sieve_check.specs.Element.{test_arguments}
 use Rattle.sieve_check.specs.Label.{expecting, fills, is_unfit, labels_from, no_slots, slots_left}
 use Rattle.sieve_check.specs.Parted.{parted_labelled, parted_test, parted_test_list, parted_tests, test_labels}
 use Rattle.sieve_check.specs.Readable.{Joins, test_takes}
-use Rattle.sieve_check.specs.Reading.{Ask, Source, address_part_of, address_source, address_values, collation_by, compares_by, compares_from, envelope_source, envelope_values, exists_ask, exists_by, has_tag, header_source, header_values, in_role, labels_in, match_type_of, number_in, over_ask, part_shape, reads_ask, size_by, size_from, test_reading_by, text_in, texts_in, under_ask}
+use Rattle.sieve_check.specs.Reading.{Ask, Source, address_part_of, address_source, address_values, collation_by, compares_by, compares_from, envelope_source, envelope_values, exists_ask, exists_by, has_tag, header_source, header_values, in_role, is_tagged, labels_in, local_in, match_type_of, number_in, over_ask, part_shape, reads_ask, size_by, size_from, string_source, string_values, tag_number, test_reading_by, text_in, texts_in, under_ask}
 use Rattle.sieve_check.specs.Role.{same_role}
 use Rattle.sieve_table.specs.Table.{tag_row, test_row}
-use Rattle.sieve_check.specs.Tree.{Part, Argument, Test, Tests, TestList, no_tests, one_test, test_list}
-use Rattle.sieve_check.specs.Use.{has_repeated, is_of_kind, tests_fit}
+use Rattle.sieve_variables.specs.Part.{Part}
+use Rattle.sieve_check.specs.Tree.{Argument, Test, Tests, TestList, no_tests, one_test, test_list}
+use Rattle.sieve_check.specs.Use.{has_repeated, is_of_kind, same_kind, tests_fit}
 use Rattle.sieve_check.specs.declared.label.Label.{Label}
 use Rattle.sieve_check.specs.declared.label.Label.TheVariants.{Tagged, OtherTag, Own, InSlot, Unfit}
 use Rattle.sieve_check.specs.declared.reading.MatchType.{MatchType}
@@ -32,7 +33,8 @@ use Rattle.sieve_table.specs.declared.table.Tag.{Tag}
 use Rattle.sieve_table.specs.declared.table.Tag.TheVariants as tag
 use Rattle.sieve_table.specs.declared.table.TestKind.{TestKind}
 use Rattle.sieve_table.specs.declared.table.TestKind.TheVariants as kind
-use Rattle.sieve_check.proofs.Filled.{AsRowSays, as_parted, collation_good, collation_read, number_good, number_read, takes, text_good, text_good_alone, text_read, texts_read}
+use Rattle.sieve_check.proofs.Filled.{AsRowSays, as_parted, collation_good, collation_read, local_good, local_read, number_good, number_read, takes, text_good, text_good_alone, text_read, texts_read}
+use Rattle.sieve_check.proofs.Telling.{of_each_tag, one_kind, one_role, one_tag, own_kind}
 use Rattle.sieve_check.proofs.Roles.{AllKeep, AllTake, MayTake, is_to_come, never_both, not_both, role_fits, role_found}
 
 -- A ROLE IN A ROW
@@ -41,28 +43,39 @@ not_true : (b : Bool) → not b ≡ true → b ≡ false
 not_true true e = absurd (not_both e)
 not_true false e = refl
 
--- no tag takes an argument in such a role
+is_one : Form → Bool
+is_one form.One = true
+is_one form.List = false
+is_one form.Number = false
+
+one_form : (f : Form) → is_one f ≡ true → f ≡ form.One
+one_form form.One is = refl
+one_form form.List is = absurd (not_both is)
+one_form form.Number is = absurd (not_both is)
+
+-- a tag that takes anything takes one string, the name of a comparator
+takes_comparator : Option Slot → Bool
+takes_comparator None = true
+takes_comparator (Some slot) = same_role role.ComparatorName slot.role && is_one slot.form
+
+tags_take : (t : Tag) → takes_comparator (tag_row t).takes ≡ true
+tags_take = of_each_tag (λ t. takes_comparator (tag_row t).takes) refl
+
+none_takes : (wanted : Role) (form : Form) (o : Option Slot) → takes_comparator o ≡ true → same_role wanted role.ComparatorName ≡ false → MayTake wanted form o
+none_takes wanted form None takes is = tt
+none_takes wanted form (Some slot) takes is = λ same.
+    absurd (never_both (sym (ap (λ r. same_role r role.ComparatorName) (one_role wanted slot.role same ∙ sym (one_role role.ComparatorName slot.role (and_parts (same_role role.ComparatorName slot.role) (is_one slot.form) takes).0))) ∙ is))
+
+-- no tag takes an argument in another role
 no_tag_takes : (wanted : Role) (form : Form) → same_role wanted role.ComparatorName ≡ false → (t : Tag) → MayTake wanted form (tag_row t).takes
-no_tag_takes wanted form is tag.Comparator = λ same. absurd (never_both (sym same ∙ is))
-no_tag_takes wanted form is tag.Is = tt
-no_tag_takes wanted form is tag.Contains = tt
-no_tag_takes wanted form is tag.Matches = tt
-no_tag_takes wanted form is tag.All = tt
-no_tag_takes wanted form is tag.LocalPart = tt
-no_tag_takes wanted form is tag.Domain = tt
-no_tag_takes wanted form is tag.Over = tt
-no_tag_takes wanted form is tag.Under = tt
+no_tag_takes wanted form is t = none_takes wanted form (tag_row t).takes (tags_take t) is
+
+one_takes : (o : Option Slot) → takes_comparator o ≡ true → MayTake role.ComparatorName form.One o
+one_takes None takes = tt
+one_takes (Some slot) takes = λ same. one_form slot.form (and_parts (same_role role.ComparatorName slot.role) (is_one slot.form) takes).1
 
 comparators_take : (t : Tag) → MayTake role.ComparatorName form.One (tag_row t).takes
-comparators_take tag.Comparator = λ same. refl
-comparators_take tag.Is = tt
-comparators_take tag.Contains = tt
-comparators_take tag.Matches = tt
-comparators_take tag.All = tt
-comparators_take tag.LocalPart = tt
-comparators_take tag.Domain = tt
-comparators_take tag.Over = tt
-comparators_take tag.Under = tt
+comparators_take t = one_takes (tag_row t).takes (tags_take t)
 
 module _ (tags : List Tag) (slots : List Slot) (args : List Argument) where
   abbrev pub its_labels : List Label
@@ -87,6 +100,13 @@ module _ (tags : List Tag) (slots : List Slot) (args : List Argument) where
       (role_fits wanted form.One (no_tag_takes wanted form.One is) tags (λ a. is_some (text_in (Some a))) (λ r a same keeps fit. text_good_alone tags r a keeps fit) args (expecting slots) tt take keep)
       (is_there wanted comes filled)
 
+  pub local_is_read : AllTake role.NameToSet form.One slots → is_to_come role.NameToSet slots ≡ true → fills (expecting slots) (map (part_shape tags) args) ≡ true → AllKeep its_labels args
+      → is_some (local_in (in_role role.NameToSet its_labels args)) ≡ true
+  local_is_read take comes filled keep =
+      local_read (in_role role.NameToSet its_labels args)
+      (role_fits role.NameToSet form.One (no_tag_takes role.NameToSet form.One refl) tags (λ a. is_some (local_in (Some a))) (local_good tags) args (expecting slots) tt take keep)
+      (is_there role.NameToSet comes filled)
+
   number_is_read : (wanted : Role) → same_role wanted role.ComparatorName ≡ false → AllTake wanted form.Number slots → is_to_come wanted slots ≡ true → fills (expecting slots) (map (part_shape tags) args) ≡ true → AllKeep its_labels args
       → is_some (number_in (in_role wanted its_labels args)) ≡ true
   number_is_read wanted is take comes filled keep =
@@ -105,34 +125,66 @@ abbrev differ : Bool → Bool → Bool
 differ true other = not other
 differ false other = other
 
-no_bound : (labels : List Label) → list_any (is_of_kind tag_kind.Bound) labels ≡ false → (has_tag tag.Over labels ≡ false) × (has_tag tag.Under labels ≡ false)
-no_bound [] none = (refl, refl)
-no_bound (Tagged tag.Comparator ∷ labels) none = no_bound labels none
-no_bound (Tagged tag.Is ∷ labels) none = no_bound labels none
-no_bound (Tagged tag.Contains ∷ labels) none = no_bound labels none
-no_bound (Tagged tag.Matches ∷ labels) none = no_bound labels none
-no_bound (Tagged tag.All ∷ labels) none = no_bound labels none
-no_bound (Tagged tag.LocalPart ∷ labels) none = no_bound labels none
-no_bound (Tagged tag.Domain ∷ labels) none = no_bound labels none
-no_bound (Tagged tag.Over ∷ labels) none = absurd (never_both none)
-no_bound (Tagged tag.Under ∷ labels) none = absurd (never_both none)
-no_bound (OtherTag ∷ labels) none = no_bound labels none
-no_bound (Own slot ∷ labels) none = no_bound labels none
-no_bound (InSlot slot ∷ labels) none = no_bound labels none
-no_bound (Unfit ∷ labels) none = no_bound labels none
+-- where no tag of a kind is there, none of that kind's tags is
+not_it : (wanted t : Tag) (b : Bool) → nat_eq (tag_number wanted) (tag_number t) ≡ b → same_kind (tag_row wanted).kind (tag_row t).kind ≡ false → b ≡ false
+not_it wanted t true e other = absurd (never_both (sym (own_kind (tag_row wanted).kind) ∙ ap (λ x. same_kind (tag_row wanted).kind (tag_row x).kind) (one_tag wanted t e) ∙ other))
+not_it wanted t false e other = refl
+
+not_tagged : (wanted : Tag) (label : Label) → is_of_kind (tag_row wanted).kind label ≡ false → is_tagged wanted label ≡ false
+not_tagged wanted (Tagged t) other = not_it wanted t (nat_eq (tag_number wanted) (tag_number t)) refl other
+not_tagged wanted OtherTag other = refl
+not_tagged wanted (Own slot) other = refl
+not_tagged wanted (InSlot slot) other = refl
+not_tagged wanted Unfit other = refl
+
+none_tagged : (wanted : Tag) (labels : List Label) → list_any (is_of_kind (tag_row wanted).kind) labels ≡ false → has_tag wanted labels ≡ false
+none_tagged wanted [] none = refl
+none_tagged wanted (label ∷ labels) none =
+    let parts = or_parts (is_of_kind (tag_row wanted).kind label) (list_any (is_of_kind (tag_row wanted).kind) labels) none in
+    ap (λ b. b || has_tag wanted labels) (not_tagged wanted label parts.0) ∙ none_tagged wanted labels parts.1
+
+-- a bound is one of the two
+is_bound : Tag → Bool
+is_bound t = not (same_kind tag_kind.Bound (tag_row t).kind) || differ (nat_eq (tag_number tag.Over) (tag_number t)) (nat_eq (tag_number tag.Under) (tag_number t))
+
+bounds : (t : Tag) → is_bound t ≡ true
+bounds = of_each_tag is_bound refl
+
+other_side : (a b : Bool) → a ≡ true → (not a || b) ≡ true → b ≡ true
+other_side true b is e = e
+other_side false b is e = absurd (not_both is)
+
+neither : (b d : Bool) → d ≡ false → not b ≡ true → not (b || d) ≡ true
+neither true d none one = absurd (not_both one)
+neither false d none one = ap not none
+
+still_one : (b d : Bool) → b ≡ true → (b || d) ≡ true
+still_one true d one = refl
+still_one false d one = absurd (not_both one)
+
+with_none : (a b c d : Bool) → c ≡ false → d ≡ false → differ a b ≡ true → differ (a || c) (b || d) ≡ true
+with_none true b c d first second one = neither b d second one
+with_none false b c d first second one = ap (λ x. differ x (b || d)) first ∙ still_one b d one
+
+-- with a tag in front
+bound_at : (t : Tag) (labels : List Label) (b : Bool) → same_kind tag_kind.Bound (tag_row t).kind ≡ b → list_any (is_of_kind (tag_row t).kind) labels ≡ false → (b || list_any (is_of_kind tag_kind.Bound) labels) ≡ true
+    → (list_any (is_of_kind tag_kind.Bound) labels ≡ true → differ (has_tag tag.Over labels) (has_tag tag.Under labels) ≡ true)
+    → differ (has_tag tag.Over (Tagged t ∷ labels)) (has_tag tag.Under (Tagged t ∷ labels)) ≡ true
+bound_at t labels true is once there later =
+    let none : list_any (is_of_kind tag_kind.Bound) labels ≡ false = ap (λ k. list_any (is_of_kind k) labels) (one_kind tag_kind.Bound (tag_row t).kind is) ∙ once in
+    with_none _ _ (has_tag tag.Over labels) (has_tag tag.Under labels) (none_tagged tag.Over labels none) (none_tagged tag.Under labels none)
+    (other_side (same_kind tag_kind.Bound (tag_row t).kind) _ is (bounds t))
+bound_at t labels false is once there later =
+    ap (λ b. differ (b || has_tag tag.Over labels) (is_tagged tag.Under (Tagged t) || has_tag tag.Under labels)) (not_tagged tag.Over (Tagged t) is)
+    ∙ ap (λ b. differ (has_tag tag.Over labels) (b || has_tag tag.Under labels)) (not_tagged tag.Under (Tagged t) is)
+    ∙ later there
 
 -- where no kind is there twice and a bound is there, it is one of the two
 one_bound : (labels : List Label) → has_repeated labels ≡ false → list_any (is_of_kind tag_kind.Bound) labels ≡ true → differ (has_tag tag.Over labels) (has_tag tag.Under labels) ≡ true
 one_bound [] once there = absurd (not_both there)
-one_bound (Tagged tag.Comparator ∷ labels) once there = one_bound labels (or_parts (list_any (is_of_kind tag_kind.Comparator) labels) (has_repeated labels) once).1 there
-one_bound (Tagged tag.Is ∷ labels) once there = one_bound labels (or_parts (list_any (is_of_kind tag_kind.MatchType) labels) (has_repeated labels) once).1 there
-one_bound (Tagged tag.Contains ∷ labels) once there = one_bound labels (or_parts (list_any (is_of_kind tag_kind.MatchType) labels) (has_repeated labels) once).1 there
-one_bound (Tagged tag.Matches ∷ labels) once there = one_bound labels (or_parts (list_any (is_of_kind tag_kind.MatchType) labels) (has_repeated labels) once).1 there
-one_bound (Tagged tag.All ∷ labels) once there = one_bound labels (or_parts (list_any (is_of_kind tag_kind.AddressPart) labels) (has_repeated labels) once).1 there
-one_bound (Tagged tag.LocalPart ∷ labels) once there = one_bound labels (or_parts (list_any (is_of_kind tag_kind.AddressPart) labels) (has_repeated labels) once).1 there
-one_bound (Tagged tag.Domain ∷ labels) once there = one_bound labels (or_parts (list_any (is_of_kind tag_kind.AddressPart) labels) (has_repeated labels) once).1 there
-one_bound (Tagged tag.Over ∷ labels) once there = ap not (no_bound labels (or_parts (list_any (is_of_kind tag_kind.Bound) labels) (has_repeated labels) once).0).1
-one_bound (Tagged tag.Under ∷ labels) once there = ap (λ b. differ b true) (no_bound labels (or_parts (list_any (is_of_kind tag_kind.Bound) labels) (has_repeated labels) once).0).0
+one_bound (Tagged t ∷ labels) once there =
+    let parts = or_parts (list_any (is_of_kind (tag_row t).kind) labels) (has_repeated labels) once in
+    bound_at t labels (same_kind tag_kind.Bound (tag_row t).kind) refl parts.0 there (one_bound labels parts.1)
 one_bound (OtherTag ∷ labels) once there = one_bound labels once there
 one_bound (Own slot ∷ labels) once there = one_bound labels once there
 one_bound (InSlot slot ∷ labels) once there = one_bound labels once there
@@ -185,6 +237,14 @@ envelope_reads args ts says =
     (collation_is_read row.tags row.slots args ((λ same. absurd (not_both same)), ((λ same. absurd (not_both same)), tt)) says.keep)
     (texts_are_read row.tags row.slots args role.Keys refl ((λ same. refl), ((λ same. refl), tt)) refl says.filled says.keep)
 
+string_reads : (args : List Argument) (ts : syntax.Tests) → Says kind.String args ts → let labels = labels_in (test_row kind.String) args in is_some (compares_by (string_source labels args) labels args) ≡ true
+string_reads args ts says =
+    let row = test_row kind.String in
+    compares_all (string_source (labels_in row args) args) (match_type_of (labels_in row args)) _ _
+    (maps_some string_values _ (texts_are_read row.tags row.slots args role.Text refl ((λ same. refl), ((λ same. refl), tt)) refl says.filled says.keep))
+    (collation_is_read row.tags row.slots args ((λ same. absurd (not_both same)), ((λ same. absurd (not_both same)), tt)) says.keep)
+    (texts_are_read row.tags row.slots args role.Keys refl ((λ same. refl), ((λ same. refl), tt)) refl says.filled says.keep)
+
 exists_reads : (args : List Argument) (ts : syntax.Tests) → Says kind.Exists args ts → is_some (exists_by (labels_in (test_row kind.Exists) args) args) ≡ true
 exists_reads args ts says =
     let row = test_row kind.Exists in
@@ -204,42 +264,43 @@ size_reads args ts says =
 
 -- WHAT IS JOINED
 
-module _ (context : Context) where
-  pub none_fit : (ts : syntax.Tests) → tests_fit inner.None ts ≡ true → parted_tests context ts ≡ no_tests
+module _ (required : Required) where
+  pub none_fit : (ts : syntax.Tests) → tests_fit inner.None ts ≡ true → parted_tests required ts ≡ no_tests
   none_fit syntax.no_tests fit = refl
   none_fit (syntax.one_test t) fit = absurd (not_both fit)
   none_fit (syntax.test_list ts) fit = absurd (not_both fit)
 
-  pub one_fits : (ts : syntax.Tests) → tests_fit inner.One ts ≡ true → (t : Test) × (parted_tests context ts ≡ one_test t)
+  pub one_fits : (ts : syntax.Tests) → tests_fit inner.One ts ≡ true → (t : Test) × (parted_tests required ts ≡ one_test t)
   one_fits syntax.no_tests fit = absurd (not_both fit)
-  one_fits (syntax.one_test t) fit = (parted_test context t, refl)
+  one_fits (syntax.one_test t) fit = (parted_test required t, refl)
   one_fits (syntax.test_list ts) fit = absurd (not_both fit)
 
-  list_fits : (ts : syntax.Tests) → tests_fit inner.List ts ≡ true → (list : TestList) × (parted_tests context ts ≡ test_list list)
+  list_fits : (ts : syntax.Tests) → tests_fit inner.List ts ≡ true → (list : TestList) × (parted_tests required ts ≡ test_list list)
   list_fits syntax.no_tests fit = absurd (not_both fit)
   list_fits (syntax.one_test t) fit = absurd (not_both fit)
-  list_fits (syntax.test_list ts) fit = (parted_test_list context ts, refl)
+  list_fits (syntax.test_list ts) fit = (parted_test_list required ts, refl)
 
   joins_none : (o : Option Ask) (ts : Tests) → is_some o ≡ true → ts ≡ no_tests → Joins (option_map reads_ask o) ts
   joins_none None ts is none = absurd (not_both is)
   joins_none (Some ask) ts is none = none
 
-  joins : (k : TestKind) (args : List Argument) (ts : syntax.Tests) → Says k args ts → Joins (test_reading_by (Some k) args) (parted_tests context ts)
-  joins kind.Header args ts says = joins_none _ (parted_tests context ts) (header_reads args ts says) (none_fit ts says.tests)
-  joins kind.Address args ts says = joins_none _ (parted_tests context ts) (address_reads args ts says) (none_fit ts says.tests)
-  joins kind.Envelope args ts says = joins_none _ (parted_tests context ts) (envelope_reads args ts says) (none_fit ts says.tests)
-  joins kind.Exists args ts says = joins_none (exists_by (labels_in (test_row kind.Exists) args) args) (parted_tests context ts) (exists_reads args ts says) (none_fit ts says.tests)
-  joins kind.Size args ts says = joins_none (size_by (labels_in (test_row kind.Size) args) args) (parted_tests context ts) (size_reads args ts says) (none_fit ts says.tests)
+  joins : (k : TestKind) (args : List Argument) (ts : syntax.Tests) → Says k args ts → Joins (test_reading_by (Some k) args) (parted_tests required ts)
+  joins kind.Header args ts says = joins_none _ (parted_tests required ts) (header_reads args ts says) (none_fit ts says.tests)
+  joins kind.Address args ts says = joins_none _ (parted_tests required ts) (address_reads args ts says) (none_fit ts says.tests)
+  joins kind.Envelope args ts says = joins_none _ (parted_tests required ts) (envelope_reads args ts says) (none_fit ts says.tests)
+  joins kind.Exists args ts says = joins_none (exists_by (labels_in (test_row kind.Exists) args) args) (parted_tests required ts) (exists_reads args ts says) (none_fit ts says.tests)
+  joins kind.Size args ts says = joins_none (size_by (labels_in (test_row kind.Size) args) args) (parted_tests required ts) (size_reads args ts says) (none_fit ts says.tests)
   joins kind.AllOf args ts says = list_fits ts says.tests
   joins kind.AnyOf args ts says = list_fits ts says.tests
   joins kind.Not args ts says = one_fits ts says.tests
   joins kind.True args ts says = none_fit ts says.tests
   joins kind.False args ts says = none_fit ts says.tests
+  joins kind.String args ts says = joins_none _ (parted_tests required ts) (string_reads args ts says) (none_fit ts says.tests)
 
   -- a test of some kind or none that breaks no rule is of a kind, and is read
-  pub test_is_read : (k : Option TestKind) (args : List syntax.Argument) (ts : syntax.Tests) → ((rule : Rule) → test_breaks context k args ts rule ≡ false) → breaches_in (test_arguments context k args ts) ≡ []
-      → let parted = parted_labelled context (test_labels k args) args in (test_takes k parted ≡ true) × Joins (test_reading_by k parted) (parted_tests context ts)
-  test_is_read None args ts keeps none = absurd (never_both (keeps UnknownCommand))
-  test_is_read (Some k) args ts keeps none =
-      let says = as_parted context (test_row k) args ts false (keeps BadTag) (keeps BadArguments) none in
+  pub test_is_read : (context : Context) (k : Option TestKind) (args : List syntax.Argument) (ts : syntax.Tests) → ((rule : Rule) → test_breaks context k args ts rule ≡ false) → breaches_in (test_arguments context k args ts) ≡ []
+      → let parted = parted_labelled required (test_labels k args) args in (test_takes k parted ≡ true) × Joins (test_reading_by k parted) (parted_tests required ts)
+  test_is_read context None args ts keeps none = absurd (never_both (keeps UnknownCommand))
+  test_is_read context (Some k) args ts keeps none =
+      let says = as_parted required context (test_row k) args ts false (keeps BadTag) (keeps BadArguments) none in
       (takes (test_row k) _ ts false says, joins k _ ts says)

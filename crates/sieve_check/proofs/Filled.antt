@@ -7,12 +7,12 @@ use lib.Pointwise.{pointwise}
 use Rattle.match_text.specs.declared.comparators.Collation.TheVariants.{Octet, Casemap}
 use Rattle.sieve_syntax.specs.Tree as syntax
 use Rattle.sieve_check.specs.Breach.{breaches_at, breaches_in, is_comparator_name}
-use Rattle.sieve_check.specs.Context.{Context}
+use Rattle.sieve_check.specs.Context.{Context, Required}
 use Rattle.sieve_check.specs.Element.{argument_elements, judged_labels, labelled_elements, row_elements, text_elements, the_text, the_number}
 use Rattle.sieve_check.specs.Label.{fits, is_filled, labels_of}
-use Rattle.sieve_check.specs.Parted.{parted_argument, parted_labelled, parted_text, parts_of}
+use Rattle.sieve_check.specs.Parted.{parted_argument, parted_labelled, parted_text, parts_in}
 use Rattle.sieve_check.specs.Readable.{row_takes}
-use Rattle.sieve_check.specs.Reading.{collation_by, number_in, part_shape, text_in, text_value, texts_in}
+use Rattle.sieve_check.specs.Reading.{collation_by, local_in, local_in_parts, number_in, part_shape, plain_text, text_in, texts_in}
 use Rattle.sieve_check.specs.Role.{first_role, has_role}
 use Rattle.sieve_check.specs.Shape.{row_labels, shape_of, shapes_of, texts_shape}
 use Rattle.sieve_table.specs.Table.{Row}
@@ -26,7 +26,8 @@ use Rattle.sieve_table.specs.declared.row.Role.{Role}
 use Rattle.sieve_table.specs.declared.row.Role.TheVariants as role
 use Rattle.sieve_table.specs.declared.rule.Rule.TheVariants.{NumberTooLarge, UnknownComparator}
 use Rattle.sieve_table.specs.declared.table.Tag.{Tag}
-use Rattle.sieve_check.proofs.Roles.{AllKeep, Keeps, NameComparators, none_or, never_both, not_both}
+use Rattle.sieve_check.proofs.Roles.{AllKeep, Keeps, NamesWell, none_or, never_both, not_both}
+use Rattle.sieve_check.proofs.Telling.{one_role, only_in_role}
 use Rattle.sieve_check.proofs.Unbroken.{keeps, none_in_both, none_in_front}
 
 -- PARTED ARGUMENTS
@@ -35,35 +36,47 @@ length-map : {X Y : Type 0} (f : X → Y) (xs : List X) → length (map f xs) �
 length-map f [] = refl
 length-map f (x ∷ xs) = ap suc (length-map f xs)
 
-module _ (context : Context) where
+module _ (required : Required) where
   -- each has the shape that it had
-  same_shape : (tags : List Tag) (r : Option Role) (a : syntax.Argument) → part_shape tags (parted_argument context r a) ≡ shape_of tags a
-  same_shape tags r (syntax.strings items bracketed) = ap (λ n. texts_shape n bracketed) (length-map (parted_text context r) items)
+  same_shape : (tags : List Tag) (r : Option Role) (a : syntax.Argument) → part_shape tags (parted_argument required r a) ≡ shape_of tags a
+  same_shape tags r (syntax.strings items bracketed) = ap (λ n. texts_shape n bracketed) (length-map (parted_text required r) items)
   same_shape tags r (syntax.number value line) = refl
   same_shape tags r (syntax.tag name line) = refl
 
-  same_shapes : (tags : List Tag) (labels : List Label) (args : List syntax.Argument) → map (part_shape tags) (parted_labelled context labels args) ≡ shapes_of tags args
+  same_shapes : (tags : List Tag) (labels : List Label) (args : List syntax.Argument) → map (part_shape tags) (parted_labelled required labels args) ≡ shapes_of tags args
   same_shapes tags labels [] = refl
   same_shapes tags labels (a ∷ args) =
-      ap (λ s. s ∷ map (part_shape tags) (parted_labelled context (drop 1 labels) args)) (same_shape tags (first_role labels) a)
+      ap (λ s. s ∷ map (part_shape tags) (parted_labelled required (drop 1 labels) args)) (same_shape tags (first_role labels) a)
       ∙ ap (λ l. shape_of tags a ∷ l) (same_shapes tags (drop 1 labels) args)
 
+module _ (required : Required) (context : Context) where
   -- where none of their elements has a breach, their strings name comparators where they have to, and numbers have a value
-  text_names : (r : Option Role) (t : syntax.Text) → breaches_at (the_text context r t) ≡ [] → (has_role role.ComparatorName r && not (is_comparator_name (text_value (parts_of context r t.octets)))) ≡ false
-  text_names r t none = ap (λ v. has_role role.ComparatorName r && not (is_comparator_name v)) (append-nil t.octets) ∙ keeps (the_text context r t) none UnknownComparator
+  names_well : (r : Option Role) (octets : List ℕ) → (has_role role.ComparatorName r && not (is_comparator_name octets)) ≡ false → (has_role role.ComparatorName r && not (is_comparator_name (plain_text (parts_in required r octets)))) ≡ false
+  names_well r octets fine = by_role r (has_role role.ComparatorName r) refl fine
+    where
+      by_role : (r : Option Role) (is : Bool) → has_role role.ComparatorName r ≡ is → (is && not (is_comparator_name octets)) ≡ false → (is && not (is_comparator_name (plain_text (parts_in required r octets)))) ≡ false
+      by_role r false e fine = refl
+      by_role None true e fine = absurd (not_both e)
+      by_role (Some one) true e fine = ap (λ x. not (is_comparator_name (plain_text (parts_in required (Some x) octets)))) (sym (one_role role.ComparatorName one e)) ∙ ap (λ v. not (is_comparator_name v)) (append-nil octets) ∙ fine
 
-  texts_name : (r : Option Role) (items : List syntax.Text) → breaches_in (text_elements context r items) ≡ [] → NameComparators r (map (parted_text context r) items)
+  text_names : (r : Option Role) (t : syntax.Text) → breaches_at (the_text context r t) ≡ [] → (has_role role.ComparatorName r && not (is_comparator_name (plain_text (parts_in required r t.octets)))) ≡ false
+  text_names r t none = names_well r t.octets (keeps (the_text context r t) none UnknownComparator)
+
+  text_is_local : (r : Option Role) (octets : List ℕ) → (has_role role.NameToSet r && is_none (local_in_parts (parts_in required r octets))) ≡ false
+  text_is_local r octets = only_in_role role.NameToSet (λ x. is_none (local_in_parts (parts_in required x octets))) r refl
+
+  texts_name : (r : Option Role) (items : List syntax.Text) → breaches_in (text_elements context r items) ≡ [] → NamesWell r (map (parted_text required r) items)
   texts_name r [] none = tt
   texts_name r (t ∷ ts) none =
       let parts = none_in_front (the_text context r t) (text_elements context r ts) none in
-      (text_names r t parts.0, texts_name r ts parts.1)
+      (text_names r t parts.0, text_is_local r t.octets, texts_name r ts parts.1)
 
-  argument_keeps : (r : Option Role) (a : syntax.Argument) → breaches_in (argument_elements context r a) ≡ [] → Keeps r (parted_argument context r a)
+  argument_keeps : (r : Option Role) (a : syntax.Argument) → breaches_in (argument_elements context r a) ≡ [] → Keeps r (parted_argument required r a)
   argument_keeps r (syntax.strings items bracketed) none = texts_name r items none
   argument_keeps r (syntax.number value line) none = keeps (the_number value line) (none_in_front (the_number value line) [] none).0 NumberTooLarge
   argument_keeps r (syntax.tag name line) none = tt
 
-  arguments_keep : (labels : List Label) (args : List syntax.Argument) → breaches_in (labelled_elements context labels args) ≡ [] → AllKeep labels (parted_labelled context labels args)
+  arguments_keep : (labels : List Label) (args : List syntax.Argument) → breaches_in (labelled_elements context labels args) ≡ [] → AllKeep labels (parted_labelled required labels args)
   arguments_keep labels [] none = tt
   arguments_keep labels (a ∷ args) none =
       let parts = none_in_both (argument_elements context (first_role labels) a) (labelled_elements context (drop 1 labels) args) none in
@@ -88,9 +101,9 @@ not_false false e = absurd (never_both e)
 well_used : (bad_tag arguments : Bool) → bad_tag ≡ false → arguments ≡ false → (not bad_tag && not arguments) ≡ true
 well_used bad_tag arguments fine well = ap (λ b. not b && not arguments) fine ∙ ap not well
 
-module _ (context : Context) (row : Row) (args : List syntax.Argument) (ts : syntax.Tests) (b : Bool) where
+module _ (required : Required) (context : Context) (row : Row) (args : List syntax.Argument) (ts : syntax.Tests) (b : Bool) where
   abbrev parted_args : List Argument
-  parted_args = parted_labelled context (row_labels row args) args
+  parted_args = parted_labelled required (row_labels row args) args
 
   as_judged : has_bad_tag (row_labels row args) ≡ false → has_bad_arguments row (shapes_of row.tags args) ts b ≡ false → breaches_in (row_elements context row args ts b) ≡ [] → AsRowSays row (shapes_of row.tags args) parted_args ts b
   as_judged fine well none =
@@ -107,12 +120,12 @@ module _ (context : Context) (row : Row) (args : List syntax.Argument) (ts : syn
         block = not_false (block_fits row.has_block b) second.1;
         own = third.0;
         kind = third.1;
-        keep = arguments_keep context labels args (sym (ap (λ w. breaches_in (labelled_elements context (judged_labels w row args) args)) (well_used (has_bad_tag labels) (has_bad_arguments row shapes ts b) fine well)) ∙ none);
+        keep = arguments_keep required context labels args (sym (ap (λ w. breaches_in (labelled_elements context (judged_labels w row args) args)) (well_used (has_bad_tag labels) (has_bad_arguments row shapes ts b) fine well)) ∙ none);
       }
 
   -- and so are they when their strings are cut
   pub as_parted : has_bad_tag (row_labels row args) ≡ false → has_bad_arguments row (shapes_of row.tags args) ts b ≡ false → breaches_in (row_elements context row args ts b) ≡ [] → AsRowSays row (map (part_shape row.tags) parted_args) parted_args ts b
-  as_parted fine well none = subst (λ shapes. AsRowSays row shapes parted_args ts b) (sym (same_shapes context row.tags (row_labels row args) args)) (as_judged fine well none)
+  as_parted fine well none = subst (λ shapes. AsRowSays row shapes parted_args ts b) (sym (same_shapes required row.tags (row_labels row args) args)) (as_judged fine well none)
 
 all_true : (bad_tag filled own kind : Bool) → bad_tag ≡ false → filled ≡ true → own ≡ false → kind ≡ false → (not bad_tag && (filled && (not own && not kind))) ≡ true
 all_true bad_tag filled own kind t f o k = ap (λ b. not b && (filled && (not own && not kind))) t ∙ ap (λ b. b && (not own && not kind)) f ∙ ap (λ b. not b && not kind) o ∙ ap not k
@@ -170,11 +183,22 @@ text_good_alone tags r (tag name line) keeps fit = absurd (not_both fit)
 pub collation_good : (tags : List Tag) (r : Option Role) (a : Argument) → has_role role.ComparatorName r ≡ true → Keeps r a → fits form.One (part_shape tags a) ≡ true → is_some (collation_by (Some a)) ≡ true
 collation_good tags r (strings [] bracketed) is keeps fit = absurd (no_list (nat_eq 0 1 && not bracketed) refl fit)
 collation_good tags r (strings (t ∷ []) bracketed) is keeps fit =
-    let value = text_value t.parts in
+    let value = plain_text t.parts in
     named (pointwise nat_eq (codes "i;octet") value) (pointwise nat_eq (codes "i;ascii-casemap") value) (is_named (has_role role.ComparatorName r) (is_comparator_name value) is keeps.0)
 collation_good tags r (strings (t ∷ s ∷ ts) bracketed) is keeps fit = absurd (two_are_no_text (length ts) bracketed fit)
 collation_good tags r (number value line) is keeps fit = absurd (not_both fit)
 collation_good tags r (tag name line) is keeps fit = absurd (not_both fit)
+
+is_some_of : {X : Type 0} (c : Bool) (o : Option X) → c ≡ true → (c && is_none o) ≡ false → is_some o ≡ true
+is_some_of c None is e = absurd (never_both (sym (ap (λ b. b && true) is) ∙ e))
+is_some_of c (Some x) is e = refl
+
+pub local_good : (tags : List Tag) (r : Option Role) (a : Argument) → has_role role.NameToSet r ≡ true → Keeps r a → fits form.One (part_shape tags a) ≡ true → is_some (local_in (Some a)) ≡ true
+local_good tags r (strings [] bracketed) is keeps fit = absurd (no_list (nat_eq 0 1 && not bracketed) refl fit)
+local_good tags r (strings (t ∷ []) bracketed) is keeps fit = is_some_of (has_role role.NameToSet r) (local_in_parts t.parts) is keeps.1.0
+local_good tags r (strings (t ∷ s ∷ ts) bracketed) is keeps fit = absurd (two_are_no_text (length ts) bracketed fit)
+local_good tags r (number value line) is keeps fit = absurd (not_both fit)
+local_good tags r (tag name line) is keeps fit = absurd (not_both fit)
 
 -- what an argument that is there is read as
 pub texts_read : (o : Option Argument) → none_or (λ a. is_some (texts_in (Some a))) o ≡ true → is_some o ≡ true → is_some (texts_in o) ≡ true
@@ -184,6 +208,10 @@ texts_read (Some a) good there = good
 pub text_read : (o : Option Argument) → none_or (λ a. is_some (text_in (Some a))) o ≡ true → is_some o ≡ true → is_some (text_in o) ≡ true
 text_read None good there = absurd (not_both there)
 text_read (Some a) good there = good
+
+pub local_read : (o : Option Argument) → none_or (λ a. is_some (local_in (Some a))) o ≡ true → is_some o ≡ true → is_some (local_in o) ≡ true
+local_read None good there = absurd (not_both there)
+local_read (Some a) good there = good
 
 pub number_read : (o : Option Argument) → none_or (λ a. is_some (number_in (Some a))) o ≡ true → is_some o ≡ true → is_some (number_in o) ≡ true
 number_read None good there = absurd (not_both there)

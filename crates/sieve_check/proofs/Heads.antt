@@ -3,24 +3,29 @@ use Rattle.std.proofs.Common.{◌≡◌, ℕ, ◌+◌, ◌<◌, ◌≤◌, Bool,
 use Rattle.std.proofs.lemmas.List.{append_assoc, at_drop_more, at_drop_all}
 use Rattle.std.specs.declared.vec.Vec.{Vec}
 use Rattle.std.specs.declared.alloc.Global.{Global}
-use Rattle.sieve_syntax.specs.Tree.{nodes, tests}
+use Rattle.sieve_syntax.specs.Tree.{block, nodes, tests}
 use Rattle.sieve_syntax.specs.view.Tree.{argument_of, node_of, test_of, tests_of}
 use Rattle.sieve_syntax.specs.declared.tree.Argument as arguments
 use Rattle.sieve_syntax.specs.declared.tree.Command as commands
 use Rattle.sieve_syntax.specs.declared.tree.Test as one_tests
 use Rattle.sieve_check.specs.Breach.{Breach, all_rules, breach_if, breaches_at, breaches_by, breaches_in, command_breaks, test_breaks}
 use Rattle.sieve_check.specs.CheckFault.{IsFirst}
-use Rattle.sieve_check.specs.Context.{Context, behind, behind_kind, inside, is_require, continues_if}
+use Rattle.sieve_check.specs.Assigned.{assigning_arguments}
+use Rattle.sieve_check.specs.Context.{Context, behind, behind_block, behind_kind, behind_nodes, inside, is_require, continues_if}
 use Rattle.sieve_check.specs.Element.{the_command, the_test, test_arguments, command_arguments, test_elements, tests_elements, test_list_elements, node_elements, nodes_elements, block_elements}
 use Rattle.sieve_table.specs.Table as table
 use Rattle.sieve_table.specs.Table.{Row, command_row, test_row}
 use Rattle.sieve_check.specs.Use.{has_block}
 use Rattle.sieve_check.specs.view.Finds.{Finds, FindsIn}
-use Rattle.sieve_check.specs.view.Head.{block_as, test_head, command_head, kind_found}
+use Rattle.sieve_check.specs.Shape.{row_labels}
+use Rattle.sieve_check.specs.view.Context.{at_spot}
+use Rattle.sieve_check.specs.view.Head.{behind_front, block_as, test_head, command_front, command_head, kind_found}
 use Rattle.sieve_check.specs.view.Use.{row_found, use_breaks}
 use Rattle.sieve_table.specs.declared.rule.Rule.TheVariants.{RequirePlace, UnknownCommand}
 use Rattle.sieve_table.specs.declared.table.CommandKind.{CommandKind}
 use Rattle.sieve_table.specs.declared.table.TestKind.{TestKind}
+use Rattle.sieve_check.specs.declared.context.Spot.{Spot}
+use Rattle.sieve_check.specs.declared.label.Label.{Label}
 use Rattle.sieve_check.specs.declared.validator.CheckFault.{CheckFault}
 use Rattle.sieve_check.specs.declared.validator.CheckFault.TheVariants as faults
 use Rattle.sieve_check.proofs.Searches.{first_stops, front_stops, front_passes, finds_past, none_in, cons_in}
@@ -44,21 +49,27 @@ test_unknown t context name line is n l =
     (subst (λ x. IsFirst (breaches_at (the_test context o.name.items o.line args ts)) (faults.Breach x UnknownCommand)) (sym l) here)
 
 -- a test that there is
-pub test_known : (t : one_tests.Test) (context : Context) (kind : TestKind) (row : Row) (name : List ℕ) (line : ℕ) (xs : List arguments.Argument) (r : Answer) → let o = one_tests.out-Test t in
-    Some kind ≡ table.test_named name → name ≡ o.name.items → line ≡ o.line → row ≡ test_row kind → xs ≡ o.args.items → Finds (row_found false context line row (map argument_of xs) (tests_of o.tests) false) r → FindsIn (test_head context t) r
+known_by : (t : one_tests.Test) (context : Context) (kind : TestKind) (row : Row) (name : List ℕ) (line : ℕ) (xs : List arguments.Argument) → let o = one_tests.out-Test t in
+    Some kind ≡ table.test_named name → name ≡ o.name.items → line ≡ o.line → row ≡ test_row kind → xs ≡ o.args.items → row_found false context line row (map argument_of xs) (tests_of o.tests) false ≡ breaches_in (test_head context t)
 unfolding breaches_at
-test_known t context kind row name line xs r is n l same a found =
+known_by t context kind row name line xs is n l same a =
     let o = one_tests.out-Test t in
     let args = map argument_of o.args.items in
     let ts = tests_of o.tests in
     let known : Some kind ≡ table.test_named o.name.items = is ∙ ap table.test_named n in
-    subst (λ bs. Finds bs r)
-    (ap (λ x. row_found false context x row (map argument_of xs) ts false) l
+    ap (λ x. row_found false context x row (map argument_of xs) ts false) l
     ∙ ap (λ x. row_found false context o.line x (map argument_of xs) ts false) same
     ∙ ap (λ x. row_found false context o.line (test_row kind) (map argument_of x) ts false) a
     ∙ ap (λ k. breaches_by (test_breaks context k args ts) o.line all_rules ++ breaches_in (test_arguments context k args ts)) known
-    ∙ sym (cons_in (the_test context o.name.items o.line args ts) (test_arguments context (table.test_named o.name.items) args ts)))
-    found
+    ∙ sym (cons_in (the_test context o.name.items o.line args ts) (test_arguments context (table.test_named o.name.items) args ts))
+
+pub known_stops : (t : one_tests.Test) (context : Context) (kind : TestKind) (row : Row) (name : List ℕ) (line : ℕ) (xs : List arguments.Argument) (fault : CheckFault) → let o = one_tests.out-Test t in
+    Some kind ≡ table.test_named name → name ≡ o.name.items → line ≡ o.line → row ≡ test_row kind → xs ≡ o.args.items → IsFirst (row_found false context line row (map argument_of xs) (tests_of o.tests) false) fault → IsFirst (breaches_in (test_head context t)) fault
+known_stops t context kind row name line xs fault is n l same a found = subst (λ bs. IsFirst bs fault) (known_by t context kind row name line xs is n l same a) found
+
+pub known_passes : (t : one_tests.Test) (context : Context) (kind : TestKind) (row : Row) (name : List ℕ) (line : ℕ) (xs : List arguments.Argument) → let o = one_tests.out-Test t in
+    Some kind ≡ table.test_named name → name ≡ o.name.items → line ≡ o.line → row ≡ test_row kind → xs ≡ o.args.items → row_found false context line row (map argument_of xs) (tests_of o.tests) false ≡ [] → breaches_in (test_head context t) ≡ []
+known_passes t context kind row name line xs is n l same a none = sym (known_by t context kind row name line xs is n l same a) ∙ none
 
 test_at : (t : one_tests.Test) (context : Context) → test_elements context (test_of t) ≡ test_head context t ++ tests_elements context (tests_of (one_tests.out-Test t).tests)
 unfolding test_elements
@@ -115,7 +126,7 @@ module _ (context : Context) (kind : CommandKind) (c : commands.Command) where
       subst (λ x. IsFirst (kind_found context kind c) (faults.Breach x RequirePlace)) (sym l)
       (subst (λ bs. IsFirst bs (faults.Breach o.line RequirePlace)) (sym (found_by ∙ ap by_places (sym is))) refl)
 
-  pub kind_placed : (row : Row) (line : ℕ) (xs : List arguments.Argument) (b apart : Bool) (r : Answer) → let o = commands.out-Command c in
+  pub kind_placed : {A : Type 0} (row : Row) (line : ℕ) (xs : List arguments.Argument) (b apart : Bool) (r : Result A CheckFault) → let o = commands.out-Command c in
       line ≡ o.line → row ≡ command_row kind → xs ≡ o.args.items → b ≡ is_some o.block → false ≡ (is_require kind && not context.leads) → apart ≡ (continues_if kind && not context.follows_if) → Finds (row_found apart context line row (map argument_of xs) (tests_of o.tests) b) r → Finds (kind_found context kind c) r
   unfolding by_places
   kind_placed row line xs b apart r l same a ends placed goes found =
@@ -160,54 +171,78 @@ command_stops c context kind name fault is n h = subst (λ bs. IsFirst bs fault)
 pub command_passes : (c : commands.Command) (context : Context) (kind : CommandKind) (name : List ℕ) → Some kind ≡ table.command_named name → name ≡ (commands.out-Command c).name.items → kind_found context kind c ≡ [] → breaches_in (command_head context c) ≡ []
 command_passes c context kind name is n none = sym (head_by c context kind name is n) ∙ none
 
-pub command_moves : (c : commands.Command) (context next : Context) (kind : CommandKind) (name : List ℕ) (xs : List arguments.Argument) → Some kind ≡ table.command_named name → name ≡ (commands.out-Command c).name.items → xs ≡ (commands.out-Command c).args.items → next ≡ behind_kind context (Some kind) (map argument_of xs)
-    → next ≡ behind_kind context (table.command_named (commands.out-Command c).name.items) (map argument_of (commands.out-Command c).args.items)
-command_moves c context next kind name xs is n a goes =
-    goes ∙ ap (λ l. behind_kind context (Some kind) (map argument_of l)) a
-    ∙ ap (λ k. behind_kind context k (map argument_of (commands.out-Command c).args.items)) (is ∙ ap table.command_named n)
-
-command_at : (c : commands.Command) (context : Context) → let o = commands.out-Command c in node_elements context (node_of c) ≡ command_head context c ++ (tests_elements context (tests_of o.tests) ++ block_elements context (block_as o.block))
+command_at : (c : commands.Command) (context : Context) → node_elements context (node_of c) ≡ command_front context c ++ block_elements (behind_front context c) (block_as (commands.out-Command c).block)
 unfolding node_elements
-command_at c context = ap (node_elements context) (seen_command c)
-
-pub head_stops : (c : commands.Command) (context : Context) (fault : CheckFault) → IsFirst (breaches_in (command_head context c)) fault → IsFirst (breaches_in (node_elements context (node_of c))) fault
-head_stops c context fault h = subst (λ es. IsFirst (breaches_in es) fault) (sym (command_at c context)) (front_stops _ _ fault h)
-
-pub tests_stop : (c : commands.Command) (context : Context) (fault : CheckFault) → breaches_in (command_head context c) ≡ [] → IsFirst (breaches_in (tests_elements context (tests_of (commands.out-Command c).tests))) fault → IsFirst (breaches_in (node_elements context (node_of c))) fault
-tests_stop c context fault none h =
+command_at c context =
     let o = commands.out-Command c in
-    subst (λ bs. IsFirst bs fault)
-    (sym (ap breaches_in (command_at c context) ∙ front_passes (command_head context c) (tests_elements context (tests_of o.tests) ++ block_elements context (block_as o.block)) none))
-    (front_stops _ _ fault h)
+    ap (node_elements context) (seen_command c)
+    ∙ append_assoc (command_head context c) (tests_elements context (tests_of o.tests)) (block_elements (behind_front context c) (block_as o.block))
 
--- what is left where neither the command nor its tests break a rule
-block_left : (c : commands.Command) (context : Context) (inner : Option (Vec commands.Command Global)) → let o = commands.out-Command c in breaches_in (command_head context c) ≡ [] → breaches_in (tests_elements context (tests_of o.tests)) ≡ [] → o.block ≡ inner → breaches_in (node_elements context (node_of c)) ≡ breaches_in (block_elements context (block_as inner))
-block_left c context inner none fine is =
+behind_at : (c : commands.Command) (context : Context) → behind context (node_of c) ≡ behind_block (behind_front context c) (block_as (commands.out-Command c).block)
+unfolding behind
+behind_at c context = ap (behind context) (seen_command c)
+
+-- a command before its block
+pub head_stops : (c : commands.Command) (context : Context) (fault : CheckFault) → IsFirst (breaches_in (command_head context c)) fault → IsFirst (breaches_in (command_front context c)) fault
+head_stops c context fault h = front_stops _ _ fault h
+
+pub tests_stop : (c : commands.Command) (context : Context) (fault : CheckFault) → breaches_in (command_head context c) ≡ [] → IsFirst (breaches_in (tests_elements context (tests_of (commands.out-Command c).tests))) fault → IsFirst (breaches_in (command_front context c)) fault
+tests_stop c context fault none h = subst (λ bs. IsFirst bs fault) (sym (front_passes (command_head context c) (tests_elements context (tests_of (commands.out-Command c).tests)) none)) h
+
+pub front_ends : (c : commands.Command) (context : Context) → breaches_in (command_head context c) ≡ [] → breaches_in (tests_elements context (tests_of (commands.out-Command c).tests)) ≡ [] → breaches_in (command_front context c) ≡ []
+front_ends c context none fine = front_passes (command_head context c) (tests_elements context (tests_of (commands.out-Command c).tests)) none ∙ fine
+
+pub front_moves : (c : commands.Command) (spot next : Spot) (before after : List (List ℕ)) (kind : CommandKind) (labels : List Label) (xs : List arguments.Argument) → let o = commands.out-Command c in
+    table.command_named o.name.items ≡ Some kind → labels ≡ row_labels (command_row kind) (map argument_of o.args.items) → xs ≡ o.args.items → after ≡ assigning_arguments before labels (map argument_of xs)
+    → ((assigned : List (List ℕ)) → at_spot next (assigning_arguments assigned (row_labels (command_row kind) (map argument_of xs)) (map argument_of xs)) ≡ behind_kind (at_spot spot assigned) (Some kind) (map argument_of xs))
+    → at_spot next after ≡ behind_front (at_spot spot before) c
+front_moves c spot next before after kind labels xs is l a goes moves =
     let o = commands.out-Command c in
+    let args = map argument_of o.args.items in
+    ap (at_spot next) (goes ∙ ap (λ z. assigning_arguments before z (map argument_of xs)) l ∙ ap (λ z. assigning_arguments before (row_labels (command_row kind) args) (map argument_of z)) a)
+    ∙ sym (ap (λ z. at_spot next (assigning_arguments before (row_labels (command_row kind) (map argument_of z)) (map argument_of z))) a)
+    ∙ moves before
+    ∙ ap (λ z. behind_kind (at_spot spot before) (Some kind) (map argument_of z)) a
+    ∙ ap (λ k. behind_kind (at_spot spot before) k args) (sym is)
+
+-- a command with its block
+pub whole_stops : (c : commands.Command) (context : Context) (fault : CheckFault) → IsFirst (breaches_in (command_front context c)) fault → IsFirst (breaches_in (node_elements context (node_of c))) fault
+whole_stops c context fault h = subst (λ es. IsFirst (breaches_in es) fault) (sym (command_at c context)) (front_stops _ _ fault h)
+
+-- what is left where the front breaks no rule
+block_left : (c : commands.Command) (context : Context) (inner : Option (Vec commands.Command Global)) → breaches_in (command_front context c) ≡ [] → (commands.out-Command c).block ≡ inner → breaches_in (node_elements context (node_of c)) ≡ breaches_in (block_elements (behind_front context c) (block_as inner))
+block_left c context inner none is =
     ap breaches_in (command_at c context)
-    ∙ front_passes (command_head context c) (tests_elements context (tests_of o.tests) ++ block_elements context (block_as o.block)) none
-    ∙ front_passes (tests_elements context (tests_of o.tests)) (block_elements context (block_as o.block)) fine
-    ∙ ap (λ b. breaches_in (block_elements context (block_as b))) is
+    ∙ front_passes (command_front context c) (block_elements (behind_front context c) (block_as (commands.out-Command c).block)) none
+    ∙ ap (λ b. breaches_in (block_elements (behind_front context c) (block_as b))) is
 
-pub command_ends : (c : commands.Command) (context : Context) → let o = commands.out-Command c in breaches_in (command_head context c) ≡ [] → breaches_in (tests_elements context (tests_of o.tests)) ≡ [] → o.block ≡ None → breaches_in (node_elements context (node_of c)) ≡ []
+pub command_ends : (c : commands.Command) (context : Context) → breaches_in (command_front context c) ≡ [] → (commands.out-Command c).block ≡ None → breaches_in (node_elements context (node_of c)) ≡ []
 unfolding block_elements
-command_ends c context none fine is = block_left c context None none fine is ∙ none_in
+command_ends c context none is = block_left c context None none is ∙ none_in
 
-pub block_stops : (c : commands.Command) (context within : Context) (inner : Vec commands.Command Global) (xs : List commands.Command) (fault : CheckFault) → let o = commands.out-Command c in breaches_in (command_head context c) ≡ [] → breaches_in (tests_elements context (tests_of o.tests)) ≡ [] → o.block ≡ Some inner → xs ≡ inner.items → within ≡ inside context → IsFirst (breaches_in (nodes_elements within (nodes (map node_of xs)))) fault → IsFirst (breaches_in (node_elements context (node_of c))) fault
-unfolding block_elements
-block_stops c context within inner xs fault none fine is same start h =
-    subst (λ bs. IsFirst bs fault) (ap (λ l. breaches_in (nodes_elements within (nodes (map node_of l)))) same ∙ ap (λ w. breaches_in (nodes_elements w (nodes (map node_of inner.items)))) start ∙ sym (block_left c context (Some inner) none fine is)) h
+pub command_moves : (c : commands.Command) (context next : Context) → next ≡ behind_front context c → (commands.out-Command c).block ≡ None → next ≡ behind context (node_of c)
+unfolding behind
+command_moves c context next goes is = goes ∙ sym (behind_at c context ∙ ap (λ b. behind_block (behind_front context c) (block_as b)) is)
 
-pub block_ends : (c : commands.Command) (context within : Context) (inner : Vec commands.Command Global) (xs : List commands.Command) → let o = commands.out-Command c in breaches_in (command_head context c) ≡ [] → breaches_in (tests_elements context (tests_of o.tests)) ≡ [] → o.block ≡ Some inner → xs ≡ inner.items → within ≡ inside context → breaches_in (nodes_elements within (nodes (map node_of xs))) ≡ [] → breaches_in (node_elements context (node_of c)) ≡ []
+pub block_stops : (c : commands.Command) (context within : Context) (inner : Vec commands.Command Global) (xs : List commands.Command) (fault : CheckFault) → breaches_in (command_front context c) ≡ [] → (commands.out-Command c).block ≡ Some inner → xs ≡ inner.items → within ≡ inside (behind_front context c) → IsFirst (breaches_in (nodes_elements within (nodes (map node_of xs)))) fault → IsFirst (breaches_in (node_elements context (node_of c))) fault
 unfolding block_elements
-block_ends c context within inner xs none fine is same start h =
-    block_left c context (Some inner) none fine is
+block_stops c context within inner xs fault none is same start h =
+    subst (λ bs. IsFirst bs fault) (ap (λ l. breaches_in (nodes_elements within (nodes (map node_of l)))) same ∙ ap (λ w. breaches_in (nodes_elements w (nodes (map node_of inner.items)))) start ∙ sym (block_left c context (Some inner) none is)) h
+
+pub block_ends : (c : commands.Command) (context within : Context) (inner : Vec commands.Command Global) (xs : List commands.Command) → breaches_in (command_front context c) ≡ [] → (commands.out-Command c).block ≡ Some inner → xs ≡ inner.items → within ≡ inside (behind_front context c) → breaches_in (nodes_elements within (nodes (map node_of xs))) ≡ [] → breaches_in (node_elements context (node_of c)) ≡ []
+unfolding block_elements
+block_ends c context within inner xs none is same start h =
+    block_left c context (Some inner) none is
     ∙ sym (ap (λ w. breaches_in (nodes_elements w (nodes (map node_of inner.items)))) start)
     ∙ sym (ap (λ l. breaches_in (nodes_elements within (nodes (map node_of l)))) same)
     ∙ h
 
-pub whole_moves : (c : commands.Command) (context next : Context) → next ≡ behind_kind context (table.command_named (commands.out-Command c).name.items) (map argument_of (commands.out-Command c).args.items) → next ≡ behind context (node_of c)
-whole_moves c context next goes = goes ∙ sym (ap (behind context) (seen_command c))
+pub block_moves : (c : commands.Command) (context : Context) (next : Spot) (before after : List (List ℕ)) (within : Context) (inner : Vec commands.Command Global) (xs : List commands.Command) → at_spot next before ≡ behind_front context c → (commands.out-Command c).block ≡ Some inner → xs ≡ inner.items → within ≡ inside (at_spot next before) → after ≡ (behind_nodes within (nodes (map node_of xs))).assigned → at_spot next after ≡ behind context (node_of c)
+unfolding behind
+block_moves c context next before after within inner xs goes is same start ends =
+    ap (at_spot next) (ends ∙ ap (λ w. (behind_nodes w (nodes (map node_of xs))).assigned) start ∙ ap (λ l. (behind_nodes (inside (at_spot next before)) (nodes (map node_of l))).assigned) same)
+    ∙ ap (λ w. behind_block w (block (nodes (map node_of inner.items)))) goes
+    ∙ sym (behind_at c context ∙ ap (λ b. behind_block (behind_front context c) (block_as b)) is)
 
 -- commands from one of them on
 commands_at : (xs : List commands.Command) (i : ℕ) (c : commands.Command) (context : Context) → i < length xs → c ≡ get_or xs i c → nodes_elements context (nodes (map node_of (drop i xs))) ≡ node_elements context (node_of c) ++ nodes_elements (behind context (node_of c)) (nodes (map node_of (drop (i + 1) xs)))
@@ -228,14 +263,28 @@ pub commands_end : (xs : List commands.Command) (i : ℕ) (context : Context) �
 unfolding nodes_elements
 commands_end xs i context h = ap breaches_in (at_drop_all (λ l. nodes_elements context (nodes (map node_of l))) xs i h) ∙ none_in
 
+pub commands_move : (xs : List commands.Command) (i : ℕ) (c : commands.Command) (context next : Context) → i < length xs → c ≡ get_or xs i c → next ≡ behind context (node_of c) → behind_nodes next (nodes (map node_of (drop (i + 1) xs))) ≡ behind_nodes context (nodes (map node_of (drop i xs)))
+unfolding behind_nodes
+commands_move xs i c context next h e goes =
+    ap (λ p. behind_nodes p (nodes (map node_of (drop (i + 1) xs)))) goes
+    ∙ sym (at_drop_more (λ l. behind_nodes context (nodes (map node_of l))) xs i c h ∙ ap (λ x. behind_nodes (behind context (node_of x)) (nodes (map node_of (drop (i + 1) xs)))) (sym e))
+
+pub commands_moved : (xs : List commands.Command) (i : ℕ) (context : Context) → length xs ≤ i → behind_nodes context (nodes (map node_of (drop i xs))) ≡ context
+unfolding behind_nodes
+commands_moved xs i context h = at_drop_all (λ l. behind_nodes context (nodes (map node_of l))) xs i h
+
 pub ruleset test_steps = (test_stops, test_goes_on)
+
+pub ruleset test_head_steps = (test_unknown, known_stops, known_passes)
 
 pub ruleset list_steps = (list_stops, list_goes_on, list_ends)
 
 pub ruleset kind_steps = (require_misplaced, kind_placed)
 
-pub ruleset command_head_steps = (command_unknown, command_stops, command_passes, command_moves)
+pub ruleset command_head_steps = (command_unknown, command_stops, command_passes)
 
-pub ruleset command_steps = (head_stops, tests_stop, command_ends, block_stops, block_ends, whole_moves)
+pub ruleset front_steps = (head_stops, tests_stop, front_ends, front_moves)
 
-pub ruleset commands_steps = (commands_stop, commands_go_on, commands_end)
+pub ruleset command_steps = (whole_stops, command_ends, command_moves, block_stops, block_ends, block_moves)
+
+pub ruleset commands_steps = (commands_stop, commands_go_on, commands_end, commands_move, commands_moved)

@@ -17,6 +17,7 @@ command_found command.Fileinto = refl
 command_found command.Redirect = refl
 command_found command.Discard = refl
 command_found command.Stop = refl
+command_found command.Set = refl
 
 pub test_found : (kind : TestKind) → test_named (test_row kind).name ≡ Some kind
 unfolding test_named
@@ -30,5 +31,6 @@ test_found test.AnyOf = refl
 test_found test.Not = refl
 test_found test.True = refl
 test_found test.False = refl
+test_found test.String = refl
 
 pub ruleset names = (command_found, test_found)

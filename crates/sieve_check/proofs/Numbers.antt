@@ -1,7 +1,8 @@
--- The numbers of the rules, of the roles and of the kinds of tags.
+-- The numbers of the rules, of the roles, of the tags and of the kinds of tags.
 use Rattle.std.proofs.Common.{◌≡◌, ◌-◌, Some, refl, slice_get}
 use Rattle.sieve_check.specs.Breach.{all_rules}
 use Rattle.sieve_table.specs.Rule.{rule_number}
+use Rattle.sieve_check.specs.Reading.{all_tags, tag_number}
 use Rattle.sieve_check.specs.Role.{all_roles, role_number}
 use Rattle.sieve_check.specs.Use.{all_kinds, kind_number}
 use Rattle.sieve_table.specs.declared.row.Role.{Role}
@@ -9,6 +10,8 @@ use Rattle.sieve_table.specs.declared.row.Role.TheVariants as role
 use Rattle.sieve_table.specs.declared.row.TagKind.{TagKind}
 use Rattle.sieve_table.specs.declared.row.TagKind.TheVariants as kind
 use Rattle.sieve_table.specs.declared.rule.Rule.{Rule}
+use Rattle.sieve_table.specs.declared.table.Tag.{Tag}
+use Rattle.sieve_table.specs.declared.table.Tag.TheVariants as tag
 use Rattle.sieve_table.specs.declared.rule.Rule.TheVariants.{RequirePlace, UnknownCapability, UnknownCommand, NotRequired, ElsePlace, BadTag, BadArguments, UnknownComparator, BadVariableName, GlobalAfterSet, BadNamespace, MatchIndex, NumberTooLarge, BadEnvelopePart, NotAddressHeader, TooManyVariables}
 
 pub rule_at : (rule : Rule) → slice_get all_rules (rule_number rule - 1) ≡ Some rule
@@ -60,4 +63,21 @@ kind_at kind.FirstLetter = refl
 kind_at kind.QuoteWildcard = refl
 kind_at kind.Length = refl
 
-pub ruleset numbered = (role_at, kind_at)
+pub tag_at : (t : Tag) → slice_get all_tags (tag_number t) ≡ Some t
+tag_at tag.Comparator = refl
+tag_at tag.Is = refl
+tag_at tag.Contains = refl
+tag_at tag.Matches = refl
+tag_at tag.All = refl
+tag_at tag.LocalPart = refl
+tag_at tag.Domain = refl
+tag_at tag.Over = refl
+tag_at tag.Under = refl
+tag_at tag.Lower = refl
+tag_at tag.Upper = refl
+tag_at tag.LowerFirst = refl
+tag_at tag.UpperFirst = refl
+tag_at tag.QuoteWildcard = refl
+tag_at tag.Length = refl
+
+pub ruleset numbered = (role_at, tag_at, kind_at)

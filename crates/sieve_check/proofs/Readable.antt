@@ -1,14 +1,14 @@
 -- Of a tree without a breach each command and each test is read as something: nothing of it vanishes.
-use Rattle.std.proofs.Common.{◌≡◌, Bool, true, false, not, ◌&&◌, List, [], ◌++◌, map, Option, None, Some, is_some, refl, sym, ap, subst}
+use Rattle.std.proofs.Common.{◌≡◌, ℕ, Bool, true, false, not, ◌&&◌, List, [], ◌++◌, map, Option, None, Some, is_some, refl, sym, ap, ◌∙◌, subst}
 use Rattle.std.specs.Option.{option_map}
 use Rattle.sieve_syntax.specs.Tree as syntax
 use Rattle.sieve_check.specs.Breach.{breaches_in, breaches_of, command_breaks}
-use Rattle.sieve_check.specs.Context.{Context, behind, behind_kind, continues_if, inside, script_start}
+use Rattle.sieve_check.specs.Context.{Context, Required, behind, behind_block, behind_kind, continues_if, inside, nothing_required, required_from, script_start}
 use Rattle.sieve_check.specs.Element.{block_elements, command_arguments, node_elements, nodes_elements, test_arguments, test_elements, test_list_elements, tests_elements, the_command, the_test}
 use Rattle.sieve_check.specs.Parted.{command_labels, parted, parted_block, parted_labelled, parted_node, parted_nodes, parted_test, parted_test_list, parted_tests}
 use Rattle.sieve_check.specs.Readable.{IsReadable, ReadsBlock, ReadsNode, ReadsNodes, ReadsTest, ReadsTestList, ReadsTests, Stands, command_takes, may_go_on}
 use Rattle.sieve_check.specs.Reading as reading
-use Rattle.sieve_check.specs.Reading.{Leaf, command_reading, command_reading_by, fileinto_leaf, in_role, part_shape, redirect_leaf, text_in}
+use Rattle.sieve_check.specs.Reading.{Leaf, command_reading, command_reading_by, fileinto_leaf, in_role, part_shape, redirect_leaf, set_from, text_in}
 use Rattle.sieve_table.specs.Table.{command_named, command_row, test_named}
 use Rattle.sieve_check.specs.Tree.{Argument, Block, Tests, no_tests, Nodes, end_nodes, more_nodes, no_block, block, items, nodes}
 use Rattle.sieve_check.specs.Use.{block_fits, has_block}
@@ -17,19 +17,21 @@ use Rattle.sieve_table.specs.declared.rule.Rule.{Rule}
 use Rattle.sieve_table.specs.declared.rule.Rule.TheVariants.{BadArguments, BadTag, ElsePlace, UnknownCommand}
 use Rattle.sieve_table.specs.declared.table.CommandKind.{CommandKind}
 use Rattle.sieve_table.specs.declared.table.CommandKind.TheVariants as command
-use Rattle.sieve_check.proofs.Asked.{maps_some, none_fit, one_fits, test_is_read, text_is_read}
+use Rattle.sieve_variables.specs.Part.{Part}
+use Rattle.sieve_variables.specs.declared.modifier.Modifiers.{Modifiers}
+use Rattle.sieve_check.proofs.Asked.{local_is_read, maps_some, none_fit, one_fits, test_is_read, text_is_read}
 use Rattle.sieve_check.proofs.Filled.{AsRowSays, as_parted, takes}
 use Rattle.sieve_check.proofs.Roles.{never_both, not_both}
 use Rattle.sieve_check.proofs.Unbroken.{keeps, none_in_both, none_in_front}
 
 -- WHERE A COMMAND STANDS
 
-module _ (context : Context) where
-  block_there : (ending : syntax.Block) → block_fits true (has_block ending) ≡ true → (ns : Nodes) × (parted_block context ending ≡ block ns)
+module _ (required : Required) (context : Context) where
+  block_there : (ending : syntax.Block) → block_fits true (has_block ending) ≡ true → (ns : Nodes) × (parted_block required ending ≡ block ns)
   block_there syntax.no_block fit = absurd (not_both fit)
-  block_there (syntax.block ns) fit = (parted_nodes (inside context) ns, refl)
+  block_there (syntax.block ns) fit = (parted_nodes required ns, refl)
 
-  none_there : (ending : syntax.Block) → block_fits false (has_block ending) ≡ true → parted_block context ending ≡ no_block
+  none_there : (ending : syntax.Block) → block_fits false (has_block ending) ≡ true → parted_block required ending ≡ no_block
   none_there syntax.no_block fit = refl
   none_there (syntax.block ns) fit = absurd (not_both fit)
 
@@ -41,45 +43,57 @@ module _ (context : Context) where
   abbrev Says : CommandKind → List Argument → syntax.Tests → (ends_by_block : Bool) → Type 0
   Says k args ts ends_by_block = AsRowSays (command_row k) (map (part_shape (command_row k).tags) args) args ts ends_by_block
 
+  sets_all : (name : Option (List ℕ)) (modifiers : Modifiers) (value : Option (List Part)) → is_some name ≡ true → is_some value ≡ true → is_some (set_from name modifiers value) ≡ true
+  sets_all None modifiers value n v = absurd (not_both n)
+  sets_all (Some name) modifiers None n v = absurd (not_both v)
+  sets_all (Some name) modifiers (Some value) n v = refl
+
   stands_acting : (leaf : Option Leaf) (ts : Tests) (ending : Block) → is_some (option_map reading.acts leaf) ≡ true → ts ≡ no_tests → ending ≡ no_block → Stands context.follows_if (option_map reading.acts leaf) ts ending
   stands_acting None ts ending is none ends = absurd (not_both is)
   stands_acting (Some leaf) ts ending is none ends = (none, ends)
 
   -- with the tests and the block that its row says, and behind an `if` where it goes on with one
   stands : (k : CommandKind) (args : List Argument) (ts : syntax.Tests) (ending : syntax.Block) → Says k args ts (has_block ending) → (continues_if k && not context.follows_if) ≡ false
-      → Stands context.follows_if (command_reading_by (Some k) args) (parted_tests context ts) (parted_block context ending)
-  stands command.Require args ts ending says place = (none_fit context ts says.tests, none_there ending says.block)
+      → Stands context.follows_if (command_reading_by (Some k) args) (parted_tests required ts) (parted_block required ending)
+  stands command.Require args ts ending says place = (none_fit required ts says.tests, none_there ending says.block)
   stands command.If args ts ending says place =
-      let t = one_fits context ts says.tests in
+      let t = one_fits required ts says.tests in
       let b = block_there ending says.block in
       (t.0, b.0, t.1, b.1)
   stands command.Elsif args ts ending says place =
-      let t = one_fits context ts says.tests in
+      let t = one_fits required ts says.tests in
       let b = block_there ending says.block in
       (not_false context.follows_if place, t.0, b.0, t.1, b.1)
   stands command.Else args ts ending says place =
       let b = block_there ending says.block in
-      (not_false context.follows_if place, b.0, none_fit context ts says.tests, b.1)
-  stands command.Keep args ts ending says place = (none_fit context ts says.tests, none_there ending says.block)
+      (not_false context.follows_if place, b.0, none_fit required ts says.tests, b.1)
+  stands command.Keep args ts ending says place = (none_fit required ts says.tests, none_there ending says.block)
   stands command.Fileinto args ts ending says place =
       let row = command_row command.Fileinto in
-      stands_acting _ (parted_tests context ts) (parted_block context ending)
+      stands_acting _ (parted_tests required ts) (parted_block required ending)
       (maps_some reading.acts _ (maps_some fileinto_leaf _ (text_is_read row.tags row.slots args role.Mailbox refl ((λ same. refl), tt) refl says.filled says.keep)))
-      (none_fit context ts says.tests) (none_there ending says.block)
+      (none_fit required ts says.tests) (none_there ending says.block)
   stands command.Redirect args ts ending says place =
       let row = command_row command.Redirect in
-      stands_acting _ (parted_tests context ts) (parted_block context ending)
+      stands_acting _ (parted_tests required ts) (parted_block required ending)
       (maps_some reading.acts _ (maps_some redirect_leaf _ (text_is_read row.tags row.slots args role.Address refl ((λ same. refl), tt) refl says.filled says.keep)))
-      (none_fit context ts says.tests) (none_there ending says.block)
-  stands command.Discard args ts ending says place = (none_fit context ts says.tests, none_there ending says.block)
-  stands command.Stop args ts ending says place = (none_fit context ts says.tests, none_there ending says.block)
+      (none_fit required ts says.tests) (none_there ending says.block)
+  stands command.Discard args ts ending says place = (none_fit required ts says.tests, none_there ending says.block)
+  stands command.Stop args ts ending says place = (none_fit required ts says.tests, none_there ending says.block)
+  stands command.Set args ts ending says place =
+      let row = command_row command.Set in
+      stands_acting _ (parted_tests required ts) (parted_block required ending)
+      (maps_some reading.acts _ (sets_all _ _ _
+      (local_is_read row.tags row.slots args ((λ same. refl), ((λ same. absurd (not_both same)), tt)) refl says.filled says.keep)
+      (text_is_read row.tags row.slots args role.Text refl ((λ same. absurd (not_both same)), ((λ same. refl), tt)) refl says.filled says.keep)))
+      (none_fit required ts says.tests) (none_there ending says.block)
 
   -- a command of some kind or none that breaks no rule is of a kind, takes its arguments, and stands where it may
   command_is_read : (k : Option CommandKind) (args : List syntax.Argument) (ts : syntax.Tests) (ending : syntax.Block) → ((rule : Rule) → command_breaks context k args ts ending rule ≡ false) → breaches_in (command_arguments context k args ts ending) ≡ []
-      → (command_takes k (parted_labelled context (command_labels k args) args) ≡ true) × Stands context.follows_if (command_reading_by k (parted_labelled context (command_labels k args) args)) (parted_tests context ts) (parted_block context ending)
+      → (command_takes k (parted_labelled required (command_labels k args) args) ≡ true) × Stands context.follows_if (command_reading_by k (parted_labelled required (command_labels k args) args)) (parted_tests required ts) (parted_block required ending)
   command_is_read None args ts ending keeps none = absurd (never_both (keeps UnknownCommand))
   command_is_read (Some k) args ts ending keeps none =
-      let says = as_parted context (command_row k) args ts (has_block ending) (keeps BadTag) (keeps BadArguments) none in
+      let says = as_parted required context (command_row k) args ts (has_block ending) (keeps BadTag) (keeps BadArguments) none in
       (takes (command_row k) _ ts (has_block ending) says, stands k _ ts ending says (keeps ElsePlace))
 
   acting_ends : (leaf : Option Leaf) → false ≡ may_go_on (option_map reading.acts leaf)
@@ -98,56 +112,63 @@ module _ (context : Context) where
   kind_goes_on (Some command.Redirect) written args = acting_ends _
   kind_goes_on (Some command.Discard) written args = refl
   kind_goes_on (Some command.Stop) written args = refl
+  kind_goes_on (Some command.Set) written args = acting_ends _
 
-  goes_on : (n : syntax.Node) → (behind context n).follows_if ≡ may_go_on (command_reading (parted_node context n))
-  goes_on (syntax.node name line args ts ending) = kind_goes_on (command_named name) args _
+  block_keeps : (before : Context) (ending : syntax.Block) → (behind_block before ending).follows_if ≡ before.follows_if
+  unfolding behind_block
+  block_keeps before syntax.no_block = refl
+  block_keeps before (syntax.block ns) = refl
+
+  goes_on : (n : syntax.Node) → (behind context n).follows_if ≡ may_go_on (command_reading (parted_node required n))
+  unfolding behind
+  goes_on (syntax.node name line args ts ending) = block_keeps (behind_kind context (command_named name) args) ending ∙ kind_goes_on (command_named name) args _
 
 -- TESTS
 
 mutual
   unfolding ReadsTest ReadsTests ReadsTestList test_elements tests_elements test_list_elements
 
-  test_reads : (t : syntax.Test) (context : Context) → breaches_in (test_elements context t) ≡ [] → ReadsTest (parted_test context t)
-  test_reads (syntax.test name line args ts) context none =
+  test_reads : (required : Required) (t : syntax.Test) (context : Context) → breaches_in (test_elements context t) ≡ [] → ReadsTest (parted_test required t)
+  test_reads required (syntax.test name line args ts) context none =
       let parts = none_in_front (the_test context name line args ts) (test_arguments context (test_named name) args ts ++ tests_elements context ts) none in
       let rest = none_in_both (test_arguments context (test_named name) args ts) (tests_elements context ts) parts.1 in
-      let read = test_is_read context (test_named name) args ts (keeps (the_test context name line args ts) parts.0) rest.0 in
-      (read.0, read.1, tests_read ts context rest.1)
+      let read = test_is_read required context (test_named name) args ts (keeps (the_test context name line args ts) parts.0) rest.0 in
+      (read.0, read.1, tests_read required ts context rest.1)
 
-  tests_read : (ts : syntax.Tests) (context : Context) → breaches_in (tests_elements context ts) ≡ [] → ReadsTests (parted_tests context ts)
-  tests_read syntax.no_tests context none = tt
-  tests_read (syntax.one_test t) context none = test_reads t context none
-  tests_read (syntax.test_list ts) context none = test_list_reads ts context none
+  tests_read : (required : Required) (ts : syntax.Tests) (context : Context) → breaches_in (tests_elements context ts) ≡ [] → ReadsTests (parted_tests required ts)
+  tests_read required syntax.no_tests context none = tt
+  tests_read required (syntax.one_test t) context none = test_reads required t context none
+  tests_read required (syntax.test_list ts) context none = test_list_reads required ts context none
 
-  test_list_reads : (ts : syntax.TestList) (context : Context) → breaches_in (test_list_elements context ts) ≡ [] → ReadsTestList (parted_test_list context ts)
-  test_list_reads syntax.end_tests context none = tt
-  test_list_reads (syntax.more_tests t ts) context none =
+  test_list_reads : (required : Required) (ts : syntax.TestList) (context : Context) → breaches_in (test_list_elements context ts) ≡ [] → ReadsTestList (parted_test_list required ts)
+  test_list_reads required syntax.end_tests context none = tt
+  test_list_reads required (syntax.more_tests t ts) context none =
       let parts = none_in_both (test_elements context t) (test_list_elements context ts) none in
-      (test_reads t context parts.0, test_list_reads ts context parts.1)
+      (test_reads required t context parts.0, test_list_reads required ts context parts.1)
 
 -- COMMANDS
 
 mutual
   unfolding ReadsNode ReadsBlock ReadsNodes node_elements block_elements nodes_elements
 
-  node_reads : (n : syntax.Node) (context : Context) → breaches_in (node_elements context n) ≡ [] → ReadsNode context.follows_if (parted_node context n)
-  node_reads (syntax.node name line args ts ending) context none =
-      let inside_it = tests_elements context ts ++ block_elements context ending in
+  node_reads : (required : Required) (n : syntax.Node) (context : Context) → breaches_in (node_elements context n) ≡ [] → ReadsNode context.follows_if (parted_node required n)
+  node_reads required (syntax.node name line args ts ending) context none =
+      let inside_it = tests_elements context ts ++ block_elements (behind_kind context (command_named name) args) ending in
       let parts = none_in_front (the_command context name line args ts ending) (command_arguments context (command_named name) args ts ending ++ inside_it) none in
       let rest = none_in_both (command_arguments context (command_named name) args ts ending) inside_it parts.1 in
-      let inner = none_in_both (tests_elements context ts) (block_elements context ending) rest.1 in
-      let read = command_is_read context (command_named name) args ts ending (keeps (the_command context name line args ts ending) parts.0) rest.0 in
-      (read.0, read.1, tests_read ts context inner.0, block_reads ending context inner.1)
+      let inner = none_in_both (tests_elements context ts) (block_elements (behind_kind context (command_named name) args) ending) rest.1 in
+      let read = command_is_read required context (command_named name) args ts ending (keeps (the_command context name line args ts ending) parts.0) rest.0 in
+      (read.0, read.1, tests_read required ts context inner.0, block_reads required ending (behind_kind context (command_named name) args) inner.1)
 
-  block_reads : (b : syntax.Block) (context : Context) → breaches_in (block_elements context b) ≡ [] → ReadsBlock (parted_block context b)
-  block_reads syntax.no_block context none = tt
-  block_reads (syntax.block ns) context none = nodes_read ns (inside context) none
+  block_reads : (required : Required) (b : syntax.Block) (context : Context) → breaches_in (block_elements context b) ≡ [] → ReadsBlock (parted_block required b)
+  block_reads required syntax.no_block context none = tt
+  block_reads required (syntax.block ns) context none = nodes_read required ns (inside context) none
 
-  nodes_read : (ns : syntax.Nodes) (context : Context) → breaches_in (nodes_elements context ns) ≡ [] → ReadsNodes context.follows_if (parted_nodes context ns)
-  nodes_read syntax.end_nodes context none = tt
-  nodes_read (syntax.more_nodes n ns) context none =
+  nodes_read : (required : Required) (ns : syntax.Nodes) (context : Context) → breaches_in (nodes_elements context ns) ≡ [] → ReadsNodes context.follows_if (parted_nodes required ns)
+  nodes_read required syntax.end_nodes context none = tt
+  nodes_read required (syntax.more_nodes n ns) context none =
       let parts = none_in_both (node_elements context n) (nodes_elements (behind context n) ns) none in
-      (node_reads n context parts.0, subst (λ b. ReadsNodes b (parted_nodes (behind context n) ns)) (goes_on context n) (nodes_read ns (behind context n) parts.1))
+      (node_reads required n context parts.0, subst (λ b. ReadsNodes b (parted_nodes required ns)) (goes_on required context n) (nodes_read required ns (behind context n) parts.1))
 
 -- THE TREE
 
@@ -156,6 +177,8 @@ as_items end_nodes = refl
 as_items (more_nodes n ns) = ap (λ l. more_nodes n l) (as_items ns)
 
 pub is_readable : (tree : List syntax.Node) → breaches_of tree ≡ [] → IsReadable (parted tree)
-is_readable tree none = subst (λ ns. ReadsNodes false ns) (sym (as_items (parted_nodes script_start (syntax.nodes tree)))) (nodes_read (syntax.nodes tree) script_start none)
+is_readable tree none =
+    let required = required_from nothing_required (syntax.nodes tree) in
+    subst (λ ns. ReadsNodes false ns) (sym (as_items (parted_nodes required (syntax.nodes tree)))) (nodes_read required (syntax.nodes tree) script_start none)
 
 pub ruleset readable = (is_readable)

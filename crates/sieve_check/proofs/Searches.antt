@@ -1,11 +1,12 @@
 -- Searches for the first breach, one after another.
-use Rattle.std.proofs.Common.{◌≡◌, ℕ, ◌+◌, ◌<◌, ◌≤◌, List, [], ◌∷◌, ◌++◌, map, length, get_or, drop, Option, Result, refl, sym, ap, ◌∙◌, subst}
+use Rattle.std.proofs.Common.{◌≡◌, ℕ, ◌+◌, ◌<◌, ◌≤◌, List, [], ◌∷◌, ◌++◌, map, length, get_or, drop, Option, None, Some, Bool, true, false, find, slice_get, Result, refl, sym, ap, ◌∙◌, subst}
 use Rattle.std.proofs.lemmas.List.{append-nil, append_assoc, at_drop_all, at_drop_more}
 use Rattle.std.proofs.lemmas.Option.{none-some}
+use Rattle.std.specs.Prelude.{if◌then◌else◌}
 use Rattle.sieve_syntax.specs.view.Tree.{argument_of, text_of}
 use Rattle.sieve_syntax.specs.declared.tree.Argument as arguments
 use Rattle.sieve_syntax.specs.declared.tree.Text as texts
-use Rattle.sieve_check.specs.Breach.{Breach, breaches_at, breaches_in}
+use Rattle.sieve_check.specs.Breach.{Breach, all_rules, breach_if, breaches_at, breaches_by, breaches_in, text_breaks}
 use Rattle.sieve_check.specs.CheckFault.{IsFirst}
 use Rattle.sieve_check.specs.Context.{Context}
 use Rattle.sieve_check.specs.Element.{Element, text_elements, the_text, argument_elements, labelled_elements}
@@ -13,6 +14,7 @@ use Rattle.sieve_check.specs.Role.{first_role}
 use Rattle.sieve_check.specs.view.Finds.{Finds, FindsIn}
 use Rattle.sieve_check.specs.declared.label.Label.{Label}
 use Rattle.sieve_table.specs.declared.row.Role.{Role}
+use Rattle.sieve_table.specs.declared.rule.Rule.{Rule}
 use Rattle.sieve_check.specs.declared.validator.CheckFault.{CheckFault}
 use Rattle.sieve_check.specs.declared.validator.CheckFault.TheVariants as faults
 
@@ -57,7 +59,39 @@ front_passes xs ys none = in_turn xs ys ∙ ap (λ bs. bs ++ breaches_in ys) non
 pub finds_past : {A : Type 0} (xs ys : List Element) (answer : Result A CheckFault) → breaches_in xs ≡ [] → FindsIn ys answer → FindsIn (xs ++ ys) answer
 finds_past xs ys answer none h = subst (λ bs. Finds bs answer) (sym (front_passes xs ys none)) h
 
+-- the first of some rules that is broken, or that none is
+rule_first : (broken : Rule → Bool) (line : ℕ) (rule : Rule) (rules : List Rule) (does : Bool) (first : Rule) → broken rule ≡ does → (if does then Some rule else find broken rules) ≡ Some first → (find broken rules ≡ Some first → slice_get (breaches_by broken line rules) 0 ≡ Some (record { line = line; rule = first }))
+    → slice_get (breach_if does line rule ++ breaches_by broken line rules) 0 ≡ Some (record { line = line; rule = first })
+rule_first broken line rule rules true first is found below = ap (λ r. Some (record { line = line; rule = r })) (one_of rule first found)
+  where
+    one_of : (a b : Rule) → Some a ≡ Some b → a ≡ b
+    one_of a b e = cc
+rule_first broken line rule rules false first is found below = below found
+
+first_rule : (broken : Rule → Bool) (line : ℕ) (rules : List Rule) (first : Rule) → find broken rules ≡ Some first → slice_get (breaches_by broken line rules) 0 ≡ Some (record { line = line; rule = first })
+first_rule broken line [] first found = absurd (none-some _ found)
+first_rule broken line (rule ∷ rules) first found = rule_first broken line rule rules (broken rule) first refl found (first_rule broken line rules first)
+
+no_rule_by : (broken : Rule → Bool) (line : ℕ) (rule : Rule) (rules : List Rule) (does : Bool) → (if does then Some rule else find broken rules) ≡ None → (find broken rules ≡ None → breaches_by broken line rules ≡ []) → breach_if does line rule ++ breaches_by broken line rules ≡ []
+no_rule_by broken line rule rules true found below = absurd (none-some _ (sym found))
+no_rule_by broken line rule rules false found below = below found
+
+no_rule : (broken : Rule → Bool) (line : ℕ) (rules : List Rule) → find broken rules ≡ None → breaches_by broken line rules ≡ []
+no_rule broken line [] found = refl
+no_rule broken line (rule ∷ rules) found = no_rule_by broken line rule rules (broken rule) found (no_rule broken line rules)
+
 -- STRINGS
+
+pub text_breaks_rule : (context : Context) (role : Option Role) (t : texts.Text) (octets : List ℕ) (rule : Rule) (line : ℕ) → octets ≡ (text_of t).octets → line ≡ (text_of t).line → Some rule ≡ find (text_breaks context role octets) all_rules → IsFirst (breaches_at (the_text context role (text_of t))) (faults.Breach line rule)
+unfolding breaches_at
+text_breaks_rule context role t octets rule line same at found =
+    subst (λ n. slice_get (breaches_by (text_breaks context role (text_of t).octets) (text_of t).line all_rules) 0 ≡ Some (record { line = n; rule = rule })) (sym at)
+    (first_rule (text_breaks context role (text_of t).octets) (text_of t).line all_rules rule (sym (found ∙ ap (λ o. find (text_breaks context role o) all_rules) same)))
+
+pub text_breaks_none : (context : Context) (role : Option Role) (t : texts.Text) (octets : List ℕ) → octets ≡ (text_of t).octets → None ≡ find (text_breaks context role octets) all_rules → breaches_at (the_text context role (text_of t)) ≡ []
+unfolding breaches_at
+text_breaks_none context role t octets same found =
+    no_rule (text_breaks context role (text_of t).octets) (text_of t).line all_rules (sym (found ∙ ap (λ o. find (text_breaks context role o) all_rules) same))
 
 text_at : (context : Context) (role : Option Role) (xs : List texts.Text) (i : ℕ) (t : texts.Text) → i < length xs → t ≡ get_or xs i t → text_elements context role (map text_of (drop i xs)) ≡ the_text context role (text_of t) ∷ text_elements context role (map text_of (drop (i + 1) xs))
 text_at context role xs i t h e =
@@ -94,6 +128,8 @@ pub arguments_end : (context : Context) (labels : List Label) (xs : List argumen
 arguments_end context labels xs i h = ap breaches_in (at_drop_all (λ l. labelled_elements context labels (map argument_of l)) xs i h) ∙ none_in
 
 pub ruleset element_steps = (none_in, one_in)
+
+pub ruleset text_rule_steps = (text_breaks_rule, text_breaks_none)
 
 pub ruleset text_steps = (texts_stop, texts_go_on, texts_end)
 

@@ -1,5 +1,5 @@
 -- What is found in a command or test of a row.
-use Rattle.std.proofs.Common.{◌≡◌, ℕ, Bool, true, false, not, ◌&&◌, List, [], ◌++◌, Result, refl, sym, ap, ◌∙◌, subst}
+use Rattle.std.proofs.Common.{◌≡◌, ℕ, Bool, true, false, not, ◌&&◌, List, [], ◌++◌, refl, sym, ap, ◌∙◌, subst}
 use Rattle.sieve_syntax.specs.Tree.{Argument, Tests}
 use Rattle.sieve_check.specs.Breach.{Breach, breach_if, breaches_in}
 use Rattle.sieve_check.specs.CheckFault.{IsFirst}
@@ -9,15 +9,11 @@ use Rattle.sieve_check.specs.Label.{labels_of, is_filled}
 use Rattle.sieve_check.specs.Shape.{shapes_of}
 use Rattle.sieve_table.specs.Table.{Row}
 use Rattle.sieve_check.specs.Use.{are_bad, has_bad_arguments, has_bad_tag, lacks_required}
-use Rattle.sieve_check.specs.view.Finds.{Finds, FindsIn}
 use Rattle.sieve_check.specs.view.Use.{row_found}
 use Rattle.sieve_check.specs.declared.label.Label.{Label}
 use Rattle.sieve_table.specs.declared.rule.Rule.TheVariants.{NotRequired, ElsePlace, BadTag, BadArguments}
 use Rattle.sieve_check.specs.declared.validator.CheckFault.{CheckFault}
 use Rattle.sieve_check.specs.declared.validator.CheckFault.TheVariants as faults
-
-abbrev Answer : Type 0
-Answer = Result (Unit {0}) CheckFault
 
 module _ (alone : Bool) (context : Context) (line : ℕ) (row : Row) (args : List Argument) (ts : Tests) (b : Bool) where
   -- what is found, by whether something isn't required, whether a branch stands alone, whether a tag is bad, and whether
@@ -61,11 +57,16 @@ module _ (alone : Bool) (context : Context) (line : ℕ) (row : Row) (args : Lis
     unfolding by_uses
     found_arguments lacks stands fine is = subst (λ bs. IsFirst bs (faults.Breach line BadArguments)) (sym (found_at false false true lacks fine is ∙ ap (λ x. by_uses false x false true) stands)) refl
 
-    pub found_inside : (r : Answer) → lacks_required context.required row labels ≡ false → alone ≡ false → has_bad_tag labels ≡ false → are_bad (is_filled row (shapes_of row.tags args)) row labels ts b ≡ false → FindsIn (labelled_elements context labels args) r → Finds (row_found alone context line row args ts b) r
+    inside : lacks_required context.required row labels ≡ false → alone ≡ false → has_bad_tag labels ≡ false → are_bad (is_filled row (shapes_of row.tags args)) row labels ts b ≡ false → row_found alone context line row args ts b ≡ breaches_in (labelled_elements context labels args)
     unfolding by_uses
-    found_inside r lacks stands fine well found =
-        subst (λ bs. Finds bs r)
-        (sym (found_at false false false lacks fine well ∙ ap (λ x. by_uses false x false false) stands
-        ∙ sym (ap (λ l. breaches_in (labelled_elements context l args)) same))) found
+    inside lacks stands fine well =
+        found_at false false false lacks fine well ∙ ap (λ x. by_uses false x false false) stands
+        ∙ sym (ap (λ l. breaches_in (labelled_elements context l args)) same)
 
-pub ruleset use_steps = (found_lacking, found_alone, found_tag, found_arguments, found_inside)
+    pub inside_stops : (fault : CheckFault) → lacks_required context.required row labels ≡ false → alone ≡ false → has_bad_tag labels ≡ false → are_bad (is_filled row (shapes_of row.tags args)) row labels ts b ≡ false → IsFirst (breaches_in (labelled_elements context labels args)) fault → IsFirst (row_found alone context line row args ts b) fault
+    inside_stops fault lacks stands fine well found = subst (λ bs. IsFirst bs fault) (sym (inside lacks stands fine well)) found
+
+    pub inside_passes : lacks_required context.required row labels ≡ false → alone ≡ false → has_bad_tag labels ≡ false → are_bad (is_filled row (shapes_of row.tags args)) row labels ts b ≡ false → breaches_in (labelled_elements context labels args) ≡ [] → row_found alone context line row args ts b ≡ []
+    inside_passes lacks stands fine well none = inside lacks stands fine well ∙ none
+
+pub ruleset use_steps = (found_lacking, found_alone, found_tag, found_arguments, inside_stops, inside_passes)

@@ -7,7 +7,7 @@ use Rattle.sieve_syntax.specs.Grammar.{Writes, written_argument, written_argumen
 use Rattle.sieve_syntax.specs.Tree.{Node, node, Nodes, end_nodes, more_nodes, nodes, Block, no_block, block, Test, test, Tests, no_tests, one_test, test_list, TestList, end_tests, more_tests, Text, Argument, strings, number, tag}
 use Rattle.sieve_syntax.specs.Word.{Word, close_bracket, identifier, string_word, word_of, words_of}
 use Rattle.sieve_syntax.specs.declared.token.Token.{Token}
-use Rattle.sieve_check.specs.Context.{Context, behind, inside, script_start}
+use Rattle.sieve_check.specs.Context.{Context, behind, behind_kind, inside, script_start}
 use Rattle.sieve_check.specs.Element.{Element, argument_elements, block_elements, command_arguments, elements_of, judged_labels, labelled_elements, node_elements, nodes_elements, test_arguments, test_elements, test_list_elements, tests_elements, text_elements}
 use Rattle.sieve_check.specs.Order.{writes_element, written_by}
 use Rattle.sieve_check.specs.Role.{first_role}
@@ -104,10 +104,11 @@ mutual
   node_written : (n : Node) (context : Context) → AreWritten (node_elements context n) (written_node n)
   node_written (node name line args ts ending) context =
       let args_written = written_arguments args in
+      let inner = behind_kind context (command_named name) args in
       ap (λ l. identifier name line ∷ l)
-      (in_turn (command_arguments context (command_named name) args ts ending) (tests_elements context ts ++ block_elements context ending) args_written (written_tests ts ++ written_block ending)
+      (in_turn (command_arguments context (command_named name) args ts ending) (tests_elements context ts ++ block_elements inner ending) args_written (written_tests ts ++ written_block ending)
       (of_command context (command_named name) args ts ending)
-      (in_turn (tests_elements context ts) (block_elements context ending) (written_tests ts) (written_block ending) (tests_written ts context) (block_is_written ending context))
+      (in_turn (tests_elements context ts) (block_elements inner ending) (written_tests ts) (written_block ending) (tests_written ts context) (block_is_written ending inner))
       ∙ ap (filter writes_element) (sym (append_assoc args_written (written_tests ts) (written_block ending))))
 
   block_is_written : (b : Block) (context : Context) → AreWritten (block_elements context b) (written_block b)

@@ -1,22 +1,30 @@
 //! The breaches in the use of a row and in its arguments: what isn't required, tags and arguments that don't fit, unknown names,
 //! and numbers that are too large.
-ghost use Rattle.std.specs.Prelude.{◌≡◌, map};
+ghost use Rattle.std.specs.Prelude.{◌≡◌, ◌&&◌, ◌||◌, not, find, map, IfOk};
 ghost use Rattle.sieve_syntax.specs.view.Tree.{argument_of, tests_of, text_of};
-ghost use Rattle.sieve_check.specs.Breach.{breaches_at, is_comparator_name};
+ghost use Rattle.sieve_check.specs.Breach.{all_rules, breaches_at, is_bad_name, is_comparator_name, takes_references, text_breaks};
 ghost use Rattle.sieve_check.specs.Element.{argument_elements, labelled_elements, text_elements, the_number, the_text};
-ghost use Rattle.sieve_check.specs.view.Context.{context_as};
+ghost use Rattle.sieve_check.specs.Role.{has_role};
+ghost use Rattle.sieve_check.specs.Shape.{row_labels};
+ghost use Rattle.sieve_check.specs.view.Context.{context_as, required_as};
 ghost use Rattle.sieve_check.specs.view.Finds.{Finds, FindsIn};
 ghost use Rattle.sieve_table.specs.view.Row.{row_as};
 ghost use Rattle.sieve_check.specs.view.Use.{row_found};
+ghost use Rattle.sieve_table.specs.declared.row.Role.TheVariants.{NameToSet};
+ghost use Rattle.sieve_variables.specs.Name.{is_global_name, is_identifier};
+ghost use Rattle.sieve_variables.specs.Scan.{has_far_index, has_namespace, has_reference};
 
-use crate::context::Context;
+use crate::context::{Context, Required};
 use crate::label::Label;
-use crate::role::{behind_first, first_role, has_role};
+use crate::role::{behind_first, first_role, has_role, is_expanded};
 use crate::shape::row_labels;
 use crate::usage::{has_bad_arguments, has_bad_tag, lacks_required};
 use crate::validator::CheckFault;
 use sieve_syntax::{Argument, Tests, Text};
-use sieve_table::{Role, Row, Rule, is_address_field, is_capability, is_envelope_part};
+use sieve_table::{
+    Capability, Role, Row, Rule, is_address_field, is_capability, is_envelope_part,
+};
+use sieve_variables::{References, is_global_name, is_identifier, references_in};
 use std::alloc::Global;
 
 /// Whether there is such a comparator (RFC 4790).
@@ -26,34 +34,102 @@ fn is_comparator_name(name: &[u8]) -> bool
     b"i;octet".as_slice() == name || b"i;ascii-casemap".as_slice() == name
 }
 
+/// Whether references in a string stand for values, where it is in a role.
+fn takes_references(required: Required, role: Option<Role>) -> bool
+    ensures { result ≡ takes_references (required_as required) role }
+{
+    match role {
+        Some(role) => is_expanded(role) && required.has(Capability::Variables),
+        None => false,
+    }
+}
+
+/// The references in a string that stand for values.
+fn references_of(required: Required, role: Option<Role>, octets: &[u8]) -> References
+    ensures any { result.any ≡ (takes_references (required_as required) role && has_reference octets.now) }
+    ensures namespaced { result.namespaced ≡ (takes_references (required_as required) role && has_namespace octets.now) }
+    ensures far { result.far ≡ (takes_references (required_as required) role && has_far_index octets.now) }
+{
+    if takes_references(required, role) {
+        references_in(octets)
+    } else {
+        References {
+            any: false,
+            namespaced: false,
+            far: false,
+        }
+    }
+}
+
+/// Whether a string is a name of a variable that is neither one of the script nor one that scripts share.
+fn is_bad_name(octets: &[u8]) -> bool
+    ensures { result ≡ is_bad_name octets.now }
+{
+    !is_identifier(octets) && !is_global_name(octets)
+}
+
+/// Whether a string names a variable in a namespace, or refers to one.
+fn names_namespace(role: Option<Role>, octets: &[u8], references: References) -> bool
+    ensures { result ≡ ((has_role NameToSet role && (not (is_identifier octets.now) && is_global_name octets.now)) || references.namespaced) }
+{
+    has_role(Role::NameToSet, role) && (!is_identifier(octets) && is_global_name(octets))
+        || references.namespaced
+}
+
+/// The rule that a string in its role breaks, the first by the numbers of the rules.
+fn rule_of_text(context: Context<'_>, role: Option<Role>, octets: &[u8]) -> Option<Rule>
+    ensures { result ≡ find (text_breaks (context_as context) role octets.now) all_rules }
+{
+    let required = context.spot.required;
+    if has_role(Role::Capabilities, role) && (context.spot.leads && !is_capability(octets)) {
+        return Some(Rule::UnknownCapability);
+    }
+    if has_role(Role::ComparatorName, role) && !is_comparator_name(octets) {
+        return Some(Rule::UnknownComparator);
+    }
+    if has_role(Role::NameToSet, role) && is_bad_name(octets) {
+        return Some(Rule::BadVariableName);
+    }
+    let references = references_of(required, role, octets);
+    if names_namespace(role, octets, references) {
+        return Some(Rule::BadNamespace);
+    }
+    if references.far {
+        return Some(Rule::MatchIndex);
+    }
+    if has_role(Role::EnvelopeParts, role) && (!is_envelope_part(octets) && !references.any) {
+        return Some(Rule::BadEnvelopePart);
+    }
+    if has_role(Role::AddressFields, role) && (!is_address_field(octets) && !references.any) {
+        return Some(Rule::NotAddressHeader);
+    }
+    if has_role(Role::NameToSet, role) && context.assigned.is_full_for(octets) {
+        return Some(Rule::TooManyVariables);
+    }
+    None
+}
+
 /// Checks a string in its role, if it has one.
-#[tactic(auto, unfolding(crate::specs::Breach::breaches_at))]
-fn check_text(context: Context, role: Option<Role>, text: &Text) -> Result<(), CheckFault>
+#[tactic(auto, using(crate::proofs::Searches::text_rule_steps))]
+fn check_text(
+    context: Context<'_>,
+    role: Option<Role>,
+    text: &Text,
+) -> Result<(), CheckFault>
     ensures { Finds (breaches_at (the_text (context_as context) role (text_of text.now))) result }
 {
-    let line = text.line;
-    if has_role(Role::Capabilities, role) && context.leads && !is_capability(&text.octets) {
-        let rule = Rule::UnknownCapability;
-        return Err(CheckFault::Breach { line, rule });
+    match rule_of_text(context, role, &text.octets) {
+        Some(rule) => Err(CheckFault::Breach {
+            line: text.line,
+            rule,
+        }),
+        None => Ok(()),
     }
-    if has_role(Role::ComparatorName, role) && !is_comparator_name(&text.octets) {
-        let rule = Rule::UnknownComparator;
-        return Err(CheckFault::Breach { line, rule });
-    }
-    if has_role(Role::EnvelopeParts, role) && !is_envelope_part(&text.octets) {
-        let rule = Rule::BadEnvelopePart;
-        return Err(CheckFault::Breach { line, rule });
-    }
-    if has_role(Role::AddressFields, role) && !is_address_field(&text.octets) {
-        let rule = Rule::NotAddressHeader;
-        return Err(CheckFault::Breach { line, rule });
-    }
-    Ok(())
 }
 
 /// Checks strings in their role.
 #[tactic(auto, using(crate::proofs::Searches::text_steps))]
-fn check_texts(context: Context, role: Option<Role>, texts: &[Text]) -> Result<(), CheckFault>
+fn check_texts(context: Context<'_>, role: Option<Role>, texts: &[Text]) -> Result<(), CheckFault>
     ensures { FindsIn (text_elements (context_as context) role (map text_of texts.now)) result }
 {
     for text in texts {
@@ -79,7 +155,7 @@ fn check_number(value: Option<u64>, line: u64) -> Result<(), CheckFault>
 /// Checks an argument in its role.
 #[tactic(auto, using(crate::proofs::Searches::element_steps))]
 fn check_argument(
-    context: Context,
+    context: Context<'_>,
     role: Option<Role>,
     argument: &Argument,
 ) -> Result<(), CheckFault>
@@ -95,7 +171,7 @@ fn check_argument(
 /// Checks arguments by their labels.
 #[tactic(auto, using(crate::proofs::Searches::argument_steps))]
 pub(crate) fn check_arguments(
-    context: Context,
+    context: Context<'_>,
     labels: &[Label],
     args: &[Argument],
 ) -> Result<(), CheckFault>
@@ -114,18 +190,19 @@ pub(crate) fn check_arguments(
 #[tactic(auto, using(crate::proofs::Uses::use_steps))]
 pub(crate) fn check_use(
     alloc: Global,
-    context: Context,
+    context: Context<'_>,
     line: u64,
     row: &Row,
     args: &[Argument],
     tests: &Tests,
     ends_by_block: bool,
     stands_alone: bool,
-) -> Result<(), CheckFault>
-    ensures { Finds (row_found stands_alone (context_as context) line (row_as row.now) (map argument_of args.now) (tests_of tests.now) ends_by_block) result }
+) -> Result<Vec<Label>, CheckFault>
+    ensures labels { IfOk result (λ labels. labels.items ≡ row_labels (row_as row.now) (map argument_of args.now)) }
+    ensures found { Finds (row_found stands_alone (context_as context) line (row_as row.now) (map argument_of args.now) (tests_of tests.now) ends_by_block) result }
 {
     let labels = row_labels(alloc, row, args)?;
-    if lacks_required(context.required, row, &labels) {
+    if lacks_required(context.spot.required, row, &labels) {
         let rule = Rule::NotRequired;
         return Err(CheckFault::Breach { line, rule });
     }
@@ -141,5 +218,6 @@ pub(crate) fn check_use(
         let rule = Rule::BadArguments;
         return Err(CheckFault::Breach { line, rule });
     }
-    check_arguments(context, &labels, args)
+    check_arguments(context, &labels, args)?;
+    Ok(labels)
 }

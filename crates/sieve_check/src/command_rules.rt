@@ -1,17 +1,20 @@
 //! The breaches in commands.
-ghost use Rattle.std.specs.Prelude.{◌≡◌, ◌&&◌, not, map, IfOk};
+ghost use Rattle.std.specs.Prelude.{◌≡◌, ◌&&◌, not, map, Some, IfOk};
 ghost use Rattle.sieve_syntax.specs.Tree.{nodes};
 ghost use Rattle.sieve_syntax.specs.view.Tree.{argument_of, node_of};
 ghost use Rattle.sieve_syntax.specs.declared.tree.Command.{out-Command};
-ghost use Rattle.sieve_check.specs.Context.{behind, behind_kind, continues_if, is_require};
+ghost use Rattle.sieve_check.specs.Context.{behind, behind_nodes, continues_if, is_require};
 ghost use Rattle.sieve_check.specs.Element.{node_elements, nodes_elements};
-ghost use Rattle.sieve_table.specs.Table.{command_named};
-ghost use Rattle.sieve_check.specs.view.Context.{context_as};
+ghost use Rattle.sieve_check.specs.Shape.{row_labels};
+ghost use Rattle.sieve_table.specs.Table.{command_named, command_row};
+ghost use Rattle.sieve_check.specs.view.Context.{at_spot, context_as};
 ghost use Rattle.sieve_check.specs.view.Finds.{Finds, FindsIn};
-ghost use Rattle.sieve_check.specs.view.Head.{command_head, kind_found};
+ghost use Rattle.sieve_check.specs.view.Head.{behind_front, command_front, command_head, kind_found};
 
 use crate::arguments::check_use;
-use crate::context::{Context, continues_if, is_require};
+use crate::assigned::Assigned;
+use crate::context::{Context, Spot, continues_if, is_require};
+use crate::label::Label;
 use crate::test_rules::check_tests;
 use crate::validator::CheckFault;
 use sieve_syntax::Command;
@@ -19,28 +22,29 @@ use sieve_table::{CommandKind, Rule, command_named};
 use std::alloc::Global;
 
 /// Whether a `require` of this kind stands where none may.
-fn is_misplaced(context: Context, kind: CommandKind) -> bool
+fn is_misplaced(context: Context<'_>, kind: CommandKind) -> bool
     ensures { result ≡ (is_require kind && not (context_as context).leads) }
 {
-    is_require(kind) && !context.leads
+    is_require(kind) && !context.spot.leads
 }
 
 /// Whether an `elsif` or `else` goes on with nothing.
-fn stands_alone(context: Context, kind: CommandKind) -> bool
+fn stands_alone(context: Context<'_>, kind: CommandKind) -> bool
     ensures { result ≡ (continues_if kind && not (context_as context).follows_if) }
 {
-    continues_if(kind) && !context.follows_if
+    continues_if(kind) && !context.spot.follows_if
 }
 
-/// Checks where a command of this kind stands, and then its use and its arguments.
+/// Checks where a command of this kind stands, and then its use and its arguments. Answers the labels of its arguments.
 #[tactic(auto, using(crate::proofs::Heads::kind_steps))]
 fn check_kind(
     alloc: Global,
-    context: Context,
+    context: Context<'_>,
     kind: CommandKind,
     command: &Command,
-) -> Result<(), CheckFault>
-    ensures { Finds (kind_found (context_as context) kind command.now) result }
+) -> Result<Vec<Label>, CheckFault>
+    ensures labels { IfOk result (λ labels. labels.items ≡ row_labels (command_row kind) (map argument_of (out-Command command.now).args.items)) }
+    ensures found { Finds (kind_found (context_as context) kind command.now) result }
 {
     let line = command.line;
     if is_misplaced(context, kind) {
@@ -60,15 +64,16 @@ fn check_kind(
     )
 }
 
-/// Checks a command apart from its tests and its block, and answers what stands before the next one.
+/// Checks a command of some kind apart from its tests and its block. Answers its kind and the labels of its arguments.
 #[tactic(auto, using(crate::proofs::Heads::command_head_steps))]
 fn check_command_head(
     alloc: Global,
-    context: Context,
+    context: Context<'_>,
     command: &Command,
-) -> Result<Context, CheckFault>
+) -> Result<(CommandKind, Vec<Label>), CheckFault>
     ensures found { FindsIn (command_head (context_as context) command.now) result }
-    ensures goes { IfOk result (λ next. context_as next ≡ behind_kind (context_as context) (command_named (out-Command command.now).name.items) (map argument_of (out-Command command.now).args.items)) }
+    ensures kind { IfOk result (λ head. command_named (out-Command command.now).name.items ≡ Some head.0) }
+    ensures labels { IfOk result (λ head. head.1.items ≡ row_labels (command_row head.0) (map argument_of (out-Command command.now).args.items)) }
 {
     match command_named(&command.name) {
         None => Err(CheckFault::Breach {
@@ -76,25 +81,50 @@ fn check_command_head(
             rule: Rule::UnknownCommand,
         }),
         Some(kind) => {
-            check_kind(alloc, context, kind, command)?;
-            Ok(context.behind_kind(Some(kind), &command.args))
+            let labels = check_kind(alloc, context, kind, command)?;
+            Ok((kind, labels))
         }
     }
+}
+
+/// Checks a command apart from its block, and answers what stands before its block.
+#[tactic(auto, using(crate::proofs::Heads::front_steps))]
+fn check_front(
+    alloc: Global,
+    spot: Spot,
+    assigned: &mut Assigned,
+    command: &Command,
+) -> Result<Spot, CheckFault>
+    ensures found { FindsIn (command_front (at_spot spot assigned.old) command.now) result }
+    ensures goes { IfOk result (λ next. at_spot next assigned.new ≡ behind_front (at_spot spot assigned.old) command.now) }
+{
+    let context = Context {
+        spot,
+        assigned: &*assigned,
+    };
+    let (kind, labels) = check_command_head(alloc, context, command)?;
+    check_tests(alloc, context, &command.tests)?;
+    assigned.assign_arguments(alloc, &labels, &command.args)?;
+    Ok(spot.behind_kind(kind, &command.args))
 }
 
 /// Checks a command with its tests and its block, and answers what stands before the next one.
 #[cycle(check_commands)]
 #[tactic(auto, using(crate::proofs::Heads::command_steps))]
-fn check_command(alloc: Global, context: Context, command: &Command) -> Result<Context, CheckFault>
-    ensures found { FindsIn (node_elements (context_as context) (node_of command.now)) result }
-    ensures goes { IfOk result (λ next. context_as next ≡ behind (context_as context) (node_of command.now)) }
+fn check_command(
+    alloc: Global,
+    spot: Spot,
+    assigned: &mut Assigned,
+    command: &Command,
+) -> Result<Spot, CheckFault>
+    ensures found { FindsIn (node_elements (at_spot spot assigned.old) (node_of command.now)) result }
+    ensures goes { IfOk result (λ next. at_spot next assigned.new ≡ behind (at_spot spot assigned.old) (node_of command.now)) }
 {
-    let next = check_command_head(alloc, context, command)?;
-    check_tests(alloc, context, &command.tests)?;
+    let next = check_front(alloc, spot, &mut *assigned, command)?;
     match &command.block {
         None => Ok(next),
         Some(commands) => {
-            check_commands(alloc, context.inside(), commands)?;
+            check_commands(alloc, next.inside(), &mut *assigned, commands)?;
             Ok(next)
         }
     }
@@ -105,14 +135,16 @@ fn check_command(alloc: Global, context: Context, command: &Command) -> Result<C
 #[tactic(auto, using(crate::proofs::Heads::commands_steps))]
 pub(crate) fn check_commands(
     alloc: Global,
-    start: Context,
+    start: Spot,
+    assigned: &mut Assigned,
     commands: &[Command],
 ) -> Result<(), CheckFault>
-    ensures { FindsIn (nodes_elements (context_as start) (nodes (map node_of commands.now))) result }
+    ensures found { FindsIn (nodes_elements (at_spot start assigned.old) (nodes (map node_of commands.now))) result }
+    ensures goes { IfOk result (λ done. assigned.new ≡ (behind_nodes (at_spot start assigned.old) (nodes (map node_of commands.now))).assigned) }
 {
-    let mut context = start;
+    let mut spot = start;
     for command in commands {
-        context = check_command(alloc, context, command)?;
+        spot = check_command(alloc, spot, &mut *assigned, command)?;
     }
     Ok(())
 }

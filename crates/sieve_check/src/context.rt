@@ -1,11 +1,16 @@
 //! What stands before a command in its text, as far as rules ask.
-ghost use Rattle.std.specs.Prelude.{◌≡◌, map};
-ghost use Rattle.sieve_syntax.specs.view.Tree.{argument_of, text_of};
-ghost use Rattle.sieve_check.specs.Context.{allows_else, behind_kind, continues_if, inside, is_require, is_required, nothing_required, required_behind, requiring, requiring_argument, requiring_arguments, requiring_texts, script_start};
-ghost use Rattle.sieve_check.specs.view.Context.{context_as, required_as};
+ghost use Rattle.std.specs.Prelude.{◌≡◌, ℕ, List, [], Some, map};
+ghost use Rattle.sieve_syntax.specs.Tree.{nodes};
+ghost use Rattle.sieve_syntax.specs.view.Tree.{argument_of, node_of, text_of};
+ghost use Rattle.sieve_check.specs.Assigned.{assigning_arguments};
+ghost use Rattle.sieve_check.specs.Context.{allows_else, behind_kind, continues_if, inside, is_require, is_required, nothing_required, required_behind, required_from, requiring, requiring_argument, requiring_arguments, requiring_texts, script_start};
+ghost use Rattle.sieve_check.specs.Shape.{row_labels};
+ghost use Rattle.sieve_check.specs.view.Context.{at_spot, required_as};
+ghost use Rattle.sieve_table.specs.Table.{command_row};
 
-use sieve_syntax::{Argument, Text};
-use sieve_table::{Capability, CommandKind, is_name_of};
+use crate::assigned::Assigned;
+use sieve_syntax::{Argument, Command, Text};
+use sieve_table::{Capability, CommandKind, command_named, is_name_of};
 
 /// What is required, of what commands, tests, tags and arguments may need (RFC 5228, section 2.10.5).
 #[derive(Clone, Copy)]
@@ -93,15 +98,23 @@ impl Required {
     }
 }
 
-/// What stands before a command.
+/// What stands before a command in its text, apart from the variables that are set.
 #[derive(Clone, Copy)]
-pub(crate) struct Context {
+pub(crate) struct Spot {
     /// Only requires stand before it in the script (RFC 5228, section 3.2).
     pub(crate) leads: bool,
     /// An `if` or `elsif` stands directly before it in its block (RFC 5228, section 3.1).
     pub(crate) follows_if: bool,
     /// What the requires at the top of the script name that stand before it (RFC 5228, section 3.2).
     pub(crate) required: Required,
+}
+
+/// What stands before a command in its text.
+#[derive(Clone, Copy)]
+pub(crate) struct Context<'a> {
+    pub(crate) spot: Spot,
+    /// The local variables that the text before it sets.
+    pub(crate) assigned: &'a Assigned,
 }
 
 /// Whether it is `require`.
@@ -125,12 +138,12 @@ fn allows_else(kind: CommandKind) -> bool
     matches!(kind, CommandKind::If | CommandKind::Elsif)
 }
 
-impl Context {
+impl Spot {
     /// At the start of a script.
-    pub(crate) fn script_start() -> Context
-        ensures { context_as result ≡ script_start }
+    pub(crate) fn script_start() -> Spot
+        ensures { at_spot result [] ≡ script_start }
     {
-        Context {
+        Spot {
             leads: true,
             follows_if: false,
             required: Required::nothing(),
@@ -138,10 +151,10 @@ impl Context {
     }
 
     /// At the start of a block behind this.
-    pub(crate) fn inside(self) -> Context
-        ensures { context_as result ≡ inside (context_as self) }
+    pub(crate) fn inside(self) -> Spot
+        ensures { (assigned : List (List ℕ)) → at_spot result assigned ≡ inside (at_spot self assigned) }
     {
-        Context {
+        Spot {
             leads: false,
             follows_if: false,
             ..self
@@ -150,7 +163,7 @@ impl Context {
 
     /// What is required behind a command of this kind with these arguments.
     fn required_behind(self, kind: CommandKind, args: &[Argument]) -> Required
-        ensures { required_as result ≡ required_behind (context_as self) kind (map argument_of args.now) }
+        ensures { (assigned : List (List ℕ)) → required_as result ≡ required_behind (at_spot self assigned) kind (map argument_of args.now) }
     {
         if self.leads && is_require(kind) {
             self.required.with_arguments(args)
@@ -160,20 +173,27 @@ impl Context {
     }
 
     /// Behind a command of this kind with these arguments.
-    pub(crate) fn behind_kind(self, kind: Option<CommandKind>, args: &[Argument]) -> Context
-        ensures { context_as result ≡ behind_kind (context_as self) kind (map argument_of args.now) }
+    pub(crate) fn behind_kind(self, kind: CommandKind, args: &[Argument]) -> Spot
+        ensures { (assigned : List (List ℕ)) → at_spot result (assigning_arguments assigned (row_labels (command_row kind) (map argument_of args.now)) (map argument_of args.now)) ≡ behind_kind (at_spot self assigned) (Some kind) (map argument_of args.now) }
     {
-        match kind {
-            None => Context {
-                leads: false,
-                follows_if: false,
-                ..self
-            },
-            Some(kind) => Context {
-                leads: self.leads && is_require(kind),
-                follows_if: allows_else(kind),
-                required: self.required_behind(kind, args),
-            },
+        Spot {
+            leads: self.leads && is_require(kind),
+            follows_if: allows_else(kind),
+            required: self.required_behind(kind, args),
         }
     }
+}
+
+/// What the requires at the top of a script name, which is all that is required in it.
+pub(crate) fn required_in(commands: &[Command]) -> Required
+    ensures { required_as result ≡ required_from nothing_required (nodes (map node_of commands.now)) }
+{
+    let mut required = Required::nothing();
+    for command in commands {
+        match command_named(&command.name) {
+            Some(CommandKind::Require) => required = required.with_arguments(&command.args),
+            _ => return required,
+        }
+    }
+    required
 }

@@ -13,6 +13,7 @@ ghost use Rattle.sieve_check.specs.Element.{elements_of};
 ghost use Rattle.sieve_check.specs.Order.{IsInTextOrder};
 ghost use Rattle.sieve_check.specs.Parted.{parted};
 ghost use Rattle.sieve_check.specs.Readable.{IsReadable, DoesAll};
+ghost use Rattle.sieve_check.specs.Reading.{all_tags, tag_number};
 ghost use Rattle.sieve_check.specs.Role.{all_roles, role_number};
 ghost use Rattle.sieve_table.specs.Capability.{is_name_of};
 ghost use Rattle.sieve_table.specs.Rule.{rule_number};
@@ -24,6 +25,7 @@ ghost use Rattle.sieve_table.specs.declared.row.Role.{Role};
 ghost use Rattle.sieve_table.specs.declared.row.TagKind.{TagKind};
 ghost use Rattle.sieve_table.specs.declared.rule.Rule.{Rule};
 ghost use Rattle.sieve_table.specs.declared.table.CommandKind.{CommandKind};
+ghost use Rattle.sieve_table.specs.declared.table.Tag.{Tag};
 ghost use Rattle.sieve_table.specs.declared.table.TestKind.{TestKind};
 
 /// The breaches of a script are those of its elements (its commands, tests, strings and numbers in the order of the text),
@@ -41,10 +43,11 @@ pub fn rules_go_by_their_numbers()
     ensures all { length all_rules ≡ 16 }
 {}
 
-/// Roles and kinds of tags have numbers of their own, by which the definitions tell them apart.
+/// Roles, tags and kinds of tags have numbers of their own, by which the definitions tell them apart.
 #[tactic(auto, using(crate::proofs::Numbers::numbered))]
-pub fn numbers_tell_roles_and_kinds()
+pub fn numbers_tell_roles_tags_and_kinds()
     ensures roles { (role : Role) → slice_get all_roles (role_number role) ≡ Some role }
+    ensures tags { (tag : Tag) → slice_get all_tags (tag_number tag) ≡ Some tag }
     ensures kinds { (kind : TagKind) → slice_get all_kinds (kind_number kind) ≡ Some kind }
 {}
 

@@ -2,6 +2,7 @@
 #![tactic(auto)]
 
 mod arguments;
+mod assigned;
 mod checked;
 mod command_rules;
 mod context;
@@ -21,7 +22,7 @@ mod validator;
 pub use checked::Checked;
 pub use judged::{FaultKind, JudgeFault, Judged, judge};
 pub use reading::{Ask, CommandReading, Leaf, MatchType, Source, TestReading};
-pub use sieve_syntax::SmallOctets;
 pub use sieve_table::{CommandKind, Rule, TestKind};
-pub use tree::{Argument, Command, Part, Parts, Test, Tests, Text};
+pub use sieve_variables::{LetterCase, Modifiers, Part, Parts, SmallOctets};
+pub use tree::{Argument, Command, Test, Tests, Text};
 pub use validator::{CheckFault, check};

@@ -3,16 +3,18 @@ ghost use Rattle.std.specs.Prelude.{◌≡◌, true, false, length, drop, Some, 
 ghost use Rattle.std.specs.Option.{option_map};
 ghost use Rattle.std.specs.List.{flat_map, starts_with};
 ghost use lib.Pointwise.{pointwise};
-ghost use Rattle.sieve_check.specs.Reading.{acts, address_part_of, address_source, collation_by, collation_named, command_reading, command_reading_by, compares_by, envelope_source, exists_by, fileinto_leaf, has_tag, header_source, in_role, kind_of, labels_in, match_type_of, number_in, part_value, reads_ask, redirect_leaf, size_by, test_reading, test_reading_by, text_in, text_value, texts_in};
+ghost use Rattle.sieve_check.specs.Reading.{acts, address_part_of, address_source, case_of, collation_by, collation_named, command_reading, command_reading_by, compares_by, envelope_source, exists_by, fileinto_leaf, has_tag, header_source, in_role, kind_of, labels_in, local_in, local_in_parts, match_type_of, modifiers_of, number_in, plain_part, plain_text, reads_ask, redirect_leaf, set_by, size_by, string_source, test_reading, test_reading_by, text_in, texts_in};
 ghost use Rattle.sieve_check.specs.view.Reading.{ask_as, command_reading_as, source_as, test_reading_as, texts_as};
 ghost use Rattle.sieve_table.specs.view.Row.{row_as};
-ghost use Rattle.sieve_check.specs.view.Tree.{argument_of, node_of, part_of, test_of, text_of};
+ghost use Rattle.sieve_check.specs.view.Tree.{argument_of, node_of, test_of, text_of};
+ghost use Rattle.sieve_variables.specs.view.Part.{part_of};
 
 use crate::labelled::{argument_in, has_tag};
-use crate::tree::{Argument, Command, Part, Test, Text};
+use crate::tree::{Argument, Command, Test, Text};
 use match_text::Collation;
 use message_text::AddressPart;
 use sieve_table::{CommandKind, Role, Row, Tag, TestKind, command_named, test_named};
+use sieve_variables::{LetterCase, Modifiers, Part};
 
 /// How a test compares values with keys (RFC 5228, section 2.7.1).
 #[derive(Clone, Copy, Debug, PartialEq, Eq)]
@@ -46,6 +48,11 @@ pub enum Source<'a> {
         part: AddressPart,
         /// The names of the envelope's parts.
         names: &'a [Text],
+    },
+    /// Strings themselves (RFC 5229, section 5).
+    String {
+        /// The strings.
+        texts: &'a [Text],
     },
 }
 
@@ -114,6 +121,15 @@ pub enum Leaf<'a> {
     },
     /// It discards the message (RFC 5228, section 4.4).
     Discard,
+    /// It gives a variable of the script a value (RFC 5229, section 4).
+    Set {
+        /// The variable's name, in lower case.
+        name: &'a [u8],
+        /// What is done to the value.
+        modifiers: Modifiers,
+        /// The value, as its parts.
+        value: &'a [Part],
+    },
 }
 
 /// What a command is, apart from its test and its block.
@@ -160,6 +176,31 @@ fn text_in(argument: Option<&Argument>) -> Option<&[Part]>
     }
 }
 
+/// The variable of the script that parts name.
+fn local_in_parts(parts: &[Part]) -> Option<&[u8]>
+    ensures { option_map (λ name. name.now) result ≡ local_in_parts (map part_of parts.now) }
+{
+    match parts {
+        [Part::Local(name)] => Some(name.as_slice()),
+        _ => None,
+    }
+}
+
+/// The variable of the script that an argument names.
+fn local_in(argument: Option<&Argument>) -> Option<&[u8]>
+    ensures { option_map (λ name. name.now) result ≡ local_in (option_map (λ a. argument_of a.now) argument.entry) }
+{
+    match argument {
+        Some(Argument::Strings { items, .. }) => match items.as_slice() {
+            [text] => local_in_parts(&text.parts),
+            _ => None,
+        },
+        Some(Argument::Number { .. }) => None,
+        Some(Argument::Tag { .. }) => None,
+        None => None,
+    }
+}
+
 /// The number that an argument is.
 fn number_in(argument: Option<&Argument>) -> Option<u64>
     ensures { result ≡ number_in (option_map (λ a. argument_of a.now) argument.entry) }
@@ -172,12 +213,14 @@ fn number_in(argument: Option<&Argument>) -> Option<u64>
     }
 }
 
-/// The octets of a part.
-fn part_value(part: &Part) -> &[u8]
-    ensures { result.now ≡ part_value (part_of part.now) }
+/// The octets of a part that stand for themselves.
+fn plain_part(part: &Part) -> &[u8]
+    ensures { result.now ≡ plain_part (part_of part.now) }
 {
     match part {
         Part::Literal(octets) => octets.as_slice(),
+        Part::Local(_) => b"",
+        Part::Match(_) => b"",
     }
 }
 
@@ -209,11 +252,11 @@ fn behind<'a>(octets: &'a [u8], front: &[u8]) -> Option<&'a [u8]>
 
 /// Whether parts are these octets.
 fn is_literally(octets: &[u8], parts: &[Part]) -> bool
-    ensures { result ≡ pointwise nat_eq octets.now (flat_map part_value (map part_of parts.now)) }
+    ensures { result ≡ pointwise nat_eq octets.now (flat_map plain_part (map part_of parts.now)) }
 {
     match parts {
         [] => octets.is_empty(),
-        [part, rest @ ..] => match behind(octets, part_value(part)) {
+        [part, rest @ ..] => match behind(octets, plain_part(part)) {
             Some(left) => is_literally(left, rest),
             None => false,
         },
@@ -222,7 +265,7 @@ fn is_literally(octets: &[u8], parts: &[Part]) -> bool
 
 /// The comparator that a string names.
 fn collation_named(text: &Text) -> Option<Collation>
-    ensures { result ≡ collation_named (text_value (text_of text.now).parts) }
+    ensures { result ≡ collation_named (plain_text (text_of text.now).parts) }
 {
     if is_literally(b"i;octet", &text.parts) {
         Some(Collation::Octet)
@@ -287,6 +330,14 @@ fn envelope_source<'a>(row: &Row, args: &'a [Argument]) -> Option<Source<'a>>
     Some(Source::Envelope { part, names })
 }
 
+/// From where a `string` test takes its values.
+fn string_source<'a>(row: &Row, args: &'a [Argument]) -> Option<Source<'a>>
+    ensures { option_map source_as result ≡ string_source (labels_in (row_as row.now) (map argument_of args.now)) (map argument_of args.now) }
+{
+    let texts = texts_in(argument_in(row, Role::Text, args))?;
+    Some(Source::String { texts })
+}
+
 /// What a test asks that compares values with keys.
 fn compares_by<'a>(source: Option<Source<'a>>, row: &Row, args: &'a [Argument]) -> Option<Ask<'a>>
     ensures { option_map ask_as result ≡ compares_by (option_map source_as source.entry) (labels_in (row_as row.now) (map argument_of args.now)) (map argument_of args.now) }
@@ -322,6 +373,13 @@ fn envelope_ask<'a>(row: &Row, args: &'a [Argument]) -> Option<Ask<'a>>
     ensures { option_map ask_as result ≡ (let labels = labels_in (row_as row.now) (map argument_of args.now) in compares_by (envelope_source labels (map argument_of args.now)) labels (map argument_of args.now)) }
 {
     compares_by(envelope_source(row, args), row, args)
+}
+
+/// What a `string` test asks.
+fn string_ask<'a>(row: &Row, args: &'a [Argument]) -> Option<Ask<'a>>
+    ensures { option_map ask_as result ≡ (let labels = labels_in (row_as row.now) (map argument_of args.now) in compares_by (string_source labels (map argument_of args.now)) labels (map argument_of args.now)) }
+{
+    compares_by(string_source(row, args), row, args)
 }
 
 /// What an `exists` test asks.
@@ -373,6 +431,7 @@ fn test_reading_by(kind: TestKind, args: &[Argument]) -> Option<TestReading<'_>>
         TestKind::Not => Some(TestReading::Not),
         TestKind::True => Some(TestReading::Always),
         TestKind::False => Some(TestReading::Never),
+        TestKind::String => asking(string_ask(&kind.row(), args)),
     }
 }
 
@@ -405,6 +464,47 @@ fn redirect_leaf<'a>(row: &Row, args: &'a [Argument]) -> Option<CommandReading<'
     Some(CommandReading::Acts(Leaf::Redirect { address }))
 }
 
+/// The case that one of two tags asks for.
+fn case_of(lower: bool, upper: bool) -> Option<LetterCase>
+    ensures { result ≡ case_of lower upper }
+{
+    match (lower, upper) {
+        (true, _) => Some(LetterCase::Lower),
+        (false, true) => Some(LetterCase::Upper),
+        (false, false) => None,
+    }
+}
+
+/// The modifiers of a `set`.
+fn modifiers_of(row: &Row, args: &[Argument]) -> Modifiers
+    ensures { result ≡ modifiers_of (labels_in (row_as row.now) (map argument_of args.now)) }
+{
+    let lower = has_tag(row, Tag::Lower, args);
+    let upper = has_tag(row, Tag::Upper, args);
+    let lower_first = has_tag(row, Tag::LowerFirst, args);
+    let upper_first = has_tag(row, Tag::UpperFirst, args);
+    Modifiers {
+        letter_case: case_of(lower, upper),
+        first_letter: case_of(lower_first, upper_first),
+        quote_wildcard: has_tag(row, Tag::QuoteWildcard, args),
+        length: has_tag(row, Tag::Length, args),
+    }
+}
+
+/// What a `set` does.
+fn set_leaf<'a>(row: &Row, args: &'a [Argument]) -> Option<CommandReading<'a>>
+    ensures { option_map command_reading_as result ≡ option_map acts (set_by (labels_in (row_as row.now) (map argument_of args.now)) (map argument_of args.now)) }
+{
+    let modifiers = modifiers_of(row, args);
+    let name = local_in(argument_in(row, Role::NameToSet, args))?;
+    let value = text_in(argument_in(row, Role::Text, args))?;
+    Some(CommandReading::Acts(Leaf::Set {
+        name,
+        modifiers,
+        value,
+    }))
+}
+
 /// What a command of a kind is.
 fn command_reading_by(kind: CommandKind, args: &[Argument]) -> Option<CommandReading<'_>>
     ensures { option_map command_reading_as result ≡ command_reading_by (Some kind) (map argument_of args.now) }
@@ -419,6 +519,7 @@ fn command_reading_by(kind: CommandKind, args: &[Argument]) -> Option<CommandRea
         CommandKind::Redirect => redirect_leaf(&kind.row(), args),
         CommandKind::Discard => Some(CommandReading::Acts(Leaf::Discard)),
         CommandKind::Stop => Some(CommandReading::Stops),
+        CommandKind::Set => set_leaf(&kind.row(), args),
     }
 }
 

@@ -1,6 +1,6 @@
 //! What an argument is for, by its label.
 ghost use Rattle.std.specs.Prelude.{◌≡◌, drop};
-ghost use Rattle.sieve_check.specs.Role.{first_role, has_role, role_number, role_of, same_role};
+ghost use Rattle.sieve_check.specs.Role.{first_role, has_role, is_expanded, role_number, role_of, same_role};
 
 use crate::label::Label;
 use sieve_table::Role;
@@ -26,6 +26,29 @@ pub(crate) fn has_role(wanted: Role, role: Option<Role>) -> bool
     match role {
         Some(role) => same_role(wanted, role),
         None => false,
+    }
+}
+
+/// Whether references to variables stand for values in strings of that role.
+pub(crate) fn is_expanded(role: Role) -> bool
+    ensures { result ≡ is_expanded role }
+{
+    match role {
+        Role::FieldNames
+        | Role::AddressFields
+        | Role::EnvelopeParts
+        | Role::Keys
+        | Role::Mailbox
+        | Role::Address
+        | Role::Flags
+        | Role::Text => true,
+        Role::Capabilities
+        | Role::ComparatorName
+        | Role::Limit
+        | Role::NameToSet
+        | Role::NamesToRead
+        | Role::NamesToDeclare
+        | Role::ScriptName => false,
     }
 }
 

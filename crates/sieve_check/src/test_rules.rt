@@ -15,8 +15,8 @@ use sieve_table::{Rule, test_named};
 use std::alloc::Global;
 
 /// Checks a test apart from the tests in it.
-#[tactic(auto, using(crate::proofs::Heads::test_unknown))]
-fn check_test_head(alloc: Global, context: Context, test: &Test) -> Result<(), CheckFault>
+#[tactic(auto, using(crate::proofs::Heads::test_head_steps))]
+fn check_test_head(alloc: Global, context: Context<'_>, test: &Test) -> Result<(), CheckFault>
     ensures { FindsIn (test_head (context_as context) test.now) result }
 {
     let line = test.line;
@@ -25,23 +25,26 @@ fn check_test_head(alloc: Global, context: Context, test: &Test) -> Result<(), C
             line,
             rule: Rule::UnknownCommand,
         }),
-        Some(kind) => check_use(
-            alloc,
-            context,
-            line,
-            &kind.row(),
-            &test.args,
-            &test.tests,
-            false,
-            false,
-        ),
+        Some(kind) => {
+            check_use(
+                alloc,
+                context,
+                line,
+                &kind.row(),
+                &test.args,
+                &test.tests,
+                false,
+                false,
+            )?;
+            Ok(())
+        }
     }
 }
 
 /// Checks a test and the tests in it.
 #[cycle(check_tests)]
 #[tactic(auto, using(crate::proofs::Heads::test_steps))]
-fn check_test(alloc: Global, context: Context, test: &Test) -> Result<(), CheckFault>
+fn check_test(alloc: Global, context: Context<'_>, test: &Test) -> Result<(), CheckFault>
     ensures { FindsIn (test_elements (context_as context) (test_of test.now)) result }
 {
     check_test_head(alloc, context, test)?;
@@ -51,7 +54,7 @@ fn check_test(alloc: Global, context: Context, test: &Test) -> Result<(), CheckF
 /// Checks the tests behind arguments.
 #[cycle(check_tests)]
 #[tactic(auto, unfolding(crate::specs::Element::tests_elements))]
-pub(crate) fn check_tests(alloc: Global, context: Context, tests: &Tests) -> Result<(), CheckFault>
+pub(crate) fn check_tests(alloc: Global, context: Context<'_>, tests: &Tests) -> Result<(), CheckFault>
     ensures { FindsIn (tests_elements (context_as context) (tests_of tests.now)) result }
 {
     match tests {
@@ -64,7 +67,7 @@ pub(crate) fn check_tests(alloc: Global, context: Context, tests: &Tests) -> Res
 /// Checks a list of tests.
 #[cycle(check_tests)]
 #[tactic(auto, using(crate::proofs::Heads::list_steps))]
-fn check_test_list(alloc: Global, context: Context, list: &[Test]) -> Result<(), CheckFault>
+fn check_test_list(alloc: Global, context: Context<'_>, list: &[Test]) -> Result<(), CheckFault>
     ensures { FindsIn (test_list_elements (context_as context) (tests (map test_of list.now))) result }
 {
     for test in list {

@@ -1,33 +1,7 @@
 //! The tree of a checked script. It has the shape of the text's tree (RFC 5228, section 8.2), with each string cut into
 //! parts. A line is one plus the number of LF before it.
 
-use sieve_syntax::SmallOctets;
-use smallvec::SmallVec;
-use std::alloc::Global;
-use std::default::MadeWith;
-
-/// A piece of a string.
-#[derive(Debug, Drop)]
-pub enum Part {
-    /// These octets.
-    Literal(SmallOctets),
-}
-
-/// A part of no octets, which a [`Parts`] holds where it has room for a part.
-impl MadeWith<Global> for Part {
-    ghost use Rattle.std.specs.Prelude.{◌≡◌, []};
-    ghost use Rattle.sieve_check.specs.Tree.{literal};
-    ghost use Rattle.sieve_check.specs.view.Tree.{part_of};
-
-    ghost is_made_with = { λ part. part_of part ≡ literal [] };
-
-    fn made_with(alloc: Global) -> Part {
-        Part::Literal(SmallOctets::new(alloc))
-    }
-}
-
-/// The parts of a string. One, as nearly all strings have, lies in the value itself.
-pub type Parts = SmallVec<Part, 1>;
+use sieve_variables::{Parts, SmallOctets};
 
 /// A string: what it is made of, and the line where it begins.
 #[derive(Debug, Drop)]

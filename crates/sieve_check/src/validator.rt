@@ -7,9 +7,10 @@ ghost use Rattle.sieve_check.specs.CheckFault.{IsFirst};
 ghost use Rattle.sieve_check.specs.Parted.{parted};
 ghost use Rattle.sieve_check.specs.declared.validator.CheckFault.TheVariants.{NoMemory};
 
+use crate::assigned::Assigned;
 use crate::checked::Checked;
 use crate::command_rules::check_commands;
-use crate::context::Context;
+use crate::context::Spot;
 use crate::copying::parted;
 use sieve_syntax::Script;
 use sieve_table::Rule;
@@ -42,7 +43,8 @@ pub fn check(alloc: Global, script: &Script) -> Result<Checked, CheckFault>
         (λ checked. (breaches_of (nodes_of script.now) ≡ []) × (tree_of checked ≡ parted (nodes_of script.now)))
         (IsFirst (breaches_of (nodes_of script.now))) }
 {
-    check_commands(alloc, Context::script_start(), &script.commands)?;
+    let mut assigned = Assigned::new(alloc);
+    check_commands(alloc, Spot::script_start(), &mut assigned, &script.commands)?;
     let commands = parted(alloc, script)?;
     Ok(Checked { commands })
 }

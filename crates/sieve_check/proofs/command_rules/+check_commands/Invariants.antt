@@ -2,10 +2,13 @@ use Rattle.std.proofs.Common.{◌≡◌, map, drop}
 use Rattle.sieve_syntax.specs.Tree.{nodes}
 use Rattle.sieve_syntax.specs.view.Tree.{node_of}
 use Rattle.sieve_check.specs.Breach.{breaches_in}
+use Rattle.sieve_check.specs.Context.{behind_nodes}
 use Rattle.sieve_check.specs.Element.{nodes_elements}
-use Rattle.sieve_check.specs.view.Context.{context_as}
+use Rattle.sieve_check.specs.view.Context.{at_spot}
 use Rattle.sieve_check.proofs.command_rules.+check_commands.Given as goal
 
--- the breaches of the commands that are left are all that there are
+-- the breaches of the commands that are left are all that there are, and what stands behind them is what stands behind all
 abbrev pub invariant-check_commands-loop-command : goal.invariant-check_commands-loop-command
-invariant-check_commands-loop-command l = breaches_in (nodes_elements (context_as l.context) (nodes (map node_of (drop l.command-index l.commands)))) ≡ breaches_in (nodes_elements (context_as l.fn.start) (nodes (map node_of l.commands)))
+invariant-check_commands-loop-command l =
+    (breaches_in (nodes_elements (at_spot l.spot l.assigned.now) (nodes (map node_of (drop l.command-index l.commands)))) ≡ breaches_in (nodes_elements (at_spot l.fn.start l.fn.assigned.old) (nodes (map node_of l.commands))))
+    × (behind_nodes (at_spot l.spot l.assigned.now) (nodes (map node_of (drop l.command-index l.commands))) ≡ behind_nodes (at_spot l.fn.start l.fn.assigned.old) (nodes (map node_of l.commands)))

@@ -1,0 +1,10 @@
+use Rattle.std.proofs.Common.{◌≡◌, map, drop}
+use Rattle.sieve_syntax.specs.Tree.{nodes}
+use Rattle.sieve_syntax.specs.view.Tree.{node_of}
+use Rattle.sieve_check.specs.Context.{nothing_required, required_from}
+use Rattle.sieve_check.specs.view.Context.{required_as}
+use Rattle.sieve_check.proofs.context.required_in.Given as goal
+
+-- with what is named so far, the commands that are left require what all do
+abbrev pub invariant-loop-command : goal.invariant-loop-command
+invariant-loop-command l = required_from (required_as l.required) (nodes (map node_of (drop l.command-index l.commands))) ≡ required_from nothing_required (nodes (map node_of l.commands))
