@@ -43,7 +43,7 @@ not_true : (b : Bool) → not b ≡ true → b ≡ false
 not_true true e = absurd (not_both e)
 not_true false e = refl
 
-is_one : Form → Bool
+abbrev is_one : Form → Bool
 is_one form.One = true
 is_one form.List = false
 is_one form.Number = false
@@ -54,7 +54,7 @@ one_form form.List is = absurd (not_both is)
 one_form form.Number is = absurd (not_both is)
 
 -- a tag that takes anything takes one string, the name of a comparator
-takes_comparator : Option Slot → Bool
+abbrev takes_comparator : Option Slot → Bool
 takes_comparator None = true
 takes_comparator (Some slot) = same_role role.ComparatorName slot.role && is_one slot.form
 
@@ -144,7 +144,7 @@ none_tagged wanted (label ∷ labels) none =
     ap (λ b. b || has_tag wanted labels) (not_tagged wanted label parts.0) ∙ none_tagged wanted labels parts.1
 
 -- a bound is one of the two
-is_bound : Tag → Bool
+abbrev is_bound : Tag → Bool
 is_bound t = not (same_kind tag_kind.Bound (tag_row t).kind) || differ (nat_eq (tag_number tag.Over) (tag_number t)) (nat_eq (tag_number tag.Under) (tag_number t))
 
 bounds : (t : Tag) → is_bound t ≡ true

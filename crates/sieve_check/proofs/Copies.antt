@@ -3,7 +3,7 @@ use Rattle.std.proofs.Common.{◌≡◌, ℕ, Option, Some, None, List, [], ◌�
 use Rattle.sieve_syntax.specs.Tree as syntax
 use Rattle.sieve_syntax.specs.view.Tree as seen
 use Rattle.sieve_check.specs.Parted.{command_labels, parted_block, parted_labelled, parted_node, parted_nodes, parted_test, parted_test_list, parted_tests}
-use Rattle.sieve_check.specs.Required.{Required}
+use Rattle.sieve_check.specs.Context.{Required}
 use Rattle.sieve_table.specs.Table.{command_named}
 use Rattle.std.specs.declared.vec.Vec.{Vec}
 use Rattle.smallvec.specs.SmallVec.{SmallVec}

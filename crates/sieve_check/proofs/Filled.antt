@@ -195,7 +195,7 @@ is_some_of c (Some x) is e = refl
 
 pub local_good : (tags : List Tag) (r : Option Role) (a : Argument) → has_role role.NameToSet r ≡ true → Keeps r a → fits form.One (part_shape tags a) ≡ true → is_some (local_in (Some a)) ≡ true
 local_good tags r (strings [] bracketed) is keeps fit = absurd (no_list (nat_eq 0 1 && not bracketed) refl fit)
-local_good tags r (strings (t ∷ []) bracketed) is keeps fit = is_some_of (has_role role.NameToSet r) (local_in_parts t.parts) is keeps.1.0
+local_good tags r (strings (t ∷ []) bracketed) is keeps fit = is_some_of (has_role role.NameToSet r) (local_in_parts t.parts) is keeps.1
 local_good tags r (strings (t ∷ s ∷ ts) bracketed) is keeps fit = absurd (two_are_no_text (length ts) bracketed fit)
 local_good tags r (number value line) is keeps fit = absurd (not_both fit)
 local_good tags r (tag name line) is keeps fit = absurd (not_both fit)

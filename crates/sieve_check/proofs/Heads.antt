@@ -176,7 +176,7 @@ unfolding node_elements
 command_at c context =
     let o = commands.out-Command c in
     ap (node_elements context) (seen_command c)
-    ∙ append_assoc (command_head context c) (tests_elements context (tests_of o.tests)) (block_elements (behind_front context c) (block_as o.block))
+    ∙ sym (append_assoc (command_head context c) (tests_elements context (tests_of o.tests)) (block_elements (behind_front context c) (block_as o.block)))
 
 behind_at : (c : commands.Command) (context : Context) → behind context (node_of c) ≡ behind_block (behind_front context c) (block_as (commands.out-Command c).block)
 unfolding behind

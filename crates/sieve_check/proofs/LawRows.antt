@@ -3,6 +3,7 @@ use Rattle.std.proofs.Common.{◌≡◌, ℕ, false, List, [], ◌∷◌, map, S
 use Rattle.sieve_syntax.specs.Tree as syntax
 use Rattle.sieve_syntax.specs.Word.{identifier, number_word, string_word}
 use Rattle.sieve_check.specs.Breach.{breaches_at, breaches_in, breaches_of}
+use Rattle.sieve_check.specs.Context.{behind}
 use Rattle.sieve_check.specs.Element.{block_elements, elements_of, node_elements, nodes_elements, test_elements, tests_elements}
 use Rattle.sieve_check.specs.Order.{written_by}
 use Rattle.sieve_check.specs.Parted.{parted}
@@ -38,7 +39,7 @@ tree_marks_row = refl
 
 -- it breaks no rule, so it is readable
 faultless_row : breaches_of branches ≡ []
-unfolding breaches_in breaches_at nodes_elements node_elements block_elements tests_elements test_elements command_named test_named
+unfolding breaches_in breaches_at nodes_elements node_elements block_elements tests_elements test_elements command_named test_named behind
 faultless_row = refl
 
 readable_row : IsReadable (parted branches)
@@ -53,5 +54,5 @@ astray_row reads = not_both reads.0.1.0
 order_row : map written_by (elements_of (syntax.node (codes "if") 1 [] (syntax.one_test (syntax.test (codes "size") 1 (syntax.tag (codes "over") 1 ∷ syntax.number (Some 5) 1 ∷ []) syntax.no_tests)) (syntax.block (syntax.nodes (plain (codes "keep") 2 ∷ [])))
     ∷ syntax.node (codes "require") 3 (syntax.strings (record { octets = codes "a"; line = 3 } ∷ []) false ∷ []) syntax.no_tests syntax.no_block ∷ []))
     ≡ identifier (codes "if") 1 ∷ identifier (codes "size") 1 ∷ number_word (Some 5) 1 ∷ identifier (codes "keep") 2 ∷ identifier (codes "require") 3 ∷ string_word (codes "a") 3 ∷ []
-unfolding nodes_elements node_elements block_elements tests_elements test_elements command_named test_named
+unfolding nodes_elements node_elements block_elements tests_elements test_elements command_named test_named behind
 order_row = refl

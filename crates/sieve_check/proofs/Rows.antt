@@ -3,19 +3,20 @@ use Rattle.std.proofs.Common.{◌≡◌, ℕ, true, false, List, [], ◌∷◌, 
 use Rattle.match_text.specs.declared.comparators.Collation.TheVariants.{Octet, Casemap}
 use Rattle.sieve_syntax.specs.Tree as syntax
 use Rattle.sieve_check.specs.Breach.{breaches_of, breaches_in, breaches_at}
+use Rattle.sieve_check.specs.Context.{behind}
 use Rattle.sieve_check.specs.Element.{nodes_elements, node_elements, block_elements, tests_elements, test_elements}
 use Rattle.sieve_check.specs.Label.{labels_of}
 use Rattle.sieve_check.specs.Parted.{parted}
 use Rattle.sieve_check.specs.Reading.{keep_leaf, discard_leaf, header_values, compares}
 use Rattle.sieve_check.specs.Script.{no_commands, stops, acts, chooses, always, asks, script_of, chain_of, node_before, block_commands, condition_of, conditions_in}
 use Rattle.sieve_table.specs.Table.{Row, slot, bare, command_named, test_named}
-use Rattle.sieve_check.specs.Tree.{literal}
 use Rattle.sieve_check.specs.declared.label.Label.TheVariants as label
 use Rattle.sieve_check.specs.declared.label.Shape.TheVariants as shape
 use Rattle.sieve_table.specs.declared.row.Form.TheVariants as form
 use Rattle.sieve_table.specs.declared.row.Role.TheVariants as role
 use Rattle.sieve_table.specs.declared.table.Tag.TheVariants as tag
 use Rattle.sieve_check.specs.declared.reading.MatchType.TheVariants.{Is, Contains}
+use Rattle.sieve_variables.specs.Part.{literal}
 use Rattle.sieve_table.specs.declared.rule.Rule.TheVariants.{RequirePlace, UnknownCapability, UnknownCommand, ElsePlace, BadTag, BadArguments, UnknownComparator, NumberTooLarge}
 
 -- a string on line 1, a string without brackets as an argument, and a tag
@@ -47,62 +48,62 @@ truth = syntax.test (codes "TRUE") 1 [] syntax.no_tests
 -- kep; require "x";
 unknown_row : breaches_of (plain (codes "kep") 1 [] ∷ plain (codes "require") 2 (one (codes "x") ∷ []) ∷ [])
     ≡ record { line = 1; rule = UnknownCommand } ∷ record { line = 2; rule = RequirePlace } ∷ []
-unfolding breaches_in breaches_at nodes_elements node_elements block_elements tests_elements command_named
+unfolding breaches_in breaches_at nodes_elements node_elements block_elements tests_elements command_named behind
 unknown_row = refl
 
 -- require "vacation"; keep;
 capability_row : breaches_of (plain (codes "require") 1 (one (codes "vacation") ∷ []) ∷ plain (codes "keep") 2 [] ∷ []) ≡ record { line = 1; rule = UnknownCapability } ∷ []
-unfolding breaches_in breaches_at nodes_elements node_elements block_elements tests_elements command_named
+unfolding breaches_in breaches_at nodes_elements node_elements block_elements tests_elements command_named behind
 capability_row = refl
 
 -- require "comparator-i;octet"; Keep;
 required_row : breaches_of (plain (codes "require") 1 (one (codes "comparator-i;octet") ∷ []) ∷ plain (codes "Keep") 2 [] ∷ []) ≡ []
-unfolding breaches_in breaches_at nodes_elements node_elements block_elements tests_elements command_named
+unfolding breaches_in breaches_at nodes_elements node_elements block_elements tests_elements command_named behind
 required_row = refl
 
 -- if header "Subject" :is "x" {}
 late_tag_row : breaches_of (branch (codes "if") 1 (header (one (codes "Subject") ∷ tagged (codes "is") ∷ one (codes "x") ∷ [])) [] ∷ []) ≡ record { line = 1; rule = BadTag } ∷ []
-unfolding breaches_in breaches_at nodes_elements node_elements block_elements tests_elements test_elements command_named test_named
+unfolding breaches_in breaches_at nodes_elements node_elements block_elements tests_elements test_elements command_named test_named behind
 late_tag_row = refl
 
 -- if header :comparator "i;basic" "a" "b" {}
 comparator_row : breaches_of (branch (codes "if") 1 (header (tagged (codes "comparator") ∷ one (codes "i;basic") ∷ one (codes "a") ∷ one (codes "b") ∷ [])) [] ∷ []) ≡ record { line = 1; rule = UnknownComparator } ∷ []
-unfolding breaches_in breaches_at nodes_elements node_elements block_elements tests_elements test_elements command_named test_named
+unfolding breaches_in breaches_at nodes_elements node_elements block_elements tests_elements test_elements command_named test_named behind
 comparator_row = refl
 
 -- if header :comparator ["i;octet"] "a" "b" {}
 bracketed_comparator_row : breaches_of (branch (codes "if") 1 (header (tagged (codes "comparator") ∷ syntax.strings (text (codes "i;octet") ∷ []) true ∷ one (codes "a") ∷ one (codes "b") ∷ [])) [] ∷ []) ≡ record { line = 1; rule = BadArguments } ∷ []
-unfolding breaches_in breaches_at nodes_elements node_elements block_elements tests_elements test_elements command_named test_named
+unfolding breaches_in breaches_at nodes_elements node_elements block_elements tests_elements test_elements command_named test_named behind
 bracketed_comparator_row = refl
 
 -- if size 1 {}
 size_row : breaches_of (branch (codes "if") 1 (size (syntax.number (Some 1) 1 ∷ [])) [] ∷ []) ≡ record { line = 1; rule = BadArguments } ∷ []
-unfolding breaches_in breaches_at nodes_elements node_elements block_elements tests_elements test_elements command_named test_named
+unfolding breaches_in breaches_at nodes_elements node_elements block_elements tests_elements test_elements command_named test_named behind
 size_row = refl
 
 -- if size :over :under 1 {}
 both_bounds_row : breaches_of (branch (codes "if") 1 (size (tagged (codes "over") ∷ tagged (codes "under") ∷ syntax.number (Some 1) 1 ∷ [])) [] ∷ []) ≡ record { line = 1; rule = BadTag } ∷ []
-unfolding breaches_in breaches_at nodes_elements node_elements block_elements tests_elements test_elements command_named test_named
+unfolding breaches_in breaches_at nodes_elements node_elements block_elements tests_elements test_elements command_named test_named behind
 both_bounds_row = refl
 
 -- if size :over 17179869184G {}
 large_row : breaches_of (branch (codes "if") 1 (size (tagged (codes "over") ∷ syntax.number None 1 ∷ [])) [] ∷ []) ≡ record { line = 1; rule = NumberTooLarge } ∷ []
-unfolding breaches_in breaches_at nodes_elements node_elements block_elements tests_elements test_elements command_named test_named
+unfolding breaches_in breaches_at nodes_elements node_elements block_elements tests_elements test_elements command_named test_named behind
 large_row = refl
 
 -- if true {} keep; elsif true {}
 else_row : breaches_of (branch (codes "if") 1 truth [] ∷ plain (codes "keep") 2 [] ∷ branch (codes "elsif") 3 truth [] ∷ []) ≡ record { line = 3; rule = ElsePlace } ∷ []
-unfolding breaches_in breaches_at nodes_elements node_elements block_elements tests_elements test_elements command_named test_named
+unfolding breaches_in breaches_at nodes_elements node_elements block_elements tests_elements test_elements command_named test_named behind
 else_row = refl
 
 -- keep "x" :flags;
 two_rules_row : breaches_of (plain (codes "keep") 1 (one (codes "x") ∷ tagged (codes "flags") ∷ []) ∷ []) ≡ record { line = 1; rule = BadTag } ∷ record { line = 1; rule = BadArguments } ∷ []
-unfolding breaches_in breaches_at nodes_elements node_elements block_elements tests_elements command_named
+unfolding breaches_in breaches_at nodes_elements node_elements block_elements tests_elements command_named behind
 two_rules_row = refl
 
 -- if true { require "comparator-i;octet"; }
 inner_require_row : breaches_of (branch (codes "if") 1 truth (plain (codes "require") 2 (one (codes "comparator-i;octet") ∷ []) ∷ []) ∷ []) ≡ record { line = 2; rule = RequirePlace } ∷ []
-unfolding breaches_in breaches_at nodes_elements node_elements block_elements tests_elements test_elements command_named test_named
+unfolding breaches_in breaches_at nodes_elements node_elements block_elements tests_elements test_elements command_named test_named behind
 inner_require_row = refl
 
 -- A test of a row with an argument in front, as hasflag [<variables>] <flags> has it (RFC 5232, section 4): the string of the

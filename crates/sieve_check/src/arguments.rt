@@ -78,7 +78,7 @@ fn names_namespace(role: Option<Role>, octets: &[u8], references: References) ->
 
 /// The rule that a string in its role breaks, the first by the numbers of the rules.
 fn rule_of_text(context: Context<'_>, role: Option<Role>, octets: &[u8]) -> Option<Rule>
-    ensures { result ≡ find (text_breaks (context_as context) role octets.now) all_rules }
+    ensures { result ≡ find (text_breaks (context_as context.entry) role octets.now) all_rules }
 {
     let required = context.spot.required;
     if has_role(Role::Capabilities, role) && (context.spot.leads && !is_capability(octets)) {
@@ -116,7 +116,7 @@ fn check_text(
     role: Option<Role>,
     text: &Text,
 ) -> Result<(), CheckFault>
-    ensures { Finds (breaches_at (the_text (context_as context) role (text_of text.now))) result }
+    ensures { Finds (breaches_at (the_text (context_as context.entry) role (text_of text.now))) result }
 {
     match rule_of_text(context, role, &text.octets) {
         Some(rule) => Err(CheckFault::Breach {
@@ -130,7 +130,7 @@ fn check_text(
 /// Checks strings in their role.
 #[tactic(auto, using(crate::proofs::Searches::text_steps))]
 fn check_texts(context: Context<'_>, role: Option<Role>, texts: &[Text]) -> Result<(), CheckFault>
-    ensures { FindsIn (text_elements (context_as context) role (map text_of texts.now)) result }
+    ensures { FindsIn (text_elements (context_as context.entry) role (map text_of texts.now)) result }
 {
     for text in texts {
         check_text(context, role, text)?;
@@ -159,7 +159,7 @@ fn check_argument(
     role: Option<Role>,
     argument: &Argument,
 ) -> Result<(), CheckFault>
-    ensures { FindsIn (argument_elements (context_as context) role (argument_of argument.now)) result }
+    ensures { FindsIn (argument_elements (context_as context.entry) role (argument_of argument.now)) result }
 {
     match argument {
         Argument::Strings { items, .. } => check_texts(context, role, items),
@@ -175,7 +175,7 @@ pub(crate) fn check_arguments(
     labels: &[Label],
     args: &[Argument],
 ) -> Result<(), CheckFault>
-    ensures { FindsIn (labelled_elements (context_as context) labels.now (map argument_of args.now)) result }
+    ensures { FindsIn (labelled_elements (context_as context.entry) labels.now (map argument_of args.now)) result }
 {
     let mut labels_left = labels;
     for argument in args {
@@ -199,7 +199,7 @@ pub(crate) fn check_use(
     stands_alone: bool,
 ) -> Result<Vec<Label>, CheckFault>
     ensures labels { IfOk result (λ labels. labels.items ≡ row_labels (row_as row.now) (map argument_of args.now)) }
-    ensures found { Finds (row_found stands_alone (context_as context) line (row_as row.now) (map argument_of args.now) (tests_of tests.now) ends_by_block) result }
+    ensures found { Finds (row_found stands_alone (context_as context.entry) line (row_as row.now) (map argument_of args.now) (tests_of tests.now) ends_by_block) result }
 {
     let labels = row_labels(alloc, row, args)?;
     if lacks_required(context.spot.required, row, &labels) {

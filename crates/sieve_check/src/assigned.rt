@@ -1,8 +1,7 @@
 //! The local variables that a script sets, by their place in its text (RFC 5229, section 4).
-ghost use Rattle.std.specs.Prelude.{◌≡◌, ◌&&◌, not, nat_lt, length, map, IfOk, OnOk};
+ghost use Rattle.std.specs.Prelude.{◌≡◌, [], map, IfOk};
 ghost use Rattle.std.specs.List.{list_any};
 ghost use Rattle.std.specs.Str.{str_eq_ignore_ascii_case};
-ghost use Rattle.sieve_base.specs.Limits.{local_limit};
 ghost use Rattle.sieve_syntax.specs.view.Tree.{argument_of, text_of};
 ghost use Rattle.sieve_check.specs.Assigned.{assigning, assigning_argument, assigning_arguments, assigning_texts, is_new_local};
 ghost use Rattle.sieve_check.specs.Breach.{is_past_locals};

@@ -23,14 +23,14 @@ use std::alloc::Global;
 
 /// Whether a `require` of this kind stands where none may.
 fn is_misplaced(context: Context<'_>, kind: CommandKind) -> bool
-    ensures { result ≡ (is_require kind && not (context_as context).leads) }
+    ensures { result ≡ (is_require kind && not (context_as context.entry).leads) }
 {
     is_require(kind) && !context.spot.leads
 }
 
 /// Whether an `elsif` or `else` goes on with nothing.
 fn stands_alone(context: Context<'_>, kind: CommandKind) -> bool
-    ensures { result ≡ (continues_if kind && not (context_as context).follows_if) }
+    ensures { result ≡ (continues_if kind && not (context_as context.entry).follows_if) }
 {
     continues_if(kind) && !context.spot.follows_if
 }
@@ -44,7 +44,7 @@ fn check_kind(
     command: &Command,
 ) -> Result<Vec<Label>, CheckFault>
     ensures labels { IfOk result (λ labels. labels.items ≡ row_labels (command_row kind) (map argument_of (out-Command command.now).args.items)) }
-    ensures found { Finds (kind_found (context_as context) kind command.now) result }
+    ensures found { Finds (kind_found (context_as context.entry) kind command.now) result }
 {
     let line = command.line;
     if is_misplaced(context, kind) {
@@ -71,7 +71,7 @@ fn check_command_head(
     context: Context<'_>,
     command: &Command,
 ) -> Result<(CommandKind, Vec<Label>), CheckFault>
-    ensures found { FindsIn (command_head (context_as context) command.now) result }
+    ensures found { FindsIn (command_head (context_as context.entry) command.now) result }
     ensures kind { IfOk result (λ head. command_named (out-Command command.now).name.items ≡ Some head.0) }
     ensures labels { IfOk result (λ head. head.1.items ≡ row_labels (command_row head.0) (map argument_of (out-Command command.now).args.items)) }
 {

@@ -1,5 +1,5 @@
 //! What stands before a command in its text, as far as rules ask.
-ghost use Rattle.std.specs.Prelude.{◌≡◌, ℕ, List, [], Some, map};
+ghost use Rattle.std.specs.Prelude.{◌≡◌, ◌&&◌, ℕ, List, [], Some, map};
 ghost use Rattle.sieve_syntax.specs.Tree.{nodes};
 ghost use Rattle.sieve_syntax.specs.view.Tree.{argument_of, node_of, text_of};
 ghost use Rattle.sieve_check.specs.Assigned.{assigning_arguments};
@@ -138,6 +138,13 @@ fn allows_else(kind: CommandKind) -> bool
     matches!(kind, CommandKind::If | CommandKind::Elsif)
 }
 
+/// Whether only requires stand behind a command of this kind, where only requires stand before it or others too.
+fn leads_behind(leads: bool, kind: CommandKind) -> bool
+    ensures { result ≡ (leads && is_require kind) }
+{
+    leads && is_require(kind)
+}
+
 impl Spot {
     /// At the start of a script.
     pub(crate) fn script_start() -> Spot
@@ -177,7 +184,7 @@ impl Spot {
         ensures { (assigned : List (List ℕ)) → at_spot result (assigning_arguments assigned (row_labels (command_row kind) (map argument_of args.now)) (map argument_of args.now)) ≡ behind_kind (at_spot self assigned) (Some kind) (map argument_of args.now) }
     {
         Spot {
-            leads: self.leads && is_require(kind),
+            leads: leads_behind(self.leads, kind),
             follows_if: allows_else(kind),
             required: self.required_behind(kind, args),
         }

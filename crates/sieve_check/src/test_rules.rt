@@ -17,7 +17,7 @@ use std::alloc::Global;
 /// Checks a test apart from the tests in it.
 #[tactic(auto, using(crate::proofs::Heads::test_head_steps))]
 fn check_test_head(alloc: Global, context: Context<'_>, test: &Test) -> Result<(), CheckFault>
-    ensures { FindsIn (test_head (context_as context) test.now) result }
+    ensures { FindsIn (test_head (context_as context.entry) test.now) result }
 {
     let line = test.line;
     match test_named(&test.name) {
@@ -45,7 +45,7 @@ fn check_test_head(alloc: Global, context: Context<'_>, test: &Test) -> Result<(
 #[cycle(check_tests)]
 #[tactic(auto, using(crate::proofs::Heads::test_steps))]
 fn check_test(alloc: Global, context: Context<'_>, test: &Test) -> Result<(), CheckFault>
-    ensures { FindsIn (test_elements (context_as context) (test_of test.now)) result }
+    ensures { FindsIn (test_elements (context_as context.entry) (test_of test.now)) result }
 {
     check_test_head(alloc, context, test)?;
     check_tests(alloc, context, &test.tests)
@@ -55,7 +55,7 @@ fn check_test(alloc: Global, context: Context<'_>, test: &Test) -> Result<(), Ch
 #[cycle(check_tests)]
 #[tactic(auto, unfolding(crate::specs::Element::tests_elements))]
 pub(crate) fn check_tests(alloc: Global, context: Context<'_>, tests: &Tests) -> Result<(), CheckFault>
-    ensures { FindsIn (tests_elements (context_as context) (tests_of tests.now)) result }
+    ensures { FindsIn (tests_elements (context_as context.entry) (tests_of tests.now)) result }
 {
     match tests {
         Tests::None => Ok(()),
@@ -68,7 +68,7 @@ pub(crate) fn check_tests(alloc: Global, context: Context<'_>, tests: &Tests) ->
 #[cycle(check_tests)]
 #[tactic(auto, using(crate::proofs::Heads::list_steps))]
 fn check_test_list(alloc: Global, context: Context<'_>, list: &[Test]) -> Result<(), CheckFault>
-    ensures { FindsIn (test_list_elements (context_as context) (tests (map test_of list.now))) result }
+    ensures { FindsIn (test_list_elements (context_as context.entry) (tests (map test_of list.now))) result }
 {
     for test in list {
         check_test(alloc, context, test)?;
