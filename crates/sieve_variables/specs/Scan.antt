@@ -66,11 +66,9 @@ is_reference (octet c) = false
 is_reference (reference words) = true
 
 -- a reference with a namespace
-abbrev pub has_words_before : Piece → Bool
-has_words_before (octet c) = false
-has_words_before (reference []) = false
-has_words_before (reference (name ∷ [])) = false
-has_words_before (reference (namespace ∷ word ∷ words)) = true
+abbrev pub is_namespaced : Piece → Bool
+is_namespaced (octet c) = false
+is_namespaced (reference words) = nat_lt 1 (length words)
 
 -- a match variable whose number is past the limit
 abbrev pub is_far : Piece → Bool
@@ -84,7 +82,7 @@ abbrev pub has_reference : List ℕ → Bool
 has_reference text = list_any is_reference (pieces_of text)
 
 abbrev pub has_namespace : List ℕ → Bool
-has_namespace text = list_any has_words_before (pieces_of text)
+has_namespace text = list_any is_namespaced (pieces_of text)
 
 abbrev pub has_far_index : List ℕ → Bool
 has_far_index text = list_any is_far (pieces_of text)

@@ -5,7 +5,9 @@
 mod modifier;
 mod name;
 mod part;
+mod references;
 
 pub use modifier::{LetterCase, Modifiers};
 pub use name::{NameKind, folded, name_kind};
 pub use part::{Part, Parts, SmallOctets};
+pub use references::{References, parts_of, references_in};
