@@ -1,5 +1,5 @@
 -- The computed cut is the one cut.
-use Rattle.std.proofs.Common.{◌≡◌, ℕ, zero, suc, ◌+◌, ◌<◌, Bool, true, false, ◌&&◌, ◌||◌, ◌==◌, cond, List, [], ◌∷◌, ◌++◌, length, drop, Option, None, Some, refl, sym, ◌∙◌, ap, subst, append_assoc, arith}
+use Rattle.std.proofs.Common.{◌≡◌, ℕ, zero, suc, ◌+◌, ◌<◌, Bool, true, false, ◌&&◌, ◌||◌, ◌==◌, cond, List, [], ◌∷◌, ◌++◌, length, drop, Option, None, Some, refl, sym, ◌∙◌, ap, subst, append_assoc, length-append, arith}
 use Rattle.std.specs.List.{list_all}
 use Rattle.std.specs.Option.{option_map}
 use Rattle.std.proofs.lemmas.Bool.{eqb-true, false≢true}
@@ -176,11 +176,16 @@ cut_is (octet c ∷ pieces) text (nowhere, rest, is, cut) =
 
 -- the computed cut is one
 
+drop_two : (n : ℕ) (rest : List ℕ) → drop (suc (suc n)) rest ≡ drop (suc n) (drop 1 rest)
+drop_two n [] = refl
+drop_two n (c ∷ rest) = refl
+
 cuts_step : (c : ℕ) (rest : List ℕ) (found : Option (List ℕ)) → inside_at (c ∷ rest) ≡ found → Cuts (pieces_from (further_octets found) rest) (drop (further_octets found) rest) → Cuts (first_piece c found ∷ pieces_from (further_octets found) rest) (c ∷ rest)
 cuts_step c rest None is cut = (no_reference (c ∷ rest) is, rest, refl, cut)
 cuts_step c rest (Some inside) is cut =
     let begins = inside_at-begins (c ∷ rest) inside is in
-    (begins.legal, behind inside (c ∷ rest), written_at (c ∷ rest) inside begins, ? )
+    let same = ap (λ n. drop n rest) (two_more (length inside)) ∙ drop_two (length inside) rest in
+    (begins.legal, behind inside (c ∷ rest), written_at (c ∷ rest) inside begins, subst (Cuts (pieces_from (length inside + 2) rest)) same cut)
 
 pub cuts_from : (skip : ℕ) (text : List ℕ) → Cuts (pieces_from skip text) (drop skip text)
 unfolding pieces_from
@@ -188,3 +193,13 @@ cuts_from zero [] = refl
 cuts_from (suc skip) [] = refl
 cuts_from zero (c ∷ rest) = cuts_step c rest (inside_at (c ∷ rest)) refl (cuts_from (further_octets (inside_at (c ∷ rest))) rest)
 cuts_from (suc skip) (c ∷ rest) = cuts_from skip rest
+
+-- the octets of the reference with which a text begins
+
+pub inside_written : (text inside : List ℕ) → inside_at text ≡ Some inside → text ≡ written (words_of inside) ++ drop (suc (length inside)) (drop 2 text)
+inside_written text inside is = written_at text inside (inside_at-begins text inside is)
+
+pub length-written : (inside : List ℕ) → length (written (words_of inside)) ≡ length inside + 3
+length-written inside =
+    let whole : length (dotted (words_of inside) ++ 125 ∷ []) ≡ length inside + 1 = omega (arith, length-append (dotted (words_of inside)) (125 ∷ []), ap length (dotted-words_of inside)) in
+    omega arith

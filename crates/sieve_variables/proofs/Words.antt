@@ -175,6 +175,10 @@ legal_words namespace (word ∷ words) some = refl
 pub legal_cut : (inside namespace behind : List ℕ) → words_of inside ≡ namespace ∷ words_of behind → is_legal (words_of inside) ≡ (is_identifier namespace && list_all is_name (words_of behind))
 legal_cut inside namespace behind cut = ap is_legal cut ∙ legal_words namespace (words_of behind) (some_words behind)
 
+pub not_legal : (inside namespace behind : List ℕ) → words_of inside ≡ namespace ∷ words_of behind → is_identifier namespace ≡ false → false ≡ is_legal (words_of inside)
+not_legal inside namespace behind cut is =
+    sym (legal_cut inside namespace behind cut ∙ ap (λ b. b && list_all is_name (words_of behind)) is)
+
 pub names_cut : (inside word behind : List ℕ) → words_of inside ≡ word ∷ words_of behind → list_all is_name (words_of inside) ≡ (is_name word && list_all is_name (words_of behind))
 names_cut inside word behind cut = ap (list_all is_name) cut
 
@@ -214,7 +218,7 @@ pub far_word : (inside : List ℕ) → nat_lt 1 (length (words_of inside)) ≡ f
 far_word inside one = ap (λ words. is_far (reference words)) (one_word inside one)
 
 pub far_no : (inside : List ℕ) → nat_lt 1 (length (words_of inside)) ≡ false → is_number inside ≡ false → false ≡ is_far (reference (words_of inside))
-far_no inside one no = sym (far_word inside one ∙ ap (λ b. b && nat_lt 99 (index_of inside)) no)
+far_no inside one not_digits = sym (far_word inside one ∙ ap (λ b. b && nat_lt 99 (index_of inside)) not_digits)
 
 pub far_yes : (inside : List ℕ) → nat_lt 1 (length (words_of inside)) ≡ false → is_number inside ≡ true → nat_lt 99 (index_of inside) ≡ is_far (reference (words_of inside))
 far_yes inside one is = sym (far_word inside one ∙ ap (λ b. b && nat_lt 99 (index_of inside)) is)

@@ -1,5 +1,5 @@
 //! References to variables in strings (RFC 5229, section 3), and strings as their parts.
-ghost use Rattle.std.specs.Prelude.{◌≡◌, ◌++◌, ◌<◌, [], ◌∷◌, IfOk, OnOk, IfSome, MatchOption, length, map};
+ghost use Rattle.std.specs.Prelude.{◌≡◌, ◌++◌, ◌+◌, ◌<◌, ◌≤◌, [], ◌∷◌, IfOk, OnOk, IfSome, MatchOption, length, map};
 ghost use Rattle.std.specs.List.{list_all};
 ghost use Rattle.std.specs.Option.{option_map};
 ghost use Rattle.sieve_variables.specs.Part.{part_of_words};
@@ -64,8 +64,8 @@ pub fn references_in(text: &[u8]) -> References
             None => rest = behind,
             Some(inside) => {
                 any = true;
-                namespaced = namespaced || is_namespaced(inside);
-                far = far || is_far(inside);
+                namespaced |= is_namespaced(inside);
+                far |= is_far(inside);
                 rest = &rest[SIGN_COUNT + inside.len()..];
             }
         }
@@ -80,7 +80,8 @@ pub fn references_in(text: &[u8]) -> References
 // What stands between the braces of the reference with which the text begins.
 #[tactic(auto, unfolding(crate::specs::Scan::inside_at))]
 fn inside_at(text: &[u8]) -> Option<&[u8]>
-    ensures { option_map (λ inside. inside.now) result ≡ inside_at text.now }
+    ensures is { option_map (λ inside. inside.now) result ≡ inside_at text.now }
+    ensures within { IfSome result (λ inside. length inside.now + 3 ≤ length text.now) }
 {
     let [b'$', b'{', rest @ ..] = text else {
         return None;
@@ -92,7 +93,8 @@ fn inside_at(text: &[u8]) -> Option<&[u8]>
 // What stands before the first `}`, if only octets of words and dots do.
 #[tactic(auto, unfolding(crate::specs::Scan::before_brace))]
 fn before_brace(text: &[u8]) -> Option<&[u8]>
-    ensures { option_map (λ inside. inside.now) result ≡ before_brace text.now }
+    ensures is { option_map (λ inside. inside.now) result ≡ before_brace text.now }
+    ensures within { IfSome result (λ inside. length inside.now < length text.now) }
 {
     for (i, octet) in text.iter().enumerate() {
         if *octet == b'}' {
