@@ -35,12 +35,13 @@ pub fn parts_of(alloc: Global, text: &[u8]) -> Result<Parts, AllocError>
     let mut left = text;
     let mut plain = 0;
     while plain < left.len() {
-        match inside_at(&left[plain..]) {
+        let (octets, rest) = left.split_at(plain);
+        match inside_at(rest) {
             None => plain += 1,
             Some(inside) => {
-                let behind = plain + SIGN_COUNT + inside.len();
-                push_reference(alloc, &mut parts, inside, &left[..plain], &left[..behind])?;
-                left = &left[behind..];
+                let (written, behind) = left.split_at(plain + SIGN_COUNT + inside.len());
+                push_reference(alloc, &mut parts, inside, octets, written)?;
+                left = behind;
                 plain = 0;
             }
         }
@@ -59,14 +60,18 @@ pub fn references_in(text: &[u8]) -> References
     let mut namespaced = false;
     let mut far = false;
     let mut rest = text;
-    while let [_, behind @ ..] = rest {
+    while !rest.is_empty() {
         match inside_at(rest) {
-            None => rest = behind,
+            None => {
+                let (_, behind) = rest.split_at(1);
+                rest = behind;
+            }
             Some(inside) => {
                 any = true;
                 namespaced |= is_namespaced(inside);
                 far |= is_far(inside);
-                rest = &rest[SIGN_COUNT + inside.len()..];
+                let (_, behind) = rest.split_at(SIGN_COUNT + inside.len());
+                rest = behind;
             }
         }
     }

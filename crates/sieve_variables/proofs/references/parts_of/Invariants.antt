@@ -8,6 +8,7 @@ use Rattle.sieve_variables.proofs.references.parts_of.Given as goal
 abbrev pub invariant-loop-plain : goal.invariant-loop-plain
 invariant-loop-plain l = record {
   within : l.plain ≤ length l.left;
+  shorter : length l.left ≤ length l.text;
   parts : map part_of l.parts.items ++ in_front (take l.plain l.left) (parts_of (drop l.plain l.left)) ≡ parts_of l.text;
 }
 
