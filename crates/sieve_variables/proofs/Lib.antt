@@ -3,3 +3,4 @@ pub mod Words
 pub mod Cut
 pub mod Steps
 pub mod Written
+pub mod Rows

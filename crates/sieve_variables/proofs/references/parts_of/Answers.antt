@@ -1,4 +1,4 @@
-use Rattle.std.proofs.Common.{◌++◌, add-one, map, sym, ◌∙◌, ap, arith}
+use Rattle.std.proofs.Common.{◌≡◌, ◌+◌, ◌++◌, length, add-one, map, sym, ◌∙◌, ap, arith}
 use Rattle.sieve_variables.specs.Scan.{inside_at}
 use Rattle.sieve_variables.specs.view.Part.{part_of}
 use Rattle.sieve_variables.proofs.Steps.{last_step, parts_step, plain_step}
@@ -15,7 +15,20 @@ loop-plain-preserved-in-None c = record {
 }
 
 pub loop-plain-preserved : goal.loop-plain-preserved
-loop-plain-preserved c = ?
+loop-plain-preserved c =
+    let left = c.loop-plain.left.now in
+    let inside = c.in-Some.inside.now in
+    let plain = c.loop-plain.plain in
+    let found = c.in-Some.ensures.is ∙ ap inside_at c.split_at.ensures.back in
+    let length_is = c.split_at-in-Some.ensures.back_len in
+    let shorter = c.loop-plain.invariant.shorter in
+    let count : plain + 3 + length inside ≡ plain + (length inside + 3) = omega arith in
+    record {
+      within = omega arith;
+      shorter = omega arith;
+      parts =
+        parts_step (map part_of c.loop-plain.parts.items) (map part_of c.push_reference.new.parts.items) left plain (plain + 3 + length inside) inside c.split_at.result.0.now c.split_at-in-Some.result.0.now c.split_at-in-Some.result.1.now _ found count c.in_ok-push_reference-in-Some.ensures c.split_at.ensures.front c.split_at-in-Some.ensures.front c.split_at-in-Some.ensures.back c.loop-plain.invariant.parts;
+    }
 
 pub returns : goal.returns
 returns c =
