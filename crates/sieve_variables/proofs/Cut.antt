@@ -1,11 +1,11 @@
 -- The computed cut is the one cut.
-use Rattle.std.proofs.Common.{◌≡◌, ℕ, zero, suc, ◌+◌, ◌<◌, Bool, true, false, ◌&&◌, ◌||◌, ◌==◌, cond, List, [], ◌∷◌, ◌++◌, length, drop, Option, None, Some, refl, sym, ◌∙◌, ap, subst, append_assoc, length-append, arith}
+use Rattle.std.proofs.Common.{◌≡◌, ℕ, zero, suc, ◌+◌, Bool, true, false, ◌&&◌, ◌==◌, cond, List, [], ◌∷◌, ◌++◌, length, drop, Option, None, Some, refl, sym, ◌∙◌, ap, subst, append_assoc, length-append, arith}
 use Rattle.std.specs.List.{list_all}
 use Rattle.std.specs.Option.{option_map}
-use Rattle.std.proofs.lemmas.Bool.{eqb-true, false≢true}
+use Rattle.std.proofs.lemmas.Bool.{eqb-true}
 use Rattle.sieve_variables.specs.Reference.{Begins, Cuts, Piece, dotted, is_legal, octet, reference, written}
 use Rattle.sieve_variables.specs.Scan.{before_brace, first_piece, further_octets, if_legal, inside_at, is_inside, pieces_from, words_of}
-use Rattle.sieve_variables.proofs.Words.{both, dotted-words_of, dotted_inside, first_of_both, last_of_both, legal_octets, legal_some, not_brace, words_of-dotted}
+use Rattle.sieve_variables.proofs.Words.{dotted-words_of, dotted_inside, first_of_both, last_of_both, legal_octets, legal_some, not_brace, words_of-dotted}
 
 -- in front of a brace
 
@@ -80,9 +80,9 @@ sign_step c d rest inside true signs is =
     record {
       legal = found.0;
       is =
-        ap (λ one. one ∷ d ∷ rest) first
-        ∙ ap (λ one. 36 ∷ one ∷ rest) second
-        ∙ ap (λ text. 36 ∷ 123 ∷ text) (before_brace-ends rest inside found.1);
+          ap (λ one. one ∷ d ∷ rest) first
+          ∙ ap (λ one. 36 ∷ one ∷ rest) second
+          ∙ ap (λ text. 36 ∷ 123 ∷ text) (before_brace-ends rest inside found.1);
     }
 sign_step c d rest inside false signs is = absurd cc
 

@@ -1,5 +1,5 @@
 -- What a piece adds to what is found in a text, and to its parts.
-use Rattle.std.proofs.Common.{◌≡◌, ℕ, zero, suc, ◌+◌, ◌<◌, ◌≤◌, Bool, true, false, ◌||◌, nat_lt, cond, List, [], ◌∷◌, ◌++◌, length, take, drop, Option, None, Some, refl, sym, ◌∙◌, ap, append_assoc, arith}
+use Rattle.std.proofs.Common.{◌≡◌, ℕ, zero, suc, ◌+◌, ◌<◌, ◌≤◌, Bool, true, false, ◌||◌, nat_lt, cond, List, [], ◌∷◌, ◌++◌, length, take, drop, None, Some, refl, sym, ◌∙◌, ap, append_assoc, arith}
 use Rattle.std.specs.List.{list_any}
 use Rattle.std.proofs.Math.Seq.{take-add, take-append_seam}
 use Rattle.std.proofs.lemmas.Bool.{false≢true}
@@ -7,7 +7,7 @@ use Rattle.std.proofs.lemmas.List.{drop-drop}
 use Rattle.sieve_variables.specs.Name.{folded_name, index_of, is_identifier}
 use Rattle.sieve_variables.specs.Part.{Part, grouped, literal, local_part, match_part, octet_before, part_of_words}
 use Rattle.sieve_variables.specs.Reference.{Piece, octet, reference, written}
-use Rattle.sieve_variables.specs.Scan.{inside_at, is_namespaced, parts_of, pieces_from, words_of}
+use Rattle.sieve_variables.specs.Scan.{inside_at, parts_of, pieces_from, words_of}
 use Rattle.sieve_variables.specs.view.Part.{added, literal_part}
 use Rattle.sieve_variables.proofs.Cut.{inside_written, length-written, pieces-octet, pieces-reference}
 use Rattle.sieve_variables.proofs.Words.{one_word}

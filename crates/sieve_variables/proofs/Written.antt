@@ -1,5 +1,5 @@
 -- A text can be written for its parts.
-use Rattle.std.proofs.Common.{◌≡◌, ℕ, Bool, true, false, ◌||◌, cond, List, [], ◌∷◌, ◌++◌, refl, sym, ◌∙◌, ap, subst}
+use Rattle.std.proofs.Common.{◌≡◌, ℕ, Bool, true, false, ◌||◌, cond, List, [], ◌∷◌, ◌++◌, refl, sym, ap, subst}
 use Rattle.std.proofs.lemmas.Bool.{false≢true}
 use Rattle.sieve_variables.specs.Name.{folded_name, index_of, is_identifier, is_number}
 use Rattle.sieve_variables.specs.Part.{AreWritten, Part, grouped, literal, local_part, match_part, octet_before, part_of_words}

@@ -9,9 +9,9 @@ loop-plain-preserved-in-None c = record {
   within = omega arith;
   shorter = c.loop-plain.invariant.shorter;
   parts =
-    ap (λ further. map part_of c.loop-plain.parts.items ++ further)
-    (rw add-one (plain_step c.loop-plain.left.now c.loop-plain.plain c.loop-plain-test.true (c.in-None.ensures.is ∙ ap inside_at c.split_at.ensures.back)))
-    ∙ c.loop-plain.invariant.parts;
+      ap (λ further. map part_of c.loop-plain.parts.items ++ further)
+      (rw add-one (plain_step c.loop-plain.left.now c.loop-plain.plain c.loop-plain-test.true (c.in-None.ensures.is ∙ ap inside_at c.split_at.ensures.back)))
+      ∙ c.loop-plain.invariant.parts;
 }
 
 pub loop-plain-preserved : goal.loop-plain-preserved
@@ -27,7 +27,7 @@ loop-plain-preserved c =
       within = omega arith;
       shorter = omega arith;
       parts =
-        parts_step (map part_of c.loop-plain.parts.items) (map part_of c.push_reference.new.parts.items) left plain (plain + 3 + length inside) inside c.split_at.result.0.now c.split_at-in-Some.result.0.now c.split_at-in-Some.result.1.now _ found count c.in_ok-push_reference-in-Some.ensures c.split_at.ensures.front c.split_at-in-Some.ensures.front c.split_at-in-Some.ensures.back c.loop-plain.invariant.parts;
+          parts_step (map part_of c.loop-plain.parts.items) (map part_of c.push_reference.new.parts.items) left plain (plain + 3 + length inside) inside c.split_at.result.0.now c.split_at-in-Some.result.0.now c.split_at-in-Some.result.1.now _ found count c.in_ok-push_reference-in-Some.ensures c.split_at.ensures.front c.split_at-in-Some.ensures.front c.split_at-in-Some.ensures.back c.loop-plain.invariant.parts;
     }
 
 pub returns : goal.returns

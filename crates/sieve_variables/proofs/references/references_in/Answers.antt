@@ -1,4 +1,4 @@
-use Rattle.std.proofs.Common.{◌≡◌, ◌<◌, ◌+◌, length, drop, refl, sym, ◌∙◌, ap, arith}
+use Rattle.std.proofs.Common.{◌≡◌, ◌<◌, length, refl, arith}
 use Rattle.std.proofs.lemmas.Bool.{eqb-false, eqb-true}
 use Rattle.sieve_variables.specs.Scan.{is_far, is_namespaced, is_reference}
 use Rattle.sieve_variables.proofs.Steps.{passed_all, passed_octet, passed_reference, true_once}
@@ -26,10 +26,10 @@ loop-rest-preserved c =
     let is = c.split_at-in-Some.ensures.back in
     record {
       any =
-        true_once c.loop-rest.any _ _
-        (passed_reference is_reference rest inside behind c.loop-rest.any _ _ found refl is c.loop-rest.invariant.any);
+          true_once c.loop-rest.any _ _
+          (passed_reference is_reference rest inside behind c.loop-rest.any _ _ found refl is c.loop-rest.invariant.any);
       namespaced =
-        passed_reference is_namespaced rest inside behind c.loop-rest.namespaced _ _ found c.is_namespaced-namespaced.ensures is c.loop-rest.invariant.namespaced;
+          passed_reference is_namespaced rest inside behind c.loop-rest.namespaced _ _ found c.is_namespaced-namespaced.ensures is c.loop-rest.invariant.namespaced;
       far = passed_reference is_far rest inside behind c.loop-rest.far _ _ found c.is_far-far.ensures is c.loop-rest.invariant.far;
     }
 
