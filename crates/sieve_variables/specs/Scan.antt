@@ -25,7 +25,7 @@ unfoldable pub before_brace : List ℕ → Option (List ℕ)
 before_brace [] = None
 before_brace (c ∷ rest) = if c == octet_of "}" then Some [] else if is_inside c then option_map (λ inside. c ∷ inside) (before_brace rest) else None
 
--- where its words are those of a reference
+-- the same, but only where its words are those of a reference
 abbrev pub if_legal : Option (List ℕ) → Option (List ℕ)
 if_legal None = None
 if_legal (Some inside) = if is_legal (words_of inside) then Some inside else None
@@ -60,31 +60,31 @@ pieces_of text = pieces_from 0 text
 abbrev pub parts_of : List ℕ → List Part
 parts_of text = grouped (pieces_of text)
 
--- a reference
+-- whether a piece is a reference
 abbrev pub is_reference : Piece → Bool
 is_reference (octet c) = false
 is_reference (reference words) = true
 
--- a reference with a namespace
-abbrev pub has_words_before : Piece → Bool
-has_words_before (octet c) = false
-has_words_before (reference []) = false
-has_words_before (reference (name ∷ [])) = false
-has_words_before (reference (namespace ∷ word ∷ words)) = true
+-- whether it is one with a namespace: of more than one word
+abbrev pub is_namespaced : Piece → Bool
+is_namespaced (octet c) = false
+is_namespaced (reference words) = nat_lt 1 (length words)
 
--- a match variable whose number is past the limit
+-- whether it is one to a match variable whose number is past the limit (RFC 5229, section 6)
 abbrev pub is_far : Piece → Bool
 is_far (octet c) = false
 is_far (reference []) = false
 is_far (reference (name ∷ [])) = is_number name && nat_lt match_limit (index_of name)
 is_far (reference (namespace ∷ word ∷ words)) = false
 
--- whether some piece of a text is one
+-- whether a text has a reference
 abbrev pub has_reference : List ℕ → Bool
 has_reference text = list_any is_reference (pieces_of text)
 
+-- whether it has one with a namespace
 abbrev pub has_namespace : List ℕ → Bool
-has_namespace text = list_any has_words_before (pieces_of text)
+has_namespace text = list_any is_namespaced (pieces_of text)
 
+-- whether it has one to a match variable whose number is past the limit
 abbrev pub has_far_index : List ℕ → Bool
 has_far_index text = list_any is_far (pieces_of text)

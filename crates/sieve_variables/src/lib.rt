@@ -2,10 +2,13 @@
 //! strings, modifiers, and what strings stand for while a script runs.
 #![tactic(auto)]
 
+pub mod laws;
 mod modifier;
 mod name;
 mod part;
+mod references;
 
 pub use modifier::{LetterCase, Modifiers};
 pub use name::{NameKind, folded, name_kind};
 pub use part::{Part, Parts, SmallOctets};
+pub use references::{References, parts_of, references_in};

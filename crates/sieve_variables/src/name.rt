@@ -12,6 +12,9 @@ use std::alloc::{AllocError, Global};
 /// The first number that no match variable has.
 const PAST_MATCH_LIMIT: u16 = MAX_MATCH as u16 + 1;
 
+/// The namespace of the variables that scripts share, and its dot (RFC 6609, section 3.4.2).
+const GLOBAL_PREFIX: &[u8] = b"global.";
+
 /// What a string names where the name of a variable is taken.
 #[derive(Clone, Copy, Debug, PartialEq, Eq)]
 pub enum NameKind {
@@ -82,8 +85,8 @@ pub(crate) fn is_identifier(name: &[u8]) -> bool
 fn is_global_name(name: &[u8]) -> bool
     ensures { result ≡ is_global_name name.now }
 {
-    let (prefix, rest) = name.split_at(name.len().min(7));
-    b"global.".eq_ignore_ascii_case(prefix) && is_identifier(rest)
+    let (prefix, rest) = name.split_at(name.len().min(GLOBAL_PREFIX.len()));
+    GLOBAL_PREFIX.eq_ignore_ascii_case(prefix) && is_identifier(rest)
 }
 
 // Whether all of the octets are digits.

@@ -1,5 +1,8 @@
 -- The program's parts.
-use Rattle.sieve_variables.specs.Part.{Part, literal, local_part, match_part}
+use Rattle.std.specs.Prelude.{ℕ, List, [], ◌∷◌, ◌++◌, if◌then◌else◌}
+use Rattle.sieve_variables.specs.Part.{Part, literal, local_part, match_part, part_of_words}
+use Rattle.sieve_variables.specs.Reference.{reference}
+use Rattle.sieve_variables.specs.Scan.{is_namespaced, words_of}
 use Rattle.sieve_variables.specs.declared.part.Part as parts
 use Rattle.sieve_variables.specs.declared.part.Part.TheVariants as variants
 
@@ -7,3 +10,14 @@ abbrev pub part_of : parts.Part → Part
 part_of (variants.Literal octets) = literal octets.items
 part_of (variants.Local name) = local_part name.items
 part_of (variants.Match index) = match_part index
+
+-- octets as a literal, if there are any
+abbrev pub literal_part : List ℕ → List Part
+literal_part [] = []
+literal_part (c ∷ octets) = literal (c ∷ octets) ∷ []
+
+-- What a reference adds to the parts, by what stands inside it, by the octets in front of it that aren't in the parts yet, and by
+-- these and the reference as they are written.
+abbrev pub added : (inside octets written : List ℕ) → List Part
+added inside octets written =
+    if is_namespaced (reference (words_of inside)) then literal_part written else literal_part octets ++ part_of_words (inside ∷ []) ∷ []

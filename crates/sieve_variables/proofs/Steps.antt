@@ -1,0 +1,158 @@
+-- What a piece adds to what is found in a text, and to its parts.
+use Rattle.std.proofs.Common.{◌≡◌, ℕ, zero, suc, ◌+◌, ◌<◌, ◌≤◌, Bool, true, false, ◌||◌, nat_lt, cond, List, [], ◌∷◌, ◌++◌, length, take, drop, None, Some, refl, sym, ◌∙◌, ap, append_assoc, arith}
+use Rattle.std.specs.List.{list_any}
+use Rattle.std.proofs.Math.Seq.{take-add, take-append_seam}
+use Rattle.std.proofs.lemmas.Bool.{false≢true}
+use Rattle.std.proofs.lemmas.List.{drop-drop}
+use Rattle.sieve_variables.specs.Name.{folded_name, index_of, is_identifier}
+use Rattle.sieve_variables.specs.Part.{Part, grouped, literal, local_part, match_part, octet_before, part_of_words}
+use Rattle.sieve_variables.specs.Reference.{Piece, octet, reference, written}
+use Rattle.sieve_variables.specs.Scan.{inside_at, parts_of, pieces_from, words_of}
+use Rattle.sieve_variables.specs.view.Part.{added, literal_part}
+use Rattle.sieve_variables.proofs.Cut.{inside_written, length-written, pieces-octet, pieces-reference}
+use Rattle.sieve_variables.proofs.Words.{one_word}
+
+-- what is found
+
+none_at_end : inside_at [] ≡ None
+unfolding inside_at
+none_at_end = refl
+
+or_or : (a b more all : Bool) → (a || (b || more)) ≡ all → ((a || b) || more) ≡ all
+or_or true b more all is = is
+or_or false b more all is = is
+
+pub true_once : (a more all : Bool) → ((a || true) || more) ≡ all → true ≡ all
+true_once true more all is = is
+true_once false more all is = is
+
+any_octet : (p : Piece → Bool) → ((c : ℕ) → p (octet c) ≡ false) → (text : List ℕ) → 0 < length text → None ≡ inside_at text → list_any p (pieces_from 0 text) ≡ list_any p (pieces_from 0 (drop 1 text))
+any_octet p never [] some none = absurd (omega arith)
+any_octet p never (c ∷ rest) some none =
+    ap (list_any p) (pieces-octet c rest (sym none)) ∙ ap (λ b. b || list_any p (pieces_from 0 rest)) (never c)
+
+any_reference : (p : Piece → Bool) (text inside : List ℕ) → Some inside ≡ inside_at text → list_any p (pieces_from 0 text) ≡ (p (reference (words_of inside)) || list_any p (pieces_from 0 (drop (3 + length inside) text)))
+any_reference p [] inside found =
+    let none = none_at_end in absurd cc
+any_reference p (c ∷ rest) inside found =
+    let same : 3 + length inside ≡ suc (length inside + 2) = omega arith in
+    ap (list_any p) (pieces-reference c rest inside (sym found))
+    ∙ ap (λ n. p (reference (words_of inside)) || list_any p (pieces_from 0 (drop n (c ∷ rest)))) (sym same)
+
+pub passed_octet : (p : Piece → Bool) → ((c : ℕ) → p (octet c) ≡ false) → (text behind : List ℕ) (found all : Bool) → 0 < length text → None ≡ inside_at text → behind ≡ drop 1 text → (found || list_any p (pieces_from 0 text)) ≡ all → (found || list_any p (pieces_from 0 behind)) ≡ all
+passed_octet p never text behind found all some none is so_far =
+    ap (λ one. found || list_any p (pieces_from 0 one)) is
+    ∙ ap (λ b. found || b) (sym (any_octet p never text some none))
+    ∙ so_far
+
+pub passed_reference : (p : Piece → Bool) (text inside behind : List ℕ) (found said all : Bool) → Some inside ≡ inside_at text → said ≡ p (reference (words_of inside)) → behind ≡ drop (3 + length inside) text → (found || list_any p (pieces_from 0 text)) ≡ all → ((found || said) || list_any p (pieces_from 0 behind)) ≡ all
+passed_reference p text inside behind found said all reads says is so_far =
+    ap (λ b. (found || b) || list_any p (pieces_from 0 behind)) says
+    ∙ ap (λ one. (found || p (reference (words_of inside))) || list_any p (pieces_from 0 one)) is
+    ∙ or_or found (p (reference (words_of inside))) (list_any p (pieces_from 0 (drop (3 + length inside) text))) all
+    (ap (λ b. found || b) (sym (any_reference p text inside reads)) ∙ so_far)
+
+or_false : (a all : Bool) → (a || false) ≡ all → a ≡ all
+or_false true all is = is
+or_false false all is = is
+
+pub passed_all : (p : Piece → Bool) (rest : List ℕ) (found all : Bool) → length rest ≡ 0 → (found || list_any p (pieces_from 0 rest)) ≡ all → found ≡ all
+unfolding pieces_from
+passed_all p [] found all ended is = or_false found all is
+passed_all p (c ∷ rest) found all ended is = absurd (omega arith)
+
+-- parts with octets in front of them
+abbrev pub in_front : List ℕ → List Part → List Part
+in_front [] parts = parts
+in_front (c ∷ octets) parts = octet_before c (in_front octets parts)
+
+pub plain_step : (left : List ℕ) (plain : ℕ) → plain < length left → None ≡ inside_at (drop plain left) → in_front (take (suc plain) left) (parts_of (drop (suc plain) left)) ≡ in_front (take plain left) (parts_of (drop plain left))
+plain_step [] plain within none = absurd (omega arith)
+plain_step (c ∷ rest) zero within none = ap grouped (sym (pieces-octet c rest (sym none)))
+plain_step (c ∷ rest) (suc plain) within none = ap (octet_before c) (plain_step rest plain (omega arith) none)
+
+literal_more : (c : ℕ) (octets : List ℕ) → octet_before c (literal_part octets) ≡ literal (c ∷ octets) ∷ []
+literal_more c [] = refl
+literal_more c (d ∷ octets) = refl
+
+none_left : parts_of [] ≡ []
+unfolding pieces_from
+none_left = refl
+
+pub last_step : (left : List ℕ) (plain : ℕ) → length left ≤ plain → in_front (take plain left) (parts_of (drop plain left)) ≡ literal_part left
+last_step [] zero ended = none_left
+last_step [] (suc plain) ended = none_left
+last_step (c ∷ rest) zero ended = absurd (omega arith)
+last_step (c ∷ rest) (suc plain) ended = ap (octet_before c) (last_step rest plain (omega arith)) ∙ literal_more c rest
+
+in_front-local : (octets name : List ℕ) (parts : List Part) → in_front octets (local_part name ∷ parts) ≡ literal_part octets ++ local_part name ∷ parts
+in_front-local [] name parts = refl
+in_front-local (c ∷ []) name parts = refl
+in_front-local (c ∷ d ∷ octets) name parts = ap (octet_before c) (in_front-local (d ∷ octets) name parts)
+
+in_front-match : (octets : List ℕ) (index : ℕ) (parts : List Part) → in_front octets (match_part index ∷ parts) ≡ literal_part octets ++ match_part index ∷ parts
+in_front-match [] index parts = refl
+in_front-match (c ∷ []) index parts = refl
+in_front-match (c ∷ d ∷ octets) index parts = ap (octet_before c) (in_front-match (d ∷ octets) index parts)
+
+in_front-literal : (octets further : List ℕ) (parts : List Part) → in_front octets (literal further ∷ parts) ≡ literal (octets ++ further) ∷ parts
+in_front-literal [] further parts = refl
+in_front-literal (c ∷ octets) further parts = ap (octet_before c) (in_front-literal octets further parts)
+
+word_in_front : (octets word : List ℕ) (parts : List Part) (b : Bool) → in_front octets (cond b (local_part (folded_name word)) (match_part (index_of word)) ∷ parts) ≡ literal_part octets ++ cond b (local_part (folded_name word)) (match_part (index_of word)) ∷ parts
+word_in_front octets word parts true = in_front-local octets (folded_name word) parts
+word_in_front octets word parts false = in_front-match octets (index_of word) parts
+
+namespaced_part : (words : List (List ℕ)) → nat_lt 1 (length words) ≡ true → part_of_words words ≡ literal (written words)
+namespaced_part [] more_than_one = absurd (false≢true more_than_one)
+namespaced_part (word ∷ []) more_than_one = absurd (false≢true more_than_one)
+namespaced_part (word ∷ next ∷ words) more_than_one = refl
+
+literal_written : (octets : List ℕ) (words : List (List ℕ)) → literal_part (octets ++ written words) ≡ literal (octets ++ written words) ∷ []
+literal_written [] words = refl
+literal_written (c ∷ octets) words = refl
+
+take_more : (left : List ℕ) (plain n : ℕ) (further rest : List ℕ) → drop plain left ≡ further ++ rest → n ≡ plain + length further → take n left ≡ take plain left ++ further
+take_more left plain n further rest is same =
+    ap (λ m. take m left) same
+    ∙ take-add plain (length further) left
+    ∙ ap (λ text. take plain left ++ take (length further) text) is
+    ∙ ap (λ text. take plain left ++ text) (take-append_seam further rest)
+
+reference_at : (text inside : List ℕ) → Some inside ≡ inside_at text → parts_of text ≡ part_of_words (words_of inside) ∷ parts_of (drop (suc (length inside + 2)) text)
+reference_at [] inside found = let none = none_at_end in absurd cc
+reference_at (c ∷ rest) inside found = ap grouped (pieces-reference c rest inside (sym found))
+
+added_step : (octets all inside : List ℕ) (parts : List Part) (b : Bool) → nat_lt 1 (length (words_of inside)) ≡ b → all ≡ octets ++ written (words_of inside) → in_front octets (part_of_words (words_of inside) ∷ parts) ≡ cond b (literal_part all) (literal_part octets ++ part_of_words (inside ∷ []) ∷ []) ++ parts
+added_step octets all inside parts true more_than_one is =
+    ap (λ part. in_front octets (part ∷ parts)) (namespaced_part (words_of inside) more_than_one)
+    ∙ in_front-literal octets (written (words_of inside)) parts
+    ∙ ap (λ first. first ++ parts) (sym (literal_written octets (words_of inside)))
+    ∙ ap (λ one. literal_part one ++ parts) (sym is)
+added_step octets all inside parts false one is =
+    ap (λ words. in_front octets (part_of_words words ∷ parts)) (one_word inside one)
+    ∙ word_in_front octets inside parts (is_identifier inside)
+    ∙ sym (append_assoc (literal_part octets) (part_of_words (inside ∷ []) ∷ []) parts)
+
+pub reference_step : (left : List ℕ) (plain n : ℕ) (inside : List ℕ) → Some inside ≡ inside_at (drop plain left) → n ≡ plain + (length inside + 3) → in_front (take plain left) (parts_of (drop plain left)) ≡ added inside (take plain left) (take n left) ++ parts_of (drop n left)
+reference_step left plain n inside found same =
+    let text = drop plain left in
+    let sum : n ≡ plain + length (written (words_of inside)) = omega (arith, length-written inside) in
+    let all : take n left ≡ take plain left ++ written (words_of inside) =
+    take_more left plain n (written (words_of inside)) (drop (suc (length inside)) (drop 2 text)) (inside_written text inside (sym found)) sum in
+    let count : plain + suc (length inside + 2) ≡ n = omega arith in
+    let behind : drop (suc (length inside + 2)) text ≡ drop n left =
+    drop-drop (suc (length inside + 2)) plain left ∙ ap (λ m. drop m left) count in
+    ap (in_front (take plain left)) (reference_at text inside found)
+    ∙ added_step (take plain left) (take n left) inside (parts_of (drop (suc (length inside + 2)) text)) (nat_lt 1 (length (words_of inside))) refl all
+    ∙ ap (λ one. added inside (take plain left) (take n left) ++ parts_of one) behind
+
+pub parts_step : (done next : List Part) (left : List ℕ) (plain n : ℕ) (inside octets all behind : List ℕ) (whole : List Part) → Some inside ≡ inside_at (drop plain left) → n ≡ plain + (length inside + 3) → next ≡ done ++ added inside octets all → octets ≡ take plain left → all ≡ take n left → behind ≡ drop n left → done ++ in_front (take plain left) (parts_of (drop plain left)) ≡ whole → next ++ parts_of behind ≡ whole
+parts_step done next left plain n inside octets all behind whole found same next_is octets_is all_is behind_is so_far =
+    ap (λ one. one ++ parts_of behind) next_is
+    ∙ ap (λ one. (done ++ added inside one all) ++ parts_of behind) octets_is
+    ∙ ap (λ one. (done ++ added inside (take plain left) one) ++ parts_of behind) all_is
+    ∙ ap (λ one. (done ++ added inside (take plain left) (take n left)) ++ parts_of one) behind_is
+    ∙ append_assoc done (added inside (take plain left) (take n left)) (parts_of (drop n left))
+    ∙ ap (λ further. done ++ further) (sym (reference_step left plain n inside found same))
+    ∙ so_far

@@ -1,0 +1,29 @@
+-- A text can be written for its parts.
+use Rattle.std.proofs.Common.{◌≡◌, ℕ, Bool, true, false, ◌||◌, cond, List, [], ◌∷◌, ◌++◌, refl, sym, ap, subst}
+use Rattle.std.proofs.lemmas.Bool.{false≢true}
+use Rattle.sieve_variables.specs.Name.{folded_name, index_of, is_identifier, is_number}
+use Rattle.sieve_variables.specs.Part.{AreWritten, Part, grouped, literal, local_part, match_part, octet_before, part_of_words}
+use Rattle.sieve_variables.specs.Reference.{Cuts, Piece, is_legal, octet, reference, written}
+
+octet_written : (c : ℕ) (parts : List Part) (rest : List ℕ) → AreWritten parts rest → AreWritten (octet_before c parts) (c ∷ rest)
+octet_written c [] rest is = (rest, refl, is)
+octet_written c (literal octets ∷ parts) rest (further, is, behind) = (further, ap (λ text. c ∷ text) is, behind)
+octet_written c (local_part name ∷ parts) rest is = (rest, refl, is)
+octet_written c (match_part index ∷ parts) rest is = (rest, refl, is)
+
+word_written : (word : List ℕ) (parts : List Part) (text rest : List ℕ) (b : Bool) → is_identifier word ≡ b → (b || is_number word) ≡ true → text ≡ written (word ∷ []) ++ rest → AreWritten parts rest → AreWritten (cond b (local_part (folded_name word)) (match_part (index_of word)) ∷ parts) text
+word_written word parts text rest true kind legal is behind = (word, rest, kind, refl, is, behind)
+word_written word parts text rest false kind legal is behind = (word, rest, legal, refl, is, behind)
+
+reference_written : (words : List (List ℕ)) (parts : List Part) (text rest : List ℕ) → is_legal words ≡ true → text ≡ written words ++ rest → AreWritten parts rest → AreWritten (part_of_words words ∷ parts) text
+reference_written [] parts text rest legal is behind = absurd (false≢true legal)
+reference_written (word ∷ []) parts text rest legal is behind =
+    word_written word parts text rest (is_identifier word) refl legal is behind
+reference_written (namespace ∷ word ∷ words) parts text rest legal is behind = (rest, is, behind)
+
+pub grouped-written : (pieces : List Piece) (text : List ℕ) → Cuts pieces text → AreWritten (grouped pieces) text
+grouped-written [] text is = is
+grouped-written (reference words ∷ pieces) text (legal, rest, is, cut) =
+    reference_written words (grouped pieces) text rest legal is (grouped-written pieces rest cut)
+grouped-written (octet c ∷ pieces) text (nowhere, rest, is, cut) =
+    subst (AreWritten (octet_before c (grouped pieces))) (sym is) (octet_written c (grouped pieces) rest (grouped-written pieces rest cut))

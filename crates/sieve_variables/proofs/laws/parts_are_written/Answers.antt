@@ -1,0 +1,7 @@
+use Rattle.sieve_variables.specs.Scan.{pieces_of}
+use Rattle.sieve_variables.proofs.Cut.{cuts_from}
+use Rattle.sieve_variables.proofs.Written.{grouped-written}
+use Rattle.sieve_variables.proofs.laws.parts_are_written.Goals as goal
+
+pub returns : goal.returns
+returns c = λ text. grouped-written (pieces_of text) text (cuts_from 0 text)

@@ -1,0 +1,226 @@
+//! References to variables in strings (RFC 5229, section 3), and strings as their parts.
+ghost use Rattle.std.specs.Prelude.{◌≡◌, ◌++◌, ◌+◌, ◌<◌, ◌≤◌, [], ◌∷◌, IfOk, OnOk, IfSome, MatchOption, length, map};
+ghost use Rattle.std.specs.List.{list_all};
+ghost use Rattle.std.specs.Option.{option_map};
+ghost use Rattle.sieve_variables.specs.Part.{part_of_words};
+ghost use Rattle.sieve_variables.specs.Reference.{is_legal, is_name, reference};
+ghost use Rattle.sieve_variables.specs.Scan.{before_brace, has_far_index, has_namespace, has_reference, inside_at, is_dot, is_far, is_inside, is_namespaced, parts_of, words_of};
+ghost use Rattle.sieve_variables.specs.view.Part.{added, literal_part, part_of};
+
+use crate::name::{folded, index_of, is_identifier, is_name, is_name_octet, is_number};
+use crate::part::{Part, Parts, SmallOctets};
+use sieve_base::limits::MAX_MATCH;
+use std::alloc::{AllocError, Global};
+
+/// What references a text has.
+#[derive(Clone, Copy, Debug, PartialEq, Eq)]
+pub struct References {
+    /// Whether it has one.
+    pub any: bool,
+    /// Whether one of them has a namespace.
+    pub namespaced: bool,
+    /// Whether one of them is to a match variable whose number is past the limit.
+    pub far: bool,
+}
+
+// How many octets of a reference don't stand between its braces: `${` and `}`.
+const SIGN_COUNT: usize = 3;
+
+/// The parts of a text.
+pub fn parts_of(alloc: Global, text: &[u8]) -> Result<Parts, AllocError>
+    ensures { IfOk result (λ parts. map part_of parts.items ≡ parts_of text.now) }
+{
+    let mut parts = Parts::new(alloc);
+    // What isn't yet in the parts, and how many of its octets are known to stand for themselves.
+    let mut left = text;
+    let mut plain = 0;
+    while plain < left.len() {
+        let (octets, rest) = left.split_at(plain);
+        match inside_at(rest) {
+            None => plain += 1,
+            Some(inside) => {
+                let (written, behind) = left.split_at(plain + SIGN_COUNT + inside.len());
+                push_reference(alloc, &mut parts, inside, octets, written)?;
+                left = behind;
+                plain = 0;
+            }
+        }
+    }
+    push_literal(alloc, &mut parts, left)?;
+    Ok(parts)
+}
+
+/// What references the text has.
+pub fn references_in(text: &[u8]) -> References
+    ensures any { result.any ≡ has_reference text.now }
+    ensures namespaced { result.namespaced ≡ has_namespace text.now }
+    ensures far { result.far ≡ has_far_index text.now }
+{
+    let mut any = false;
+    let mut namespaced = false;
+    let mut far = false;
+    let mut rest = text;
+    while !rest.is_empty() {
+        match inside_at(rest) {
+            None => {
+                let (_, behind) = rest.split_at(1);
+                rest = behind;
+            }
+            Some(inside) => {
+                any = true;
+                namespaced |= is_namespaced(inside);
+                far |= is_far(inside);
+                let (_, behind) = rest.split_at(SIGN_COUNT + inside.len());
+                rest = behind;
+            }
+        }
+    }
+    References {
+        any,
+        namespaced,
+        far,
+    }
+}
+
+// What stands between the braces of the reference with which the text begins.
+#[tactic(auto, unfolding(crate::specs::Scan::inside_at))]
+fn inside_at(text: &[u8]) -> Option<&[u8]>
+    ensures is { option_map (λ inside. inside.now) result ≡ inside_at text.now }
+    ensures within { IfSome result (λ inside. length inside.now + 3 ≤ length text.now) }
+{
+    let [b'$', b'{', rest @ ..] = text else {
+        return None;
+    };
+    let inside = before_brace(rest)?;
+    if is_legal(inside) { Some(inside) } else { None }
+}
+
+// What stands before the first `}`, if only octets of words and dots do.
+#[tactic(auto, unfolding(crate::specs::Scan::before_brace))]
+fn before_brace(text: &[u8]) -> Option<&[u8]>
+    ensures is { option_map (λ inside. inside.now) result ≡ before_brace text.now }
+    ensures within { IfSome result (λ inside. length inside.now < length text.now) }
+{
+    for (i, octet) in text.iter().enumerate() {
+        if *octet == b'}' {
+            return Some(&text[..i]);
+        }
+        if !is_inside(*octet) {
+            return None;
+        }
+    }
+    None
+}
+
+fn is_dot(octet: u8) -> bool
+    ensures { result ≡ is_dot octet }
+{
+    octet == b'.'
+}
+
+fn is_inside(octet: u8) -> bool
+    ensures { result ≡ is_inside octet }
+{
+    is_name_octet(octet) || is_dot(octet)
+}
+
+// Cuts at the first dot: the first word, and what stands behind the dot.
+fn cut(inside: &[u8]) -> Option<(&[u8], &[u8])>
+    ensures words { MatchOption result (words_of inside.now ≡ inside.now ∷ []) (λ cut. words_of inside.now ≡ cut.0.now ∷ words_of cut.1.now) }
+    ensures shorter { IfSome result (λ cut. length cut.1.now < length inside.now) }
+{
+    for (i, octet) in inside.iter().enumerate() {
+        if is_dot(*octet) {
+            return Some((&inside[..i], &inside[i + 1..]));
+        }
+    }
+    None
+}
+
+// Whether what stands between braces are the words of a reference.
+#[tactic(auto, using(crate::proofs::Words::legal_cut))]
+fn is_legal(inside: &[u8]) -> bool
+    ensures { result ≡ is_legal (words_of inside.now) }
+{
+    let Some((namespace, words)) = cut(inside) else {
+        return is_name(inside);
+    };
+    if !is_identifier(namespace) {
+        return false;
+    }
+    are_names(words)
+}
+
+// Whether the words between dots are names.
+#[tactic(auto, using(crate::proofs::Words::names_cut))]
+fn are_names(inside: &[u8]) -> bool
+    ensures { result ≡ list_all is_name (words_of inside.now) }
+{
+    let mut left = inside;
+    while let Some((word, words)) = cut(left) {
+        if !is_name(word) {
+            return false;
+        }
+        left = words;
+    }
+    is_name(left)
+}
+
+// Whether the words of a reference are more than one.
+fn is_namespaced(inside: &[u8]) -> bool
+    ensures { result ≡ is_namespaced (reference (words_of inside.now)) }
+{
+    inside.contains(&b'.')
+}
+
+// Whether a reference is to a match variable whose number is past the limit.
+fn is_far(inside: &[u8]) -> bool
+    ensures { result ≡ is_far (reference (words_of inside.now)) }
+{
+    if is_namespaced(inside) {
+        return false;
+    }
+    if !is_number(inside) {
+        return false;
+    }
+    index_of(inside) > MAX_MATCH
+}
+
+// Adds the octets as a literal, if there are any.
+fn push_literal(alloc: Global, parts: &mut Parts, octets: &[u8]) -> Result<(), AllocError>
+    ensures { OnOk result (map part_of parts.new.items ≡ map part_of parts.old.items ++ literal_part octets.now) }
+{
+    if !octets.is_empty() {
+        parts.push(Part::Literal(SmallOctets::from_slice(alloc, octets)?))?;
+    }
+    Ok(())
+}
+
+// What a word refers to that is a reference alone.
+fn part_of_word(alloc: Global, word: &[u8]) -> Result<Part, AllocError>
+    ensures { IfOk result (λ part. part_of part ≡ part_of_words (word.now ∷ [])) }
+{
+    if is_identifier(word) {
+        Ok(Part::Local(folded(alloc, word)?))
+    } else {
+        Ok(Part::Match(index_of(word)))
+    }
+}
+
+// Adds a reference behind octets that stand for themselves; `written` is both.
+fn push_reference(
+    alloc: Global,
+    parts: &mut Parts,
+    inside: &[u8],
+    octets: &[u8],
+    written: &[u8],
+) -> Result<(), AllocError>
+    ensures { OnOk result (map part_of parts.new.items ≡ map part_of parts.old.items ++ added inside.now octets.now written.now) }
+{
+    if is_namespaced(inside) {
+        return push_literal(alloc, parts, written);
+    }
+    push_literal(alloc, parts, octets)?;
+    parts.push(part_of_word(alloc, inside)?)?;
+    Ok(())
+}
