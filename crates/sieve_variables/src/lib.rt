@@ -5,7 +5,9 @@
 mod modifier;
 mod name;
 mod part;
+mod values;
 
 pub use modifier::{LetterCase, Modifiers};
 pub use name::NameKind;
 pub use part::{Part, Parts, SmallOctets};
+pub use values::Values;
