@@ -2,6 +2,7 @@
 //! strings, modifiers, and what strings stand for while a script runs.
 #![tactic(auto)]
 
+mod expansion;
 mod modifier;
 mod name;
 mod part;

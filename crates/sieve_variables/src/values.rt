@@ -20,11 +20,11 @@ pub struct Values {
 }
 
 impl Model for Values {
-    ghost use Rattle.sieve_variables.specs.view.Value.{ValuesState, locals_of};
+    ghost use Rattle.sieve_variables.specs.view.Value.{ValuesState, state_of};
 
     ghost Value = { ValuesState };
 
-    ghost view = { λ v. record { locals = locals_of v.locals.entries; matched = v.matched.items } };
+    ghost view = { λ v. state_of v.locals.entries v.matched.items };
 }
 
 impl Values {
@@ -41,7 +41,6 @@ impl Values {
 
     /// Sets a variable that is set already. Gives the value back where it isn't, and then nothing is changed. Takes no
     /// memory.
-    #[tactic(auto, using(crate::proofs::Locals::locals))]
     fn assign(&mut self, name: &[u8], value: Octets) -> Result<(), Octets>
         ensures ok { OnOk result (self.new ≡ with_local name.now value self.old) }
         ensures err { OnErr result (self.new ≡ self.old) }
@@ -57,7 +56,6 @@ impl Values {
     }
 
     /// Sets a variable. A copy of its name is kept where it isn't set yet.
-    #[tactic(auto, using(crate::proofs::Locals::locals))]
     fn insert(&mut self, alloc: Global, name: &[u8], value: Octets) -> Result<(), AllocError>
         ensures ok { OnOk result (self.new ≡ with_local name.now value self.old) }
         ensures err { OnErr result (self.new ≡ self.old) }
@@ -89,7 +87,7 @@ impl Values {
     }
 
     /// What a variable of the script holds, by its name in lower case: nothing where it isn't set. Takes no memory.
-    #[tactic(auto, using(crate::proofs::Locals::locals))]
+    #[tactic(auto, using(crate::proofs::Locals::lookup_locals))]
     fn local(&self, name: &[u8]) -> &[u8]
         ensures { result.now ≡ or_empty (lookup (pointwise nat_eq name.now) self.now.locals) }
     {
