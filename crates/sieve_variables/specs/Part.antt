@@ -1,5 +1,5 @@
 -- A string as its parts: octets that stand for themselves, and references to variables (RFC 5229, section 3).
-use Rattle.std.specs.Prelude.{◌≡◌, ℕ, true, List, [], ◌∷◌, ◌++◌, codes, if◌then◌else◌}
+use Rattle.std.specs.Prelude.{◌≡◌, ℕ, true, List, [], ◌∷◌, ◌++◌, if◌then◌else◌}
 use Rattle.sieve_variables.specs.Name.{is_identifier, is_number, index_of, folded_name}
 use Rattle.sieve_variables.specs.Reference.{Piece, reference, octet, written}
 

@@ -1,8 +1,8 @@
 -- The references to variables in a string (RFC 5229, section 3): `${`, words with dots between them, and `}`. The last word is the
 -- name of a variable, an identifier or the number of a match variable; those before it are its namespace, and the first of a
 -- namespace is an identifier.
-use Rattle.std.specs.Prelude.{◌≡◌, ℕ, Bool, true, false, ◌&&◌, ◌||◌, not, List, [], ◌∷◌, ◌++◌, codes}
-use Rattle.std.specs.List.{flat_map, list_any, list_all}
+use Rattle.std.specs.Prelude.{◌≡◌, ℕ, Bool, true, false, ◌&&◌, ◌||◌, List, [], ◌∷◌, ◌++◌, codes}
+use Rattle.std.specs.List.{flat_map, list_all}
 use Rattle.sieve_base.specs.Octet.{octet_of}
 use Rattle.sieve_variables.specs.Name.{is_identifier, is_number}
 

@@ -1,5 +1,5 @@
 -- What strings stand for while a script runs (RFC 5229, section 3).
-use Rattle.std.specs.Prelude.{ℕ, List, [], ◌∷◌, Option, Some, None, slice_get, nat_eq}
+use Rattle.std.specs.Prelude.{ℕ, List, [], Option, Some, None, slice_get, nat_eq}
 use Rattle.std.specs.List.{flat_map}
 use Rattle.std.specs.Map.{lookup}
 use Rattle.indexmap.specs.IndexMap as ordered

@@ -1,7 +1,7 @@
 use Rattle.std.proofs.Common.{◌≡◌, ◌++◌, drop, map}
 use Rattle.sieve_variables.specs.Value.{text_value}
 use Rattle.sieve_variables.specs.view.Part.{part_of}
-use Rattle.sieve_variables.proofs.expansion.Values.joined.Given as goal
+use Rattle.sieve_variables.proofs.values.Values.joined.Given as goal
 
 -- the octets so far, with those of the parts that are left
 abbrev pub invariant-loop-part : goal.invariant-loop-part
