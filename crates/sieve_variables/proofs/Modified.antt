@@ -1,5 +1,5 @@
 -- What modifiers keep: the number of characters, and the octets of the front.
-use Rattle.std.proofs.Common.{◌≡◌, ◌≢◌, ℕ, ◌+◌, ◌≤◌, ◌<◌, List, [], ◌∷◌, ◌++◌, Bool, true, false, not, Option, Some, None, cond, if◌then◌else◌, filter, length, map, take, set, get_or, decimal, zero, suc, ◌^◌, refl, ap, sym, ◌∙◌, arith}
+use Rattle.std.proofs.Common.{◌≡◌, ℕ, ◌+◌, ◌≤◌, ◌<◌, List, [], ◌∷◌, ◌++◌, Bool, true, false, not, Option, Some, None, cond, if◌then◌else◌, filter, length, map, take, set, get_or, decimal, zero, suc, ◌^◌, refl, ap, sym, ◌∙◌, arith}
 use Rattle.std.proofs.lemmas.Bool.Decides.{nat_tests}
 use Rattle.std.proofs.lemmas.Fmt.{length-decimal-le}
 use Rattle.std.proofs.lemmas.List.{take-map, take_all}
@@ -86,19 +86,17 @@ with_one : (b : Bool) (c : ℕ) (a d : List ℕ) (n : ℕ) → length a ≡ leng
 with_one true c a d n e = omega arith
 with_one false c a d n e = e
 
+-- an octet in front, which is quoted if it is wild: so does `\` begin a character, and is one
+quoted_one : (wild : Bool) (c : ℕ) (cs : List ℕ) → character_count (flat_map quoted_wildcard cs) ≡ character_count cs + length (filter is_wild cs)
+    → character_count ((if wild then 92 ∷ c ∷ [] else c ∷ []) ++ flat_map quoted_wildcard cs) ≡ character_count (c ∷ cs) + length (cond wild (c ∷ filter is_wild cs) (filter is_wild cs))
+quoted_one true c cs rest =
+    let one = with_one (not (goes_on c)) c (filter (λ d. not (goes_on d)) (flat_map quoted_wildcard cs)) (filter (λ d. not (goes_on d)) cs) (length (filter is_wild cs)) rest in omega (arith, one)
+quoted_one false c cs rest = with_one (not (goes_on c)) c (filter (λ d. not (goes_on d)) (flat_map quoted_wildcard cs)) (filter (λ d. not (goes_on d)) cs) (length (filter is_wild cs)) rest
+
 -- what is quoted has a character more for each wild octet
 pub characters-quoted : (value : List ℕ) → character_count (flat_map quoted_wildcard value) ≡ character_count value + length (filter is_wild value)
 characters-quoted [] = refl
-characters-quoted (c ∷ cs) = by (is_wild c)
-  where
-    shorter : length (cond (not (goes_on c)) (c ∷ filter (λ d. not (goes_on d)) (flat_map quoted_wildcard cs)) (filter (λ d. not (goes_on d)) (flat_map quoted_wildcard cs)))
-        ≡ length (cond (not (goes_on c)) (c ∷ filter (λ d. not (goes_on d)) cs) (filter (λ d. not (goes_on d)) cs)) + length (filter is_wild cs)
-    shorter = with_one (not (goes_on c)) c _ _ (length (filter is_wild cs)) (characters-quoted cs)
-
-    by : (wild : Bool) → length (filter (λ d. not (goes_on d)) ((if wild then 92 ∷ c ∷ [] else c ∷ []) ++ flat_map quoted_wildcard cs))
-        ≡ length (cond (not (goes_on c)) (c ∷ filter (λ d. not (goes_on d)) cs) (filter (λ d. not (goes_on d)) cs)) + length (cond wild (c ∷ filter is_wild cs) (filter is_wild cs))
-    by true = omega (arith, shorter)
-    by false = shorter
+characters-quoted (c ∷ cs) = quoted_one (is_wild c) c cs (characters-quoted cs)
 
 -- for functions' attributes
 pub ruleset counts = (length-filter, count_by-le-length, characters-cased, wild-cased, characters-quoted)
