@@ -1,2 +1,4 @@
 pub mod Locals
 pub mod Modified
+mod ModifierRows
+mod ValueRows

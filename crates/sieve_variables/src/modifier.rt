@@ -122,7 +122,7 @@ fn wild_count(value: &[u8]) -> usize
     value.iter().filter(|octet| is_wild(**octet)).count()
 }
 
-/// A number in decimal digits. No number has more than a value may have.
+/// A number in decimal digits, which are never more octets than a value may have.
 #[tactic(auto, using(crate::proofs::Modified::digits_whole))]
 fn digits(alloc: Global, number: usize) -> Result<Vec<u8>, AllocError>
     ensures { IfOk result (λ octets. octets.items ≡ take value_limit (decimal number)) }
@@ -148,10 +148,8 @@ impl Modifiers {
     fn cased(self, alloc: Global, value: &[u8]) -> Result<Vec<u8>, AllocError>
         ensures { IfOk result (λ octets. octets.items ≡ with_first self.first_letter (with_case self.letter_case value.now)) }
     {
-        Ok(with_first(
-            self.first_letter,
-            with_case(alloc, self.letter_case, value)?,
-        ))
+        let octets = with_case(alloc, self.letter_case, value)?;
+        Ok(with_first(self.first_letter, octets))
     }
 
     /// How many characters a value has under all modifiers but `:length`. Takes no memory, since the cases of letters change
@@ -169,8 +167,8 @@ impl Modifiers {
     }
 
     /// What becomes of a value that is set with these modifiers: all that are given are applied, those of higher precedence
-    /// first (RFC 5229, section 4.1), and then what is longer than 4,096 octets is cut (section 6). What is behind them is
-    /// copied only where it matters. The time is linear in the value.
+    /// first (RFC 5229, section 4.1), and then what is longer than 4,096 octets is cut (section 6). Only the first 4,096 octets
+    /// of the value are copied, and none where its characters are counted. The time is linear in the value.
     #[tactic(auto, using(crate::proofs::Modified::wholes))]
     pub fn modified(self, alloc: Global, value: &[u8]) -> Result<Vec<u8>, AllocError>
         ensures { IfOk result (λ octets. octets.items ≡ modified self value.now) }
