@@ -1,6 +1,10 @@
-pub mod Numbers
-pub mod Words
 pub mod Cut
-pub mod Steps
-pub mod Written
+pub mod Locals
+pub mod Modified
+mod ModifierRows
+pub mod Numbers
 pub mod Rows
+pub mod Steps
+mod ValueRows
+pub mod Words
+pub mod Written

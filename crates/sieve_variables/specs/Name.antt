@@ -4,8 +4,6 @@ use Rattle.std.specs.List.{list_all}
 use Rattle.std.specs.Str.{str_eq_ignore_ascii_case, str_to_ascii_lowercase}
 use Rattle.sieve_base.specs.Limits.{match_limit}
 use Rattle.sieve_base.specs.Octet.{octet_of, begins_name, is_name_octet, is_digit}
-use Rattle.sieve_variables.specs.declared.name.NameKind.{NameKind}
-use Rattle.sieve_variables.specs.declared.name.NameKind.TheVariants.{Local, Global, Bad}
 
 -- an identifier (RFC 5228, section 8.1)
 abbrev pub is_identifier : List ℕ → Bool
@@ -37,7 +35,3 @@ global_prefix = codes "global."
 -- whether it names one of them
 abbrev pub is_global_name : List ℕ → Bool
 is_global_name name = str_eq_ignore_ascii_case global_prefix (take (length global_prefix) name) && is_identifier (drop (length global_prefix) name)
-
--- what a string names where the name of a variable is taken: a variable of the script, one that scripts share, or nothing
-abbrev pub name_kind : List ℕ → NameKind
-name_kind name = if is_identifier name then Local else if is_global_name name then Global else Bad

@@ -2,13 +2,16 @@
 //! strings, modifiers, and what strings stand for while a script runs.
 #![tactic(auto)]
 
+mod expansion;
 pub mod laws;
 mod modifier;
 mod name;
 mod part;
 mod references;
+mod values;
 
 pub use modifier::{LetterCase, Modifiers};
-pub use name::{NameKind, folded, name_kind};
+pub use name::{folded, is_global_name, is_identifier};
 pub use part::{Part, Parts, SmallOctets};
 pub use references::{References, parts_of, references_in};
+pub use values::Values;

@@ -1,4 +1,12 @@
 //! The modifiers of a value that is set (RFC 5229, section 4.1).
+ghost use Rattle.std.specs.Prelude.{◌≡◌, ◌++◌, ◌≤◌, decimal, filter, IfOk, length, OnOk, take};
+ghost use Rattle.std.specs.List.{flat_map};
+ghost use Rattle.sieve_base.specs.Limits.{value_limit};
+ghost use Rattle.sieve_variables.specs.Modifier.{character_count, goes_on, in_case, is_wild, modified, quoted_wildcard, with_case, with_first, with_quotes};
+
+use itoa::Buffer;
+use sieve_base::limits::MAX_VALUE;
+use std::alloc::{AllocError, Global};
 
 /// The case of letters.
 #[derive(Clone, Copy, Debug, PartialEq, Eq)]
@@ -20,4 +28,160 @@ pub struct Modifiers {
     pub quote_wildcard: bool,
     /// `:length`, of precedence 10 (RFC 5229, section 4.1.3).
     pub length: bool,
+}
+
+impl LetterCase {
+    /// An octet in this case. Only letters of ASCII have one (RFC 5229, section 4.1.1).
+    fn changed(self, octet: u8) -> u8
+        ensures { result ≡ in_case self octet }
+    {
+        match self {
+            LetterCase::Lower => octet.to_ascii_lowercase(),
+            LetterCase::Upper => octet.to_ascii_uppercase(),
+        }
+    }
+}
+
+/// A copy of a value, its letters in a case (RFC 5229, section 4.1.1).
+fn with_case(alloc: Global, case: Option<LetterCase>, value: &[u8]) -> Result<Vec<u8>, AllocError>
+    ensures { IfOk result (λ octets. octets.items ≡ with_case case value.now) }
+{
+    match case {
+        None => Vec::from_slice(alloc, value),
+        Some(case) => value
+            .iter()
+            .map(|octet| case.changed(*octet))
+            .collect(alloc),
+    }
+}
+
+/// The value with its first octet in a case (RFC 5229, section 4.1.1).
+#[tactic(auto, using(crate::proofs::Modified::first_written))]
+fn with_first(case: Option<LetterCase>, mut value: Vec<u8>) -> Vec<u8>
+    ensures { result.items ≡ with_first case value.items }
+{
+    if let Some(case) = case
+        && !value.is_empty()
+    {
+        value[0] = case.changed(value[0]);
+    }
+    value
+}
+
+/// Whether `:matches` takes an octet for more than itself.
+fn is_wild(octet: u8) -> bool
+    ensures { result ≡ is_wild octet }
+{
+    octet == b'*' || octet == b'?' || octet == b'\\'
+}
+
+/// Appends an octet as `:matches` takes it for itself alone.
+fn push_quoted(quoted: &mut Vec<u8>, octet: u8) -> Result<(), AllocError>
+    ensures { OnOk result (quoted.new.items ≡ quoted.old.items ++ quoted_wildcard octet) }
+{
+    if is_wild(octet) {
+        quoted.push(b'\\')?;
+    }
+    quoted.push(octet)?;
+    Ok(())
+}
+
+/// The value with a `\` in front of what `:matches` takes for more than itself (RFC 5229, section 4.1.2).
+fn quoted(alloc: Global, value: &[u8]) -> Result<Vec<u8>, AllocError>
+    ensures { IfOk result (λ octets. octets.items ≡ flat_map quoted_wildcard value.now) }
+{
+    let mut octets = Vec::new(alloc);
+    for octet in value {
+        push_quoted(&mut octets, *octet)?;
+    }
+    Ok(octets)
+}
+
+/// Whether no character of UTF-8 begins with an octet (RFC 3629, section 3).
+fn goes_on(octet: u8) -> bool
+    ensures { result ≡ goes_on octet }
+{
+    128 <= octet && octet < 192
+}
+
+/// How many characters a value has (RFC 5229, section 4.1.3). Takes no memory.
+#[tactic(auto, using(crate::proofs::Modified::counts))]
+fn character_count(value: &[u8]) -> usize
+    ensures is { result ≡ character_count value.now }
+    ensures within { result ≤ length value.now }
+{
+    value.iter().filter(|octet| !goes_on(**octet)).count()
+}
+
+/// How many octets of a value `:matches` takes for more than themselves. Takes no memory.
+#[tactic(auto, using(crate::proofs::Modified::counts))]
+fn wild_count(value: &[u8]) -> usize
+    ensures is { result ≡ length (filter is_wild value.now) }
+    ensures within { result ≤ length value.now }
+{
+    value.iter().filter(|octet| is_wild(**octet)).count()
+}
+
+/// A number in decimal digits, which are never more octets than a value may have.
+#[tactic(auto, using(crate::proofs::Modified::digits_whole))]
+fn digits(alloc: Global, number: usize) -> Result<Vec<u8>, AllocError>
+    ensures { IfOk result (λ octets. octets.items ≡ take value_limit (decimal number)) }
+{
+    let mut buffer = Buffer::new();
+    let octets = Vec::from_slice(alloc, buffer.format(number).as_bytes())?;
+    Ok(octets)
+}
+
+/// A value without what is too long in it (RFC 5229, section 6).
+fn front(value: &[u8]) -> &[u8]
+    ensures { result.now ≡ take value_limit value.now }
+{
+    if value.len() > MAX_VALUE {
+        &value[..MAX_VALUE]
+    } else {
+        value
+    }
+}
+
+impl Modifiers {
+    /// A copy of a value with its letters in the cases that are asked for.
+    fn cased(self, alloc: Global, value: &[u8]) -> Result<Vec<u8>, AllocError>
+        ensures { IfOk result (λ octets. octets.items ≡ with_first self.first_letter (with_case self.letter_case value.now)) }
+    {
+        let octets = with_case(alloc, self.letter_case, value)?;
+        Ok(with_first(self.first_letter, octets))
+    }
+
+    /// How many characters a value has under all modifiers but `:length`. Takes no memory, since the cases of letters change
+    /// no number of characters, and quoting only adds one for each octet that it quotes.
+    #[tactic(auto, using(crate::proofs::Modified::counts))]
+    fn character_count(self, value: &[u8]) -> usize
+        ensures { result ≡ character_count (with_quotes self.quote_wildcard (with_first self.first_letter (with_case self.letter_case value.now))) }
+    {
+        let count = character_count(value);
+        if self.quote_wildcard {
+            count + wild_count(value)
+        } else {
+            count
+        }
+    }
+
+    /// What becomes of a value that is set with these modifiers: all that are given are applied, those of higher precedence
+    /// first (RFC 5229, section 4.1), and then what is longer than 4,096 octets is cut (section 6). Only the first 4,096 octets
+    /// of the value are copied, and none where its characters are counted. The time is linear in the value.
+    #[tactic(auto, using(crate::proofs::Modified::wholes))]
+    pub fn modified(self, alloc: Global, value: &[u8]) -> Result<Vec<u8>, AllocError>
+        ensures { IfOk result (λ octets. octets.items ≡ modified self value.now) }
+    {
+        if self.length {
+            return digits(alloc, self.character_count(value));
+        }
+        let cased = self.cased(alloc, front(value))?;
+        if !self.quote_wildcard {
+            return Ok(cased);
+        }
+        let mut octets = quoted(alloc, &cased)?;
+        octets.truncate(MAX_VALUE);
+        Ok(octets)
+    }
 }

@@ -3,7 +3,7 @@ ghost use Rattle.std.specs.Prelude.{◌≡◌, IfOk};
 ghost use Rattle.std.specs.List.{list_all};
 ghost use Rattle.sieve_base.specs.Octet.{begins_name, is_digit, is_name_octet};
 ghost use Rattle.sieve_variables.specs.Reference.{is_name};
-ghost use Rattle.sieve_variables.specs.Name.{folded_name, index_of, is_global_name, is_identifier, is_number, name_kind};
+ghost use Rattle.sieve_variables.specs.Name.{folded_name, index_of, is_global_name, is_identifier, is_number};
 
 use crate::part::SmallOctets;
 use sieve_base::limits::MAX_MATCH;
@@ -14,30 +14,6 @@ const PAST_MATCH_LIMIT: u16 = MAX_MATCH as u16 + 1;
 
 /// The namespace of the variables that scripts share, and its dot (RFC 6609, section 3.4.2).
 const GLOBAL_PREFIX: &[u8] = b"global.";
-
-/// What a string names where the name of a variable is taken.
-#[derive(Clone, Copy, Debug, PartialEq, Eq)]
-pub enum NameKind {
-    /// A variable of the script (RFC 5229, section 3).
-    Local,
-    /// One that scripts share (RFC 6609, section 3.4.2).
-    Global,
-    /// None: it isn't a name.
-    Bad,
-}
-
-/// What the string names.
-pub fn name_kind(name: &[u8]) -> NameKind
-    ensures { result ≡ name_kind name.now }
-{
-    if is_identifier(name) {
-        NameKind::Local
-    } else if is_global_name(name) {
-        NameKind::Global
-    } else {
-        NameKind::Bad
-    }
-}
 
 /// The name as variables are kept under it: in lower case.
 pub fn folded(alloc: Global, name: &[u8]) -> Result<SmallOctets, AllocError>
@@ -64,15 +40,15 @@ pub(crate) fn is_name_octet(octet: u8) -> bool
     begins_name(octet) || octet.is_ascii_digit()
 }
 
-// Whether an identifier goes on with each of the octets.
+/// Whether an identifier goes on with each of the octets.
 fn are_name_octets(octets: &[u8]) -> bool
     ensures { result ≡ list_all is_name_octet octets.now }
 {
     octets.iter().all(|octet| is_name_octet(*octet))
 }
 
-/// Whether it is an identifier (RFC 5228, section 8.1).
-pub(crate) fn is_identifier(name: &[u8]) -> bool
+/// Whether it is an identifier, which names a variable of the script (RFC 5228, section 8.1; RFC 5229, section 3).
+pub fn is_identifier(name: &[u8]) -> bool
     ensures { result ≡ is_identifier name.now }
 {
     match name {
@@ -81,15 +57,15 @@ pub(crate) fn is_identifier(name: &[u8]) -> bool
     }
 }
 
-// Whether it is the name of a variable that scripts share.
-fn is_global_name(name: &[u8]) -> bool
+/// Whether it is the name of a variable that scripts share: `global.` in any case, and an identifier (RFC 6609, section 3.4.2).
+pub fn is_global_name(name: &[u8]) -> bool
     ensures { result ≡ is_global_name name.now }
 {
     let (prefix, rest) = name.split_at(name.len().min(GLOBAL_PREFIX.len()));
     GLOBAL_PREFIX.eq_ignore_ascii_case(prefix) && is_identifier(rest)
 }
 
-// Whether all of the octets are digits.
+/// Whether all of the octets are digits.
 fn are_digits(octets: &[u8]) -> bool
     ensures { result ≡ list_all is_digit octets.now }
 {

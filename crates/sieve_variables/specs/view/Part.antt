@@ -1,5 +1,6 @@
 -- The program's parts.
-use Rattle.std.specs.Prelude.{ℕ, List, [], ◌∷◌, ◌++◌, if◌then◌else◌}
+use Rattle.std.specs.Prelude.{ℕ, List, [], ◌∷◌, ◌++◌, map, if◌then◌else◌}
+use Rattle.smallvec.specs.SmallVec.{SmallVec}
 use Rattle.sieve_variables.specs.Part.{Part, literal, local_part, match_part, part_of_words}
 use Rattle.sieve_variables.specs.Reference.{reference}
 use Rattle.sieve_variables.specs.Scan.{is_namespaced, words_of}
@@ -21,3 +22,7 @@ literal_part (c ∷ octets) = literal (c ∷ octets) ∷ []
 abbrev pub added : (inside octets written : List ℕ) → List Part
 added inside octets written =
     if is_namespaced (reference (words_of inside)) then literal_part written else literal_part octets ++ part_of_words (inside ∷ []) ∷ []
+
+-- strings, each as its parts
+abbrev pub strings_of : List (SmallVec parts.Part) → List (List Part)
+strings_of strings = map (λ string. map part_of string.items) strings
