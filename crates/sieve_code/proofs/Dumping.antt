@@ -5,11 +5,12 @@ use Rattle.std.proofs.lemmas.List.{take_rest}
 use Rattle.sieve_base.specs.Writers.{Wrote, WroteFront}
 use Rattle.smallvec.specs.SmallVec.{SmallVec}
 use Rattle.sieve_check.specs.Tree as tree
-use Rattle.sieve_check.specs.view.Tree.{part_of}
-use Rattle.sieve_check.specs.declared.tree.Part.{Part}
+use Rattle.sieve_variables.specs.view.Part.{part_of}
+use Rattle.sieve_variables.specs.declared.part.Part.{Part}
 use Rattle.sieve_code.specs.Dump.{list_text, part_text, separated, string_text}
 use Rattle.sieve_code.specs.view.Marked.{marked_part, marked_string}
-use Rattle.sieve_code.specs.view.Op.{parts_of, strings_of}
+use Rattle.sieve_code.specs.view.Op.{parts_of}
+use Rattle.sieve_variables.specs.view.Part.{strings_of}
 
 pub marked_part_at : (parts : List Part) (i : ℕ) (part : Part) → part ≡ get_or parts i part → codes "+" ++ part_text (part_of part) ≡ marked_part (get_or parts i part)
 unfolding marked_part

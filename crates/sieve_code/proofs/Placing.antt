@@ -5,7 +5,7 @@ use Rattle.sieve_check.specs.Tree.{Node}
 use Rattle.sieve_code.specs.Choice.{Tail, code_of, placed, tail_of}
 use Rattle.sieve_code.specs.Operation.{targeting}
 use Rattle.sieve_code.specs.declared.op.Op.{Op}
-use Rattle.sieve_code.specs.declared.op.Op.TheVariants.{True, False, Not, Header, Address, Envelope, Exists, SizeOver, SizeUnder, Jump, JumpIfFalse, JumpIfTrue, Keep, Fileinto, Redirect, Discard, Stop}
+use Rattle.sieve_code.specs.declared.op.Op.TheVariants.{True, False, Not, Header, Address, Envelope, String, Exists, SizeOver, SizeUnder, Jump, JumpIfFalse, JumpIfTrue, Keep, Fileinto, Redirect, Discard, Set, Stop}
 use Rattle.sieve_code.specs.view.Op.{op_as, with_place_of}
 
 place_seen : (count : ℕ) (op : Op) → op_as (with_place_of count op) ≡ targeting (λ left. count - left) (op_as op)
@@ -15,6 +15,7 @@ place_seen count Not = refl
 place_seen count (Header match_type collation names keys) = refl
 place_seen count (Address match_type collation part names keys) = refl
 place_seen count (Envelope match_type collation part names keys) = refl
+place_seen count (String match_type collation texts keys) = refl
 place_seen count (Exists names) = refl
 place_seen count (SizeOver limit) = refl
 place_seen count (SizeUnder limit) = refl
@@ -25,6 +26,7 @@ place_seen count (Keep line) = refl
 place_seen count (Fileinto mailbox line) = refl
 place_seen count (Redirect address line) = refl
 place_seen count (Discard line) = refl
+place_seen count (Set name modifiers value line) = refl
 place_seen count Stop = refl
 
 places_seen : (count : ℕ) (ops : List Op) → map op_as (map (with_place_of count) ops) ≡ map (targeting (λ left. count - left)) (map op_as ops)

@@ -1,17 +1,19 @@
 -- Worked rows of what code is chosen, of what it does, and of how it is printed.
-use Rattle.std.proofs.Common.{◌≡◌, ℕ, true, false, List, [], ◌∷◌, Some, refl, codes}
+use Rattle.std.proofs.Common.{◌≡◌, ℕ, true, false, List, [], ◌∷◌, Some, None, refl, codes}
 use Rattle.match_text.specs.declared.comparators.Collation.TheVariants.{Casemap, Octet}
 use Rattle.std.specs.Fmt.{digits}
 use Rattle.sieve_base.specs.Writers.{quoted}
 use Rattle.message_text.specs.declared.addressing.AddressPart.TheVariants as part
-use Rattle.sieve_check.specs.Reading.{Ask, header_values, address_values, envelope_values, compares, over_ask, keep_leaf, fileinto_leaf, redirect_leaf, discard_leaf}
+use Rattle.sieve_check.specs.Reading.{Ask, header_values, address_values, envelope_values, string_values, compares, over_ask, keep_leaf, fileinto_leaf, redirect_leaf, discard_leaf, set_leaf}
 use Rattle.sieve_check.specs.Script as script
 use Rattle.sieve_check.specs.Script.{chain_of, condition_of, conditions_in, conditions, block_commands}
 use Rattle.sieve_table.specs.Table.{command_named, test_named}
-use Rattle.sieve_check.specs.Tree.{Part, literal, Argument, strings, number, tag, Test, test, no_tests, one_test, test_list, tests, Node, node, Block, no_block, block, nodes}
-use Rattle.sieve_check.specs.declared.reading.MatchType.TheVariants.{Contains, Is}
+use Rattle.sieve_variables.specs.Part.{Part, literal, local_part, match_part}
+use Rattle.sieve_variables.specs.declared.modifier.LetterCase.TheVariants as letter_case
+use Rattle.sieve_check.specs.Tree.{Argument, strings, number, tag, Test, test, no_tests, one_test, test_list, tests, Node, node, Block, no_block, block, nodes}
+use Rattle.sieve_check.specs.declared.reading.MatchType.TheVariants.{Contains, Is, Matches}
 use Rattle.sieve_code.specs.Choice.{code_of, placed, test_before, tests_before, list_before, first_before, node_before, block_before, nodes_before}
-use Rattle.sieve_code.specs.Dump.{address_words, ask_text, comparing_words, further_list, line_text, list_text, operation_text, string_text, two_lists, worded_text}
+use Rattle.sieve_code.specs.Dump.{address_words, ask_text, comparing_words, further_list, line_text, list_text, operation_text, set_words, string_text, two_lists, worded_text}
 use Rattle.sieve_code.specs.Operation.{Operation, sets, inverts, asks, jumps, jumps_if, acts, stops}
 use Rattle.sieve_code.specs.Walk.{Walk, at_end, by_stop, cut_off, asked, acted, code_walk, walk_from, tree_walk, commands_walk, condition_walk, gone, met_ask, met_leaf, ended, unanswered}
 
@@ -168,6 +170,16 @@ keep_line_row = refl
 discard_line_row : line_text 6 (acts discard_leaf 4) ≡ codes "6: discard @4\n"
 unfolding line_text operation_text digits
 discard_line_row = refl
+
+-- set :length :lower "N" "${007}a${Box}";
+set_line_row : line_text 0 (acts (set_leaf (codes "n") (record { letter_case = Some letter_case.Lower; first_letter = None; quote_wildcard = false; length = true }) (match_part 7 ∷ literal (codes "a") ∷ local_part (codes "box") ∷ [])) 2)
+    ≡ codes "0: set local(n) lower length match(7)+\"a\"+local(box) @2\n"
+unfolding line_text operation_text digits worded_text set_words string_text quoted
+set_line_row = refl
+
+string_line_row : line_text 0 (asks (compares (string_values ((local_part (codes "a") ∷ []) ∷ [])) Matches Octet ((literal (codes "x*") ∷ []) ∷ []))) ≡ codes "0: string matches octet [local(a)] [\"x*\"]\n"
+unfolding line_text operation_text digits ask_text comparing_words two_lists further_list list_text string_text quoted
+string_line_row = refl
 
 strings_row : list_text ((literal (codes "a") ∷ literal (codes "b") ∷ []) ∷ [] ∷ []) ≡ codes "[\"a\"+\"b\", \"\"]"
 unfolding list_text string_text quoted

@@ -2,16 +2,17 @@
 ghost use Rattle.std.specs.Prelude.{◌≡◌, ◌++◌, codes, decimal, map, OnOk, OnErr};
 ghost use Rattle.std.specs.List.{flat_map};
 ghost use Rattle.sieve_base.specs.Writers.{Wrote, WroteFront};
-ghost use Rattle.sieve_check.specs.view.Tree.{part_of};
-ghost use Rattle.sieve_code.specs.Dump.{address_part_word, address_words, collation_word, comparing_words, further_list, line_text, list_text, match_word, operation_text, part_text, separated, string_text, two_lists, worded_text};
+ghost use Rattle.sieve_code.specs.Dump.{address_part_word, address_words, case_word, collation_word, comparing_words, first_word, further_list, given_word, line_text, list_text, match_word, operation_text, part_text, separated, set_words, string_text, two_lists, worded_text};
 ghost use Rattle.sieve_code.specs.view.Marked.{marked_part, marked_string};
-ghost use Rattle.sieve_code.specs.view.Op.{op_as, strings_of};
+ghost use Rattle.sieve_code.specs.view.Op.{op_as};
+ghost use Rattle.sieve_variables.specs.view.Part.{part_of, strings_of};
 
 use crate::op::Op;
 use match_text::Collation;
 use message_text::AddressPart;
 use sieve_base::{Piece, Sink, WriteFault, write_out, write_pieces};
-use sieve_check::{MatchType, Part, Parts};
+use sieve_check::MatchType;
+use sieve_variables::{LetterCase, Modifiers, Part, Parts};
 
 /// The word of a match type.
 fn match_word(match_type: MatchType) -> &'static [u8]
@@ -52,6 +53,24 @@ fn write_part<W: Sink>(front: &[u8], part: &Part, writer: &mut W) -> Result<(), 
 {
     match part {
         Part::Literal(octets) => write_pieces(&[Piece::Raw(front), Piece::Quoted(octets)], writer),
+        Part::Local(name) => write_pieces(
+            &[
+                Piece::Raw(front),
+                Piece::Raw(b"local("),
+                Piece::Raw(name),
+                Piece::Raw(b")"),
+            ],
+            writer,
+        ),
+        Part::Match(index) => write_pieces(
+            &[
+                Piece::Raw(front),
+                Piece::Raw(b"match("),
+                Piece::Number(u64::from(*index)),
+                Piece::Raw(b")"),
+            ],
+            writer,
+        ),
     }
 }
 
@@ -181,20 +200,21 @@ fn write_lists<W: Sink>(names: &[Parts], keys: &[Parts], writer: &mut W) -> Resu
     write_further_list(keys, writer)
 }
 
-/// Writes a `header` test.
+/// Writes a test of this name that compares values with keys.
 #[tactic(auto, using(sieve_base::proofs::Writing::writing))]
-fn write_header<W: Sink>(
+fn write_test<W: Sink>(
+    test: &[u8],
     match_type: MatchType,
     collation: Collation,
-    names: &[Parts],
+    values: &[Parts],
     keys: &[Parts],
     writer: &mut W,
 ) -> Result<(), WriteFault>
-    ensures ok { OnOk result (Wrote W.contents W.fault_count writer.old writer.new (comparing_words (codes "header") match_type collation ++ two_lists (strings_of names.now) (strings_of keys.now))) }
-    ensures err { OnErr result (WroteFront W.contents W.fault_count writer.old writer.new (comparing_words (codes "header") match_type collation ++ two_lists (strings_of names.now) (strings_of keys.now))) }
+    ensures ok { OnOk result (Wrote W.contents W.fault_count writer.old writer.new (comparing_words test.now match_type collation ++ two_lists (strings_of values.now) (strings_of keys.now))) }
+    ensures err { OnErr result (WroteFront W.contents W.fault_count writer.old writer.new (comparing_words test.now match_type collation ++ two_lists (strings_of values.now) (strings_of keys.now))) }
 {
-    write_comparing(b"header", match_type, collation, writer)?;
-    write_lists(names, keys, writer)
+    write_comparing(test, match_type, collation, writer)?;
+    write_lists(values, keys, writer)
 }
 
 /// Writes a test of this name that compares a part of addresses.
@@ -245,6 +265,77 @@ fn write_redirect<W: Sink>(address: &[Part], line: u64, writer: &mut W) -> Resul
     write_number(b" @", line, writer)
 }
 
+/// The word of a modifier of letters.
+fn case_word(case: Option<LetterCase>) -> &'static [u8]
+    ensures { result.now ≡ case_word case }
+{
+    match case {
+        None => b"",
+        Some(LetterCase::Lower) => b" lower",
+        Some(LetterCase::Upper) => b" upper",
+    }
+}
+
+/// The word of a modifier of the first letter.
+fn first_word(case: Option<LetterCase>) -> &'static [u8]
+    ensures { result.now ≡ first_word case }
+{
+    match case {
+        None => b"",
+        Some(LetterCase::Lower) => b" lowerfirst",
+        Some(LetterCase::Upper) => b" upperfirst",
+    }
+}
+
+/// A word, where it is given.
+fn given_word<'a>(is_given: bool, word: &'a [u8]) -> &'a [u8]
+    ensures { result.now ≡ given_word is_given word.now }
+{
+    if is_given { word } else { b"" }
+}
+
+/// Writes what a `set` does, apart from the value.
+#[tactic(auto, unfolding(crate::specs::Dump::set_words))]
+fn write_set_words<W: Sink>(
+    name: &[u8],
+    modifiers: Modifiers,
+    writer: &mut W,
+) -> Result<(), WriteFault>
+    ensures ok { OnOk result (Wrote W.contents W.fault_count writer.old writer.new (set_words name.now modifiers)) }
+    ensures err { OnErr result (WroteFront W.contents W.fault_count writer.old writer.new (set_words name.now modifiers)) }
+{
+    write_pieces(
+        &[
+            Piece::Raw(b"set local("),
+            Piece::Raw(name),
+            Piece::Raw(b")"),
+            Piece::Raw(case_word(modifiers.letter_case)),
+            Piece::Raw(first_word(modifiers.first_letter)),
+            Piece::Raw(given_word(modifiers.quote_wildcard, b" quotewildcard")),
+            Piece::Raw(given_word(modifiers.length, b" length")),
+            Piece::Raw(b" "),
+        ],
+        writer,
+    )
+}
+
+/// Writes a `set`.
+#[tactic(auto, using(sieve_base::proofs::Writing::writing), unfolding(crate::specs::Dump::worded_text))]
+fn write_set<W: Sink>(
+    name: &[u8],
+    modifiers: Modifiers,
+    value: &[Part],
+    line: u64,
+    writer: &mut W,
+) -> Result<(), WriteFault>
+    ensures ok { OnOk result (Wrote W.contents W.fault_count writer.old writer.new (worded_text (set_words name.now modifiers) (map part_of value.now) ++ (codes " @" ++ decimal line))) }
+    ensures err { OnErr result (WroteFront W.contents W.fault_count writer.old writer.new (worded_text (set_words name.now modifiers) (map part_of value.now) ++ (codes " @" ++ decimal line))) }
+{
+    write_set_words(name, modifiers, writer)?;
+    write_string(b"", value, writer)?;
+    write_number(b" @", line, writer)
+}
+
 /// Writes an operation.
 #[tactic(auto, unfolding(crate::specs::Dump::operation_text, crate::specs::Dump::ask_text))]
 fn write_op<W: Sink>(op: &Op, writer: &mut W) -> Result<(), WriteFault>
@@ -260,7 +351,13 @@ fn write_op<W: Sink>(op: &Op, writer: &mut W) -> Result<(), WriteFault>
             collation,
             names,
             keys,
-        } => write_header(*match_type, *collation, names, keys, writer),
+        } => write_test(b"header", *match_type, *collation, names, keys, writer),
+        Op::String {
+            match_type,
+            collation,
+            texts,
+            keys,
+        } => write_test(b"string", *match_type, *collation, texts, keys, writer),
         Op::Address {
             match_type,
             collation,
@@ -301,6 +398,12 @@ fn write_op<W: Sink>(op: &Op, writer: &mut W) -> Result<(), WriteFault>
         Op::Fileinto { mailbox, line } => write_fileinto(mailbox, *line, writer),
         Op::Redirect { address, line } => write_redirect(address, *line, writer),
         Op::Discard(line) => write_number(b"discard @", *line, writer),
+        Op::Set {
+            name,
+            modifiers,
+            value,
+            line,
+        } => write_set(name, *modifiers, value, *line, writer),
         Op::Stop => write_out(b"stop", writer),
     }
 }

@@ -2,7 +2,8 @@
 
 use match_text::Collation;
 use message_text::AddressPart;
-use sieve_check::{MatchType, Parts};
+use sieve_check::MatchType;
+use sieve_variables::{Modifiers, Parts, SmallOctets};
 
 /// An operation. Code has one truth register, which tests set. A string is its parts in order.
 #[derive(Debug, Drop)]
@@ -50,6 +51,17 @@ pub enum Op {
         /// The keys.
         keys: Vec<Parts>,
     },
+    /// Whether some string matches some key (RFC 5229, section 5).
+    String {
+        /// How a string is compared with a key.
+        match_type: MatchType,
+        /// Which octets are equal.
+        collation: Collation,
+        /// The strings.
+        texts: Vec<Parts>,
+        /// The keys.
+        keys: Vec<Parts>,
+    },
     /// Whether all named fields are there (RFC 5228, section 5.5).
     Exists {
         /// The names of fields.
@@ -83,6 +95,17 @@ pub enum Op {
     },
     /// Discards the message (RFC 5228, section 4.4), with the command's line.
     Discard(u64),
+    /// Gives a variable of the script a value (RFC 5229, section 4).
+    Set {
+        /// The variable's name, in lower case.
+        name: SmallOctets,
+        /// What is done to the value.
+        modifiers: Modifiers,
+        /// The value.
+        value: Parts,
+        /// The command's line.
+        line: u64,
+    },
     /// Ends the run (RFC 5228, section 3.3).
     Stop,
 }

@@ -2,13 +2,15 @@
 ghost use Rattle.std.specs.Prelude.{◌≡◌, map, IfOk};
 ghost use Rattle.sieve_check.specs.Reading.{compares};
 ghost use Rattle.sieve_check.specs.view.Reading.{ask_as, leaf_as, source_as, texts_as};
-ghost use Rattle.sieve_check.specs.view.Tree.{part_of, text_of};
+ghost use Rattle.sieve_check.specs.view.Tree.{text_of};
 ghost use Rattle.sieve_code.specs.Operation.{asks, acts};
-ghost use Rattle.sieve_code.specs.view.Op.{op_as, parts_of, strings_of};
+ghost use Rattle.sieve_code.specs.view.Op.{op_as, parts_of};
+ghost use Rattle.sieve_variables.specs.view.Part.{part_of, strings_of};
 
 use crate::op::Op;
 use match_text::Collation;
-use sieve_check::{Ask, Leaf, MatchType, Part, Parts, SmallOctets, Source, Text};
+use sieve_check::{Ask, Leaf, MatchType, Source, Text};
+use sieve_variables::{Part, Parts, SmallOctets};
 use std::alloc::{AllocError, Global};
 
 /// A copy of a part.
@@ -17,6 +19,8 @@ fn copied_part(alloc: Global, part: &Part) -> Result<Part, AllocError>
 {
     match part {
         Part::Literal(octets) => Ok(Part::Literal(SmallOctets::from_slice(alloc, octets)?)),
+        Part::Local(name) => Ok(Part::Local(SmallOctets::from_slice(alloc, name)?)),
+        Part::Match(index) => Ok(Part::Match(*index)),
     }
 }
 
@@ -73,6 +77,12 @@ fn comparing_op(
             names: copied_strings(alloc, names)?,
             keys,
         }),
+        Source::String { texts } => Ok(Op::String {
+            match_type,
+            collation,
+            texts: copied_strings(alloc, texts)?,
+            keys,
+        }),
     }
 }
 
@@ -113,5 +123,15 @@ pub(crate) fn leaf_op(alloc: Global, leaf: Leaf<'_>, line: u64) -> Result<Op, Al
             Ok(Op::Redirect { address, line })
         }
         Leaf::Discard => Ok(Op::Discard(line)),
+        Leaf::Set {
+            name,
+            modifiers,
+            value,
+        } => Ok(Op::Set {
+            name: SmallOctets::from_slice(alloc, name)?,
+            modifiers,
+            value: copied_parts(alloc, value)?,
+            line,
+        }),
     }
 }

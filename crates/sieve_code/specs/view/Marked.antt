@@ -1,8 +1,8 @@
 -- What the dump writes of a part or a string that isn't the first.
 use Rattle.std.specs.Prelude.{ℕ, List, ◌++◌, codes}
 use Rattle.smallvec.specs.SmallVec.{SmallVec}
-use Rattle.sieve_check.specs.view.Tree.{part_of}
-use Rattle.sieve_check.specs.declared.tree.Part.{Part}
+use Rattle.sieve_variables.specs.view.Part.{part_of}
+use Rattle.sieve_variables.specs.declared.part.Part.{Part}
 use Rattle.sieve_code.specs.Dump.{part_text, string_text}
 use Rattle.sieve_code.specs.view.Op.{parts_of}
 

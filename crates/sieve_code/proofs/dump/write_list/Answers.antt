@@ -2,7 +2,7 @@ use Rattle.std.proofs.Common.{◌++◌, codes, subst}
 use Rattle.std.proofs.lemmas.Result.{on_err_weaker, on_ok_weaker}
 use Rattle.sieve_base.specs.Writers.{WroteFront}
 use Rattle.sieve_base.proofs.Writing.{on_err_from, wrote_both, wrote_front_of, wrote_then_front}
-use Rattle.sieve_code.specs.view.Op.{strings_of}
+use Rattle.sieve_variables.specs.view.Part.{strings_of}
 use Rattle.sieve_code.proofs.Dumping.{err_as, ok_as, list_whole, opened}
 use Rattle.sieve_code.proofs.dump.write_list.Goals as goal
 

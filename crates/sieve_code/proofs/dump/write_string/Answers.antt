@@ -3,7 +3,7 @@ use Rattle.std.specs.List.{flat_map}
 use Rattle.std.proofs.lemmas.Result.{on_err_weaker, on_ok_weaker}
 use Rattle.sieve_base.specs.Writers.{WroteFront}
 use Rattle.sieve_base.proofs.Writing.{on_err_from, wrote_both, wrote_front_of, wrote_then_front}
-use Rattle.sieve_check.specs.view.Tree.{part_of}
+use Rattle.sieve_variables.specs.view.Part.{part_of}
 use Rattle.sieve_code.specs.Dump.{part_text}
 use Rattle.sieve_code.specs.view.Marked.{marked_part}
 use Rattle.sieve_code.proofs.Dumping.{err_as, ok_as, others_of, string_front, string_none}

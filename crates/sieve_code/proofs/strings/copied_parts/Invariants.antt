@@ -1,5 +1,5 @@
 use Rattle.std.proofs.Common.{◌≡◌, map, take}
-use Rattle.sieve_check.specs.view.Tree.{part_of}
+use Rattle.sieve_variables.specs.view.Part.{part_of}
 use Rattle.sieve_code.proofs.strings.copied_parts.Given as goal
 
 abbrev pub invariant-loop-part : goal.invariant-loop-part

@@ -1,6 +1,6 @@
 use Rattle.std.proofs.Common.{◌≡◌, take}
 use Rattle.sieve_check.specs.view.Reading.{texts_as}
-use Rattle.sieve_code.specs.view.Op.{strings_of}
+use Rattle.sieve_variables.specs.view.Part.{strings_of}
 use Rattle.sieve_code.proofs.strings.copied_strings.Given as goal
 
 abbrev pub invariant-loop-text : goal.invariant-loop-text
