@@ -63,13 +63,9 @@ known_by t context kind row name line xs is n l same a =
     ∙ ap (λ k. breaches_by (test_breaks context k args ts) o.line all_rules ++ breaches_in (test_arguments context k args ts)) known
     ∙ sym (cons_in (the_test context o.name.items o.line args ts) (test_arguments context (table.test_named o.name.items) args ts))
 
-pub known_stops : (t : one_tests.Test) (context : Context) (kind : TestKind) (row : Row) (name : List ℕ) (line : ℕ) (xs : List arguments.Argument) (fault : CheckFault) → let o = one_tests.out-Test t in
-    Some kind ≡ table.test_named name → name ≡ o.name.items → line ≡ o.line → row ≡ test_row kind → xs ≡ o.args.items → IsFirst (row_found false context line row (map argument_of xs) (tests_of o.tests) false) fault → IsFirst (breaches_in (test_head context t)) fault
-known_stops t context kind row name line xs fault is n l same a found = subst (λ bs. IsFirst bs fault) (known_by t context kind row name line xs is n l same a) found
-
-pub known_passes : (t : one_tests.Test) (context : Context) (kind : TestKind) (row : Row) (name : List ℕ) (line : ℕ) (xs : List arguments.Argument) → let o = one_tests.out-Test t in
-    Some kind ≡ table.test_named name → name ≡ o.name.items → line ≡ o.line → row ≡ test_row kind → xs ≡ o.args.items → row_found false context line row (map argument_of xs) (tests_of o.tests) false ≡ [] → breaches_in (test_head context t) ≡ []
-known_passes t context kind row name line xs is n l same a none = sym (known_by t context kind row name line xs is n l same a) ∙ none
+pub test_known : (t : one_tests.Test) (context : Context) (kind : TestKind) (row : Row) (name : List ℕ) (line : ℕ) (xs : List arguments.Argument) (r : Answer) → let o = one_tests.out-Test t in
+    Some kind ≡ table.test_named name → name ≡ o.name.items → line ≡ o.line → row ≡ test_row kind → xs ≡ o.args.items → Finds (row_found false context line row (map argument_of xs) (tests_of o.tests) false) r → FindsIn (test_head context t) r
+test_known t context kind row name line xs r is n l same a found = subst (λ bs. Finds bs r) (known_by t context kind row name line xs is n l same a) found
 
 test_at : (t : one_tests.Test) (context : Context) → test_elements context (test_of t) ≡ test_head context t ++ tests_elements context (tests_of (one_tests.out-Test t).tests)
 unfolding test_elements
@@ -224,25 +220,33 @@ pub command_moves : (c : commands.Command) (context next : Context) → next ≡
 unfolding behind
 command_moves c context next goes is = goes ∙ sym (behind_at c context ∙ ap (λ b. behind_block (behind_front context c) (block_as b)) is)
 
-pub block_stops : (c : commands.Command) (context within : Context) (inner : Vec commands.Command Global) (xs : List commands.Command) (fault : CheckFault) → breaches_in (command_front context c) ≡ [] → (commands.out-Command c).block ≡ Some inner → xs ≡ inner.items → within ≡ inside (behind_front context c) → IsFirst (breaches_in (nodes_elements within (nodes (map node_of xs)))) fault → IsFirst (breaches_in (node_elements context (node_of c))) fault
-unfolding block_elements
-block_stops c context within inner xs fault none is same start h =
-    subst (λ bs. IsFirst bs fault) (ap (λ l. breaches_in (nodes_elements within (nodes (map node_of l)))) same ∙ ap (λ w. breaches_in (nodes_elements w (nodes (map node_of inner.items)))) start ∙ sym (block_left c context (Some inner) none is)) h
+within_block : (c : commands.Command) (context : Context) (next within : Spot) (names : List (List ℕ)) → at_spot next names ≡ behind_front context c → ((assigned : List (List ℕ)) → at_spot within assigned ≡ inside (at_spot next assigned)) → at_spot within names ≡ inside (behind_front context c)
+within_block c context next within names goes start = start names ∙ ap inside goes
 
-pub block_ends : (c : commands.Command) (context within : Context) (inner : Vec commands.Command Global) (xs : List commands.Command) → breaches_in (command_front context c) ≡ [] → (commands.out-Command c).block ≡ Some inner → xs ≡ inner.items → within ≡ inside (behind_front context c) → breaches_in (nodes_elements within (nodes (map node_of xs))) ≡ [] → breaches_in (node_elements context (node_of c)) ≡ []
-unfolding block_elements
-block_ends c context within inner xs none is same start h =
-    block_left c context (Some inner) none is
-    ∙ sym (ap (λ w. breaches_in (nodes_elements w (nodes (map node_of inner.items)))) start)
-    ∙ sym (ap (λ l. breaches_in (nodes_elements within (nodes (map node_of l)))) same)
-    ∙ h
+module _ (c : commands.Command) (context : Context) (next within : Spot) (names : List (List ℕ)) (inner : Vec commands.Command Global) (xs : List commands.Command) where
+  block_found : breaches_in (command_front context c) ≡ [] → at_spot next names ≡ behind_front context c → (commands.out-Command c).block ≡ Some inner → ((assigned : List (List ℕ)) → at_spot within assigned ≡ inside (at_spot next assigned)) → xs ≡ inner.items
+      → breaches_in (node_elements context (node_of c)) ≡ breaches_in (nodes_elements (at_spot within names) (nodes (map node_of xs)))
+  unfolding block_elements
+  block_found none goes is start same =
+      block_left c context (Some inner) none is
+      ∙ sym (ap (λ w. breaches_in (nodes_elements w (nodes (map node_of inner.items)))) (within_block c context next within names goes start))
+      ∙ sym (ap (λ l. breaches_in (nodes_elements (at_spot within names) (nodes (map node_of l)))) same)
 
-pub block_moves : (c : commands.Command) (context : Context) (next : Spot) (before after : List (List ℕ)) (within : Context) (inner : Vec commands.Command Global) (xs : List commands.Command) → at_spot next before ≡ behind_front context c → (commands.out-Command c).block ≡ Some inner → xs ≡ inner.items → within ≡ inside (at_spot next before) → after ≡ (behind_nodes within (nodes (map node_of xs))).assigned → at_spot next after ≡ behind context (node_of c)
-unfolding behind
-block_moves c context next before after within inner xs goes is same start ends =
-    ap (at_spot next) (ends ∙ ap (λ w. (behind_nodes w (nodes (map node_of xs))).assigned) start ∙ ap (λ l. (behind_nodes (inside (at_spot next before)) (nodes (map node_of l))).assigned) same)
-    ∙ ap (λ w. behind_block w (block (nodes (map node_of inner.items)))) goes
-    ∙ sym (behind_at c context ∙ ap (λ b. behind_block (behind_front context c) (block_as b)) is)
+  pub block_stops : (fault : CheckFault) → breaches_in (command_front context c) ≡ [] → at_spot next names ≡ behind_front context c → (commands.out-Command c).block ≡ Some inner → ((assigned : List (List ℕ)) → at_spot within assigned ≡ inside (at_spot next assigned)) → xs ≡ inner.items
+      → IsFirst (breaches_in (nodes_elements (at_spot within names) (nodes (map node_of xs)))) fault → IsFirst (breaches_in (node_elements context (node_of c))) fault
+  block_stops fault none goes is start same h = subst (λ bs. IsFirst bs fault) (sym (block_found none goes is start same)) h
+
+  pub block_ends : breaches_in (command_front context c) ≡ [] → at_spot next names ≡ behind_front context c → (commands.out-Command c).block ≡ Some inner → ((assigned : List (List ℕ)) → at_spot within assigned ≡ inside (at_spot next assigned)) → xs ≡ inner.items
+      → breaches_in (nodes_elements (at_spot within names) (nodes (map node_of xs))) ≡ [] → breaches_in (node_elements context (node_of c)) ≡ []
+  block_ends none goes is start same h = block_found none goes is start same ∙ h
+
+  pub block_moves : (after : List (List ℕ)) → at_spot next names ≡ behind_front context c → (commands.out-Command c).block ≡ Some inner → ((assigned : List (List ℕ)) → at_spot within assigned ≡ inside (at_spot next assigned)) → xs ≡ inner.items
+      → after ≡ (behind_nodes (at_spot within names) (nodes (map node_of xs))).assigned → at_spot next after ≡ behind context (node_of c)
+  unfolding behind
+  block_moves after goes is start same ends =
+      ap (at_spot next) (ends ∙ ap (λ w. (behind_nodes w (nodes (map node_of xs))).assigned) (start names) ∙ ap (λ l. (behind_nodes (inside (at_spot next names)) (nodes (map node_of l))).assigned) same)
+      ∙ ap (λ w. behind_block w (block (nodes (map node_of inner.items)))) goes
+      ∙ sym (behind_at c context ∙ ap (λ b. behind_block (behind_front context c) (block_as b)) is)
 
 -- commands from one of them on
 commands_at : (xs : List commands.Command) (i : ℕ) (c : commands.Command) (context : Context) → i < length xs → c ≡ get_or xs i c → nodes_elements context (nodes (map node_of (drop i xs))) ≡ node_elements context (node_of c) ++ nodes_elements (behind context (node_of c)) (nodes (map node_of (drop (i + 1) xs)))
@@ -274,8 +278,6 @@ unfolding behind_nodes
 commands_moved xs i context h = at_drop_all (λ l. behind_nodes context (nodes (map node_of l))) xs i h
 
 pub ruleset test_steps = (test_stops, test_goes_on)
-
-pub ruleset test_head_steps = (test_unknown, known_stops, known_passes)
 
 pub ruleset list_steps = (list_stops, list_goes_on, list_ends)
 

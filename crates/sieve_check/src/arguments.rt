@@ -1,8 +1,8 @@
 //! The breaches in the use of a row and in its arguments: what isn't required, tags and arguments that don't fit, unknown names,
 //! and numbers that are too large.
-ghost use Rattle.std.specs.Prelude.{◌≡◌, ◌&&◌, ◌||◌, not, find, map, IfOk};
+ghost use Rattle.std.specs.Prelude.{◌≡◌, false, find, map, IfOk};
 ghost use Rattle.sieve_syntax.specs.view.Tree.{argument_of, tests_of, text_of};
-ghost use Rattle.sieve_check.specs.Breach.{all_rules, breaches_at, is_bad_name, is_comparator_name, takes_references, text_breaks};
+ghost use Rattle.sieve_check.specs.Breach.{breaches_at, is_bad_name, is_comparator_name, is_known, names_namespace, takes_references, text_breaks};
 ghost use Rattle.sieve_check.specs.Element.{argument_elements, labelled_elements, text_elements, the_number, the_text};
 ghost use Rattle.sieve_check.specs.Role.{has_role};
 ghost use Rattle.sieve_check.specs.Shape.{row_labels};
@@ -21,10 +21,8 @@ use crate::shape::row_labels;
 use crate::usage::{has_bad_arguments, has_bad_tag, lacks_required};
 use crate::validator::CheckFault;
 use sieve_syntax::{Argument, Tests, Text};
-use sieve_table::{
-    Capability, Role, Row, Rule, is_address_field, is_capability, is_envelope_part,
-};
-use sieve_variables::{References, is_global_name, is_identifier, references_in};
+use sieve_table::{Capability, Role, Row, Rule, is_address_field, is_capability, is_envelope_part};
+use sieve_variables::{is_global_name, is_identifier, references_in};
 use std::alloc::Global;
 
 /// Whether there is such a comparator (RFC 4790).
@@ -44,21 +42,11 @@ fn takes_references(required: Required, role: Option<Role>) -> bool
     }
 }
 
-/// The references in a string that stand for values.
-fn references_of(required: Required, role: Option<Role>, octets: &[u8]) -> References
-    ensures any { result.any ≡ (takes_references (required_as required) role && has_reference octets.now) }
-    ensures namespaced { result.namespaced ≡ (takes_references (required_as required) role && has_namespace octets.now) }
-    ensures far { result.far ≡ (takes_references (required_as required) role && has_far_index octets.now) }
+/// Whether there is a reference in a string that stands for a value.
+fn is_known(required: Required, role: Option<Role>, octets: &[u8]) -> bool
+    ensures { result ≡ is_known (required_as required) role octets.now }
 {
-    if takes_references(required, role) {
-        references_in(octets)
-    } else {
-        References {
-            any: false,
-            namespaced: false,
-            far: false,
-        }
-    }
+    !(takes_references(required, role) && references_in(octets).any)
 }
 
 /// Whether a string is a name of a variable that is neither one of the script nor one that scripts share.
@@ -69,56 +57,93 @@ fn is_bad_name(octets: &[u8]) -> bool
 }
 
 /// Whether a string names a variable in a namespace, or refers to one.
-fn names_namespace(role: Option<Role>, octets: &[u8], references: References) -> bool
-    ensures { result ≡ ((has_role NameToSet role && (not (is_identifier octets.now) && is_global_name octets.now)) || references.namespaced) }
+fn names_namespace(required: Required, role: Option<Role>, octets: &[u8]) -> bool
+    ensures { result ≡ names_namespace (required_as required) role octets.now }
 {
-    has_role(Role::NameToSet, role) && (!is_identifier(octets) && is_global_name(octets))
-        || references.namespaced
+    (has_role(Role::NameToSet, role) && (!is_identifier(octets) && is_global_name(octets)))
+        || (takes_references(required, role) && references_in(octets).namespaced)
 }
 
-/// The rule that a string in its role breaks, the first by the numbers of the rules.
-fn rule_of_text(context: Context<'_>, role: Option<Role>, octets: &[u8]) -> Option<Rule>
-    ensures { result ≡ find (text_breaks (context_as context.entry) role octets.now) all_rules }
+/// Whether a string in its role breaks a rule.
+fn text_breaks(context: Context<'_>, role: Option<Role>, octets: &[u8], rule: Rule) -> bool
+    ensures { result ≡ text_breaks (context_as context.entry) role octets.now rule }
 {
     let required = context.spot.required;
-    if has_role(Role::Capabilities, role) && (context.spot.leads && !is_capability(octets)) {
-        return Some(Rule::UnknownCapability);
+    match rule {
+        Rule::UnknownCapability => {
+            has_role(Role::Capabilities, role) && (context.spot.leads && !is_capability(octets))
+        }
+        Rule::UnknownComparator => {
+            has_role(Role::ComparatorName, role) && !is_comparator_name(octets)
+        }
+        Rule::BadVariableName => has_role(Role::NameToSet, role) && is_bad_name(octets),
+        Rule::BadNamespace => names_namespace(required, role, octets),
+        Rule::MatchIndex => takes_references(required, role) && references_in(octets).far,
+        Rule::BadEnvelopePart => {
+            has_role(Role::EnvelopeParts, role)
+                && (!is_envelope_part(octets) && is_known(required, role, octets))
+        }
+        Rule::NotAddressHeader => {
+            has_role(Role::AddressFields, role)
+                && (!is_address_field(octets) && is_known(required, role, octets))
+        }
+        Rule::TooManyVariables => {
+            has_role(Role::NameToSet, role) && context.assigned.is_full_for(octets)
+        }
+        Rule::RequirePlace => false,
+        Rule::UnknownCommand => false,
+        Rule::NotRequired => false,
+        Rule::ElsePlace => false,
+        Rule::BadTag => false,
+        Rule::BadArguments => false,
+        Rule::GlobalAfterSet => false,
+        Rule::NumberTooLarge => false,
     }
-    if has_role(Role::ComparatorName, role) && !is_comparator_name(octets) {
-        return Some(Rule::UnknownComparator);
-    }
-    if has_role(Role::NameToSet, role) && is_bad_name(octets) {
-        return Some(Rule::BadVariableName);
-    }
-    let references = references_of(required, role, octets);
-    if names_namespace(role, octets, references) {
-        return Some(Rule::BadNamespace);
-    }
-    if references.far {
-        return Some(Rule::MatchIndex);
-    }
-    if has_role(Role::EnvelopeParts, role) && (!is_envelope_part(octets) && !references.any) {
-        return Some(Rule::BadEnvelopePart);
-    }
-    if has_role(Role::AddressFields, role) && (!is_address_field(octets) && !references.any) {
-        return Some(Rule::NotAddressHeader);
-    }
-    if has_role(Role::NameToSet, role) && context.assigned.is_full_for(octets) {
-        return Some(Rule::TooManyVariables);
+}
+
+/// The rules in the order of their numbers.
+const RULES: [Rule; 16] = [
+    Rule::RequirePlace,
+    Rule::UnknownCapability,
+    Rule::UnknownCommand,
+    Rule::NotRequired,
+    Rule::ElsePlace,
+    Rule::BadTag,
+    Rule::BadArguments,
+    Rule::UnknownComparator,
+    Rule::BadVariableName,
+    Rule::GlobalAfterSet,
+    Rule::BadNamespace,
+    Rule::MatchIndex,
+    Rule::NumberTooLarge,
+    Rule::BadEnvelopePart,
+    Rule::NotAddressHeader,
+    Rule::TooManyVariables,
+];
+
+/// The first of some rules that a string in its role breaks.
+fn first_broken(
+    rules: &[Rule],
+    context: Context<'_>,
+    role: Option<Role>,
+    octets: &[u8],
+) -> Option<Rule>
+    ensures { result ≡ find (text_breaks (context_as context.entry) role octets.now) rules.now }
+{
+    for rule in rules {
+        if text_breaks(context, role, octets, *rule) {
+            return Some(*rule);
+        }
     }
     None
 }
 
 /// Checks a string in its role, if it has one.
 #[tactic(auto, using(crate::proofs::Searches::text_rule_steps))]
-fn check_text(
-    context: Context<'_>,
-    role: Option<Role>,
-    text: &Text,
-) -> Result<(), CheckFault>
+fn check_text(context: Context<'_>, role: Option<Role>, text: &Text) -> Result<(), CheckFault>
     ensures { Finds (breaches_at (the_text (context_as context.entry) role (text_of text.now))) result }
 {
-    match rule_of_text(context, role, &text.octets) {
+    match first_broken(&RULES, context, role, &text.octets) {
         Some(rule) => Err(CheckFault::Breach {
             line: text.line,
             rule,
@@ -220,4 +245,21 @@ pub(crate) fn check_use(
     }
     check_arguments(context, &labels, args)?;
     Ok(labels)
+}
+
+/// Checks a test of a row, apart from the tests in it.
+pub(crate) fn check_test_use(
+    alloc: Global,
+    context: Context<'_>,
+    line: u64,
+    row: &Row,
+    args: &[Argument],
+    tests: &Tests,
+) -> Result<(), CheckFault>
+    ensures { Finds (row_found false (context_as context.entry) line (row_as row.now) (map argument_of args.now) (tests_of tests.now) false) result }
+{
+    match check_use(alloc, context, line, row, args, tests, false, false) {
+        Ok(_) => Ok(()),
+        Err(fault) => Err(fault),
+    }
 }

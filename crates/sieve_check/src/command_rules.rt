@@ -124,8 +124,10 @@ fn check_command(
     match &command.block {
         None => Ok(next),
         Some(commands) => {
-            check_commands(alloc, next.inside(), &mut *assigned, commands)?;
-            Ok(next)
+            match check_commands(alloc, next.inside(), &mut *assigned, commands) {
+                Ok(()) => Ok(next),
+                Err(fault) => Err(fault),
+            }
         }
     }
 }

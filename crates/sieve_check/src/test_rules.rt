@@ -7,7 +7,7 @@ ghost use Rattle.sieve_check.specs.view.Context.{context_as};
 ghost use Rattle.sieve_check.specs.view.Finds.{FindsIn};
 ghost use Rattle.sieve_check.specs.view.Head.{test_head};
 
-use crate::arguments::check_use;
+use crate::arguments::check_test_use;
 use crate::context::Context;
 use crate::validator::CheckFault;
 use sieve_syntax::{Test, Tests};
@@ -15,7 +15,7 @@ use sieve_table::{Rule, test_named};
 use std::alloc::Global;
 
 /// Checks a test apart from the tests in it.
-#[tactic(auto, using(crate::proofs::Heads::test_head_steps))]
+#[tactic(auto, using(crate::proofs::Heads::test_unknown))]
 fn check_test_head(alloc: Global, context: Context<'_>, test: &Test) -> Result<(), CheckFault>
     ensures { FindsIn (test_head (context_as context.entry) test.now) result }
 {
@@ -25,19 +25,7 @@ fn check_test_head(alloc: Global, context: Context<'_>, test: &Test) -> Result<(
             line,
             rule: Rule::UnknownCommand,
         }),
-        Some(kind) => {
-            check_use(
-                alloc,
-                context,
-                line,
-                &kind.row(),
-                &test.args,
-                &test.tests,
-                false,
-                false,
-            )?;
-            Ok(())
-        }
+        Some(kind) => check_test_use(alloc, context, line, &kind.row(), &test.args, &test.tests),
     }
 }
 
@@ -54,7 +42,11 @@ fn check_test(alloc: Global, context: Context<'_>, test: &Test) -> Result<(), Ch
 /// Checks the tests behind arguments.
 #[cycle(check_tests)]
 #[tactic(auto, unfolding(crate::specs::Element::tests_elements))]
-pub(crate) fn check_tests(alloc: Global, context: Context<'_>, tests: &Tests) -> Result<(), CheckFault>
+pub(crate) fn check_tests(
+    alloc: Global,
+    context: Context<'_>,
+    tests: &Tests,
+) -> Result<(), CheckFault>
     ensures { FindsIn (tests_elements (context_as context.entry) (tests_of tests.now)) result }
 {
     match tests {

@@ -4,8 +4,8 @@ use Rattle.sieve_table.specs.view.Row.{row_as}
 use Rattle.sieve_check.proofs.Heads.{kind_placed}
 use Rattle.sieve_check.proofs.command_rules.check_kind.Goals as goal
 
-pub returns : goal.returns
-returns c =
+pub returns-clause-found : goal.returns-clause-found
+returns-clause-found c =
     kind_placed (context_as c.args.context) c.args.kind c.args.command.now (row_as c.row.result) _ c.deref.result.now c.is_some-ends_by_block.result c.stands_alone.result c.check_use.result
     refl c.row.ensures c.deref.ensures.value c.is_some-ends_by_block.ensures
-    (sym c.if-is_misplaced.false ∙ c.is_misplaced.ensures) c.stands_alone.ensures c.check_use.ensures
+    (sym c.if-is_misplaced.false ∙ c.is_misplaced.ensures) c.stands_alone.ensures c.check_use.ensures.found

@@ -1,6 +1,6 @@
 use Rattle.std.proofs.Common.{Some, ◌∙◌, ap, map, sym}
 use Rattle.std.specs.Option.{option_map}
-use Rattle.sieve_check.specs.Reading.{address_source, compares_by, envelope_source, exists_by, header_source, labels_in, reads_ask, size_by, test_reading_by}
+use Rattle.sieve_check.specs.Reading.{address_source, compares_by, envelope_source, exists_by, header_source, labels_in, reads_ask, size_by, string_source, test_reading_by}
 use Rattle.sieve_table.specs.Table.{test_row}
 use Rattle.sieve_check.specs.view.Tree.{argument_of}
 use Rattle.sieve_check.proofs.reading.test_reading_by.Goals as goal
@@ -39,3 +39,10 @@ returns-in-Size c =
     c.asking-in-Size.ensures
     ∙ ap (option_map reads_ask) (c.size_ask.ensures ∙ ap (λ r. size_by (labels_in r args) args) (c.row-in-Size.ensures ∙ ap test_row c.in-Size.is))
     ∙ sym (ap (λ kind. test_reading_by (Some kind) args) c.in-Size.is)
+
+pub returns-in-String : goal.returns-in-String
+returns-in-String c =
+    let args = map argument_of c.args.args.now in
+    c.asking-in-String.ensures
+    ∙ ap (option_map reads_ask) (c.string_ask.ensures ∙ ap (λ r. compares_by (string_source (labels_in r args) args) (labels_in r args) args) (c.row-in-String.ensures ∙ ap test_row c.in-String.is))
+    ∙ sym (ap (λ kind. test_reading_by (Some kind) args) c.in-String.is)

@@ -4,4 +4,4 @@ use Rattle.sieve_check.specs.Assigned.{assigning_texts}
 use Rattle.sieve_check.proofs.assigned.Assigned.assign_texts.Given as goal
 
 abbrev pub invariant-loop-text : goal.invariant-loop-text
-invariant-loop-text l = assigning_texts l.self (map text_of (drop l.text-index l.texts)) ≡ assigning_texts l.fn.self.old (map text_of l.texts)
+invariant-loop-text l = assigning_texts l.self (map text_of (drop l.text-index l.texts)) ≡ assigning_texts l.fn.self (map text_of l.texts)
