@@ -4,7 +4,7 @@ use Rattle.std.specs.List.{flat_map}
 use Rattle.std.proofs.lemmas.List.{take_rest}
 use Rattle.sieve_base.specs.Writers.{Wrote, WroteFront}
 use Rattle.smallvec.specs.SmallVec.{SmallVec}
-use Rattle.sieve_check.specs.Tree as tree
+use Rattle.sieve_variables.specs.Part as part
 use Rattle.sieve_variables.specs.view.Part.{part_of}
 use Rattle.sieve_variables.specs.declared.part.Part.{Part}
 use Rattle.sieve_code.specs.Dump.{list_text, part_text, separated, string_text}
@@ -80,9 +80,9 @@ strings_front front strings string parts some same is =
     ∙ ap (λ ss. front ++ (string_text (map part_of parts) ++ flat_map marked_string ss)) (take_rest strings 1)
     ∙ ap (λ t. front ++ t) (strings_some strings string parts some same is)
 
-abbrev pub opened : List (List tree.Part) → List ℕ
+abbrev pub opened : List (List part.Part) → List ℕ
 opened strings = codes "[" ++ separated (codes ", ") string_text strings
 
-pub list_whole : (front : List ℕ) (strings : List (List tree.Part)) → (front ++ opened strings) ++ codes "]" ≡ front ++ list_text strings
+pub list_whole : (front : List ℕ) (strings : List (List part.Part)) → (front ++ opened strings) ++ codes "]" ≡ front ++ list_text strings
 unfolding list_text
 list_whole front strings = append_assoc front (opened strings) (codes "]")
