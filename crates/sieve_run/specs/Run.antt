@@ -18,7 +18,7 @@ use Rattle.sieve_run.specs.Matching.{truth_of, values_behind}
 use Rattle.sieve_run.specs.Library.{Lookup, missing, invalid, present, found_at}
 use Rattle.sieve_run.specs.Verdict.{Verdict}
 use Rattle.sieve_variables.specs.Modifier.{modified}
-use Rattle.sieve_variables.specs.Value.{Values, no_values, text_value, with_local}
+use Rattle.sieve_variables.specs.Value.{Values, no_values, text_value, with_local, with_matched}
 
 -- the state of a run: the actions in order, whether one of them cancelled the implicit keep, the names looked up so far, and the
 -- variables of the script that runs
@@ -123,9 +123,17 @@ pub record Answer : Type 0 where
   pub truth : Bool
   pub state : RunState
 
--- what a test asks of the delivery, which sets match variables at most
+-- the state behind what a test asks: match variables are set at most
+abbrev pub behind_test : Delivery → Ask → RunState → RunState
+behind_test delivery ask state = record state { values = values_behind delivery state.values ask }
+
+-- what a test asks of the delivery
 abbrev pub answer_of : Delivery → Ask → RunState → Answer
-answer_of delivery ask state = record { truth = truth_of delivery state.values ask; state = record state { values = values_behind delivery state.values ask } }
+answer_of delivery ask state = record { truth = truth_of delivery state.values ask; state = behind_test delivery ask state }
+
+-- one state is another but for what a match gave
+abbrev pub SetsMatched : RunState → RunState → Type 0
+SetsMatched state next = (matched : List (List ℕ)) × (next ≡ record state { values = with_matched matched state.values })
 
 abbrev pub inverted : Answer → Answer
 inverted answer = record { truth = not answer.truth; state = answer.state }

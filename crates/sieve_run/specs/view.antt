@@ -1,4 +1,5 @@
 -- What the program's types stand for in contracts. The other files of specs/ restate the subject.
+pub mod Acting
 pub mod Compiled
 pub mod Delivery
 pub mod Entry

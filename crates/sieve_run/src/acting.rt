@@ -2,22 +2,25 @@
 ghost use Rattle.std.specs.Prelude.{◌≡◌, IfOk, map};
 ghost use Rattle.std.specs.List.{list_all};
 ghost use Rattle.std.specs.Option.{option_map};
-ghost use Rattle.sieve_check.specs.Reading.{discard_leaf, fileinto_leaf, keep_leaf, redirect_leaf};
-ghost use Rattle.sieve_check.specs.view.Tree.{part_of};
+ghost use Rattle.message_text.specs.Addresses.{addresses_of};
+ghost use Rattle.sieve_check.specs.Reading.{discard_leaf, fileinto_leaf, keep_leaf, redirect_leaf, set_leaf};
 ghost use Rattle.sieve_run.specs.Run.{act_of, is_mailbox, is_no_control, only_address, performs, whole_address};
 ghost use Rattle.sieve_run.specs.view.Delivery.{delivery_as};
 ghost use Rattle.sieve_run.specs.view.Flow.{ending_by};
+ghost use Rattle.sieve_run.specs.view.Acting.{mailbox_named};
 ghost use Rattle.sieve_run.specs.view.State.{state_of};
+ghost use Rattle.sieve_variables.specs.Modifier.{modified};
+ghost use Rattle.sieve_variables.specs.Value.{text_value};
+ghost use Rattle.sieve_variables.specs.view.Part.{part_of};
 
 use crate::delivery::Delivery;
 use crate::flow::Flow;
 use crate::outcome::{Action, ErrorKind};
 use crate::state::{State, add_action};
-use crate::strings::expanded_string;
 use message_text::{Address, AddressPart, addresses};
 use sieve_base::Octets;
 use sieve_base::limits::MAX_MAILBOX;
-use sieve_check::Part;
+use sieve_variables::{Modifiers, Part, Values};
 use std::alloc::AllocError;
 
 /// Performs an action, which takes the place of the implicit keep (RFC 5228, section 2.10.2).
@@ -82,7 +85,24 @@ fn is_mailbox(name: &[u8]) -> bool
     !name.is_empty() && name.len() <= MAX_MAILBOX && has_no_control(name)
 }
 
+/// The mailbox that a string names, where it is one.
+fn mailbox_named(
+    delivery: &Delivery<'_>,
+    values: &Values,
+    mailbox: &[Part],
+) -> Result<Option<Octets>, AllocError>
+    ensures { IfOk result (λ name. name ≡ mailbox_named values.now (map part_of mailbox.now)) }
+{
+    let name = values.expanded_string(delivery.alloc, mailbox)?;
+    if is_mailbox(name.as_slice()) {
+        Ok(Some(Octets::copied(delivery.alloc, name.as_slice())?))
+    } else {
+        Ok(None)
+    }
+}
+
 /// Stores into the mailbox of that name (RFC 5228, section 4.1).
+#[tactic(auto, using(crate::proofs::Acting::files))]
 pub(crate) fn file_into(
     delivery: &Delivery<'_>,
     mailbox: &[Part],
@@ -91,13 +111,13 @@ pub(crate) fn file_into(
 ) -> Result<Flow, AllocError>
     ensures { IfOk result (λ flow. ending_by (delivery_as delivery.now) flow (state_of state.new) ≡ act_of (delivery_as delivery.now) (fileinto_leaf (map part_of mailbox.now)) line (state_of state.old)) }
 {
-    let name = expanded_string(delivery.alloc, mailbox)?;
-    if !is_mailbox(name.as_slice()) {
-        let kind = ErrorKind::BadMailbox;
-        return Ok(Flow::Failed { line, kind });
+    match mailbox_named(delivery, &state.values, mailbox)? {
+        Some(mailbox) => perform(delivery, Action::Store { mailbox }, line, state),
+        None => {
+            let kind = ErrorKind::BadMailbox;
+            Ok(Flow::Failed { line, kind })
+        }
     }
-    let mailbox = Octets::copied(delivery.alloc, name.as_slice())?;
-    perform(delivery, Action::Store { mailbox }, line, state)
 }
 
 /// All of an address that has a local part and a domain.
@@ -121,7 +141,24 @@ fn only_address(found: &[Address]) -> Option<&[u8]>
     }
 }
 
-/// Sends the message on to the address that a text gives (RFC 5228, section 4.2).
+/// The address that a string gives, where it gives one with a local part and a domain.
+fn address_named(
+    delivery: &Delivery<'_>,
+    values: &Values,
+    address: &[Part],
+) -> Result<Option<Octets>, AllocError>
+    ensures { IfOk result (λ octets. octets ≡ only_address (addresses_of (text_value values.now (map part_of address.now)))) }
+{
+    let text = values.expanded_string(delivery.alloc, address)?;
+    let found = addresses(delivery.alloc, text.as_slice())?;
+    match only_address(&found) {
+        Some(octets) => Ok(Some(Octets::copied(delivery.alloc, octets)?)),
+        None => Ok(None),
+    }
+}
+
+/// Sends the message on to the address that a string gives (RFC 5228, section 4.2).
+#[tactic(auto, using(crate::proofs::Acting::sends))]
 pub(crate) fn redirect(
     delivery: &Delivery<'_>,
     address: &[Part],
@@ -130,12 +167,42 @@ pub(crate) fn redirect(
 ) -> Result<Flow, AllocError>
     ensures { IfOk result (λ flow. ending_by (delivery_as delivery.now) flow (state_of state.new) ≡ act_of (delivery_as delivery.now) (redirect_leaf (map part_of address.now)) line (state_of state.old)) }
 {
-    let text = expanded_string(delivery.alloc, address)?;
-    let found = addresses(delivery.alloc, text.as_slice())?;
-    let Some(octets) = only_address(&found) else {
-        let kind = ErrorKind::BadAddress;
-        return Ok(Flow::Failed { line, kind });
-    };
-    let address = Octets::copied(delivery.alloc, octets)?;
-    perform(delivery, Action::Redirect { address }, line, state)
+    match address_named(delivery, &state.values, address)? {
+        Some(address) => perform(delivery, Action::Redirect { address }, line, state),
+        None => {
+            let kind = ErrorKind::BadAddress;
+            Ok(Flow::Failed { line, kind })
+        }
+    }
+}
+
+/// The value that a `set` gives (RFC 5229, section 4.1).
+fn value_of(
+    delivery: &Delivery<'_>,
+    values: &Values,
+    modifiers: Modifiers,
+    value: &[Part],
+) -> Result<Octets, AllocError>
+    ensures { IfOk result (λ octets. octets ≡ modified modifiers (text_value values.now (map part_of value.now))) }
+{
+    let text = values.expanded_string(delivery.alloc, value)?;
+    Ok(Octets::from_vec(
+        modifiers.modified(delivery.alloc, text.as_slice())?,
+    ))
+}
+
+/// Gives a variable of the script a value (RFC 5229, section 4).
+pub(crate) fn set(
+    delivery: &Delivery<'_>,
+    name: &[u8],
+    modifiers: Modifiers,
+    value: &[Part],
+    line: u64,
+    state: &mut State,
+) -> Result<Flow, AllocError>
+    ensures { IfOk result (λ flow. ending_by (delivery_as delivery.now) flow (state_of state.new) ≡ act_of (delivery_as delivery.now) (set_leaf name.now modifiers (map part_of value.now)) line (state_of state.old)) }
+{
+    let octets = value_of(delivery, &state.values, modifiers, value)?;
+    state.values.set(delivery.alloc, name, octets)?;
+    Ok(Flow::GoesOn)
 }

@@ -1,9 +1,11 @@
 //! How a test compares a value with keys (RFC 5228, section 2.7.1).
-ghost use Rattle.std.specs.Prelude.{◌≡◌, [], IfOk, None, Some, if◌then◌else◌};
+ghost use Rattle.std.specs.Prelude.{◌≡◌, [], IfOk, None, Some, is_some, if◌then◌else◌};
 ghost use Rattle.match_text.specs.Wildcard.{matched};
-ghost use Rattle.sieve_run.specs.Matching.{fold_of, match_of};
+ghost use Rattle.sieve_run.specs.Matching.{fold_of, match_of, with_found};
 ghost use Rattle.sieve_run.specs.view.FieldTests.{found_with};
+ghost use Rattle.sieve_run.specs.view.State.{state_of};
 
+use crate::state::State;
 use match_text::{
     AsciiCasemap, Captures, Collation, Comparator, Octet, contains, contains_in, is, matches,
 };
@@ -48,6 +50,26 @@ impl MatchValues {
             texts.push(Octets::copied(alloc, captures.get(k + 1))?)?;
         }
         Ok(MatchValues { texts })
+    }
+}
+
+/// Keeps what was found, where that sets match variables (RFC 5229, section 3.2). Answers whether something was found.
+pub(crate) fn keep_found(
+    match_type: MatchType,
+    found: Option<MatchValues>,
+    state: &mut State,
+) -> bool
+    ensures truth { result ≡ is_some found }
+    ensures kept { state_of state.new ≡ record (state_of state.old) { values = with_found match_type found (state_of state.old).values } }
+{
+    match (match_type, found) {
+        (MatchType::Matches, Some(values)) => {
+            state.values.set_matched(values.texts);
+            true
+        }
+        (MatchType::Matches, None) => false,
+        (MatchType::Is, found) => found.is_some(),
+        (MatchType::Contains, found) => found.is_some(),
     }
 }
 

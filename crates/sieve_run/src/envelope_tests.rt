@@ -3,19 +3,23 @@ ghost use Rattle.std.specs.Prelude.{◌≡◌, None, IfOk};
 ghost use Rattle.std.specs.Option.{option_map};
 ghost use Rattle.message_text.specs.Addresses.{envelope_address_of, is_null_path, part_of};
 ghost use Rattle.sieve_check.specs.Reading.{compares, envelope_values};
-ghost use Rattle.sieve_code.specs.view.Op.{strings_of};
 ghost use Rattle.sieve_run.specs.Matching.{envelope_text, first_match, first_some, fold_of, match_found, pairs_with, truth_of};
+ghost use Rattle.sieve_run.specs.Run.{behind_test};
 ghost use Rattle.sieve_run.specs.view.Delivery.{delivery_as};
-ghost use Rattle.sieve_run.specs.view.FieldTests.{found_with, octets_of_each, path_found, path_name_found};
+ghost use Rattle.sieve_run.specs.view.FieldTests.{found_with, path_found, path_name_found};
+ghost use Rattle.sieve_run.specs.view.State.{state_of};
+ghost use Rattle.sieve_variables.specs.view.Part.{strings_of};
+ghost use Rattle.sieve_variables.specs.view.Value.{octets_of_each};
 
-use crate::comparison::{Comparison, MatchValues};
+use crate::comparison::{Comparison, MatchValues, keep_found};
 use crate::delivery::Delivery;
 use crate::envelope::Envelope;
 use crate::matching::find_in_part;
-use crate::strings::expanded;
+use crate::state::State;
 use match_text::Collation;
 use message_text::{AddressPart, addresses};
-use sieve_check::{MatchType, Parts};
+use sieve_check::MatchType;
+use sieve_variables::{Parts, Values};
 use std::alloc::{AllocError, Global};
 use std::borrow::CowSlice;
 
@@ -132,21 +136,22 @@ fn find_compared(
 /// What a test of the envelope finds. All strings are expanded before the first comparison.
 fn find_match(
     delivery: &Delivery<'_>,
+    values: &Values,
     part: AddressPart,
     match_type: MatchType,
     collation: Collation,
     names: &[Parts],
     keys: &[Parts],
 ) -> Result<Option<MatchValues>, AllocError>
-    ensures { IfOk result (λ found. found ≡ match_found (delivery_as delivery.now) (envelope_values part (strings_of names.now)) match_type collation (strings_of keys.now)) }
+    ensures { IfOk result (λ found. found ≡ match_found (delivery_as delivery.now) values.now (envelope_values part (strings_of names.now)) match_type collation (strings_of keys.now)) }
 {
-    let names = expanded(delivery.alloc, names)?;
-    let keys = expanded(delivery.alloc, keys)?;
+    let names = values.expanded(delivery.alloc, names)?;
+    let keys = values.expanded(delivery.alloc, keys)?;
     find_compared(delivery, part, match_type, collation, &names, &keys)
 }
 
 /// Whether a test of the envelope holds.
-#[tactic(auto, unfolding(crate::specs::Matching::truth_of))]
+#[tactic(auto, unfolding(crate::specs::Matching::truth_of, crate::specs::Matching::values_behind))]
 pub(crate) fn envelope_holds(
     delivery: &Delivery<'_>,
     part: AddressPart,
@@ -154,9 +159,19 @@ pub(crate) fn envelope_holds(
     collation: Collation,
     names: &[Parts],
     keys: &[Parts],
+    state: &mut State,
 ) -> Result<bool, AllocError>
-    ensures { IfOk result (λ truth. truth ≡ truth_of (delivery_as delivery.now) (compares (envelope_values part (strings_of names.now)) match_type collation (strings_of keys.now))) }
+    ensures truth { IfOk result (λ truth. truth ≡ truth_of (delivery_as delivery.now) (state_of state.old).values (compares (envelope_values part (strings_of names.now)) match_type collation (strings_of keys.now))) }
+    ensures behind { IfOk result (λ truth. state_of state.new ≡ behind_test (delivery_as delivery.now) (compares (envelope_values part (strings_of names.now)) match_type collation (strings_of keys.now)) (state_of state.old)) }
 {
-    let found = find_match(delivery, part, match_type, collation, names, keys)?;
-    Ok(found.is_some())
+    let found = find_match(
+        delivery,
+        &state.values,
+        part,
+        match_type,
+        collation,
+        names,
+        keys,
+    )?;
+    Ok(keep_found(match_type, found, state))
 }

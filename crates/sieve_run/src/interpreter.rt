@@ -24,6 +24,7 @@ use indexmap::IndexMap;
 use message_text::Message;
 use sieve_base::limits::MAX_NAME;
 use sieve_code::Code;
+use sieve_variables::Values;
 use std::alloc::{AllocError, Global};
 
 /// The outcome where the main script itself can't run: the implicit keep stands.
@@ -76,6 +77,7 @@ fn ended(alloc: Global, main: &ScriptName, flow: Flow, state: State) -> Result<O
         actions,
         cancelled,
         reads,
+        values: _,
     } = state;
     match flow {
         Flow::Failed { line, kind } => Ok(Outcome {
@@ -111,6 +113,7 @@ fn run_main(
         actions: Vec::new(alloc),
         cancelled: false,
         reads: first_read(alloc, main, true)?,
+        values: Values::new(alloc),
     };
     let delivery = Delivery {
         alloc,

@@ -13,7 +13,7 @@ ghost use Rattle.sieve_run.specs.Matching.{envelope_text};
 ghost use Rattle.sieve_run.specs.declared.envelope.Envelope.{Envelope};
 ghost use Rattle.sieve_run.specs.Name.{name_cmp, name_eq};
 ghost use Rattle.sieve_run.specs.Perform.{answers_of, do_gone, perform};
-ghost use Rattle.sieve_run.specs.Run.{Answer, Ending, RunState, answer_of, decide, exec, outcome_of};
+ghost use Rattle.sieve_run.specs.Run.{Answer, Ending, RunState, SetsMatched, answer_of, decide, exec, outcome_of};
 ghost use Rattle.sieve_run.specs.declared.name.ScriptName as names;
 
 use crate::name::ScriptName;
@@ -25,11 +25,11 @@ pub fn stop_ends_the_commands()
     ensures same { (ask : Ask → RunState → Answer) (act : Leaf → ℕ → RunState → Ending) (rest other : Commands) (state : RunState) → exec ask act (stops rest) state ≡ exec ask act (stops other) state }
 {}
 
-/// No test changes the state of a run (RFC 5228, section 5): neither its actions, nor whether the implicit keep is
-/// cancelled, nor the names looked up.
+/// Tests set match variables at most (RFC 5229, section 3.2): neither the actions of a run nor whether the implicit keep is
+/// cancelled, neither the names looked up nor the variables that are set.
 #[tactic(auto, using(crate::proofs::Unchanged::decide_keeps))]
-pub fn tests_change_nothing()
-    ensures state { (delivery : Delivery) (condition : Condition) (state : RunState) → (decide (answer_of delivery) condition state).state ≡ state }
+pub fn tests_set_match_variables_at_most()
+    ensures state { (delivery : Delivery) (condition : Condition) (state : RunState) → SetsMatched state (decide (answer_of delivery) condition state).state }
 {}
 
 /// What running a checked tree's commands does is what doing the leaves of its walk in turn gives, up to the first that ends

@@ -19,7 +19,7 @@ mod script;
 mod shelf;
 mod state;
 mod steps;
-mod strings;
+mod string_tests;
 
 pub use envelope::Envelope;
 pub use interpreter::run;

@@ -1,21 +1,25 @@
 //! What tests find in a message's fields (RFC 5228, sections 2.7 and 5).
-ghost use Rattle.std.specs.Prelude.{◌≡◌, ◌<◌, length, map, Some, slice_get, IfOk};
+ghost use Rattle.std.specs.Prelude.{◌≡◌, ◌<◌, length, map, nat_lt, Some, slice_get, IfOk};
 ghost use Rattle.std.specs.List.{list_all};
 ghost use Rattle.std.specs.Option.{option_and_then, option_map};
 ghost use Rattle.message_text.specs.Fields.{fields_of};
-ghost use Rattle.sieve_check.specs.Reading.{compares, exists_ask, over_ask, under_ask};
-ghost use Rattle.sieve_code.specs.view.Op.{strings_of};
+ghost use Rattle.sieve_check.specs.Reading.{compares, exists_ask};
 ghost use Rattle.sieve_run.specs.Matching.{first_match, first_some, fold_of, has_field, is_field_named, match_found, pairs_with, truth_of};
+ghost use Rattle.sieve_run.specs.Run.{behind_test};
 ghost use Rattle.sieve_run.specs.view.Delivery.{delivery_as};
-ghost use Rattle.sieve_run.specs.view.FieldTests.{field_found, field_source, found_with, is_looked_at, name_found, octets_of_each, part_found, value_found};
+ghost use Rattle.sieve_run.specs.view.FieldTests.{field_found, field_source, found_with, is_looked_at, name_found, part_found, value_found};
+ghost use Rattle.sieve_run.specs.view.State.{state_of};
+ghost use Rattle.sieve_variables.specs.view.Part.{strings_of};
+ghost use Rattle.sieve_variables.specs.view.Value.{octets_of_each};
 
-use crate::comparison::{Comparison, MatchValues};
+use crate::comparison::{Comparison, MatchValues, keep_found};
 use crate::delivery::Delivery;
-use crate::strings::expanded;
+use crate::state::State;
 use match_text::{AsciiCasemap, Collation, is};
 use message_text::{Address, AddressPart, Message, addresses};
-use sieve_check::{MatchType, Parts};
+use sieve_check::MatchType;
 use sieve_table::is_address_field;
+use sieve_variables::{Parts, Values};
 use std::alloc::{AllocError, Global};
 use std::borrow::CowSlice;
 
@@ -199,21 +203,22 @@ fn find_compared(
 /// What a test finds in fields, or in that part of the addresses in them. All strings are expanded before the first comparison.
 fn find_match(
     delivery: &Delivery<'_>,
+    values: &Values,
     part: Option<AddressPart>,
     match_type: MatchType,
     collation: Collation,
     names: &[Parts],
     keys: &[Parts],
 ) -> Result<Option<MatchValues>, AllocError>
-    ensures { IfOk result (λ found. found ≡ match_found (delivery_as delivery.now) (field_source part (strings_of names.now)) match_type collation (strings_of keys.now)) }
+    ensures { IfOk result (λ found. found ≡ match_found (delivery_as delivery.now) values.now (field_source part (strings_of names.now)) match_type collation (strings_of keys.now)) }
 {
-    let names = expanded(delivery.alloc, names)?;
-    let keys = expanded(delivery.alloc, keys)?;
+    let names = values.expanded(delivery.alloc, names)?;
+    let keys = values.expanded(delivery.alloc, keys)?;
     find_compared(delivery, part, match_type, collation, &names, &keys)
 }
 
 /// Whether a test of fields, or of that part of the addresses in them, holds.
-#[tactic(auto, unfolding(crate::specs::Matching::truth_of))]
+#[tactic(auto, unfolding(crate::specs::Matching::truth_of, crate::specs::Matching::values_behind))]
 pub(crate) fn fields_hold(
     delivery: &Delivery<'_>,
     part: Option<AddressPart>,
@@ -221,34 +226,46 @@ pub(crate) fn fields_hold(
     collation: Collation,
     names: &[Parts],
     keys: &[Parts],
+    state: &mut State,
 ) -> Result<bool, AllocError>
-    ensures { IfOk result (λ truth. truth ≡ truth_of (delivery_as delivery.now) (compares (field_source part (strings_of names.now)) match_type collation (strings_of keys.now))) }
+    ensures truth { IfOk result (λ truth. truth ≡ truth_of (delivery_as delivery.now) (state_of state.old).values (compares (field_source part (strings_of names.now)) match_type collation (strings_of keys.now))) }
+    ensures behind { IfOk result (λ truth. state_of state.new ≡ behind_test (delivery_as delivery.now) (compares (field_source part (strings_of names.now)) match_type collation (strings_of keys.now)) (state_of state.old)) }
 {
-    let found = find_match(delivery, part, match_type, collation, names, keys)?;
-    Ok(found.is_some())
+    let found = find_match(
+        delivery,
+        &state.values,
+        part,
+        match_type,
+        collation,
+        names,
+        keys,
+    )?;
+    Ok(keep_found(match_type, found, state))
 }
 
 /// Whether all named fields are there.
 #[tactic(auto, unfolding(crate::specs::Matching::truth_of))]
-pub(crate) fn exists(delivery: &Delivery<'_>, names: &[Parts]) -> Result<bool, AllocError>
-    ensures { IfOk result (λ truth. truth ≡ truth_of (delivery_as delivery.now) (exists_ask (strings_of names.now))) }
+pub(crate) fn exists(
+    delivery: &Delivery<'_>,
+    values: &Values,
+    names: &[Parts],
+) -> Result<bool, AllocError>
+    ensures { IfOk result (λ truth. truth ≡ truth_of (delivery_as delivery.now) values.now (exists_ask (strings_of names.now))) }
 {
-    let names = expanded(delivery.alloc, names)?;
+    let names = values.expanded(delivery.alloc, names)?;
     Ok(has_fields(delivery.message, &names))
 }
 
 /// Whether the message has more octets.
-#[tactic(auto, unfolding(crate::specs::Matching::truth_of))]
 pub(crate) fn is_over(delivery: &Delivery<'_>, limit: u64) -> bool
-    ensures { result ≡ truth_of (delivery_as delivery.now) (over_ask limit) }
+    ensures { result ≡ nat_lt limit (length (delivery_as delivery.now).message) }
 {
     delivery.message.size() as u64 > limit
 }
 
 /// Whether the message has fewer octets.
-#[tactic(auto, unfolding(crate::specs::Matching::truth_of))]
 pub(crate) fn is_under(delivery: &Delivery<'_>, limit: u64) -> bool
-    ensures { result ≡ truth_of (delivery_as delivery.now) (under_ask limit) }
+    ensures { result ≡ nat_lt (length (delivery_as delivery.now).message) limit }
 {
     (delivery.message.size() as u64) < limit
 }

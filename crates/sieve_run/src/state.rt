@@ -8,6 +8,7 @@ use crate::name::ScriptName;
 use crate::outcome::Action;
 use indexmap::IndexMap;
 use sieve_base::limits::MAX_ACTIONS;
+use sieve_variables::Values;
 use std::alloc::AllocError;
 
 /// The state of a run.
@@ -17,6 +18,8 @@ pub(crate) struct State {
     /// Whether an action took the place of the implicit keep.
     pub(crate) cancelled: bool,
     pub(crate) reads: IndexMap<ScriptName, bool>,
+    /// The variables of the script that runs.
+    pub(crate) values: Values,
 }
 
 /// Whether two actions are one.

@@ -9,13 +9,14 @@ ghost use Rattle.sieve_run.specs.view.State.{state_of};
 ghost use Rattle.sieve_run.specs.view.Step.{StepsTo, doing};
 ghost use Rattle.sieve_run.specs.declared.steps.Step.TheVariants.{Next};
 
-use crate::acting::{discard, file_into, keep, redirect};
+use crate::acting::{discard, file_into, keep, redirect, set};
 use crate::delivery::Delivery;
 use crate::envelope_tests::envelope_holds;
 use crate::flow::Flow;
 use crate::matching::{exists, fields_hold, is_over, is_under};
 use crate::outcome::ErrorKind;
 use crate::state::State;
+use crate::string_tests::strings_hold;
 use sieve_code::{Code, Op};
 use std::alloc::AllocError;
 
@@ -83,7 +84,8 @@ fn carry_out(
             names,
             keys,
         } => {
-            let truth = fields_hold(delivery, None, *match_type, *collation, names, keys)?;
+            let truth =
+                fields_hold(delivery, None, *match_type, *collation, names, keys, state)?;
             Ok(proceed(truth, behind))
         }
         Op::Address {
@@ -94,7 +96,8 @@ fn carry_out(
             keys,
         } => {
             let part = Some(*part);
-            let truth = fields_hold(delivery, part, *match_type, *collation, names, keys)?;
+            let truth =
+                fields_hold(delivery, part, *match_type, *collation, names, keys, state)?;
             Ok(proceed(truth, behind))
         }
         Op::Envelope {
@@ -104,11 +107,21 @@ fn carry_out(
             names,
             keys,
         } => {
-            let truth = envelope_holds(delivery, *part, *match_type, *collation, names, keys)?;
+            let truth =
+                envelope_holds(delivery, *part, *match_type, *collation, names, keys, state)?;
+            Ok(proceed(truth, behind))
+        }
+        Op::String {
+            match_type,
+            collation,
+            texts,
+            keys,
+        } => {
+            let truth = strings_hold(delivery, *match_type, *collation, texts, keys, state)?;
             Ok(proceed(truth, behind))
         }
         Op::Exists { names } => {
-            let truth = exists(delivery, names)?;
+            let truth = exists(delivery, &state.values, names)?;
             Ok(proceed(truth, behind))
         }
         Op::SizeOver(limit) => Ok(proceed(is_over(delivery, *limit), behind)),
@@ -130,6 +143,15 @@ fn carry_out(
         }
         Op::Discard(line) => {
             let flow = discard(delivery, *line, state)?;
+            Ok(step_after(flow, behind, register))
+        }
+        Op::Set {
+            name,
+            modifiers,
+            value,
+            line,
+        } => {
+            let flow = set(delivery, name, *modifiers, value, *line, state)?;
             Ok(step_after(flow, behind, register))
         }
         Op::Stop => Ok(Step::Stopped),

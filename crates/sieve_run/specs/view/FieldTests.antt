@@ -1,22 +1,16 @@
--- What tests find in one value, one field and one name, and the octets of what code holds.
-use Rattle.std.specs.Prelude.{ℕ, Bool, true, List, Option, None, Some, map, if◌then◌else◌}
+-- What tests find in one value, one field and one name.
+use Rattle.std.specs.Prelude.{ℕ, Bool, true, List, Option, None, Some, if◌then◌else◌}
 use Rattle.std.specs.Option.{option_and_then}
-use Rattle.std.specs.declared.alloc.Global.{Global}
-use Rattle.std.specs.declared.borrow.CowSlice.{CowSlice}
-use Rattle.std.specs.Cow.{cow_slice_items}
 use Rattle.message_text.specs.Addresses.{AddrSpec, addresses_of, envelope_address_of, part_of}
 use Rattle.message_text.specs.Fields.{Field}
 use Rattle.message_text.specs.declared.addressing.AddressPart.{AddressPart}
 use Rattle.sieve_check.specs.Reading.{Source, address_values, header_values}
-use Rattle.sieve_check.specs.Tree.{Part}
+use Rattle.sieve_variables.specs.Part.{Part}
+use Rattle.sieve_variables.specs.view.Value.{octets_of_each}
 use Rattle.sieve_table.specs.Address.{is_address_field}
 use Rattle.sieve_run.specs.Matching.{envelope_text, first_match, first_some, fold_of, is_field_named, pairs_with}
 use Rattle.sieve_run.specs.declared.comparison.Comparison.{Comparison}
 use Rattle.sieve_run.specs.declared.envelope.Envelope.{Envelope}
-
--- the octets of each
-abbrev pub octets_of_each : List (CowSlice ℕ Global) → List (List ℕ)
-octets_of_each texts = map cow_slice_items texts
 
 -- what the first key gives that a value matches
 abbrev pub found_with : Comparison → List ℕ → Option (List (List ℕ))

@@ -5,7 +5,7 @@ use Rattle.sieve_run.specs.declared.state.State.{State}
 use Rattle.sieve_run.specs.Run.{RunState, Performed, performed, one_too_many}
 
 abbrev pub state_of : State → RunState
-state_of s = record { actions = s.actions.items; cancelled = s.cancelled; reads = s.reads.entries }
+state_of s = record { actions = s.actions.items; cancelled = s.cancelled; reads = s.reads.entries; values = s.values }
 
 -- what became of the actions, by whether there was room
 abbrev pub performed_as : (has_room : Bool) → List Action → Performed

@@ -1,0 +1,40 @@
+-- What commands do whose strings name something or nothing.
+use Rattle.std.proofs.Common.{◌≡◌, ℕ, Bool, true, false, List, Option, Some, None, refl, sym, ap, ◌∙◌}
+use Rattle.std.specs.Prelude.{if◌then◌else◌}
+use Rattle.message_text.specs.Addresses.{addresses_of}
+use Rattle.sieve_check.specs.Reading.{fileinto_leaf, redirect_leaf}
+use Rattle.sieve_run.specs.Delivery.{Delivery}
+use Rattle.sieve_run.specs.Run.{RunState, Ending, act_of, fails_at, is_mailbox, only_address, performs, redirects}
+use Rattle.sieve_run.specs.declared.outcome.Action.TheVariants.{Store, Redirect}
+use Rattle.sieve_run.specs.declared.outcome.ErrorKind.TheVariants.{BadAddress, BadMailbox}
+use Rattle.sieve_run.specs.view.Acting.{mailbox_named}
+use Rattle.sieve_variables.specs.Part.{Part}
+use Rattle.sieve_variables.specs.Value.{text_value}
+
+module _ (delivery : Delivery) (line : ℕ) (state : RunState) where
+  by_name : (named : Bool) (name other : List ℕ) → Some other ≡ (if named then Some name else None) → performs delivery line (Store other) state ≡ (if named then performs delivery line (Store name) state else fails_at delivery line BadMailbox state)
+  by_name true name other is = ap (λ o. performs delivery line (Store o) state) (one_of other name is)
+    where
+      one_of : (a b : List ℕ) → Some a ≡ Some b → a ≡ b
+      one_of a b e = cc
+  by_name false name other is = cc
+
+  by_none : (named : Bool) (name : List ℕ) → None ≡ (if named then Some name else None) → fails_at delivery line BadMailbox state ≡ (if named then performs delivery line (Store name) state else fails_at delivery line BadMailbox state)
+  by_none true name is = cc
+  by_none false name is = refl
+
+  pub files_into : (mailbox : List Part) (name : List ℕ) (ending : Ending) → Some name ≡ mailbox_named state.values mailbox → ending ≡ performs delivery line (Store name) state → ending ≡ act_of delivery (fileinto_leaf mailbox) line state
+  files_into mailbox name ending is does = does ∙ by_name (is_mailbox (text_value state.values mailbox)) (text_value state.values mailbox) name is
+
+  pub files_nowhere : (mailbox : List Part) → None ≡ mailbox_named state.values mailbox → fails_at delivery line BadMailbox state ≡ act_of delivery (fileinto_leaf mailbox) line state
+  files_nowhere mailbox is = by_none (is_mailbox (text_value state.values mailbox)) (text_value state.values mailbox) is
+
+  pub sends_to : (address : List Part) (octets : List ℕ) (ending : Ending) → Some octets ≡ only_address (addresses_of (text_value state.values address)) → ending ≡ performs delivery line (Redirect octets) state → ending ≡ act_of delivery (redirect_leaf address) line state
+  sends_to address octets ending is does = does ∙ ap (λ o. redirects delivery line o state) is
+
+  pub sends_nowhere : (address : List Part) → None ≡ only_address (addresses_of (text_value state.values address)) → fails_at delivery line BadAddress state ≡ act_of delivery (redirect_leaf address) line state
+  sends_nowhere address is = ap (λ o. redirects delivery line o state) is
+
+pub ruleset files = (files_into, files_nowhere)
+
+pub ruleset sends = (sends_to, sends_nowhere)
