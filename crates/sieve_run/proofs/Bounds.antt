@@ -6,14 +6,14 @@ use Rattle.std.specs.Prelude.{if◌then◌else◌}
 use Rattle.std.specs.List.{list_any}
 use Rattle.message_text.specs.Addresses.{addresses_of}
 use Rattle.sieve_base.specs.Limits.{action_limit}
-use Rattle.sieve_check.specs.Reading.{Leaf, keep_leaf, fileinto_leaf, redirect_leaf, discard_leaf, text_value}
+use Rattle.sieve_check.specs.Reading.{Leaf, keep_leaf, fileinto_leaf, redirect_leaf, discard_leaf, set_leaf}
 use Rattle.sieve_check.specs.Script.{script_of}
 use Rattle.sieve_code.specs.Walk.{Walk, at_end, by_stop, cut_off, asked, acted, tree_walk}
 use Rattle.sieve_run.specs.Delivery.{Delivery}
 use Rattle.sieve_run.specs.Library.{Lookup, missing, invalid, present, found_at}
 use Rattle.sieve_run.specs.Matching.{truth_of}
 use Rattle.sieve_run.specs.Perform.{perform}
-use Rattle.sieve_run.specs.Run.{RunState, Ending, goes_on, stopped, failed, performed, one_too_many, same_action, ends_with, performs, fails_at, is_mailbox, only_address, redirects, act_of, and_then, answer_of, begun, chosen, exec, verdict_at, verdict_of, outcome_of}
+use Rattle.sieve_run.specs.Run.{RunState, Ending, goes_on, stopped, failed, performed, one_too_many, same_action, ends_with, performs, fails_at, is_mailbox, only_address, redirects, act_of, and_then, answer_of, begun, behind_test, chosen, exec, verdict_at, verdict_of, outcome_of}
 use Rattle.sieve_run.specs.declared.envelope.Envelope.{Envelope}
 use Rattle.sieve_run.specs.declared.flow.Flow.{Flow}
 use Rattle.sieve_run.specs.declared.flow.Flow.TheVariants as flow
@@ -23,6 +23,7 @@ use Rattle.sieve_run.specs.declared.outcome.Action.TheVariants.{Store, Redirect,
 use Rattle.sieve_run.specs.declared.outcome.ErrorKind.TheVariants.{BadMailbox}
 use Rattle.sieve_run.specs.view.Flow.{ending_by, verdict_by}
 use Rattle.sieve_run.specs.view.Step.{doing}
+use Rattle.sieve_variables.specs.Value.{Values, no_values, text_value}
 use Rattle.sieve_run.proofs.Performing.{does_walk}
 
 -- a state, and that in which commands ended, has no more actions than it may
@@ -54,9 +55,10 @@ module _ (delivery : Delivery) where
 
   acts_bounded : (leaf : Leaf) (line : ℕ) (s : RunState) → IsBounded s → EndsBounded (act_of delivery leaf line s)
   acts_bounded keep_leaf line s bound = performs_bounded (Store delivery.envelope.mailbox) line s bound
-  acts_bounded (fileinto_leaf mailbox) line s bound = filed_bounded (text_value mailbox) line s bound (is_mailbox (text_value mailbox))
-  acts_bounded (redirect_leaf address) line s bound = redirects_bounded (only_address (addresses_of (text_value address))) line s bound
+  acts_bounded (fileinto_leaf mailbox) line s bound = filed_bounded (text_value s.values mailbox) line s bound (is_mailbox (text_value s.values mailbox))
+  acts_bounded (redirect_leaf address) line s bound = redirects_bounded (only_address (addresses_of (text_value s.values address))) line s bound
   acts_bounded discard_leaf line s bound = performs_bounded Discard line s bound
+  acts_bounded (set_leaf name modifiers value) line s bound = bound
 
   chosen_bounded : (truth : Bool) (f g : RunState → Ending) (s : RunState) → EndsBounded (f s) → EndsBounded (g s) → EndsBounded (chosen truth f g s)
   chosen_bounded true f g s held otherwise = held
@@ -74,7 +76,8 @@ module _ (delivery : Delivery) where
   walk_bounded by_stop s bound = bound
   walk_bounded cut_off s bound = bound
   walk_bounded (asked ask held otherwise) s bound =
-      chosen_bounded (truth_of delivery ask) (doing delivery held) (doing delivery otherwise) s (walk_bounded held s bound) (walk_bounded otherwise s bound)
+      let behind = behind_test delivery ask s in
+      chosen_bounded (truth_of delivery s.values ask) (doing delivery held) (doing delivery otherwise) behind (walk_bounded held behind bound) (walk_bounded otherwise behind bound)
   walk_bounded (acted leaf line next) s bound =
       behind_bounded (act_of delivery leaf line s) (doing delivery next) (acts_bounded leaf line s bound) (λ t b. walk_bounded next t b)
 
@@ -113,13 +116,13 @@ by_flow delivery flow.GoesOn state = refl
 by_flow delivery flow.Stopped state = refl
 by_flow delivery (flow.Failed line kind) state = refl
 
-begins : (main : ScriptName) (actions : List Action) (reads : List (ScriptName × Bool)) (old : RunState) → old ≡ record { actions = actions; cancelled = false; reads = reads } → actions ≡ [] → reads ≡ (main, true) ∷ [] → old ≡ begun main
-begins main actions reads old is none one =
-    let with : List Action → List (ScriptName × Bool) → RunState = λ a r. record { actions = a; cancelled = false; reads = r } in
-    is ∙ ap (λ a. with a reads) none ∙ ap (with []) one
+begins : (main : ScriptName) (actions : List Action) (reads : List (ScriptName × Bool)) (values : Values) (old : RunState) → old ≡ record { actions = actions; cancelled = false; reads = reads; values = values } → actions ≡ [] → reads ≡ (main, true) ∷ [] → values ≡ no_values → old ≡ begun main
+begins main actions reads values old is none one unset =
+    let with : List Action → List (ScriptName × Bool) → Values → RunState = λ a r v. record { actions = a; cancelled = false; reads = r; values = v } in
+    is ∙ ap (λ a. with a reads values) none ∙ ap (λ r. with [] r values) one ∙ ap (with [] ((main, true) ∷ [])) unset
 
 -- the verdict where the main script's code begins without an action and ends so
-pub main_verdict : (delivery : Delivery) (w : Walk) (actions : List Action) (reads : List (ScriptName × Bool)) (f : Flow) (old new : RunState) → old ≡ record { actions = actions; cancelled = false; reads = reads } → actions ≡ [] → reads ≡ (delivery.script, true) ∷ []
+pub main_verdict : (delivery : Delivery) (w : Walk) (actions : List Action) (reads : List (ScriptName × Bool)) (values : Values) (f : Flow) (old new : RunState) → old ≡ record { actions = actions; cancelled = false; reads = reads; values = values } → actions ≡ [] → reads ≡ (delivery.script, true) ∷ [] → values ≡ no_values
     → doing delivery w old ≡ ending_by delivery f new → verdict_by delivery.script f new ≡ verdict_of (doing delivery w (begun delivery.script))
-main_verdict delivery w actions reads f old new is none one does =
-    by_flow delivery f new ∙ sym (ap verdict_of does) ∙ ap (λ s. verdict_of (doing delivery w s)) (begins delivery.script actions reads old is none one)
+main_verdict delivery w actions reads values f old new is none one unset does =
+    by_flow delivery f new ∙ sym (ap verdict_of does) ∙ ap (λ s. verdict_of (doing delivery w s)) (begins delivery.script actions reads values old is none one unset)

@@ -1,3 +1,4 @@
+mod Acting
 mod Bounds
 mod Paths
 mod Rows

@@ -6,7 +6,9 @@ use Rattle.message_text.specs.Fields.{fields_of, field_groups}
 use Rattle.sieve_check.specs.Reading.{Ask, header_values, address_values, envelope_values, compares, exists_ask, over_ask, under_ask, keep_leaf, fileinto_leaf, redirect_leaf, discard_leaf}
 use Rattle.sieve_check.specs.Script.{Condition, always, never, asks, negated, both, either, Commands, no_commands, stops, acts, chooses, chain_of, node_before, block_commands, conditions_in}
 use Rattle.sieve_table.specs.Table.{command_named}
-use Rattle.sieve_check.specs.Tree.{Part, literal, node, no_tests, no_block}
+use Rattle.sieve_variables.specs.Part.{Part, literal, local_part, match_part}
+use Rattle.sieve_variables.specs.Value.{no_values, with_local, with_matched}
+use Rattle.sieve_check.specs.Tree.{node, no_tests, no_block}
 use Rattle.sieve_check.specs.declared.reading.MatchType.{MatchType}
 use Rattle.sieve_check.specs.declared.reading.MatchType.TheVariants.{Is, Contains, Matches}
 use Rattle.sieve_base.specs.declared.place.Place.TheVariants.{Personal}
@@ -17,7 +19,7 @@ use Rattle.sieve_table.specs.Address.{is_address_field}
 use Rattle.sieve_run.specs.Delivery.{Delivery}
 use Rattle.sieve_run.specs.Library.{Lookup, missing, invalid, present}
 use Rattle.match_text.specs.Wildcard.{least_fit, matched}
-use Rattle.sieve_run.specs.Matching.{match_found, truth_of, values_named, values_of, pairs_of}
+use Rattle.sieve_run.specs.Matching.{match_found, truth_of, values_behind, values_named, values_of, pairs_of}
 use Rattle.sieve_run.specs.Run.{RunState, Ending, goes_on, stopped, failed, Answer, answer_of, act_of, decide, exec, begun, verdict_at, outcome_of}
 use Rattle.sieve_run.specs.declared.envelope.Envelope.{Envelope}
 use Rattle.sieve_run.specs.declared.name.ScriptName.{ScriptName}
@@ -58,62 +60,62 @@ abbrev header : MatchType → Collation → List ℕ → List ℕ → Ask
 header match_type collation name key = compares (header_values (text name ∷ [])) match_type collation (text key ∷ [])
 
 -- an absent field contains nothing, not even the empty key
-absent_row : truth_of (delivered (headed (codes "Subject: a"))) (header Contains Casemap (codes "X-None") []) ≡ false
+absent_row : truth_of (delivered (headed (codes "Subject: a"))) no_values (header Contains Casemap (codes "X-None") []) ≡ false
 unfolding truth_of match_found fields_of field_groups
 absent_row = refl
 
 -- an empty field contains the empty key
-empty_row : truth_of (delivered (headed (codes "X-None:"))) (header Contains Casemap (codes "X-None") []) ≡ true
+empty_row : truth_of (delivered (headed (codes "X-None:"))) no_values (header Contains Casemap (codes "X-None") []) ≡ true
 unfolding truth_of match_found fields_of field_groups
 empty_row = refl
 
 -- i;ascii-casemap ignores the case of a value
-casemap_row : truth_of (delivered (headed (codes "Subject: HELLO"))) (header Is Casemap (codes "subject") (codes "hello")) ≡ true
+casemap_row : truth_of (delivered (headed (codes "Subject: HELLO"))) no_values (header Is Casemap (codes "subject") (codes "hello")) ≡ true
 unfolding truth_of match_found fields_of field_groups
 casemap_row = refl
 
 -- i;octet minds it, though names of fields still ignore it
-octet_row : truth_of (delivered (headed (codes "Subject: HELLO"))) (header Is Octet (codes "subject") (codes "hello")) ≡ false
+octet_row : truth_of (delivered (headed (codes "Subject: HELLO"))) no_values (header Is Octet (codes "subject") (codes "hello")) ≡ false
 unfolding truth_of match_found fields_of field_groups
 octet_row = refl
 
-octet_same_row : truth_of (delivered (headed (codes "Subject: HELLO"))) (header Is Octet (codes "subject") (codes "HELLO")) ≡ true
+octet_same_row : truth_of (delivered (headed (codes "Subject: HELLO"))) no_values (header Is Octet (codes "subject") (codes "HELLO")) ≡ true
 unfolding truth_of match_found fields_of field_groups
 octet_same_row = refl
 
 -- a part of a value is contained, and isn't the value
-is_row : truth_of (delivered (headed (codes "Subject: hello"))) (header Is Casemap (codes "Subject") (codes "ell")) ≡ false
+is_row : truth_of (delivered (headed (codes "Subject: hello"))) no_values (header Is Casemap (codes "Subject") (codes "ell")) ≡ false
 unfolding truth_of match_found fields_of field_groups
 is_row = refl
 
-contains_row : truth_of (delivered (headed (codes "Subject: hello"))) (header Contains Casemap (codes "Subject") (codes "ell")) ≡ true
+contains_row : truth_of (delivered (headed (codes "Subject: hello"))) no_values (header Contains Casemap (codes "Subject") (codes "ell")) ≡ true
 unfolding truth_of match_found fields_of field_groups
 contains_row = refl
 
 -- all of a value has to match a pattern
-wildcard_row : truth_of (delivered (headed (codes "Subject: hello"))) (header Matches Casemap (codes "Subject") (codes "H*L?")) ≡ true
+wildcard_row : truth_of (delivered (headed (codes "Subject: hello"))) no_values (header Matches Casemap (codes "Subject") (codes "H*L?")) ≡ true
 unfolding truth_of match_found matched least_fit fields_of field_groups
 wildcard_row = refl
 
-front_row : truth_of (delivered (headed (codes "Subject: hello"))) (header Matches Casemap (codes "Subject") (codes "H*L")) ≡ false
+front_row : truth_of (delivered (headed (codes "Subject: hello"))) no_values (header Matches Casemap (codes "Subject") (codes "H*L")) ≡ false
 unfolding truth_of match_found matched least_fit fields_of field_groups
 front_row = refl
 
 -- what the first pair that matches gives: the value and what each wildcard took; without wildcards nothing
-first_row : match_found (delivered (headed_twice (codes "A: x1") (codes "A: y2"))) (header_values (text (codes "A") ∷ [])) Matches Octet (text (codes "y*") ∷ text (codes "*1") ∷ []) ≡ Some (codes "x1" ∷ codes "x" ∷ [])
+first_row : match_found (delivered (headed_twice (codes "A: x1") (codes "A: y2"))) no_values (header_values (text (codes "A") ∷ [])) Matches Octet (text (codes "y*") ∷ text (codes "*1") ∷ []) ≡ Some (codes "x1" ∷ codes "x" ∷ [])
 unfolding match_found matched least_fit fields_of field_groups
 first_row = refl
 
-plain_match_row : match_found (delivered (headed (codes "A: x"))) (header_values (text (codes "A") ∷ [])) Is Octet (text (codes "x") ∷ []) ≡ Some []
+plain_match_row : match_found (delivered (headed (codes "A: x"))) no_values (header_values (text (codes "A") ∷ [])) Is Octet (text (codes "x") ∷ []) ≡ Some []
 unfolding match_found fields_of field_groups
 plain_match_row = refl
 
 -- exists asks for all names
-exists_row : truth_of (delivered (headed_twice (codes "From: a") (codes "To: b"))) (exists_ask (text (codes "to") ∷ text (codes "from") ∷ [])) ≡ true
+exists_row : truth_of (delivered (headed_twice (codes "From: a") (codes "To: b"))) no_values (exists_ask (text (codes "to") ∷ text (codes "from") ∷ [])) ≡ true
 unfolding truth_of match_found fields_of field_groups
 exists_row = refl
 
-one_absent_row : truth_of (delivered (headed_twice (codes "From: a") (codes "To: b"))) (exists_ask (text (codes "From") ∷ text (codes "Cc") ∷ [])) ≡ false
+one_absent_row : truth_of (delivered (headed_twice (codes "From: a") (codes "To: b"))) no_values (exists_ask (text (codes "From") ∷ text (codes "Cc") ∷ [])) ≡ false
 unfolding truth_of match_found fields_of field_groups
 one_absent_row = refl
 
@@ -127,7 +129,7 @@ unfolding fields_of field_groups
 order_row = refl
 
 -- by names, then by fields, then by keys
-pairs_row : pairs_of (values_of (delivered (codes "A: 1" ++ (10 ∷ headed_twice (codes "B: 2") (codes "A: 3")))) (header_values (text (codes "B") ∷ text (codes "A") ∷ []))) (codes "x" ∷ codes "y" ∷ [])
+pairs_row : pairs_of (values_of (delivered (codes "A: 1" ++ (10 ∷ headed_twice (codes "B: 2") (codes "A: 3")))) no_values (header_values (text (codes "B") ∷ text (codes "A") ∷ []))) (codes "x" ∷ codes "y" ∷ [])
     ≡ record { value = codes "2"; key = codes "x" } ∷ record { value = codes "2"; key = codes "y" }
     ∷ record { value = codes "1"; key = codes "x" } ∷ record { value = codes "1"; key = codes "y" }
     ∷ record { value = codes "3"; key = codes "x" } ∷ record { value = codes "3"; key = codes "y" } ∷ []
@@ -137,41 +139,41 @@ pairs_row = refl
 -- ADDRESSES
 
 -- by names, then by fields, then by addresses
-addresses_row : values_of (delivered (codes "To: a@x, b@y" ++ (10 ∷ headed_twice (codes "Cc: c@z") (codes "to: d@w")))) (address_values part.All (text (codes "Cc") ∷ text (codes "To") ∷ []))
+addresses_row : values_of (delivered (codes "To: a@x, b@y" ++ (10 ∷ headed_twice (codes "Cc: c@z") (codes "to: d@w")))) no_values (address_values part.All (text (codes "Cc") ∷ text (codes "To") ∷ []))
     ≡ codes "c@z" ∷ codes "a@x" ∷ codes "b@y" ∷ codes "d@w" ∷ []
 unfolding fields_of field_groups addresses_of marks_from is_address_field
 addresses_row = refl
 
 -- an address without the part gives nothing, and neither does a field that holds no addresses
-no_part_row : values_of (delivered (headed_twice (codes "To: a, b@y") (codes "Subject: c@z"))) (address_values part.Domain (text (codes "To") ∷ text (codes "Subject") ∷ [])) ≡ codes "y" ∷ []
+no_part_row : values_of (delivered (headed_twice (codes "To: a, b@y") (codes "Subject: c@z"))) no_values (address_values part.Domain (text (codes "To") ∷ text (codes "Subject") ∷ [])) ≡ codes "y" ∷ []
 unfolding fields_of field_groups addresses_of marks_from is_address_field
 no_part_row = refl
 
 -- no sender is the empty string, whatever part is asked for
-no_sender_row : truth_of (sent_by []) (compares (envelope_values part.Domain (text (codes "from") ∷ [])) Is Casemap (text [] ∷ [])) ≡ true
+no_sender_row : truth_of (sent_by []) no_values (compares (envelope_values part.Domain (text (codes "from") ∷ [])) Is Casemap (text [] ∷ [])) ≡ true
 unfolding truth_of match_found envelope_address_of
 no_sender_row = refl
 
-sender_row : truth_of (sent_by (codes "a@example.org")) (compares (envelope_values part.Domain (text (codes "from") ∷ [])) Is Casemap (text [] ∷ [])) ≡ false
+sender_row : truth_of (sent_by (codes "a@example.org")) no_values (compares (envelope_values part.Domain (text (codes "from") ∷ [])) Is Casemap (text [] ∷ [])) ≡ false
 unfolding truth_of match_found envelope_address_of addresses_of marks_from
 sender_row = refl
 
 -- SIZE
 
 -- three octets are neither over nor under 3
-over_row : truth_of (delivered (codes "abc")) (over_ask 3) ≡ false
+over_row : truth_of (delivered (codes "abc")) no_values (over_ask 3) ≡ false
 unfolding truth_of
 over_row = refl
 
-under_row : truth_of (delivered (codes "abc")) (under_ask 3) ≡ false
+under_row : truth_of (delivered (codes "abc")) no_values (under_ask 3) ≡ false
 unfolding truth_of
 under_row = refl
 
-over_less_row : truth_of (delivered (codes "abc")) (over_ask 2) ≡ true
+over_less_row : truth_of (delivered (codes "abc")) no_values (over_ask 2) ≡ true
 unfolding truth_of
 over_less_row = refl
 
-under_more_row : truth_of (delivered (codes "abc")) (under_ask 4) ≡ true
+under_more_row : truth_of (delivered (codes "abc")) no_values (under_ask 4) ≡ true
 unfolding truth_of
 under_more_row = refl
 
@@ -193,7 +195,7 @@ second_row ask a state = refl
 
 -- not size :over 3, of three octets
 negated_row : (state : RunState) → decide (answer_of (delivered (codes "abc"))) (negated (asks (over_ask 3))) state ≡ record { truth = true; state = state }
-unfolding decide truth_of match_found
+unfolding decide truth_of match_found values_behind
 negated_row state = refl
 
 -- COMMANDS
@@ -203,7 +205,7 @@ inbox = Store (codes "INBOX")
 
 -- the state of a run of the main script after some actions
 abbrev after : List Action → Bool → RunState
-after actions cancelled = record { actions = actions; cancelled = cancelled; reads = (main, true) ∷ [] }
+after actions cancelled = record { actions = actions; cancelled = cancelled; reads = (main, true) ∷ []; values = no_values }
 
 -- what commands do to a message of such octets
 abbrev done : List ℕ → Commands → Ending
@@ -258,15 +260,15 @@ abbrev branches : Commands
 branches = chooses (asks (over_ask 3)) (acts keep_leaf 1 no_commands) (chooses (asks (over_ask 2)) (acts discard_leaf 2 no_commands) (stops no_commands) no_commands) (acts keep_leaf 4 no_commands)
 
 if_row : done (codes "abcd") branches ≡ goes_on (after (inbox ∷ []) true)
-unfolding exec decide truth_of match_found
+unfolding exec decide truth_of match_found values_behind
 if_row = refl
 
 elsif_row : done (codes "abc") branches ≡ goes_on (after (Discard ∷ inbox ∷ []) true)
-unfolding exec decide truth_of match_found
+unfolding exec decide truth_of match_found values_behind
 elsif_row = refl
 
 else_row : done (codes "ab") branches ≡ stopped (after [] false)
-unfolding exec decide truth_of match_found
+unfolding exec decide truth_of match_found values_behind
 else_row = refl
 
 -- OUTCOMES

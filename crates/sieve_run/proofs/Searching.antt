@@ -8,8 +8,9 @@ use Rattle.match_text.specs.declared.comparators.Collation.{Collation}
 use Rattle.message_text.specs.Addresses.{AddrSpec, addresses_of, envelope_address_of, part_of}
 use Rattle.message_text.specs.Fields.{Field, fields_of}
 use Rattle.message_text.specs.declared.addressing.AddressPart.{AddressPart}
-use Rattle.sieve_check.specs.Reading.{envelope_values, text_value}
-use Rattle.sieve_check.specs.Tree.{Part}
+use Rattle.sieve_check.specs.Reading.{envelope_values, string_values}
+use Rattle.sieve_variables.specs.Part.{Part}
+use Rattle.sieve_variables.specs.Value.{Values, text_value}
 use Rattle.sieve_check.specs.declared.reading.MatchType.{MatchType}
 use Rattle.sieve_table.specs.Address.{is_address_field}
 use Rattle.sieve_run.specs.Delivery.{Delivery}
@@ -142,22 +143,22 @@ module _ (find : List ℕ → Option (List (List ℕ))) where
       ∙ first_same (λ value. first_some find (parts_of_value part value)) (value_found find (Some part)) (λ value. first_part part (addresses_of value)) (values_named fields name)
       ∙ first_named (value_found find (Some part)) name fields)
 
-  first_of_names : (part : Option AddressPart) (delivery : Delivery) (names : List (List Part)) → first_some find (values_of delivery (field_source part names)) ≡ first_some (name_found find part (fields_of delivery.message)) (map text_value names)
-  first_of_names None delivery names =
-      first_flat find (values_named (fields_of delivery.message)) (map text_value names)
-      ∙ first_same (λ name. first_some find (values_named (fields_of delivery.message) name)) (name_found find None (fields_of delivery.message)) (λ name. first_named find name (fields_of delivery.message)) (map text_value names)
-  first_of_names (Some part) delivery names =
-      first_flat find (parts_named part (fields_of delivery.message)) (map text_value names)
-      ∙ first_same (λ name. first_some find (parts_named part (fields_of delivery.message) name)) (name_found find (Some part) (fields_of delivery.message)) (λ name. first_parts_named part (fields_of delivery.message) name) (map text_value names)
+  first_of_names : (part : Option AddressPart) (delivery : Delivery) (values : Values) (names : List (List Part)) → first_some find (values_of delivery values (field_source part names)) ≡ first_some (name_found find part (fields_of delivery.message)) (map (text_value values) names)
+  first_of_names None delivery values names =
+      first_flat find (values_named (fields_of delivery.message)) (map (text_value values) names)
+      ∙ first_same (λ name. first_some find (values_named (fields_of delivery.message) name)) (name_found find None (fields_of delivery.message)) (λ name. first_named find name (fields_of delivery.message)) (map (text_value values) names)
+  first_of_names (Some part) delivery values names =
+      first_flat find (parts_named part (fields_of delivery.message)) (map (text_value values) names)
+      ∙ first_same (λ name. first_some find (parts_named part (fields_of delivery.message) name)) (name_found find (Some part) (fields_of delivery.message)) (λ name. first_parts_named part (fields_of delivery.message) name) (map (text_value values) names)
 
   first_of_path : (part : AddressPart) (path : Option (List ℕ)) → first_some find (parts_of_envelope part path) ≡ option_and_then (path_found find part) path
   first_of_path part None = refl
   first_of_path part (Some text) = one_part (part_of part (envelope_address_of text)) [] ∙ or_none (part_found find part (envelope_address_of text))
 
-  first_of_paths : (part : AddressPart) (delivery : Delivery) (names : List (List Part)) → first_some find (values_of delivery (envelope_values part names)) ≡ first_some (path_name_found find part delivery.envelope) (map text_value names)
-  first_of_paths part delivery names =
-      first_flat find (envelope_named part delivery.envelope) (map text_value names)
-      ∙ first_same (λ name. first_some find (envelope_named part delivery.envelope name)) (path_name_found find part delivery.envelope) (λ name. first_of_path part (envelope_text delivery.envelope name)) (map text_value names)
+  first_of_paths : (part : AddressPart) (delivery : Delivery) (values : Values) (names : List (List Part)) → first_some find (values_of delivery values (envelope_values part names)) ≡ first_some (path_name_found find part delivery.envelope) (map (text_value values) names)
+  first_of_paths part delivery values names =
+      first_flat find (envelope_named part delivery.envelope) (map (text_value values) names)
+      ∙ first_same (λ name. first_some find (envelope_named part delivery.envelope name)) (path_name_found find part delivery.envelope) (λ name. first_of_path part (envelope_text delivery.envelope name)) (map (text_value values) names)
 
 -- TESTS
 
@@ -166,21 +167,30 @@ module _ (match_type : MatchType) (collation : Collation) where
   found_by keys value = first_match match_type (fold_of collation) (pairs_with keys value)
 
   -- what a test finds in fields, where these are its names' and its keys' octets
-  pub fields_found : (part : Option AddressPart) (delivery : Delivery) (names keys : List (List Part)) (named keyed : List (List ℕ)) → named ≡ map text_value names → keyed ≡ map text_value keys
-      → first_some (name_found (λ value. first_match match_type (fold_of collation) (pairs_with keyed value)) part (fields_of delivery.message)) named ≡ match_found delivery (field_source part names) match_type collation keys
+  pub fields_found : (part : Option AddressPart) (delivery : Delivery) (values : Values) (names keys : List (List Part)) (named keyed : List (List ℕ)) → named ≡ map (text_value values) names → keyed ≡ map (text_value values) keys
+      → first_some (name_found (λ value. first_match match_type (fold_of collation) (pairs_with keyed value)) part (fields_of delivery.message)) named ≡ match_found delivery values (field_source part names) match_type collation keys
   unfolding match_found
-  fields_found part delivery names keys named keyed n k =
+  fields_found part delivery values names keys named keyed n k =
       ap (λ ns. first_some (name_found (found_by keyed) part (fields_of delivery.message)) ns) n
-      ∙ sym (first_of_names (found_by keyed) part delivery names)
-      ∙ ap (λ ks. first_some (found_by ks) (values_of delivery (field_source part names))) k
-      ∙ sym (first_flat (λ pair. match_of match_type (fold_of collation) pair.value pair.key) (pairs_with (map text_value keys)) (values_of delivery (field_source part names)))
+      ∙ sym (first_of_names (found_by keyed) part delivery values names)
+      ∙ ap (λ ks. first_some (found_by ks) (values_of delivery values (field_source part names))) k
+      ∙ sym (first_flat (λ pair. match_of match_type (fold_of collation) pair.value pair.key) (pairs_with (map (text_value values) keys)) (values_of delivery values (field_source part names)))
 
   -- and what it finds in the envelope
-  pub paths_found : (part : AddressPart) (delivery : Delivery) (names keys : List (List Part)) (named keyed : List (List ℕ)) → named ≡ map text_value names → keyed ≡ map text_value keys
-      → first_some (path_name_found (λ value. first_match match_type (fold_of collation) (pairs_with keyed value)) part delivery.envelope) named ≡ match_found delivery (envelope_values part names) match_type collation keys
+  pub paths_found : (part : AddressPart) (delivery : Delivery) (values : Values) (names keys : List (List Part)) (named keyed : List (List ℕ)) → named ≡ map (text_value values) names → keyed ≡ map (text_value values) keys
+      → first_some (path_name_found (λ value. first_match match_type (fold_of collation) (pairs_with keyed value)) part delivery.envelope) named ≡ match_found delivery values (envelope_values part names) match_type collation keys
   unfolding match_found
-  paths_found part delivery names keys named keyed n k =
+  paths_found part delivery values names keys named keyed n k =
       ap (λ ns. first_some (path_name_found (found_by keyed) part delivery.envelope) ns) n
-      ∙ sym (first_of_paths (found_by keyed) part delivery names)
-      ∙ ap (λ ks. first_some (found_by ks) (values_of delivery (envelope_values part names))) k
-      ∙ sym (first_flat (λ pair. match_of match_type (fold_of collation) pair.value pair.key) (pairs_with (map text_value keys)) (values_of delivery (envelope_values part names)))
+      ∙ sym (first_of_paths (found_by keyed) part delivery values names)
+      ∙ ap (λ ks. first_some (found_by ks) (values_of delivery values (envelope_values part names))) k
+      ∙ sym (first_flat (λ pair. match_of match_type (fold_of collation) pair.value pair.key) (pairs_with (map (text_value values) keys)) (values_of delivery values (envelope_values part names)))
+
+  -- and what it finds in strings
+  pub texts_found : (delivery : Delivery) (values : Values) (texts keys : List (List Part)) (named keyed : List (List ℕ)) → named ≡ map (text_value values) texts → keyed ≡ map (text_value values) keys
+      → first_some (λ value. first_match match_type (fold_of collation) (pairs_with keyed value)) named ≡ match_found delivery values (string_values texts) match_type collation keys
+  unfolding match_found
+  texts_found delivery values texts keys named keyed n k =
+      ap (λ ns. first_some (found_by keyed) ns) n
+      ∙ ap (λ ks. first_some (found_by ks) (map (text_value values) texts)) k
+      ∙ sym (first_flat (λ pair. match_of match_type (fold_of collation) pair.value pair.key) (pairs_with (map (text_value values) keys)) (map (text_value values) texts))

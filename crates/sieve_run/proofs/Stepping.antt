@@ -1,15 +1,16 @@
 -- What single operations do of what is left to do.
 use Rattle.std.proofs.Common.{◌≡◌, ℕ, ◌+◌, ◌<◌, ◌≤◌, ◌-◌, zero, suc, Bool, true, false, not, Option, Some, None, List, length, refl, ap, sym, ◌∙◌, arith}
 use Rattle.std.proofs.lemmas.Option.{slice_get_past}
-use Rattle.std.specs.Prelude.{slice_get, if◌then◌else◌}
-use Rattle.sieve_check.specs.Reading.{Ask, Leaf}
+use Rattle.std.specs.Prelude.{nat_lt, slice_get, if◌then◌else◌}
+use Rattle.sieve_check.specs.Reading.{Ask, Leaf, exists_ask, over_ask, under_ask}
 use Rattle.sieve_code.specs.Operation.{Operation, sets, inverts, asks, jumps, jumps_if, acts, stops}
 use Rattle.sieve_code.specs.Walk as walk
 use Rattle.sieve_code.specs.Walk.{Walk, at_limit, code_walk, walk_from}
 use Rattle.sieve_run.specs.Delivery.{Delivery}
-use Rattle.sieve_run.specs.Matching.{truth_of}
+use Rattle.sieve_run.specs.Matching.{truth_of, values_behind}
 use Rattle.sieve_run.specs.Perform.{perform}
-use Rattle.sieve_run.specs.Run.{RunState, goes_on, act_of, and_then, chosen}
+use Rattle.sieve_run.specs.Run.{RunState, goes_on, act_of, and_then, behind_test, chosen}
+use Rattle.sieve_variables.specs.Part.{Part}
 use Rattle.sieve_run.specs.declared.flow.Flow.{Flow}
 use Rattle.sieve_run.specs.declared.flow.Flow.TheVariants as flow
 use Rattle.sieve_run.specs.declared.flow.Flow.TheVariants.{GoesOn}
@@ -39,14 +40,29 @@ module _ (delivery : Delivery) where
   by_answer true f s = refl
   by_answer false f s = refl
 
-  pub asks_steps : (ask : Ask) (truth : Bool) (behind : ℕ) (register : Bool) (s : RunState) → truth ≡ truth_of delivery ask → StepsTo delivery (asks ask) behind register s (Next behind truth) s
+  -- a test that comes to a truth, and leaves a state
+  pub asks_steps : (ask : Ask) (truth : Bool) (behind : ℕ) (register : Bool) (old new : RunState) → truth ≡ truth_of delivery old.values ask → new ≡ behind_test delivery ask old → StepsTo delivery (asks ask) behind register old (Next behind truth) new
   unfolding perform
-  asks_steps ask truth behind register s is = record {
+  asks_steps ask truth behind register old new is moves = record {
     before = λ place go at.
-        by_answer (truth_of delivery ask) (go (place + 1)) s
-        ∙ sym (ap (λ t. doing delivery (go (place + 1) t) s) is)
-        ∙ on_behind go truth behind place s at;
+        by_answer (truth_of delivery old.values ask) (go (place + 1)) (behind_test delivery ask old)
+        ∙ sym (ap (λ t. doing delivery (go (place + 1) t) (behind_test delivery ask old)) is)
+        ∙ sym (ap (λ s. doing delivery (go (place + 1) truth) s) moves)
+        ∙ on_behind go truth behind place new at;
   }
+
+  -- one that looks at the message alone
+  pub exists_steps : (names : List (List Part)) (truth : Bool) (behind : ℕ) (register : Bool) (s : RunState) → truth ≡ truth_of delivery s.values (exists_ask names) → StepsTo delivery (asks (exists_ask names)) behind register s (Next behind truth) s
+  unfolding values_behind
+  exists_steps names truth behind register s is = asks_steps (exists_ask names) truth behind register s s is refl
+
+  pub over_steps : (limit : ℕ) (truth : Bool) (behind : ℕ) (register : Bool) (s : RunState) → truth ≡ nat_lt limit (length delivery.message) → StepsTo delivery (asks (over_ask limit)) behind register s (Next behind truth) s
+  unfolding values_behind truth_of
+  over_steps limit truth behind register s is = asks_steps (over_ask limit) truth behind register s s is refl
+
+  pub under_steps : (limit : ℕ) (truth : Bool) (behind : ℕ) (register : Bool) (s : RunState) → truth ≡ nat_lt (length delivery.message) limit → StepsTo delivery (asks (under_ask limit)) behind register s (Next behind truth) s
+  unfolding values_behind truth_of
+  under_steps limit truth behind register s is = asks_steps (under_ask limit) truth behind register s s is refl
 
   pub jumps_steps : (target behind : ℕ) (register : Bool) (s : RunState) → StepsTo delivery (jumps target) behind register s (Next target register) s
   jumps_steps target behind register s = record { before = λ place go is. refl }

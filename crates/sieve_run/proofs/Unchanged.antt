@@ -1,25 +1,48 @@
 -- Laws of what tests and commands do to the state of a run.
-use Rattle.std.proofs.Common.{◌≡◌, ℕ, Bool, true, false, refl, ◌∙◌}
-use Rattle.sieve_check.specs.Reading.{Ask, Leaf}
+use Rattle.std.proofs.Common.{◌≡◌, ℕ, Bool, true, false, List, Option, None, Some, refl, ap, ◌∙◌}
+use Rattle.sieve_check.specs.Reading.{Ask, Leaf, compares, exists_ask, over_ask, under_ask}
+use Rattle.sieve_check.specs.declared.reading.MatchType.{MatchType}
+use Rattle.sieve_check.specs.declared.reading.MatchType.TheVariants.{Is, Contains, Matches}
 use Rattle.sieve_check.specs.Script.{Condition, always, never, asks, negated, both, either, Commands, stops}
 use Rattle.sieve_run.specs.Delivery.{Delivery}
-use Rattle.sieve_run.specs.Run.{RunState, Ending, Answer, answer_of, also, or_else, decide, exec}
+use Rattle.sieve_run.specs.Matching.{match_found, values_behind, with_found}
+use Rattle.sieve_run.specs.Run.{RunState, SetsMatched, Ending, Answer, answer_of, also, behind_test, or_else, decide, exec}
+use Rattle.sieve_variables.specs.Value.{with_matched}
 
--- the second test is asked or not, and changes nothing
-also_keeps : (truth : Bool) (second : RunState → Answer) (state between : RunState) → ((s : RunState) → (second s).state ≡ s) → between ≡ state → (also truth second between).state ≡ state
-also_keeps true second state between keeps same = keeps between ∙ same
+-- with what another match gave
+again : (state between next : RunState) → SetsMatched state between → SetsMatched between next → SetsMatched state next
+again state between next first second =
+    (second.0, second.1 ∙ ap (λ s. record s { values = with_matched second.0 s.values }) first.1)
+
+-- the second test is asked or not
+also_keeps : (truth : Bool) (second : RunState → Answer) (state between : RunState) → ((s : RunState) → SetsMatched s (second s).state) → SetsMatched state between → SetsMatched state (also truth second between).state
+also_keeps true second state between keeps same = again state between (second between).state same (keeps between)
 also_keeps false second state between keeps same = same
 
-or_else_keeps : (truth : Bool) (second : RunState → Answer) (state between : RunState) → ((s : RunState) → (second s).state ≡ s) → between ≡ state → (or_else truth second between).state ≡ state
+or_else_keeps : (truth : Bool) (second : RunState → Answer) (state between : RunState) → ((s : RunState) → SetsMatched s (second s).state) → SetsMatched state between → SetsMatched state (or_else truth second between).state
 or_else_keeps true second state between keeps same = same
-or_else_keeps false second state between keeps same = keeps between ∙ same
+or_else_keeps false second state between keeps same = again state between (second between).state same (keeps between)
 
--- no test changes the state
-pub decide_keeps : (delivery : Delivery) (c : Condition) (state : RunState) → (decide (answer_of delivery) c state).state ≡ state
+-- what a test finds sets match variables or nothing
+found_keeps : (match_type : MatchType) (found : Option (List (List ℕ))) (state : RunState) → SetsMatched state (record state { values = with_found match_type found state.values })
+found_keeps Matches (Some matched) state = (matched, refl)
+found_keeps Matches None state = (state.values.matched, refl)
+found_keeps Is found state = (state.values.matched, refl)
+found_keeps Contains found state = (state.values.matched, refl)
+
+ask_keeps : (delivery : Delivery) (ask : Ask) (state : RunState) → SetsMatched state (behind_test delivery ask state)
+unfolding values_behind
+ask_keeps delivery (compares source match_type collation keys) state = found_keeps match_type (match_found delivery state.values source match_type collation keys) state
+ask_keeps delivery (exists_ask names) state = (state.values.matched, refl)
+ask_keeps delivery (over_ask limit) state = (state.values.matched, refl)
+ask_keeps delivery (under_ask limit) state = (state.values.matched, refl)
+
+-- tests set match variables at most
+pub decide_keeps : (delivery : Delivery) (c : Condition) (state : RunState) → SetsMatched state (decide (answer_of delivery) c state).state
 unfolding decide
-decide_keeps delivery always state = refl
-decide_keeps delivery never state = refl
-decide_keeps delivery (asks ask) state = refl
+decide_keeps delivery always state = (state.values.matched, refl)
+decide_keeps delivery never state = (state.values.matched, refl)
+decide_keeps delivery (asks ask) state = ask_keeps delivery ask state
 decide_keeps delivery (negated c) state = decide_keeps delivery c state
 decide_keeps delivery (both c d) state =
     also_keeps (decide (answer_of delivery) c state).truth (decide (answer_of delivery) d) state (decide (answer_of delivery) c state).state (decide_keeps delivery d) (decide_keeps delivery c state)

@@ -63,7 +63,7 @@ pub(crate) fn execute(
 }
 
 /// Carries out an operation, where this is the place behind it.
-#[tactic(auto, using(crate::proofs::Stepping::asks_steps, crate::proofs::Stepping::acts_steps, crate::proofs::Stepping::stop_steps))]
+#[tactic(auto, using(crate::proofs::Stepping::asks_steps, crate::proofs::Stepping::exists_steps, crate::proofs::Stepping::over_steps, crate::proofs::Stepping::under_steps, crate::proofs::Stepping::acts_steps, crate::proofs::Stepping::stop_steps))]
 fn carry_out(
     delivery: &Delivery<'_>,
     op: &Op,

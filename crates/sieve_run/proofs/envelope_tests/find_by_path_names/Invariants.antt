@@ -1,6 +1,7 @@
 use Rattle.std.proofs.Common.{◌≡◌, drop}
 use Rattle.sieve_run.specs.Matching.{first_some}
-use Rattle.sieve_run.specs.view.FieldTests.{found_with, octets_of_each, path_name_found}
+use Rattle.sieve_run.specs.view.FieldTests.{found_with, path_name_found}
+use Rattle.sieve_variables.specs.view.Value.{octets_of_each}
 use Rattle.sieve_run.proofs.envelope_tests.find_by_path_names.Given as goal
 
 -- the names that are left decide

@@ -1,7 +1,8 @@
 use Rattle.std.proofs.Common.{◌≡◌, drop}
 use Rattle.message_text.specs.Fields.{fields_of}
 use Rattle.sieve_run.specs.Matching.{first_some}
-use Rattle.sieve_run.specs.view.FieldTests.{found_with, name_found, octets_of_each}
+use Rattle.sieve_run.specs.view.FieldTests.{found_with, name_found}
+use Rattle.sieve_variables.specs.view.Value.{octets_of_each}
 use Rattle.sieve_run.proofs.matching.find_by_names.Given as goal
 
 -- the names that are left decide

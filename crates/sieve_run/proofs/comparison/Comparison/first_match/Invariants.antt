@@ -1,6 +1,6 @@
 use Rattle.std.proofs.Common.{◌≡◌, drop}
 use Rattle.sieve_run.specs.Matching.{first_match, fold_of, pairs_with}
-use Rattle.sieve_run.specs.view.FieldTests.{octets_of_each}
+use Rattle.sieve_variables.specs.view.Value.{octets_of_each}
 use Rattle.sieve_run.proofs.comparison.Comparison.first_match.Given as goal
 
 -- the keys that are left decide
