@@ -47,7 +47,11 @@ fn address_part_word(part: AddressPart) -> &'static [u8]
 }
 
 /// Writes these octets and then a part of a string.
-fn write_part<'x, W: Sink>(front: &'x [u8], part: &'x Part, writer: &mut W) -> Result<(), WriteFault>
+fn write_part<'x, W: Sink>(
+    front: &'x [u8],
+    part: &'x Part,
+    writer: &mut W,
+) -> Result<(), WriteFault>
     ensures ok { OnOk result (Wrote W.contents W.fault_count writer.old writer.new (front.now ++ part_text (part_of part.now))) }
     ensures err { OnErr result (WroteFront W.contents W.fault_count writer.old writer.new (front.now ++ part_text (part_of part.now))) }
 {

@@ -1,4 +1,4 @@
-mod Acting
+mod Named
 mod Bounds
 mod Paths
 mod Rows

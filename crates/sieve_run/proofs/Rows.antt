@@ -3,11 +3,13 @@ use Rattle.std.proofs.Common.{◌≡◌, ℕ, Bool, true, false, List, [], ◌�
 use Rattle.match_text.specs.declared.comparators.Collation.{Collation}
 use Rattle.match_text.specs.declared.comparators.Collation.TheVariants.{Octet, Casemap}
 use Rattle.message_text.specs.Fields.{fields_of, field_groups}
-use Rattle.sieve_check.specs.Reading.{Ask, header_values, address_values, envelope_values, compares, exists_ask, over_ask, under_ask, keep_leaf, fileinto_leaf, redirect_leaf, discard_leaf}
+use Rattle.sieve_check.specs.Reading.{Ask, header_values, address_values, envelope_values, string_values, compares, exists_ask, over_ask, under_ask, keep_leaf, fileinto_leaf, redirect_leaf, discard_leaf, set_leaf}
 use Rattle.sieve_check.specs.Script.{Condition, always, never, asks, negated, both, either, Commands, no_commands, stops, acts, chooses, chain_of, node_before, block_commands, conditions_in}
 use Rattle.sieve_table.specs.Table.{command_named}
 use Rattle.sieve_variables.specs.Part.{Part, literal, local_part, match_part}
-use Rattle.sieve_variables.specs.Value.{no_values, with_local, with_matched}
+use Rattle.sieve_variables.specs.Modifier.{modified}
+use Rattle.sieve_variables.specs.Value.{Values, no_values, with_local, with_matched}
+use Rattle.sieve_variables.specs.declared.modifier.Modifiers.{Modifiers}
 use Rattle.sieve_check.specs.Tree.{node, no_tests, no_block}
 use Rattle.sieve_check.specs.declared.reading.MatchType.{MatchType}
 use Rattle.sieve_check.specs.declared.reading.MatchType.TheVariants.{Is, Contains, Matches}
@@ -270,6 +272,41 @@ elsif_row = refl
 else_row : done (codes "ab") branches ≡ stopped (after [] false)
 unfolding exec decide truth_of match_found values_behind
 else_row = refl
+
+-- VARIABLES
+
+-- the state of a run that has done nothing but set variables
+abbrev holding : Values → RunState
+holding values = record { actions = []; cancelled = false; reads = (main, true) ∷ []; values = values }
+
+-- string :matches ["ab", "b"] ["b*", "?b"]
+abbrev matches_second : Ask
+matches_second = compares (string_values (text (codes "ab") ∷ text (codes "b") ∷ [])) Matches Octet (text (codes "b*") ∷ text (codes "?b") ∷ [])
+
+-- the first pair that matches sets the match variables: the first string with the second key
+matched_row : answer_of (delivered []) matches_second (begun main) ≡ record { truth = true; state = holding (with_matched (codes "ab" ∷ codes "a" ∷ []) no_values) }
+unfolding truth_of values_behind match_found matched least_fit
+matched_row = refl
+
+-- where none matches they stay
+unmatched_row : (matched : List (List ℕ)) → values_behind (delivered []) (with_matched matched no_values) (compares (string_values (text (codes "x") ∷ [])) Matches Octet (text (codes "y*") ∷ [])) ≡ with_matched matched no_values
+unfolding values_behind match_found matched least_fit
+unmatched_row matched = refl
+
+-- so they do under another match type
+plain_row : (matched : List (List ℕ)) → values_behind (delivered []) (with_matched matched no_values) (compares (string_values (text (codes "x") ∷ [])) Is Octet (text (codes "x") ∷ [])) ≡ with_matched matched no_values
+unfolding values_behind match_found
+plain_row matched = refl
+
+-- no modifier
+abbrev plainly : Modifiers
+plainly = record { letter_case = None; first_letter = None; quote_wildcard = false; length = false }
+
+-- set "a" "x"; fileinto "${a}y${b}${1}";
+set_row : done [] (acts (set_leaf (codes "a") plainly (text (codes "x"))) 1 (acts (fileinto_leaf (local_part (codes "a") ∷ literal (codes "y") ∷ local_part (codes "b") ∷ match_part 1 ∷ [])) 2 no_commands))
+    ≡ goes_on (record { actions = Store (codes "xy") ∷ []; cancelled = true; reads = (main, true) ∷ []; values = with_local (codes "a") (codes "x") no_values })
+unfolding exec modified
+set_row = refl
 
 -- OUTCOMES
 

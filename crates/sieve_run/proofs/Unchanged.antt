@@ -12,7 +12,7 @@ use Rattle.sieve_variables.specs.Value.{with_matched}
 -- with what another match gave
 again : (state between next : RunState) → SetsMatched state between → SetsMatched between next → SetsMatched state next
 again state between next first second =
-    (second.0, second.1 ∙ ap (λ s. record s { values = with_matched second.0 s.values }) first.1)
+    (second.0, second.1 ∙ ap {A = RunState} (λ s. record s { values = with_matched second.0 s.values }) first.1)
 
 -- the second test is asked or not
 also_keeps : (truth : Bool) (second : RunState → Answer) (state between : RunState) → ((s : RunState) → SetsMatched s (second s).state) → SetsMatched state between → SetsMatched state (also truth second between).state

@@ -1,5 +1,5 @@
 -- What running a script does (RFC 5228, sections 2.10 and 4).
-use Rattle.std.specs.Prelude.{ℕ, List, [], ◌∷◌, ◌++◌, length, Bool, true, false, not, ◌&&◌, Option, None, Some, is_some, if◌then◌else◌, nat_eq, nat_lt, nat_le}
+use Rattle.std.specs.Prelude.{◌≡◌, ℕ, List, [], ◌∷◌, ◌++◌, length, Bool, true, false, not, ◌&&◌, Option, None, Some, is_some, if◌then◌else◌, nat_eq, nat_lt, nat_le}
 use Rattle.std.specs.List.{list_all, list_any}
 use lib.Pointwise.{pointwise}
 use Rattle.message_text.specs.Addresses.{AddrSpec, addresses_of}

@@ -102,7 +102,7 @@ fn mailbox_named(
 }
 
 /// Stores into the mailbox of that name (RFC 5228, section 4.1).
-#[tactic(auto, using(crate::proofs::Acting::files))]
+#[tactic(auto, using(crate::proofs::Named::files))]
 pub(crate) fn file_into(
     delivery: &Delivery<'_>,
     mailbox: &[Part],
@@ -158,7 +158,7 @@ fn address_named(
 }
 
 /// Sends the message on to the address that a string gives (RFC 5228, section 4.2).
-#[tactic(auto, using(crate::proofs::Acting::sends))]
+#[tactic(auto, using(crate::proofs::Named::sends))]
 pub(crate) fn redirect(
     delivery: &Delivery<'_>,
     address: &[Part],
@@ -186,9 +186,7 @@ fn value_of(
     ensures { IfOk result (λ octets. octets ≡ modified modifiers (text_value values.now (map part_of value.now))) }
 {
     let text = values.expanded_string(delivery.alloc, value)?;
-    Ok(Octets::from_vec(
-        modifiers.modified(delivery.alloc, text.as_slice())?,
-    ))
+    Ok(Octets::from_vec(modifiers.modified(delivery.alloc, text.as_slice())?))
 }
 
 /// Gives a variable of the script a value (RFC 5229, section 4).

@@ -84,8 +84,7 @@ fn carry_out(
             names,
             keys,
         } => {
-            let truth =
-                fields_hold(delivery, None, *match_type, *collation, names, keys, state)?;
+            let truth = fields_hold(delivery, None, *match_type, *collation, names, keys, state)?;
             Ok(proceed(truth, behind))
         }
         Op::Address {
@@ -96,8 +95,7 @@ fn carry_out(
             keys,
         } => {
             let part = Some(*part);
-            let truth =
-                fields_hold(delivery, part, *match_type, *collation, names, keys, state)?;
+            let truth = fields_hold(delivery, part, *match_type, *collation, names, keys, state)?;
             Ok(proceed(truth, behind))
         }
         Op::Envelope {
@@ -107,8 +105,15 @@ fn carry_out(
             names,
             keys,
         } => {
-            let truth =
-                envelope_holds(delivery, *part, *match_type, *collation, names, keys, state)?;
+            let truth = envelope_holds(
+                delivery,
+                *part,
+                *match_type,
+                *collation,
+                names,
+                keys,
+                state,
+            )?;
             Ok(proceed(truth, behind))
         }
         Op::String {

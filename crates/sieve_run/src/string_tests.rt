@@ -81,13 +81,6 @@ pub(crate) fn strings_hold(
     ensures truth { IfOk result (λ truth. truth ≡ truth_of (delivery_as delivery.now) (state_of state.old).values (compares (string_values (strings_of texts.now)) match_type collation (strings_of keys.now))) }
     ensures behind { IfOk result (λ truth. state_of state.new ≡ behind_test (delivery_as delivery.now) (compares (string_values (strings_of texts.now)) match_type collation (strings_of keys.now)) (state_of state.old)) }
 {
-    let found = find_match(
-        delivery,
-        &state.values,
-        match_type,
-        collation,
-        texts,
-        keys,
-    )?;
+    let found = find_match(delivery, &state.values, match_type, collation, texts, keys)?;
     Ok(keep_found(match_type, found, state))
 }
