@@ -67,21 +67,22 @@ takes_references required (Some role) = is_expanded role && required.variables
 abbrev pub is_known : Required → Option Role → List ℕ → Bool
 is_known required role octets = not (takes_references required role && has_reference octets)
 
--- a name of a variable that is neither one of the script nor one that scripts share (RFC 5229, section 3)
+-- What may not be set: what is neither the name of a variable of the script nor that of one that scripts share. So no match
+-- variable is set, and nothing in another namespace (RFC 5229, section 4).
 abbrev pub is_bad_name : List ℕ → Bool
 is_bad_name octets = not (is_identifier octets) && not (is_global_name octets)
 
--- a variable in a namespace, of which there is none
+-- a variable in a namespace, of which there is none: one that is set (RFC 5229, section 4), or one that is referred to (section 3)
 abbrev pub names_namespace : Required → Option Role → List ℕ → Bool
 names_namespace required role octets = (has_role NameToSet role && (not (is_identifier octets) && is_global_name octets)) || (takes_references required role && has_namespace octets)
 
--- the name of one local variable too many
+-- the name of one local variable too many (RFC 5229, section 6)
 abbrev pub is_past_locals : List ℕ → List (List ℕ) → Bool
 is_past_locals octets assigned = is_new_local octets assigned && not (nat_lt (length assigned) local_limit)
 
 -- a string: that of a leading `require` (RFC 5228, section 3.2), of a comparator (section 2.7.3), a part of an envelope (section
--- 5.4), a field that holds addresses (section 5.1), the name of a variable (RFC 5229, section 3), or one with references to
--- variables (sections 3 and 3.2)
+-- 5.4), a field that holds addresses (section 5.1), the name of a variable that is set (RFC 5229, section 4), or one with
+-- references to variables (sections 3 and 6)
 abbrev pub text_breaks : Context → Option Role → List ℕ → Rule → Bool
 text_breaks context role octets UnknownCapability = has_role Capabilities role && (context.leads && not (is_capability octets))
 text_breaks context role octets UnknownComparator = has_role ComparatorName role && not (is_comparator_name octets)

@@ -42,21 +42,22 @@ fn takes_references(required: Required, role: Option<Role>) -> bool
     }
 }
 
-/// Whether there is a reference in a string that stands for a value.
+/// Whether a string is known before the script runs: no reference in it stands for a value.
 fn is_known(required: Required, role: Option<Role>, octets: &[u8]) -> bool
     ensures { result ≡ is_known (required_as required) role octets.now }
 {
     !(takes_references(required, role) && references_in(octets).any)
 }
 
-/// Whether a string is a name of a variable that is neither one of the script nor one that scripts share.
+/// Whether a string may not be set: it is neither the name of a variable of the script nor that of one that scripts share
+/// (RFC 5229, section 4).
 fn is_bad_name(octets: &[u8]) -> bool
     ensures { result ≡ is_bad_name octets.now }
 {
     !is_identifier(octets) && !is_global_name(octets)
 }
 
-/// Whether a string names a variable in a namespace, or refers to one.
+/// Whether a string names a variable in a namespace, or refers to one (RFC 5229, sections 4 and 3).
 fn names_namespace(required: Required, role: Option<Role>, octets: &[u8]) -> bool
     ensures { result ≡ names_namespace (required_as required) role octets.now }
 {
