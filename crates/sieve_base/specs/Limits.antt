@@ -55,7 +55,7 @@ action_limit = 32
 
 -- VARIABLES
 
--- the most octets of a variable's value; what is longer is cut (RFC 5229, section 6, asks for 4000 at least)
+-- the most octets of a variable's value; what is longer is cut (RFC 5229, section 6, asks for 4000 characters at least)
 abbrev pub value_limit : ℕ
 value_limit = 4096
 

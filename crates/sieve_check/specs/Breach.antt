@@ -9,9 +9,9 @@ use Rattle.sieve_variables.specs.Name.{is_global_name, is_identifier}
 use Rattle.sieve_variables.specs.Scan.{has_reference, has_namespace, has_far_index}
 use Rattle.sieve_check.specs.Assigned.{is_new_local}
 use Rattle.sieve_table.specs.Capability.{is_capability}
-use Rattle.sieve_check.specs.Context.{Context, Required, is_require, continues_if}
+use Rattle.sieve_check.specs.Context.{Context, Required, takes_references, is_require, continues_if}
 use Rattle.sieve_check.specs.Element.{Element, the_command, the_test, the_text, the_number, elements_of}
-use Rattle.sieve_check.specs.Role.{has_role, is_expanded}
+use Rattle.sieve_check.specs.Role.{has_role}
 use Rattle.sieve_check.specs.Shape.{row_labels, shapes_of}
 use Rattle.sieve_table.specs.Table.{Row, command_named, test_named, command_row, test_row}
 use Rattle.sieve_check.specs.Use.{has_bad_tag, has_bad_arguments, has_block, lacks_required}
@@ -58,30 +58,26 @@ test_breaks context (Some kind) args ts rule = row_breaks context.required (test
 abbrev pub is_comparator_name : List ℕ → Bool
 is_comparator_name name = pointwise nat_eq (codes "i;octet") name || pointwise nat_eq (codes "i;ascii-casemap") name
 
--- whether references in a string stand for values, where it is in a role
-abbrev pub takes_references : Required → Option Role → Bool
-takes_references required None = false
-takes_references required (Some role) = is_expanded role && required.variables
-
 -- one that has no reference in it is known before the script runs
 abbrev pub is_known : Required → Option Role → List ℕ → Bool
 is_known required role octets = not (takes_references required role && has_reference octets)
 
--- a name of a variable that is neither one of the script nor one that scripts share (RFC 5229, section 3)
+-- What may not be set: what is neither the name of a variable of the script nor that of one that scripts share. So no match
+-- variable is set, and nothing in another namespace (RFC 5229, section 4).
 abbrev pub is_bad_name : List ℕ → Bool
 is_bad_name octets = not (is_identifier octets) && not (is_global_name octets)
 
--- a variable in a namespace, of which there is none
+-- a variable in a namespace, of which there is none: one that is set (RFC 5229, section 4), or one that is referred to (section 3)
 abbrev pub names_namespace : Required → Option Role → List ℕ → Bool
-names_namespace required role octets = (has_role NameToSet role && (not (is_identifier octets) && is_global_name octets)) || (takes_references required role && has_namespace octets)
+names_namespace required role octets = (has_role NameToSet role && is_global_name octets) || (takes_references required role && has_namespace octets)
 
--- the name of one local variable too many
+-- the name of one local variable too many (RFC 5229, section 6)
 abbrev pub is_past_locals : List ℕ → List (List ℕ) → Bool
 is_past_locals octets assigned = is_new_local octets assigned && not (nat_lt (length assigned) local_limit)
 
 -- a string: that of a leading `require` (RFC 5228, section 3.2), of a comparator (section 2.7.3), a part of an envelope (section
--- 5.4), a field that holds addresses (section 5.1), the name of a variable (RFC 5229, section 3), or one with references to
--- variables (sections 3 and 3.2)
+-- 5.4), a field that holds addresses (section 5.1), the name of a variable that is set (RFC 5229, section 4), or one with
+-- references to variables (sections 3 and 6)
 abbrev pub text_breaks : Context → Option Role → List ℕ → Rule → Bool
 text_breaks context role octets UnknownCapability = has_role Capabilities role && (context.leads && not (is_capability octets))
 text_breaks context role octets UnknownComparator = has_role ComparatorName role && not (is_comparator_name octets)

@@ -2,11 +2,13 @@
 use Rattle.std.specs.Prelude.{ℕ, Bool, true, false, ◌&&◌, ◌||◌, List, [], ◌∷◌, Option, Some, None, if◌then◌else◌}
 use Rattle.sieve_syntax.specs.Tree.{Node, node, Nodes, end_nodes, more_nodes, Block, no_block, block, Text, Argument, strings, number, tag}
 use Rattle.sieve_check.specs.Assigned.{assigning_arguments}
+use Rattle.sieve_check.specs.Role.{is_expanded}
 use Rattle.sieve_check.specs.Shape.{row_labels}
 use Rattle.sieve_table.specs.Capability.{is_name_of}
 use Rattle.sieve_table.specs.Table.{command_named, command_row}
 use Rattle.sieve_table.specs.declared.capability.Capability.{Capability}
 use Rattle.sieve_table.specs.declared.capability.Capability.TheVariants as capability
+use Rattle.sieve_table.specs.declared.row.Role.{Role}
 use Rattle.sieve_table.specs.declared.table.CommandKind.{CommandKind}
 use Rattle.sieve_table.specs.declared.table.CommandKind.TheVariants.{Require, If, Elsif, Else, Keep, Fileinto, Redirect, Discard, Stop, Set}
 
@@ -30,6 +32,11 @@ is_required required capability.Imap4flags = required.imap4flags
 is_required required capability.Include = required.include
 is_required required capability.OctetComparator = true
 is_required required capability.CasemapComparator = true
+
+-- whether references in a string stand for values, by its role, if it has one (RFC 5229, section 3)
+abbrev pub takes_references : Required → Option Role → Bool
+takes_references required None = false
+takes_references required (Some role) = is_expanded role && required.variables
 
 -- with what a string names (RFC 5228, section 3.2)
 abbrev pub requiring : Required → List ℕ → Required
@@ -141,11 +148,12 @@ unfoldable mutual
   behind_nodes context end_nodes = context
   behind_nodes context (more_nodes n ns) = behind_nodes (behind context n) ns
 
--- what the requires at the top of a script name, which is all that is required in it (RFC 5228, section 3.2)
+-- whether a command is a `require`
 abbrev pub requires_kind : Option CommandKind → Bool
 requires_kind None = false
 requires_kind (Some kind) = is_require kind
 
+-- with what the requires at the top of a script name, which is all that is required in it (RFC 5228, section 3.2)
 abbrev pub required_from : Required → Nodes → Required
 required_from required end_nodes = required
 required_from required (more_nodes (node name line args ts ending) ns) = if requires_kind (command_named name) then required_from (requiring_arguments required args) ns else required

@@ -1,9 +1,9 @@
 -- The tree of a text with its strings cut into parts (RFC 5229, section 3). How a string is cut goes by its role; where the script
 -- doesn't require variables, each is one literal.
-use Rattle.std.specs.Prelude.{ℕ, ◌&&◌, List, [], ◌∷◌, Option, Some, None, map, drop, if◌then◌else◌}
+use Rattle.std.specs.Prelude.{ℕ, List, [], ◌∷◌, Option, Some, None, map, drop, if◌then◌else◌}
 use Rattle.sieve_syntax.specs.Tree as syntax
-use Rattle.sieve_check.specs.Context.{Required, nothing_required, required_from}
-use Rattle.sieve_check.specs.Role.{first_role, has_role, is_expanded}
+use Rattle.sieve_check.specs.Context.{Required, nothing_required, required_from, takes_references}
+use Rattle.sieve_check.specs.Role.{first_role, has_role}
 use Rattle.sieve_check.specs.Shape.{row_labels}
 use Rattle.sieve_table.specs.Table.{command_named, test_named, command_row, test_row}
 use Rattle.sieve_check.specs.Tree.{Text, Argument, strings, number, tag, Test, test, Tests, no_tests, one_test, test_list, TestList, end_tests, more_tests, Node, node, Block, no_block, block, Nodes, end_nodes, more_nodes, items}
@@ -19,10 +19,9 @@ use Rattle.sieve_variables.specs.Scan.{parts_of}
 -- The parts of a string: where a variable is set, that variable; where references stand for values, the octets and references in
 -- it; else its octets.
 abbrev pub parts_in : Required → Option Role → List ℕ → List Part
-parts_in required None octets = literal octets ∷ []
-parts_in required (Some role) octets =
-    if has_role NameToSet (Some role) then local_part (folded_name octets) ∷ [] else
-    if is_expanded role && required.variables then parts_of octets else literal octets ∷ []
+parts_in required role octets =
+    if has_role NameToSet role then local_part (folded_name octets) ∷ [] else
+    if takes_references required role then parts_of octets else literal octets ∷ []
 
 abbrev pub parted_text : Required → Option Role → syntax.Text → Text
 parted_text required role t = record { parts = parts_in required role t.octets; line = t.line }

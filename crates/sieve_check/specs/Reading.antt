@@ -88,7 +88,8 @@ text_in (Some (strings (t ∷ s ∷ ts) bracketed)) = None
 text_in (Some (number value line)) = None
 text_in (Some (tag name line)) = None
 
--- the variable of the script that an argument names, by its name in lower case (RFC 5229, section 3)
+-- The variable of the script that an argument names, by its name in lower case. What is set is such a variable, and no match
+-- variable or one in a namespace (RFC 5229, section 4).
 abbrev pub local_in_parts : List Part → Option (List ℕ)
 local_in_parts [] = None
 local_in_parts (literal octets ∷ parts) = None

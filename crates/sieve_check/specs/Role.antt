@@ -35,8 +35,9 @@ abbrev pub has_role : Role → Option Role → Bool
 has_role wanted None = false
 has_role wanted (Some role) = same_role wanted role
 
--- strings in which references to variables stand for values; not so those of `require` and of comparators, and names (RFC 5229,
--- section 3)
+-- The roles of strings in which references to variables stand for values (RFC 5229, section 3). The standard leaves out none but
+-- the names of variables that are set (section 4). That the strings of `require`, comparators and other names are left out too
+-- is this project's choice: they are known before the script runs.
 abbrev pub is_expanded : Role → Bool
 is_expanded role.Capabilities = false
 is_expanded role.ComparatorName = false

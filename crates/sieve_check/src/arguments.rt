@@ -2,7 +2,8 @@
 //! and numbers that are too large.
 ghost use Rattle.std.specs.Prelude.{◌≡◌, false, find, map, IfOk};
 ghost use Rattle.sieve_syntax.specs.view.Tree.{argument_of, tests_of, text_of};
-ghost use Rattle.sieve_check.specs.Breach.{breaches_at, is_bad_name, is_comparator_name, is_known, names_namespace, takes_references, text_breaks};
+ghost use Rattle.sieve_check.specs.Breach.{breaches_at, is_bad_name, is_comparator_name, is_known, names_namespace, text_breaks};
+ghost use Rattle.sieve_check.specs.Context.{takes_references};
 ghost use Rattle.sieve_check.specs.Element.{argument_elements, labelled_elements, text_elements, the_number, the_text};
 ghost use Rattle.sieve_check.specs.Role.{has_role};
 ghost use Rattle.sieve_check.specs.Shape.{row_labels};
@@ -14,14 +15,14 @@ ghost use Rattle.sieve_table.specs.declared.row.Role.TheVariants.{NameToSet};
 ghost use Rattle.sieve_variables.specs.Name.{is_global_name, is_identifier};
 ghost use Rattle.sieve_variables.specs.Scan.{has_far_index, has_namespace, has_reference};
 
-use crate::context::{Context, Required};
+use crate::context::{Context, Required, takes_references};
 use crate::label::Label;
-use crate::role::{behind_first, first_role, has_role, is_expanded};
+use crate::role::{behind_first, first_role, has_role};
 use crate::shape::row_labels;
 use crate::usage::{has_bad_arguments, has_bad_tag, lacks_required};
 use crate::validator::CheckFault;
 use sieve_syntax::{Argument, Tests, Text};
-use sieve_table::{Capability, Role, Row, Rule, is_address_field, is_capability, is_envelope_part};
+use sieve_table::{Role, Row, Rule, is_address_field, is_capability, is_envelope_part};
 use sieve_variables::{is_global_name, is_identifier, references_in};
 use std::alloc::Global;
 
@@ -32,35 +33,26 @@ fn is_comparator_name(name: &[u8]) -> bool
     b"i;octet".as_slice() == name || b"i;ascii-casemap".as_slice() == name
 }
 
-/// Whether references in a string stand for values, where it is in a role.
-fn takes_references(required: Required, role: Option<Role>) -> bool
-    ensures { result ≡ takes_references (required_as required) role }
-{
-    match role {
-        Some(role) => is_expanded(role) && required.has(Capability::Variables),
-        None => false,
-    }
-}
-
-/// Whether there is a reference in a string that stands for a value.
+/// Whether a string is known before the script runs: no reference in it stands for a value.
 fn is_known(required: Required, role: Option<Role>, octets: &[u8]) -> bool
     ensures { result ≡ is_known (required_as required) role octets.now }
 {
     !(takes_references(required, role) && references_in(octets).any)
 }
 
-/// Whether a string is a name of a variable that is neither one of the script nor one that scripts share.
+/// Whether a string may not be set: it is neither the name of a variable of the script nor that of one that scripts share
+/// (RFC 5229, section 4).
 fn is_bad_name(octets: &[u8]) -> bool
     ensures { result ≡ is_bad_name octets.now }
 {
     !is_identifier(octets) && !is_global_name(octets)
 }
 
-/// Whether a string names a variable in a namespace, or refers to one.
+/// Whether a string names a variable in a namespace, or refers to one (RFC 5229, sections 4 and 3).
 fn names_namespace(required: Required, role: Option<Role>, octets: &[u8]) -> bool
     ensures { result ≡ names_namespace (required_as required) role octets.now }
 {
-    (has_role(Role::NameToSet, role) && (!is_identifier(octets) && is_global_name(octets)))
+    (has_role(Role::NameToSet, role) && is_global_name(octets))
         || (takes_references(required, role) && references_in(octets).namespaced)
 }
 

@@ -56,7 +56,7 @@ impl Assigned {
         is_identifier(name) && !is_among(name, self.names.as_slice())
     }
 
-    /// Whether it is the name of one local variable too many.
+    /// Whether it is the name of one local variable too many (RFC 5229, section 6).
     pub(crate) fn is_full_for(&self, name: &[u8]) -> bool
         ensures { result ≡ is_past_locals name.now self.now }
     {

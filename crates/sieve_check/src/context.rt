@@ -3,14 +3,15 @@ ghost use Rattle.std.specs.Prelude.{◌≡◌, ◌&&◌, ℕ, List, [], Some, ma
 ghost use Rattle.sieve_syntax.specs.Tree.{nodes};
 ghost use Rattle.sieve_syntax.specs.view.Tree.{argument_of, node_of, text_of};
 ghost use Rattle.sieve_check.specs.Assigned.{assigning_arguments};
-ghost use Rattle.sieve_check.specs.Context.{allows_else, behind_kind, continues_if, inside, is_require, is_required, nothing_required, required_behind, required_from, requiring, requiring_argument, requiring_arguments, requiring_texts, script_start};
+ghost use Rattle.sieve_check.specs.Context.{allows_else, behind_kind, continues_if, inside, is_require, is_required, nothing_required, required_behind, required_from, requiring, requiring_argument, requiring_arguments, requiring_texts, script_start, takes_references};
 ghost use Rattle.sieve_check.specs.Shape.{row_labels};
 ghost use Rattle.sieve_check.specs.view.Context.{at_spot, required_as};
 ghost use Rattle.sieve_table.specs.Table.{command_row};
 
 use crate::assigned::Assigned;
+use crate::role::is_expanded;
 use sieve_syntax::{Argument, Command, Text};
-use sieve_table::{Capability, CommandKind, command_named, is_name_of};
+use sieve_table::{Capability, CommandKind, Role, command_named, is_name_of};
 
 /// What is required, of what commands, tests, tags and arguments may need (RFC 5228, section 2.10.5).
 #[derive(Clone, Copy)]
@@ -95,6 +96,16 @@ impl Required {
             required = required.with_argument(argument);
         }
         required
+    }
+}
+
+/// Whether references in a string stand for values, by its role, if it has one (RFC 5229, section 3).
+pub(crate) fn takes_references(required: Required, role: Option<Role>) -> bool
+    ensures { result ≡ takes_references (required_as required) role }
+{
+    match role {
+        Some(role) => is_expanded(role) && required.has(Capability::Variables),
+        None => false,
     }
 }
 

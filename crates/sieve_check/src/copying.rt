@@ -13,12 +13,12 @@ ghost use Rattle.sieve_variables.specs.Name.{folded_name};
 ghost use Rattle.sieve_variables.specs.Part.{literal, local_part};
 ghost use Rattle.sieve_variables.specs.view.Part.{part_of};
 
-use crate::context::{Required, required_in};
+use crate::context::{Required, required_in, takes_references};
 use crate::label::Shaped;
-use crate::role::{has_role, is_expanded, role_of};
+use crate::role::{has_role, role_of};
 use crate::shape::row_expected;
 use crate::tree::{Argument, Command, Test, Tests, Text};
-use sieve_table::{Capability, Role, Row, command_named, test_named};
+use sieve_table::{Role, Row, command_named, test_named};
 use sieve_variables::{Part, Parts, SmallOctets, folded, parts_of};
 use std::alloc::{AllocError, Global};
 
@@ -50,15 +50,10 @@ fn parts_in(
     if has_role(Role::NameToSet, role) {
         return local_parts(alloc, octets);
     }
-    match role {
-        Some(role) => {
-            if is_expanded(role) && required.has(Capability::Variables) {
-                parts_of(alloc, octets)
-            } else {
-                literal_parts(alloc, octets)
-            }
-        }
-        None => literal_parts(alloc, octets),
+    if takes_references(required, role) {
+        parts_of(alloc, octets)
+    } else {
+        literal_parts(alloc, octets)
     }
 }
 

@@ -1,5 +1,5 @@
 //! Laws over the definitions. Each of these functions does nothing: its contract is the law.
-ghost use Rattle.std.specs.Prelude.{◌≡◌, ◌-◌, ◌||◌, ℕ, false, length, slice_get, All, List, [], None, Some};
+ghost use Rattle.std.specs.Prelude.{◌≡◌, ◌-◌, ◌||◌, ◌∷◌, ℕ, true, false, length, slice_get, All, List, [], Option, None, Some};
 ghost use Rattle.std.specs.List.{flat_map};
 ghost use Rattle.sieve_base.specs.Limits.{test_depth, block_room};
 ghost use Rattle.sieve_syntax.specs.Grammar.{Writes};
@@ -8,13 +8,13 @@ ghost use Rattle.sieve_syntax.specs.Tree.{Node};
 ghost use Rattle.sieve_syntax.specs.Word.{words_of};
 ghost use Rattle.sieve_syntax.specs.declared.token.Token.{Token};
 ghost use Rattle.sieve_check.specs.Breach.{Breach, all_rules, breaches_at, breaches_of, breaks, first_breach, IsLeastBreach};
-ghost use Rattle.sieve_check.specs.Context.{Required, is_required, requiring};
+ghost use Rattle.sieve_check.specs.Context.{Required, is_required, requiring, takes_references};
 ghost use Rattle.sieve_check.specs.Element.{elements_of};
 ghost use Rattle.sieve_check.specs.Order.{IsInTextOrder};
-ghost use Rattle.sieve_check.specs.Parted.{parted};
+ghost use Rattle.sieve_check.specs.Parted.{parted, parts_in};
 ghost use Rattle.sieve_check.specs.Readable.{IsReadable, DoesAll};
 ghost use Rattle.sieve_check.specs.Reading.{all_tags, tag_number};
-ghost use Rattle.sieve_check.specs.Role.{all_roles, role_number};
+ghost use Rattle.sieve_check.specs.Role.{all_roles, has_role, role_number};
 ghost use Rattle.sieve_table.specs.Capability.{is_name_of};
 ghost use Rattle.sieve_table.specs.Rule.{rule_number};
 ghost use Rattle.sieve_table.specs.Table.{command_named, command_row, test_named, test_row};
@@ -22,11 +22,14 @@ ghost use Rattle.sieve_check.specs.Tree as checked;
 ghost use Rattle.sieve_check.specs.Use.{all_kinds, kind_number};
 ghost use Rattle.sieve_table.specs.declared.capability.Capability.{Capability};
 ghost use Rattle.sieve_table.specs.declared.row.Role.{Role};
+ghost use Rattle.sieve_table.specs.declared.row.Role.TheVariants.{NameToSet};
 ghost use Rattle.sieve_table.specs.declared.row.TagKind.{TagKind};
 ghost use Rattle.sieve_table.specs.declared.rule.Rule.{Rule};
 ghost use Rattle.sieve_table.specs.declared.table.CommandKind.{CommandKind};
 ghost use Rattle.sieve_table.specs.declared.table.Tag.{Tag};
 ghost use Rattle.sieve_table.specs.declared.table.TestKind.{TestKind};
+ghost use Rattle.sieve_variables.specs.Name.{folded_name};
+ghost use Rattle.sieve_variables.specs.Part.{AreWritten, literal, local_part};
 
 /// The breaches of a script are those of its elements (its commands, tests, strings and numbers in the order of the text),
 /// each with the rules that it breaks in the order of their numbers. So the first breach is the least.
@@ -55,6 +58,15 @@ pub fn numbers_tell_roles_tags_and_kinds()
 #[tactic(auto, using(crate::proofs::Required::named_is_required))]
 pub fn what_is_named_is_required()
     ensures { (required : Required) (name : List ℕ) (capability : Capability) → is_required (requiring required name) capability ≡ (is_required required capability || is_name_of name capability) }
+{}
+
+/// How a string is cut into parts goes by its role. One whose references stand for values is a text that can be written for its
+/// parts (RFC 5229, section 3), the name of a variable that is set is that variable alone (section 4), and any other stands for
+/// itself.
+pub fn parts_go_by_the_role()
+    ensures expanded { (required : Required) (role : Option Role) (octets : List ℕ) → takes_references required role ≡ true → AreWritten (parts_in required role octets) octets }
+    ensures name { (required : Required) (octets : List ℕ) → parts_in required (Some NameToSet) octets ≡ local_part (folded_name octets) ∷ [] }
+    ensures plain { (required : Required) (role : Option Role) (octets : List ℕ) → has_role NameToSet role ≡ false → takes_references required role ≡ false → parts_in required role octets ≡ literal octets ∷ [] }
 {}
 
 /// Each command and each test is found by the name of its row.

@@ -186,7 +186,7 @@ fn local_in_parts(parts: &[Part]) -> Option<&[u8]>
     }
 }
 
-/// The variable of the script that an argument names.
+/// The variable of the script that an argument names (RFC 5229, section 4).
 fn local_in(argument: Option<&Argument>) -> Option<&[u8]>
     ensures { option_map (λ name. name.now) result ≡ local_in (option_map (λ a. argument_of a.now) argument.entry) }
 {

@@ -29,7 +29,7 @@ pub(crate) fn has_role(wanted: Role, role: Option<Role>) -> bool
     }
 }
 
-/// Whether references to variables stand for values in strings of that role.
+/// Whether references to variables stand for values in strings of that role (RFC 5229, section 3).
 pub(crate) fn is_expanded(role: Role) -> bool
     ensures { result ≡ is_expanded role }
 {

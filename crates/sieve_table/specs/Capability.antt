@@ -5,7 +5,7 @@ use lib.Pointwise.{pointwise}
 use Rattle.sieve_table.specs.declared.capability.Capability.{Capability}
 use Rattle.sieve_table.specs.declared.capability.Capability.TheVariants.{Fileinto, Envelope, Variables, Imap4flags, Include, OctetComparator, CasemapComparator}
 
--- the string that names one in a `require` (RFC 5228, sections 4.1 and 5.4; RFC 5229, section 1; RFC 5232, section 1; RFC
+-- the string that names one in a `require` (RFC 5228, sections 4.1 and 5.4; RFC 5229, section 2; RFC 5232, section 1; RFC
 -- 6609, section 3.1). The two comparators of RFC 5228, section 2.7.3, may be required, and need not be.
 abbrev pub capability_name : Capability → List ℕ
 capability_name Fileinto = codes "fileinto"

@@ -79,12 +79,14 @@ tag_row tag.Domain = bare_tag (codes "domain") kind.AddressPart
 -- RFC 5228, section 5.9
 tag_row tag.Over = bare_tag (codes "over") kind.Bound
 tag_row tag.Under = bare_tag (codes "under") kind.Bound
--- RFC 5229, section 4.1
+-- RFC 5229, section 4.1.3
 tag_row tag.Lower = bare_tag (codes "lower") kind.Case
 tag_row tag.Upper = bare_tag (codes "upper") kind.Case
 tag_row tag.LowerFirst = bare_tag (codes "lowerfirst") kind.FirstLetter
 tag_row tag.UpperFirst = bare_tag (codes "upperfirst") kind.FirstLetter
+-- RFC 5229, section 4.1.2
 tag_row tag.QuoteWildcard = bare_tag (codes "quotewildcard") kind.QuoteWildcard
+-- RFC 5229, section 4.1.1
 tag_row tag.Length = bare_tag (codes "length") kind.Length
 
 -- the match types

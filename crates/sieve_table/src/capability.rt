@@ -9,7 +9,7 @@ pub enum Capability {
     Fileinto,
     /// `envelope` (RFC 5228, section 5.4).
     Envelope,
-    /// Variables (RFC 5229).
+    /// `variables` (RFC 5229, section 2).
     Variables,
     /// Flags (RFC 5232).
     Imap4flags,

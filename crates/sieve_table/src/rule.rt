@@ -21,13 +21,13 @@ pub enum Rule {
     BadArguments = 7,
     /// There is no such comparator (RFC 5228, section 2.7.3).
     UnknownComparator = 8,
-    /// A variable's name isn't well-formed (RFC 5229, section 3).
+    /// What is set has no name of a variable that may be set (RFC 5229, section 4).
     BadVariableName = 9,
     /// A `global` names what was set as a local variable before (RFC 6609, section 3.4.1).
     GlobalAfterSet = 10,
-    /// A variable's namespace isn't known (RFC 5229, section 3).
+    /// A variable is set or referred to in a namespace that isn't there (RFC 5229, sections 3 and 4).
     BadNamespace = 11,
-    /// A match variable's number is too large (RFC 5229, section 3.2).
+    /// A match variable's number is too large (RFC 5229, section 6).
     MatchIndex = 12,
     /// A number is too large (RFC 5228, section 2.4.1).
     NumberTooLarge = 13,

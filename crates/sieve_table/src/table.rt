@@ -79,17 +79,17 @@ pub enum Tag {
     Over,
     /// `:under` (RFC 5228, section 5.9).
     Under,
-    /// `:lower` (RFC 5229, section 4.1.1).
+    /// `:lower` (RFC 5229, section 4.1.3).
     Lower,
-    /// `:upper` (RFC 5229, section 4.1.1).
+    /// `:upper` (RFC 5229, section 4.1.3).
     Upper,
-    /// `:lowerfirst` (RFC 5229, section 4.1.1).
+    /// `:lowerfirst` (RFC 5229, section 4.1.3).
     LowerFirst,
-    /// `:upperfirst` (RFC 5229, section 4.1.1).
+    /// `:upperfirst` (RFC 5229, section 4.1.3).
     UpperFirst,
     /// `:quotewildcard` (RFC 5229, section 4.1.2).
     QuoteWildcard,
-    /// `:length` (RFC 5229, section 4.1.3).
+    /// `:length` (RFC 5229, section 4.1.1).
     Length,
 }
 

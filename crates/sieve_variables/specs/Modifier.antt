@@ -8,17 +8,17 @@ use Rattle.sieve_variables.specs.declared.modifier.LetterCase.{LetterCase}
 use Rattle.sieve_variables.specs.declared.modifier.LetterCase.TheVariants.{Lower, Upper}
 use Rattle.sieve_variables.specs.declared.modifier.Modifiers.{Modifiers}
 
--- an octet in a case; only letters of ASCII have one (RFC 5229, section 4.1.1)
+-- an octet in a case; only letters of ASCII have one (RFC 5229, section 4.1.3)
 abbrev pub in_case : LetterCase → ℕ → ℕ
 in_case Lower c = to_ascii_lowercase c
 in_case Upper c = to_ascii_uppercase c
 
--- `:lower`, `:upper` (RFC 5229, section 4.1.1)
+-- `:lower`, `:upper` (RFC 5229, section 4.1.3)
 abbrev pub with_case : Option LetterCase → List ℕ → List ℕ
 with_case None value = value
 with_case (Some one) value = map (in_case one) value
 
--- `:lowerfirst`, `:upperfirst` (RFC 5229, section 4.1.1)
+-- `:lowerfirst`, `:upperfirst` (RFC 5229, section 4.1.3)
 abbrev pub with_first : Option LetterCase → List ℕ → List ℕ
 with_first None value = value
 with_first (Some one) [] = []
@@ -36,15 +36,15 @@ abbrev pub with_quotes : Bool → List ℕ → List ℕ
 with_quotes false value = value
 with_quotes true value = flat_map quoted_wildcard value
 
--- an octet with which a character of UTF-8 doesn't begin (RFC 3629, section 3)
+-- an octet of the form 10xxxxxx, with which a character of UTF-8 goes on (RFC 3629, section 3)
 abbrev pub goes_on : ℕ → Bool
 goes_on c = nat_le 128 c && nat_lt c 192
 
--- the number of characters
+-- the number of characters, of text in UTF-8
 abbrev pub character_count : List ℕ → ℕ
 character_count value = length (filter (λ c. not (goes_on c)) value)
 
--- `:length` (RFC 5229, section 4.1.3)
+-- `:length` (RFC 5229, section 4.1.1)
 abbrev pub with_length : Bool → List ℕ → List ℕ
 with_length false value = value
 with_length true value = decimal (character_count value)

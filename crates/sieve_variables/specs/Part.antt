@@ -22,7 +22,8 @@ octet_before c (literal octets ∷ parts) = literal (c ∷ octets) ∷ parts
 octet_before c (local_part name ∷ parts) = literal (c ∷ []) ∷ local_part name ∷ parts
 octet_before c (match_part index ∷ parts) = literal (c ∷ []) ∷ match_part index ∷ parts
 
--- the parts that pieces make
+-- The parts that pieces make. A reference that stands as it is written is a literal of its own: octets behind it
+-- begin another, and only those directly in front of it join it.
 abbrev pub grouped : List Piece → List Part
 grouped [] = []
 grouped (reference words ∷ pieces) = part_of_words words ∷ grouped pieces

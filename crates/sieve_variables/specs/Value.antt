@@ -10,7 +10,7 @@ use Rattle.sieve_variables.specs.Part.{Part, literal, local_part, match_part}
 pub record Values : Type 0 where
   -- those that it has set, by their names in lower case, each with its value (RFC 5229, section 4)
   pub locals : List (List ℕ × List ℕ)
-  -- what the last match gave: the whole value, and what each wildcard took (RFC 5229, section 3.2)
+  -- what the last successful `:matches` gave: the whole value, and what each wildcard took (RFC 5229, section 3.2)
   pub matched : List (List ℕ)
 
 -- at the start of a script

@@ -20,18 +20,18 @@ pub enum LetterCase {
 /// The modifiers that a `set` has, at most one of each precedence.
 #[derive(Clone, Copy, Debug, PartialEq, Eq)]
 pub struct Modifiers {
-    /// `:lower` or `:upper`, of precedence 40 (RFC 5229, section 4.1.1).
+    /// `:lower` or `:upper`, of precedence 40 (RFC 5229, section 4.1.3).
     pub letter_case: Option<LetterCase>,
-    /// `:lowerfirst` or `:upperfirst`, of precedence 30 (RFC 5229, section 4.1.1).
+    /// `:lowerfirst` or `:upperfirst`, of precedence 30 (RFC 5229, section 4.1.3).
     pub first_letter: Option<LetterCase>,
     /// `:quotewildcard`, of precedence 20 (RFC 5229, section 4.1.2).
     pub quote_wildcard: bool,
-    /// `:length`, of precedence 10 (RFC 5229, section 4.1.3).
+    /// `:length`, of precedence 10 (RFC 5229, section 4.1.1).
     pub length: bool,
 }
 
 impl LetterCase {
-    /// An octet in this case. Only letters of ASCII have one (RFC 5229, section 4.1.1).
+    /// An octet in this case. Only letters of ASCII have one (RFC 5229, section 4.1.3).
     fn changed(self, octet: u8) -> u8
         ensures { result ≡ in_case self octet }
     {
@@ -42,7 +42,7 @@ impl LetterCase {
     }
 }
 
-/// A copy of a value, its letters in a case (RFC 5229, section 4.1.1).
+/// A copy of a value, its letters in a case (RFC 5229, section 4.1.3).
 fn with_case(alloc: Global, case: Option<LetterCase>, value: &[u8]) -> Result<Vec<u8>, AllocError>
     ensures { IfOk result (λ octets. octets.items ≡ with_case case value.now) }
 {
@@ -55,7 +55,7 @@ fn with_case(alloc: Global, case: Option<LetterCase>, value: &[u8]) -> Result<Ve
     }
 }
 
-/// The value with its first octet in a case (RFC 5229, section 4.1.1).
+/// The value with its first octet in a case (RFC 5229, section 4.1.3).
 #[tactic(auto, using(crate::proofs::Modified::first_written))]
 fn with_first(case: Option<LetterCase>, mut value: Vec<u8>) -> Vec<u8>
     ensures { result.items ≡ with_first case value.items }
@@ -97,14 +97,14 @@ fn quoted(alloc: Global, value: &[u8]) -> Result<Vec<u8>, AllocError>
     Ok(octets)
 }
 
-/// Whether no character of UTF-8 begins with an octet (RFC 3629, section 3).
+/// Whether an octet has the form 10xxxxxx, with which a character of UTF-8 goes on (RFC 3629, section 3).
 fn goes_on(octet: u8) -> bool
     ensures { result ≡ goes_on octet }
 {
     128 <= octet && octet < 192
 }
 
-/// How many characters a value has (RFC 5229, section 4.1.3). Takes no memory.
+/// How many characters a value has, as text in UTF-8 (RFC 5229, section 4.1.1). Takes no memory.
 #[tactic(auto, using(crate::proofs::Modified::counts))]
 fn character_count(value: &[u8]) -> usize
     ensures is { result ≡ character_count value.now }

@@ -19,7 +19,7 @@ pub struct References {
     pub any: bool,
     /// Whether one of them has a namespace.
     pub namespaced: bool,
-    /// Whether one of them is to a match variable whose number is past the limit.
+    /// Whether one of them is to a match variable whose number is past the limit (RFC 5229, section 6).
     pub far: bool,
 }
 
