@@ -3,6 +3,7 @@
 mod addresses_of_values;
 mod codes;
 mod comparators;
+mod examples_of_variables;
 mod faults;
 mod judging;
 mod limits;
@@ -11,5 +12,7 @@ mod print;
 mod runs;
 mod scripts;
 mod spellings;
+mod variables;
+mod variables_in_scripts;
 mod wildcards;
 mod writers;

@@ -53,7 +53,7 @@ fn actions_have_their_lines(rt: HostRuntime) -> Result<(), Fail> {
 }
 
 /// A line for each number up to `count`, between a front and an end.
-fn numbered(
+pub(super) fn numbered(
     alloc: Global,
     head: &[u8],
     front: &[u8],

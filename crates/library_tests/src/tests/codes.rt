@@ -28,7 +28,11 @@ fn printed(alloc: Global, code: &Code) -> Result<Vec<u8>, Fail> {
 }
 
 /// Compiles a text, and compares its code as it is printed.
-fn check_code(rt: &(impl AllocGlobal + Abort), text: &[u8], lines: &[u8]) -> Result<(), Fail> {
+pub(super) fn check_code(
+    rt: &(impl AllocGlobal + Abort),
+    text: &[u8],
+    lines: &[u8],
+) -> Result<(), Fail> {
     let code = code_of(rt.alloc(), text)?;
     match code {
         Some(code) => {

@@ -19,10 +19,10 @@ fn fault(alloc: Global, text: &[u8]) -> Result<Option<(u64, &'static [u8])>, Jud
 }
 
 /// A text's first fault, by its line and its word.
-type Fault<'a> = Option<(u64, &'a [u8])>;
+pub(super) type Fault<'a> = Option<(u64, &'a [u8])>;
 
 /// Judges a text, and compares its first fault.
-fn check_fault(
+pub(super) fn check_fault(
     rt: &(impl AllocGlobal + Abort),
     text: &[u8],
     wanted: Fault<'_>,

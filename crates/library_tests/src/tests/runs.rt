@@ -137,7 +137,10 @@ fn check_run(
 }
 
 /// Runs each text on its message, and compares what it comes to, as words.
-fn check_words(rt: &(impl AllocGlobal + Abort), rows: &[(&[u8], &[u8], &str)]) -> Result<(), Fail> {
+pub(super) fn check_words(
+    rt: &(impl AllocGlobal + Abort),
+    rows: &[(&[u8], &[u8], &str)],
+) -> Result<(), Fail> {
     let main = main_name(rt.alloc())?;
     for (text, message, wanted) in rows {
         let shelf = shelf_with(rt.alloc(), &main, *text)?;
