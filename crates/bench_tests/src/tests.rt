@@ -18,7 +18,6 @@ mod sessions;
 mod standard;
 mod test_jobs;
 mod usage;
-mod variables;
 
 use sievebench::{Bench, Counted, Meter, Place, ScriptName, SessionEnd, Sink, Source, session};
 use std::alloc::{AllocError, Global};
