@@ -225,7 +225,7 @@ fn variables_are_counted(rt: HostRuntime) -> Result<(), Fail> {
         &[
             (128, b"", None),
             (129, b"", Some((130, b"too-many-variables"))),
-            (128, b"set \"V7\" \"x\";", None),
+            (128, b"set \"V100\" \"x\";", None),
             (128, b"fileinto \"${other}\";", None),
             (
                 128,
