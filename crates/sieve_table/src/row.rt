@@ -1,6 +1,4 @@
 //! What a row of the table says.
-ghost use Rattle.std.specs.Prelude.{◌≡◌, None};
-ghost use Rattle.sieve_table.specs.Table.{slot};
 
 use crate::capability::Capability;
 use crate::table::Tag;
@@ -58,19 +56,6 @@ pub struct Slot {
     pub role: Role,
     /// What has to be required where it is given.
     pub needs: Option<Capability>,
-}
-
-impl Slot {
-    /// One for which nothing need be required.
-    pub(crate) const fn new(form: Form, role: Role) -> Slot
-        ensures { result ≡ slot form role }
-    {
-        Slot {
-            form,
-            role,
-            needs: None,
-        }
-    }
 }
 
 /// The kinds of tags. Two of one kind don't stand together.

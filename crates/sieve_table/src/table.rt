@@ -142,6 +142,13 @@ const BARE_TAG: TagRow = TagRow {
     needs: None,
 };
 
+/// A comparator's name.
+const COMPARATOR_NAME: Slot = Slot {
+    form: Form::One,
+    role: Role::ComparatorName,
+    needs: None,
+};
+
 impl Tag {
     /// The tag's row.
     pub fn row(self) -> TagRow
@@ -151,7 +158,7 @@ impl Tag {
             Tag::Comparator => TagRow {
                 name: b"comparator",
                 kind: TagKind::Comparator,
-                takes: Some(Slot::new(Form::One, Role::ComparatorName)),
+                takes: Some(COMPARATOR_NAME),
                 ..BARE_TAG
             },
             Tag::Is => TagRow {
