@@ -130,7 +130,7 @@ chain_row : script_of (parted (branch (codes "if") 1 (header (tagged (codes "con
     ∷ plain (codes "keep") 6 [] ∷ []))
     ≡ chooses (asks (compares (header_values ((literal (codes "a") ∷ []) ∷ [])) Contains Casemap ((literal (codes "b") ∷ []) ∷ []))) (acts discard_leaf 2 no_commands)
     (chooses always (stops no_commands) no_commands no_commands)
-    (acts keep_leaf 6 no_commands)
+    (acts (keep_leaf None) 6 no_commands)
 unfolding chain_of node_before block_commands condition_of conditions_in command_named test_named
 chain_row = refl
 
