@@ -73,17 +73,17 @@ implied false b or is = absurd (not_both is)
 
 -- Whether what is taken in a role has a form: for the slots of a row, and for what tags take themselves, this is computed.
 module _ (wanted : Role) (form : Form) where
-  abbrev takes : Slot → Bool
-  takes slot = not (same_role wanted slot.role) || is_form form slot.form
+  abbrev slot_may : Slot → Bool
+  slot_may slot = not (same_role wanted slot.role) || is_form form slot.form
 
   abbrev pub may_take : Option Slot → Bool
   may_take None = true
-  may_take (Some slot) = takes slot
+  may_take (Some slot) = slot_may slot
 
   abbrev pub all_may_take : List Slot → Bool
-  all_may_take slots = list_all takes slots
+  all_may_take slots = list_all slot_may slots
 
-  slot_takes : (slot : Slot) → takes slot ≡ true → Takes wanted form slot
+  slot_takes : (slot : Slot) → slot_may slot ≡ true → Takes wanted form slot
   slot_takes slot is = λ same. one_form form slot.form (implied (same_role wanted slot.role) (is_form form slot.form) is same)
 
   own_takes : (o : Option Slot) → may_take o ≡ true → MayTake wanted form o
@@ -93,7 +93,7 @@ module _ (wanted : Role) (form : Form) where
   slots_take : (slots : List Slot) → all_may_take slots ≡ true → AllTake wanted form slots
   slots_take [] is = tt
   slots_take (slot ∷ slots) is =
-      let parts = and_parts (takes slot) (list_all takes slots) is in
+      let parts = and_parts (slot_may slot) (list_all slot_may slots) is in
       (slot_takes slot parts.0, slots_take slots parts.1)
 
   abbrev pub tags_may_take : Bool

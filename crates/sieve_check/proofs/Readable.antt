@@ -9,7 +9,7 @@ use Rattle.sieve_check.specs.Parted.{command_labels, parted, parted_block, parte
 use Rattle.sieve_check.specs.Readable.{IsReadable, ReadsBlock, ReadsNode, ReadsNodes, ReadsTest, ReadsTestList, ReadsTests, Stands, command_takes, may_go_on}
 use Rattle.sieve_check.specs.Reading as reading
 use Rattle.sieve_check.specs.Reading.{Leaf, command_reading, command_reading_by, fileinto_from, flags_by, flags_from, keep_leaf, labels_in, part_shape, redirect_leaf, set_from}
-use Rattle.sieve_table.specs.Label.{slots_of}
+use Rattle.sieve_check.specs.Label.{slots_of}
 use Rattle.sieve_table.specs.Table.{command_named, command_row, flag_command, naming_slot, test_named}
 use Rattle.sieve_check.specs.Tree.{Argument, Block, Tests, no_tests, Nodes, end_nodes, more_nodes, no_block, block, items, nodes}
 use Rattle.sieve_check.specs.Use.{block_fits, has_block}
