@@ -20,6 +20,7 @@ use Rattle.sieve_table.specs.declared.table.TestKind.TheVariants as test
 use Rattle.sieve_check.specs.declared.reading.FlagChange.TheVariants.{Add}
 use Rattle.sieve_check.specs.declared.reading.MatchType.TheVariants.{Is, Contains}
 use Rattle.sieve_variables.specs.Part.{literal}
+use Rattle.sieve_variables.specs.Scan.{pieces_from, inside_at}
 use Rattle.sieve_table.specs.declared.rule.Rule.TheVariants.{RequirePlace, UnknownCapability, UnknownCommand, ElsePlace, BadTag, BadArguments, UnknownComparator, BadVariableName, NumberTooLarge, NotRequired}
 
 -- a string on line 1, a string without brackets as an argument, and a tag
@@ -111,14 +112,14 @@ needing_row = refl
 
 -- require "imap4flags"; setflag "a" "x";
 named_row : breaches_of (plain (codes "require") 1 (one (codes "imap4flags") ∷ []) ∷ plain (codes "setflag") 2 (one (codes "a") ∷ one (codes "x") ∷ []) ∷ []) ≡ record { line = 2; rule = NotRequired } ∷ []
-unfolding breaches_in breaches_at nodes_elements node_elements block_elements tests_elements test_elements command_named test_named behind assigning
+unfolding breaches_in breaches_at nodes_elements node_elements block_elements tests_elements test_elements command_named test_named behind assigning pieces_from inside_at
 named_row = refl
 
 -- require ["imap4flags", "variables"]; removeflag "a.b" "x"; if hasflag ["c", "1"] "x" {}
 naming_row : breaches_of (plain (codes "require") 1 (syntax.strings (text (codes "imap4flags") ∷ text (codes "variables") ∷ []) true ∷ []) ∷ plain (codes "removeflag") 2 (one (codes "a.b") ∷ one (codes "x") ∷ [])
     ∷ branch (codes "if") 3 (syntax.test (codes "hasflag") 3 (syntax.strings (text (codes "c") ∷ text (codes "1") ∷ []) true ∷ one (codes "x") ∷ []) syntax.no_tests) [] ∷ [])
     ≡ record { line = 1; rule = BadVariableName } ∷ record { line = 1; rule = BadVariableName } ∷ []
-unfolding breaches_in breaches_at nodes_elements node_elements block_elements tests_elements test_elements command_named test_named behind assigning
+unfolding breaches_in breaches_at nodes_elements node_elements block_elements tests_elements test_elements command_named test_named behind assigning pieces_from inside_at
 naming_row = refl
 
 -- if true { require "comparator-i;octet"; }

@@ -22,7 +22,8 @@ use Rattle.sieve_run.specs.Delivery.{Delivery}
 use Rattle.sieve_run.specs.Library.{Lookup, missing, invalid, present}
 use Rattle.match_text.specs.Wildcard.{least_fit, matched}
 use Rattle.sieve_run.specs.Matching.{match_found, truth_of, values_behind, values_named, values_of, pairs_of}
-use Rattle.sieve_run.specs.Run.{RunState, Ending, goes_on, stopped, failed, Answer, answer_of, act_of, decide, exec, begun, verdict_at, outcome_of}
+use Rattle.sieve_run.specs.Run.{Ending, goes_on, stopped, failed, Answer, answer_of, act_of, decide, exec, begun, verdict_at, outcome_of}
+use Rattle.sieve_run.specs.State.{RunState}
 use Rattle.sieve_run.specs.declared.envelope.Envelope.{Envelope}
 use Rattle.sieve_run.specs.declared.name.ScriptName.{ScriptName}
 use Rattle.sieve_run.specs.declared.outcome.Action.{Action}

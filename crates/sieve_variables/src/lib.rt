@@ -10,7 +10,7 @@ mod part;
 mod references;
 mod values;
 
-pub use modifier::{LetterCase, Modifiers, shortened};
+pub use modifier::{LetterCase, Modifiers};
 pub use name::{folded, is_global_name, is_identifier};
 pub use part::{Part, Parts, SmallOctets};
 pub use references::{References, parts_of, references_in};

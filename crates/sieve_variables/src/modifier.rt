@@ -132,8 +132,8 @@ fn digits(alloc: Global, number: usize) -> Result<Vec<u8>, AllocError>
     Ok(octets)
 }
 
-/// A value without what is too long in it: its first 4,096 octets (RFC 5229, section 6). Takes no memory.
-pub fn shortened(value: &[u8]) -> &[u8]
+/// A value without what is too long in it (RFC 5229, section 6).
+fn front(value: &[u8]) -> &[u8]
     ensures { result.now ≡ take value_limit value.now }
 {
     if value.len() > MAX_VALUE {
@@ -176,7 +176,7 @@ impl Modifiers {
         if self.length {
             return digits(alloc, self.character_count(value));
         }
-        let cased = self.cased(alloc, shortened(value))?;
+        let cased = self.cased(alloc, front(value))?;
         if !self.quote_wildcard {
             return Ok(cased);
         }
