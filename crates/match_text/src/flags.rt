@@ -131,13 +131,22 @@ impl FlagList {
     }
 
     /// A copy of the list.
+    #[tactic(auto, using(crate::proofs::FlagLists::union_copies))]
     pub fn copied(&self, alloc: Global) -> Result<FlagList, AllocError>
         ensures { IfOk result (λ copy. copy ≡ self.now) }
     {
         let mut flags = IndexSet::new(alloc);
         insert_each(alloc, &mut flags, self)?;
-        Ok(FlagList { flags })
+        Ok(list_of(flags))
     }
+}
+
+// The list of a set's flags.
+fn list_of(flags: IndexSet<Flag>) -> FlagList
+    ensures { result ≡ flags.keys }
+{
+    let _count = flags.len();
+    FlagList { flags }
 }
 
 // Adds a flag at the end, where it isn't there yet.
@@ -151,12 +160,14 @@ fn insert(alloc: Global, flags: &mut IndexSet<Flag>, flag: &[u8]) -> Result<(), 
 }
 
 // Adds each flag of a list that isn't there yet.
+#[tactic(auto, using(crate::proofs::FlagLists::union_step, crate::proofs::FlagLists::union_nil))]
 fn insert_each(
     alloc: Global,
     flags: &mut IndexSet<Flag>,
     list: &FlagList,
 ) -> Result<(), AllocError>
-    ensures { OnOk result (flags.new.keys ≡ flag_union flags.old.keys list.now) }
+    ensures keys { OnOk result (flags.new.keys ≡ flag_union flags.old.keys list.now) }
+    ensures distinct { AreDistinct list.now }
 {
     for flag in list.flags.as_slice() {
         insert(alloc, flags, flag.as_slice())?;
@@ -165,6 +176,7 @@ fn insert_each(
 }
 
 // Adds a piece, if it is a flag.
+#[tactic(auto, using(crate::proofs::FlagLists::union_nil))]
 fn insert_piece(
     alloc: Global,
     flags: &mut IndexSet<Flag>,
@@ -180,6 +192,7 @@ fn insert_piece(
 }
 
 // Adds the flags of a text.
+#[tactic(auto, using(crate::proofs::FlagLists::union_piece, crate::proofs::FlagLists::union_nil))]
 fn insert_text(alloc: Global, flags: &mut IndexSet<Flag>, text: &[u8]) -> Result<(), AllocError>
     ensures { OnOk result (flags.new.keys ≡ flag_union flags.old.keys (flags_in text.now)) }
 {
@@ -226,6 +239,7 @@ fn is_system_flag(text: &[u8]) -> bool
 }
 
 // Whether a text is an atom.
+#[tactic(auto, using(crate::proofs::Keywords::filled))]
 fn is_keyword(text: &[u8]) -> bool
     ensures { result ≡ is_keyword text.now }
 {
@@ -245,15 +259,17 @@ fn pieces(alloc: Global, text: &[u8]) -> Result<Vec<&[u8]>, AllocError>
 
 /// The flags of a text: what stands between spaces, each flag once, where it stands first. What isn't a flag is left out
 /// (RFC 5232, section 2).
+#[tactic(auto, using(crate::proofs::FlagLists::union_from_none), unfolding(crate::specs::Flags::flag_list))]
 pub fn flags_of(alloc: Global, text: &[u8]) -> Result<FlagList, AllocError>
     ensures { IfOk result (λ list. list ≡ flag_list text.now) }
 {
     let mut flags = IndexSet::new(alloc);
     insert_text(alloc, &mut flags, text)?;
-    Ok(FlagList { flags })
+    Ok(list_of(flags))
 }
 
 /// The flags of several texts, in order and each once (RFC 5232, section 2).
+#[tactic(auto, using(crate::proofs::FlagLists::union_append, crate::proofs::FlagLists::union_nil, crate::proofs::FlagLists::union_from_none), unfolding(crate::specs::Flags::flags_of_texts))]
 pub fn flags_of_texts(alloc: Global, texts: &[CowSlice<'_, u8>]) -> Result<FlagList, AllocError>
     ensures { IfOk result (λ list. list ≡ flags_of_texts (octets_of_each texts.now)) }
 {
@@ -261,20 +277,22 @@ pub fn flags_of_texts(alloc: Global, texts: &[CowSlice<'_, u8>]) -> Result<FlagL
     for text in texts {
         insert_text(alloc, &mut flags, text.as_slice())?;
     }
-    Ok(FlagList { flags })
+    Ok(list_of(flags))
 }
 
 /// The flags of `a`, and behind them those of `b` that aren't there yet (RFC 5232, section 3.2).
+#[tactic(auto, using(crate::proofs::FlagLists::union_copies))]
 pub fn union(alloc: Global, a: &FlagList, b: &FlagList) -> Result<FlagList, AllocError>
     ensures { IfOk result (λ list. list ≡ flag_union a.now b.now) }
 {
     let mut flags = IndexSet::new(alloc);
     insert_each(alloc, &mut flags, a)?;
     insert_each(alloc, &mut flags, b)?;
-    Ok(FlagList { flags })
+    Ok(list_of(flags))
 }
 
 /// The flags of `a` that aren't in `b` (RFC 5232, section 3.3).
+#[tactic(auto, using(crate::proofs::FlagLists::union_other))]
 pub fn without(alloc: Global, a: &FlagList, b: &FlagList) -> Result<FlagList, AllocError>
     ensures { IfOk result (λ list. list ≡ flags_without a.now b.now) }
 {
@@ -282,7 +300,7 @@ pub fn without(alloc: Global, a: &FlagList, b: &FlagList) -> Result<FlagList, Al
     for flag in a.flags.as_slice() {
         insert_other(alloc, &mut flags, flag, &b.flags)?;
     }
-    Ok(FlagList { flags })
+    Ok(list_of(flags))
 }
 
 // Adds a flag that isn't among the others.
@@ -302,6 +320,7 @@ fn insert_other(
 }
 
 /// The flags as a variable holds them, with one space between two (RFC 5232, section 2).
+#[tactic(auto, unfolding(crate::specs::Flags::flag_text))]
 pub fn flag_text(alloc: Global, list: &FlagList) -> Result<Vec<u8>, AllocError>
     ensures { IfOk result (λ text. text.items ≡ flag_text list.now) }
 {
@@ -327,6 +346,7 @@ pub fn flag_keys(alloc: Global, key: &[u8]) -> Result<Vec<CowSlice<'_, u8>>, All
 }
 
 /// What each key of a test stands for, in order (RFC 5232, section 4).
+#[tactic(auto, unfolding(crate::specs::Flags::flag_keys_of_texts))]
 pub fn flag_keys_of_texts<'a>(
     alloc: Global,
     keys: &'a [CowSlice<'a, u8>],
@@ -341,6 +361,7 @@ pub fn flag_keys_of_texts<'a>(
 }
 
 // Adds what a key stands for.
+#[tactic(auto, unfolding(crate::specs::Flags::flag_keys))]
 fn push_keys<'a>(
     alloc: Global,
     found: &mut Vec<CowSlice<'a, u8>>,
