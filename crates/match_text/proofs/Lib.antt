@@ -9,4 +9,6 @@ pub mod Standing
 pub mod Taking
 pub mod Passing
 pub mod Slices
+pub mod FlagLists
+pub mod Keywords
 mod Rows
