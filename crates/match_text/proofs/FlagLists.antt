@@ -1,12 +1,13 @@
 -- Lists of flags that are joined, filtered and taken once each.
-use Rattle.std.proofs.Common.{◌≡◌, ℕ, Bool, true, false, not, cond, ◌&&◌, ◌||◌, List, [], ◌∷◌, ◌++◌, filter, if◌then◌else◌, refl, sym, ap, subst, ◌∙◌, append-nil, append_assoc, true≢false}
-use Rattle.std.specs.List.{All, AllByRecursion, IsDistinct, list_any, flat_map}
-use Rattle.std.proofs.lemmas.List.Elements.{filter-append}
+use Rattle.std.proofs.Common.{◌≡◌, ℕ, ◌+◌, ◌<◌, ◌≤◌, length, drop, get_or, Bool, true, false, not, cond, ◌&&◌, ◌||◌, List, [], ◌∷◌, ◌++◌, filter, if◌then◌else◌, refl, sym, ap, subst, ◌∙◌, append-nil, append_assoc, true≢false}
+use Rattle.std.specs.List.{All, AllByRecursion, IsDistinct, flat_map}
+use Rattle.std.proofs.lemmas.List.{at_drop_more, drop_all}
+use Rattle.std.proofs.lemmas.List.Elements.{All-cons, All-filter, All-head, All-tail, filter-append, filter_agree, filter_passes}
 use Rattle.std.proofs.lemmas.List.Folds.{list_any-append}
 use Rattle.std.proofs.lemmas.Map.Steps.{list_any_congr}
 use Rattle.indexmap.specs.IndexSet.{insert_key}
 use Rattle.match_text.specs.Comparator.{ascii_casemap, same}
-use Rattle.match_text.specs.Flags.{AreDistinct, distinct, flag_union, flags_without, has_flag, is_flag}
+use Rattle.match_text.specs.Flags.{AreDistinct, distinct, flag_list, flag_union, flags_in, flags_of_texts, flags_without, has_flag, is_flag, pieces}
 use Rattle.match_text.specs.view.Hashing.{same_equiv}
 
 -- FILTERS
@@ -20,12 +21,6 @@ module _ {X : Type 0} (p q r : X → Bool) where
       by : (s : Bool) → (s && q x) ≡ r x → filter q (filter p xs) ≡ filter r xs → filter q (cond s (x ∷ filter p xs) (filter p xs)) ≡ cond (r x) (x ∷ filter r xs) (filter r xs)
       by true e rest = λ j. cond (e j) (x ∷ rest j) (rest j)
       by false e rest = λ j. cond (e j) (x ∷ rest j) (rest j)
-
-module _ {X : Type 0} (p q : X → Bool) where
-  -- tests that answer alike keep the same
-  filter_alike : ((x : X) → p x ≡ q x) → (xs : List X) → filter p xs ≡ filter q xs
-  filter_alike alike [] = refl
-  filter_alike alike (x ∷ xs) = let rest = filter_alike alike xs in λ j. cond (alike x j) (x ∷ rest j) (rest j)
 
 -- THOSE THAT AREN'T AMONG OTHERS
 
@@ -44,7 +39,7 @@ without_twice flags a b =
 
 without_alike : (a b : List (List ℕ)) → ((flag : List ℕ) → has_flag a flag ≡ has_flag b flag) → (flags : List (List ℕ)) → flags_without flags a ≡ flags_without flags b
 unfolding flags_without
-without_alike a b alike flags = filter_alike (other a) (other b) (λ flag. ap not (alike flag)) flags
+without_alike a b alike flags = filter_agree (other a) (other b) (λ flag. ap not (alike flag)) flags
 
 -- without none all stay
 pub without_none : (flags : List (List ℕ)) → flags_without flags [] ≡ flags
@@ -85,6 +80,7 @@ has_one_more a flag x = by (has_flag a flag) refl
     there : (b : Bool) → same ascii_casemap x flag ≡ b → has_flag a flag ≡ true → has_flag a x ≡ (b || has_flag a x)
     there true e h = list_any_congr same_equiv x flag a e ∙ h
     there false e h = refl
+
     by : (b : Bool) → has_flag a flag ≡ b → has_flag (a ++ cond (not b) (flag ∷ []) []) x ≡ (same ascii_casemap x flag || has_flag a x)
     by true h = ap (λ l. has_flag l x) (append-nil a) ∙ there (same ascii_casemap x flag) refl h
     by false h = list_any-append (same ascii_casemap x) a (flag ∷ []) ∙ or_swap (same ascii_casemap x flag) (has_flag a x)
@@ -103,13 +99,19 @@ union_append a [] c = ap (λ l. flag_union l c) (union_nil a)
 union_append a (flag ∷ b) c =
     ap (λ l. flag_union l c) (sym (union_step a flag b)) ∙ union_append (flag_union a (flag ∷ [])) b c ∙ union_step a flag (b ++ c)
 
--- one piece of a text after the other
-pub union_piece : (a : List (List ℕ)) (piece : List ℕ) (rest : List (List ℕ)) → flag_union (flag_union a (filter is_flag (piece ∷ []))) (filter is_flag rest) ≡ flag_union a (filter is_flag (piece ∷ rest))
-union_piece a piece rest = union_append a (filter is_flag (piece ∷ [])) (filter is_flag rest) ∙ ap (flag_union a) (sym (filter-append is_flag (piece ∷ []) rest))
+-- One more of the items of a loop, where F gives the flags of those that are left, and each those of one.
+module _ {X : Type 0} (F : List X → List (List ℕ)) where
+  pub union_more : (each : X → List (List ℕ)) → ((x : X) (rest : List X) → F (x ∷ rest) ≡ each x ++ F rest)
+      → (items : List X) (i : ℕ) (d : X) (old new whole : List (List ℕ)) → i < length items → new ≡ flag_union old (each (get_or items i d))
+      → flag_union old (F (drop i items)) ≡ whole → flag_union new (F (drop (i + 1) items)) ≡ whole
+  union_more each first items i d old new whole below made is =
+      let x = get_or items i d in let rest = drop (i + 1) items in
+      ap (λ l. flag_union l (F rest)) made ∙ union_append old (each x) (F rest) ∙ ap (flag_union old) (sym (at_drop_more F items i d below ∙ first x rest)) ∙ is
 
--- one flag that may be among others after the other
-pub union_other : (a others : List (List ℕ)) (flag : List ℕ) (rest : List (List ℕ)) → flag_union (flag_union a (flags_without (flag ∷ []) others)) (flags_without rest others) ≡ flag_union a (flags_without (flag ∷ rest) others)
-union_other a others flag rest = union_append a (flags_without (flag ∷ []) others) (flags_without rest others) ∙ ap (flag_union a) (sym (without-cons flag rest others))
+  -- none are left
+  pub union_end : F [] ≡ [] → (items : List X) (n : ℕ) (old whole : List (List ℕ)) → length items ≤ n → flag_union old (F (drop n items)) ≡ whole → old ≡ whole
+  union_end none items n old whole past is =
+      sym (ap (λ l. flag_union old (F l)) (drop_all n items past) ∙ ap (flag_union old) none ∙ union_nil old) ∙ is
 
 pub without_present : (flag : List ℕ) (others : List (List ℕ)) → has_flag others flag ≡ true → flags_without (flag ∷ []) others ≡ []
 unfolding flags_without
@@ -157,10 +159,13 @@ distinct-push (x ∷ a) flag h none = (last a h.0 differs.0, distinct-push a fla
     or_false : (s t : Bool) → (s || t) ≡ false → (s ≡ false) × (t ≡ false)
     or_false true t e = absurd (true≢false e)
     or_false false t e = (refl, e)
+
     split : (same ascii_casemap flag x ≡ false) × (has_flag a flag ≡ false)
     split = or_false (same ascii_casemap flag x) (has_flag a flag) none
+
     differs : (same ascii_casemap x flag ≡ false) × (has_flag a flag ≡ false)
     differs = (same_equiv.symm x flag ∙ split.0, split.1)
+
     last : (l : List (List ℕ)) → AllByRecursion (λ y. same ascii_casemap x y ≡ false) l → same ascii_casemap x flag ≡ false → AllByRecursion (λ y. same ascii_casemap x y ≡ false) (l ++ flag ∷ [])
     last [] all e = (e, tt)
     last (y ∷ l) all e = (all.0, last l all.1 e)
@@ -198,3 +203,24 @@ distinct_stays (flag ∷ flags) h =
 
 pub union_copies : (flags : List (List ℕ)) → AreDistinct flags → flag_union [] flags ≡ flags
 union_copies flags h = union_from_none flags ∙ distinct_stays flags h
+
+-- EACH A FLAG
+
+module _ (P : List ℕ → Type 0) where
+  all_distinct : (flags : List (List ℕ)) → All P flags → All P (distinct flags)
+  unfolding distinct flags_without
+  all_distinct [] all = all
+  all_distinct (flag ∷ flags) all =
+      All-cons P flag (flags_without (distinct flags) (flag ∷ [])) (All-head P flag flags all) (All-filter (other (flag ∷ [])) P (distinct flags) (all_distinct flags (All-tail P flag flags all)))
+
+pub flag_list-distinct : (text : List ℕ) → AreDistinct (flag_list text)
+unfolding flag_list
+flag_list-distinct text = distinct_distinct (flags_in text)
+
+pub flags_of_texts-distinct : (texts : List (List ℕ)) → AreDistinct (flags_of_texts texts)
+unfolding flags_of_texts
+flags_of_texts-distinct texts = distinct_distinct (flat_map flags_in texts)
+
+pub flag_list-flags : (text : List ℕ) → All (λ flag. is_flag flag ≡ true) (flag_list text)
+unfolding flag_list
+flag_list-flags text = all_distinct (λ flag. is_flag flag ≡ true) (flags_in text) (filter_passes is_flag (pieces text))

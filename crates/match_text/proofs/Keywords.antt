@@ -1,5 +1,5 @@
 -- Texts that have octets.
-use Rattle.std.proofs.Common.{◌≡◌, ℕ, Bool, true, false, ◌==◌, List, [], ◌∷◌, length, refl, sym, ◌∙◌}
+use Rattle.std.proofs.Common.{◌≡◌, ℕ, false, true, ◌==◌, List, [], ◌∷◌, length, refl, sym}
 use Rattle.match_text.specs.Flags.{is_filled}
 
 pub filled : (text : List ℕ) → (length text == 0) ≡ false → is_filled text ≡ true

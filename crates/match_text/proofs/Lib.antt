@@ -11,4 +11,5 @@ pub mod Passing
 pub mod Slices
 pub mod FlagLists
 pub mod Keywords
+mod FlagRows
 mod Rows

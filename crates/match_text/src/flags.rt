@@ -1,5 +1,6 @@
 //! Lists of flags (RFC 5232, sections 2 and 3).
 ghost use Rattle.std.specs.Prelude.{◌≡◌, ◌<◌, ◌↔◌, ◌++◌, [], ◌∷◌, IfOk, IsTrue, OnOk, Some, filter, fold, length, nat_eq, slice_get};
+ghost use Rattle.std.specs.List.{list_all};
 ghost use Rattle.match_text.specs.Comparator.{ascii_casemap, same};
 ghost use Rattle.match_text.specs.Flags.{AreDistinct, flag_keys, flag_keys_of_texts, flag_list, flag_text, flag_union, flags_in, flags_of_texts, flags_without, is_filled, is_flag, is_flag_octet, is_keyword, is_special, is_system_flag, pieces};
 ghost use Rattle.match_text.specs.view.Hashing.{flag_hash, same_alike, same_equiv, same_per};
@@ -160,12 +161,7 @@ fn insert(alloc: Global, flags: &mut IndexSet<Flag>, flag: &[u8]) -> Result<(), 
 }
 
 // Adds each flag of a list that isn't there yet.
-#[tactic(auto, using(crate::proofs::FlagLists::union_step, crate::proofs::FlagLists::union_nil))]
-fn insert_each(
-    alloc: Global,
-    flags: &mut IndexSet<Flag>,
-    list: &FlagList,
-) -> Result<(), AllocError>
+fn insert_each(alloc: Global, flags: &mut IndexSet<Flag>, list: &FlagList) -> Result<(), AllocError>
     ensures keys { OnOk result (flags.new.keys ≡ flag_union flags.old.keys list.now) }
     ensures distinct { AreDistinct list.now }
 {
@@ -177,11 +173,7 @@ fn insert_each(
 
 // Adds a piece, if it is a flag.
 #[tactic(auto, using(crate::proofs::FlagLists::union_nil))]
-fn insert_piece(
-    alloc: Global,
-    flags: &mut IndexSet<Flag>,
-    piece: &[u8],
-) -> Result<(), AllocError>
+fn insert_piece(alloc: Global, flags: &mut IndexSet<Flag>, piece: &[u8]) -> Result<(), AllocError>
     ensures { OnOk result (flags.new.keys ≡ flag_union flags.old.keys (filter is_flag (piece.now ∷ []))) }
 {
     if is_flag(piece) {
@@ -192,7 +184,6 @@ fn insert_piece(
 }
 
 // Adds the flags of a text.
-#[tactic(auto, using(crate::proofs::FlagLists::union_piece, crate::proofs::FlagLists::union_nil))]
 fn insert_text(alloc: Global, flags: &mut IndexSet<Flag>, text: &[u8]) -> Result<(), AllocError>
     ensures { OnOk result (flags.new.keys ≡ flag_union flags.old.keys (flags_in text.now)) }
 {
@@ -239,11 +230,17 @@ fn is_system_flag(text: &[u8]) -> bool
 }
 
 // Whether a text is an atom.
-#[tactic(auto, using(crate::proofs::Keywords::filled))]
 fn is_keyword(text: &[u8]) -> bool
     ensures { result ≡ is_keyword text.now }
 {
-    !text.is_empty() && text.iter().all(|octet| is_flag_octet(*octet))
+    !text.is_empty() && are_flag_octets(text)
+}
+
+// Whether each octet may stand in a keyword.
+fn are_flag_octets(text: &[u8]) -> bool
+    ensures { result ≡ list_all is_flag_octet text.now }
+{
+    text.iter().all(|octet| is_flag_octet(*octet))
 }
 
 // What stands between the spaces of a text.
@@ -269,7 +266,7 @@ pub fn flags_of(alloc: Global, text: &[u8]) -> Result<FlagList, AllocError>
 }
 
 /// The flags of several texts, in order and each once (RFC 5232, section 2).
-#[tactic(auto, using(crate::proofs::FlagLists::union_append, crate::proofs::FlagLists::union_nil, crate::proofs::FlagLists::union_from_none), unfolding(crate::specs::Flags::flags_of_texts))]
+#[tactic(auto, using(crate::proofs::FlagLists::union_from_none), unfolding(crate::specs::Flags::flags_of_texts))]
 pub fn flags_of_texts(alloc: Global, texts: &[CowSlice<'_, u8>]) -> Result<FlagList, AllocError>
     ensures { IfOk result (λ list. list ≡ flags_of_texts (octets_of_each texts.now)) }
 {
@@ -292,7 +289,6 @@ pub fn union(alloc: Global, a: &FlagList, b: &FlagList) -> Result<FlagList, Allo
 }
 
 /// The flags of `a` that aren't in `b` (RFC 5232, section 3.3).
-#[tactic(auto, using(crate::proofs::FlagLists::union_other))]
 pub fn without(alloc: Global, a: &FlagList, b: &FlagList) -> Result<FlagList, AllocError>
     ensures { IfOk result (λ list. list ≡ flags_without a.now b.now) }
 {

@@ -1,5 +1,5 @@
 -- How flags are compared and hashed, with no regard to case.
-use Rattle.std.specs.Prelude.{ℕ, List, nat_eq}
+use Rattle.std.specs.Prelude.{ℕ, List}
 use Rattle.std.specs.Cmp.{IsEquivalence, IsPartialEquivalence, on_equiv, nat_eq_equiv, partial_equiv_from_equiv, unsigned_Decides}
 use Rattle.std.specs.Cmp.Lexicographic.{lists_equiv}
 use Rattle.std.specs.Hash as fed
