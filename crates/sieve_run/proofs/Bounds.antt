@@ -41,7 +41,7 @@ EndsBounded (failed error state) = IsBounded state
 module _ (delivery : Delivery) where
   with_room : (action : Action) (line : ℕ) (s : RunState) → IsBounded s → (there room : Bool) → nat_lt (length s.actions) action_limit ≡ room
       → EndsBounded (ends_with delivery line (if there then performed (map (joined_with action) s.actions) else if room then performed (s.actions ++ action ∷ []) else one_too_many) s)
-  with_room action line s bound true room is = subst (λ n. n ≤ action_limit) (sym (length-map (joined_with action) s.actions)) bound
+  with_room action line s bound true room is = subst (λ n. n ≤ action_limit) (sym (length-map s.actions (joined_with action))) bound
   with_room action line s bound false true is = grind (arith, nat_tests, length_push s.actions action)
   with_room action line s bound false false is = bound
 

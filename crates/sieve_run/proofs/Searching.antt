@@ -25,6 +25,11 @@ get-mapped h k [] i y at = cc
 get-mapped h k (x ∷ xs) zero y at = ap (option_map k) at
 get-mapped h k (x ∷ xs) (suc i) y at = get-mapped h k xs i y at
 
+pub get_map : {X Y : Type 0} (f : X → Y) (xs : List X) (i : ℕ) (x : X) → slice_get xs i ≡ Some x → slice_get (map f xs) i ≡ Some (f x)
+get_map f [] i x at = cc
+get_map f (y ∷ ys) zero x at = ap (option_map f) at
+get_map f (y ∷ ys) (suc i) x at = get_map f ys i x at
+
 module _ {X Y : Type 0} (p : X → Bool) (f : X → Option Y) where
   -- an element gives nothing where the test fails, and else what it gives
   pub get-fails : (xs : List X) (i : ℕ) → slice_get (map p xs) i ≡ Some false → slice_get (map (λ x. if p x then f x else None) xs) i ≡ Some None
@@ -180,9 +185,8 @@ module _ (match_type : MatchType) (collation : Collation) where
   fields_found part delivery state names keys named keyed n k =
       ap (λ ns. first_some (name_found (found_by keyed) part (fields_of delivery.message)) ns) n
       ∙ sym (first_of_names (found_by keyed) part delivery state names)
-      ∙ ap (λ ks. first_some (found_by ks) (values_of delivery state (field_source part names))) k
-      ∙ sym (first_flat (λ pair. match_of match_type (fold_of collation) pair.value pair.key) (pairs_with (map (text_value state.values) keys)) (values_of delivery state (field_source part names))
-      ∙ ap (λ ks. first_match match_type (fold_of collation) (pairs_of (values_of delivery state (field_source part names)) ks)) (field_keys part names (map (text_value state.values) keys)))
+      ∙ ap (λ ks. first_some (found_by ks) (values_of delivery state (field_source part names))) (k ∙ sym (field_keys part names (map (text_value state.values) keys)))
+      ∙ sym (first_flat (λ pair. match_of match_type (fold_of collation) pair.value pair.key) (pairs_with (keys_of state (field_source part names) keys)) (values_of delivery state (field_source part names)))
 
   -- and what it finds in the envelope
   pub paths_found : (part : AddressPart) (delivery : Delivery) (state : RunState) (names keys : List (List Part)) (named keyed : List (List ℕ)) → named ≡ map (text_value state.values) names → keyed ≡ map (text_value state.values) keys
