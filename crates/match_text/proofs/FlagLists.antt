@@ -18,7 +18,8 @@ module _ {X : Type 0} (p q r : X → Bool) where
   filter_twice both [] = refl
   filter_twice both (x ∷ xs) = by (p x) (both x) (filter_twice both xs)
     where
-      by : (s : Bool) → (s && q x) ≡ r x → filter q (filter p xs) ≡ filter r xs → filter q (cond s (x ∷ filter p xs) (filter p xs)) ≡ cond (r x) (x ∷ filter r xs) (filter r xs)
+      by : (s : Bool) → (s && q x) ≡ r x → filter q (filter p xs) ≡ filter r xs
+          → filter q (cond s (x ∷ filter p xs) (filter p xs)) ≡ cond (r x) (x ∷ filter r xs) (filter r xs)
       by true e rest = λ j. cond (e j) (x ∷ rest j) (rest j)
       by false e rest = λ j. cond (e j) (x ∷ rest j) (rest j)
 
@@ -35,9 +36,11 @@ either_not false t = refl
 without_twice : (flags a b : List (List ℕ)) → flags_without (flags_without flags a) b ≡ flags_without flags (a ++ b)
 unfolding flags_without
 without_twice flags a b =
-    filter_twice (other a) (other b) (other (a ++ b)) (λ flag. either_not (has_flag a flag) (has_flag b flag) ∙ ap not (sym (list_any-append (same ascii_casemap flag) a b))) flags
+    filter_twice (other a) (other b) (other (a ++ b))
+    (λ flag. either_not (has_flag a flag) (has_flag b flag) ∙ ap not (sym (list_any-append (same ascii_casemap flag) a b))) flags
 
-without_alike : (a b : List (List ℕ)) → ((flag : List ℕ) → has_flag a flag ≡ has_flag b flag) → (flags : List (List ℕ)) → flags_without flags a ≡ flags_without flags b
+without_alike : (a b : List (List ℕ)) → ((flag : List ℕ) → has_flag a flag ≡ has_flag b flag) → (flags : List (List ℕ))
+    → flags_without flags a ≡ flags_without flags b
 unfolding flags_without
 without_alike a b alike flags = filter_agree (other a) (other b) (λ flag. ap not (alike flag)) flags
 
@@ -47,7 +50,8 @@ unfolding flags_without
 without_none [] = refl
 without_none (flag ∷ flags) = ap (λ l. flag ∷ l) (without_none flags)
 
-pub without-cons : (flag : List ℕ) (flags others : List (List ℕ)) → flags_without (flag ∷ flags) others ≡ flags_without (flag ∷ []) others ++ flags_without flags others
+pub without-cons : (flag : List ℕ) (flags others : List (List ℕ))
+    → flags_without (flag ∷ flags) others ≡ flags_without (flag ∷ []) others ++ flags_without flags others
 unfolding flags_without
 without-cons flag flags others = filter-append (other others) (flag ∷ []) flags
 
@@ -81,15 +85,18 @@ has_one_more a flag x = by (has_flag a flag) refl
     there true e h = list_any_congr same_equiv x flag a e ∙ h
     there false e h = refl
 
-    by : (b : Bool) → has_flag a flag ≡ b → has_flag (a ++ cond (not b) (flag ∷ []) []) x ≡ (same ascii_casemap x flag || has_flag a x)
+    by : (b : Bool) → has_flag a flag ≡ b → has_flag (a ++ cond (not b) (flag ∷ []) []) x
+        ≡ (same ascii_casemap x flag || has_flag a x)
     by true h = ap (λ l. has_flag l x) (append-nil a) ∙ there (same ascii_casemap x flag) refl h
     by false h = list_any-append (same ascii_casemap x) a (flag ∷ []) ∙ or_swap (same ascii_casemap x flag) (has_flag a x)
 
 -- one flag after the other
-pub union_step : (a : List (List ℕ)) (flag : List ℕ) (flags : List (List ℕ)) → flag_union (flag_union a (flag ∷ [])) flags ≡ flag_union a (flag ∷ flags)
+pub union_step : (a : List (List ℕ)) (flag : List ℕ) (flags : List (List ℕ))
+    → flag_union (flag_union a (flag ∷ [])) flags ≡ flag_union a (flag ∷ flags)
 unfolding flag_union distinct flags_without
 union_step a flag flags =
-    ap (λ l. (a ++ flags_without (flag ∷ []) a) ++ l) (without_alike (flag_union a (flag ∷ [])) (flag ∷ a) (has_one_more a flag) (distinct flags) ∙ sym (without_twice (distinct flags) (flag ∷ []) a))
+    ap (λ l. (a ++ flags_without (flag ∷ []) a) ++ l)
+    (without_alike (flag_union a (flag ∷ [])) (flag ∷ a) (has_one_more a flag) (distinct flags) ∙ sym (without_twice (distinct flags) (flag ∷ []) a))
     ∙ append_assoc a (flags_without (flag ∷ []) a) (flags_without (flags_without (distinct flags) (flag ∷ [])) a)
     ∙ ap (λ l. a ++ l) (sym (without-cons flag (flags_without (distinct flags) (flag ∷ [])) a))
 
@@ -97,27 +104,33 @@ union_step a flag flags =
 pub union_append : (a b c : List (List ℕ)) → flag_union (flag_union a b) c ≡ flag_union a (b ++ c)
 union_append a [] c = ap (λ l. flag_union l c) (union_nil a)
 union_append a (flag ∷ b) c =
-    ap (λ l. flag_union l c) (sym (union_step a flag b)) ∙ union_append (flag_union a (flag ∷ [])) b c ∙ union_step a flag (b ++ c)
+    ap (λ l. flag_union l c) (sym (union_step a flag b))
+    ∙ union_append (flag_union a (flag ∷ [])) b c ∙ union_step a flag (b ++ c)
 
 -- One more of the items of a loop, where F gives the flags of those that are left, and each those of one.
 module _ {X : Type 0} (F : List X → List (List ℕ)) where
   pub union_more : (each : X → List (List ℕ)) → ((x : X) (rest : List X) → F (x ∷ rest) ≡ each x ++ F rest)
-      → (items : List X) (i : ℕ) (d : X) (old new whole : List (List ℕ)) → i < length items → new ≡ flag_union old (each (get_or items i d))
+      → (items : List X) (i : ℕ) (d : X)
+      (old new whole : List (List ℕ)) → i < length items → new ≡ flag_union old (each (get_or items i d))
       → flag_union old (F (drop i items)) ≡ whole → flag_union new (F (drop (i + 1) items)) ≡ whole
   union_more each first items i d old new whole below made is =
       let x = get_or items i d in let rest = drop (i + 1) items in
-      ap (λ l. flag_union l (F rest)) made ∙ union_append old (each x) (F rest) ∙ ap (flag_union old) (sym (at_drop_more F items i d below ∙ first x rest)) ∙ is
+      ap (λ l. flag_union l (F rest)) made ∙ union_append old (each x) (F rest)
+      ∙ ap (flag_union old) (sym (at_drop_more F items i d below ∙ first x rest)) ∙ is
 
   -- none are left
-  pub union_end : F [] ≡ [] → (items : List X) (n : ℕ) (old whole : List (List ℕ)) → length items ≤ n → flag_union old (F (drop n items)) ≡ whole → old ≡ whole
+  pub union_end : F [] ≡ [] → (items : List X) (n : ℕ) (old whole : List (List ℕ)) → length items ≤ n
+      → flag_union old (F (drop n items)) ≡ whole → old ≡ whole
   union_end none items n old whole past is =
       sym (ap (λ l. flag_union old (F l)) (drop_all n items past) ∙ ap (flag_union old) none ∙ union_nil old) ∙ is
 
-pub without_present : (flag : List ℕ) (others : List (List ℕ)) → has_flag others flag ≡ true → flags_without (flag ∷ []) others ≡ []
+pub without_present : (flag : List ℕ) (others : List (List ℕ))
+    → has_flag others flag ≡ true → flags_without (flag ∷ []) others ≡ []
 unfolding flags_without
 without_present flag others h = λ j. cond (not (h j)) (flag ∷ []) []
 
-pub without_absent : (flag : List ℕ) (others : List (List ℕ)) → has_flag others flag ≡ false → flags_without (flag ∷ []) others ≡ flag ∷ []
+pub without_absent : (flag : List ℕ) (others : List (List ℕ))
+    → has_flag others flag ≡ false → flags_without (flag ∷ []) others ≡ flag ∷ []
 unfolding flags_without
 without_absent flag others h = λ j. cond (not (h j)) (flag ∷ []) []
 
@@ -166,7 +179,8 @@ distinct-push (x ∷ a) flag h none = (last a h.0 differs.0, distinct-push a fla
     differs : (same ascii_casemap x flag ≡ false) × (has_flag a flag ≡ false)
     differs = (same_equiv.symm x flag ∙ split.0, split.1)
 
-    last : (l : List (List ℕ)) → AllByRecursion (λ y. same ascii_casemap x y ≡ false) l → same ascii_casemap x flag ≡ false → AllByRecursion (λ y. same ascii_casemap x y ≡ false) (l ++ flag ∷ [])
+    last : (l : List (List ℕ)) → AllByRecursion (λ y. same ascii_casemap x y ≡ false) l → same ascii_casemap x flag ≡ false
+        → AllByRecursion (λ y. same ascii_casemap x y ≡ false) (l ++ flag ∷ [])
     last [] all e = (e, tt)
     last (y ∷ l) all e = (all.0, last l all.1 e)
 
@@ -181,7 +195,9 @@ distinct-one a flag h = by (has_flag a flag) refl
 -- nor a union of one without repeats
 pub distinct_union : (a b : List (List ℕ)) → AreDistinct a → AreDistinct (flag_union a b)
 distinct_union a [] h = let nil = union_nil a in rw nil h
-distinct_union a (flag ∷ b) h = let step = sym (union_step a flag b) in rw step (distinct_union (flag_union a (flag ∷ [])) b (distinct-one a flag h))
+distinct_union a (flag ∷ b) h =
+    let step = sym (union_step a flag b) in
+    rw step (distinct_union (flag_union a (flag ∷ [])) b (distinct-one a flag h))
 
 none_distinct : AreDistinct []
 unfolding IsDistinct
@@ -199,7 +215,9 @@ distinct_stays (flag ∷ flags) h =
   where
     all_stay : (l : List (List ℕ)) → AllByRecursion (λ y. same ascii_casemap flag y ≡ false) l → flags_without l (flag ∷ []) ≡ l
     all_stay [] all = refl
-    all_stay (y ∷ l) all = let e = same_equiv.symm y flag ∙ all.0 in let rest = all_stay l all.1 in λ j. cond (not (e j || false)) (y ∷ rest j) (rest j)
+    all_stay (y ∷ l) all =
+        let e = same_equiv.symm y flag ∙ all.0 in
+        let rest = all_stay l all.1 in λ j. cond (not (e j || false)) (y ∷ rest j) (rest j)
 
 pub union_copies : (flags : List (List ℕ)) → AreDistinct flags → flag_union [] flags ≡ flags
 union_copies flags h = union_from_none flags ∙ distinct_stays flags h
@@ -211,7 +229,9 @@ module _ (P : List ℕ → Type 0) where
   unfolding distinct flags_without
   all_distinct [] all = all
   all_distinct (flag ∷ flags) all =
-      All-cons P flag (flags_without (distinct flags) (flag ∷ [])) (All-head P flag flags all) (All-filter (other (flag ∷ [])) P (distinct flags) (all_distinct flags (All-tail P flag flags all)))
+      All-cons P flag (flags_without (distinct flags) (flag ∷ []))
+      (All-head P flag flags all)
+      (All-filter (other (flag ∷ [])) P (distinct flags) (all_distinct flags (All-tail P flag flags all)))
 
 pub flag_list-distinct : (text : List ℕ) → AreDistinct (flag_list text)
 unfolding flag_list

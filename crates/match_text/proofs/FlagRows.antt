@@ -30,7 +30,8 @@ keyword_row : flag_list (codes "$Junk $Forwarded") ≡ codes "$Junk" ∷ codes "
 unfolding flag_list distinct flags_without
 keyword_row = refl
 
-system_row : filter is_flag (codes "\\ANSWERED" ∷ codes "\\flagged" ∷ codes "\\Deleted" ∷ codes "\\sEEN" ∷ codes "\\draft" ∷ []) ≡ codes "\\ANSWERED" ∷ codes "\\flagged" ∷ codes "\\Deleted" ∷ codes "\\sEEN" ∷ codes "\\draft" ∷ []
+system_row : filter is_flag (codes "\\ANSWERED" ∷ codes "\\flagged" ∷ codes "\\Deleted" ∷ codes "\\sEEN" ∷ codes "\\draft" ∷ [])
+    ≡ codes "\\ANSWERED" ∷ codes "\\flagged" ∷ codes "\\Deleted" ∷ codes "\\sEEN" ∷ codes "\\draft" ∷ []
 system_row = refl
 
 system_front_row : is_flag (codes "\\See") ≡ false
@@ -55,7 +56,8 @@ lists_row : flags_of_texts (codes "a b" ∷ codes "" ∷ codes "B c" ∷ []) ≡
 unfolding flags_of_texts distinct flags_without
 lists_row = refl
 
-union_row : flag_union (codes "\\Seen" ∷ codes "a" ∷ []) (codes "A" ∷ codes "b" ∷ codes "\\SEEN" ∷ codes "B" ∷ []) ≡ codes "\\Seen" ∷ codes "a" ∷ codes "b" ∷ []
+union_row : flag_union (codes "\\Seen" ∷ codes "a" ∷ []) (codes "A" ∷ codes "b" ∷ codes "\\SEEN" ∷ codes "B" ∷ [])
+    ≡ codes "\\Seen" ∷ codes "a" ∷ codes "b" ∷ []
 unfolding flag_union distinct flags_without
 union_row = refl
 
@@ -103,6 +105,7 @@ same_keys_row : flag_keys (codes "a A a") ≡ codes "a" ∷ codes "A" ∷ codes 
 unfolding flag_keys
 same_keys_row = refl
 
-key_lists_row : flag_keys_of_texts (codes "a b" ∷ [] ∷ codes "  " ∷ codes "c" ∷ []) ≡ codes "a" ∷ codes "b" ∷ [] ∷ codes "c" ∷ []
+key_lists_row : flag_keys_of_texts (codes "a b" ∷ [] ∷ codes "  " ∷ codes "c" ∷ [])
+    ≡ codes "a" ∷ codes "b" ∷ [] ∷ codes "c" ∷ []
 unfolding flag_keys_of_texts flag_keys
 key_lists_row = refl

@@ -1,5 +1,5 @@
--- Flags of messages (RFC 5232, sections 2 and 3): which texts are flags, how texts are cut into them, and lists of flags. A flag is
--- known by its first spelling: two are the same where they are equal under i;ascii-casemap.
+-- Flags of messages (RFC 5232, sections 2 and 3): which texts are flags, how texts are cut into them, and lists of flags.
+-- A flag is known by its spelling: two are the same where they are equal under i;ascii-casemap.
 use Rattle.std.specs.Prelude.{ℕ, Bool, true, false, not, ◌&&◌, ◌||◌, ◌==◌, List, [], ◌∷◌, ◌++◌, filter, codes}
 use Rattle.std.specs.List.{IsDistinct, flat_map, list_all, list_any, slice_split}
 use Rattle.sieve_base.specs.Octet.{is_visible, octet_of}
@@ -10,7 +10,8 @@ use Rattle.match_text.specs.Comparator.{ascii_casemap, same}
 -- what no atom has of the visible characters: atom-specials
 abbrev pub is_special : ℕ → Bool
 is_special b =
-    b == octet_of "(" || (b == octet_of ")" || (b == octet_of "{" || (b == octet_of "%" || (b == octet_of "*" || (b == octet_of "\"" || (b == octet_of "\\" || b == octet_of "]"))))))
+    b == octet_of "(" || (b == octet_of ")" || (b == octet_of "{" || (b == octet_of "%" || (b == octet_of "*"
+    || (b == octet_of "\"" || (b == octet_of "\\" || b == octet_of "]"))))))
 
 -- an octet of an atom: ATOM-CHAR
 abbrev pub is_flag_octet : ℕ → Bool
@@ -28,7 +29,9 @@ is_keyword text = is_filled text && list_all is_flag_octet text
 -- one of the flags with a `\` that a script may set, in any case of letters; `\Recent` is none of them
 abbrev pub is_system_flag : List ℕ → Bool
 is_system_flag text =
-    same ascii_casemap text (codes "\\Answered") || (same ascii_casemap text (codes "\\Flagged") || (same ascii_casemap text (codes "\\Deleted") || (same ascii_casemap text (codes "\\Seen") || same ascii_casemap text (codes "\\Draft"))))
+    same ascii_casemap text (codes "\\Answered") || (same ascii_casemap text (codes "\\Flagged")
+    || (same ascii_casemap text (codes "\\Deleted") || (same ascii_casemap text (codes "\\Seen")
+    || same ascii_casemap text (codes "\\Draft"))))
 
 abbrev pub is_flag : List ℕ → Bool
 is_flag text = is_system_flag text || is_keyword text

@@ -2,7 +2,8 @@
 ghost use Rattle.std.specs.Prelude.{◌≡◌, ◌<◌, ◌↔◌, ◌++◌, [], ◌∷◌, IfOk, IsTrue, OnOk, Some, filter, fold, length, nat_eq, slice_get};
 ghost use Rattle.std.specs.List.{list_all};
 ghost use Rattle.match_text.specs.Comparator.{ascii_casemap, same};
-ghost use Rattle.match_text.specs.Flags.{AreDistinct, flag_keys, flag_keys_of_texts, flag_list, flag_text, flag_union, flags_in, flags_of_texts, flags_without, is_filled, is_flag, is_flag_octet, is_keyword, is_special, is_system_flag, pieces};
+ghost use Rattle.match_text.specs.Flags.{AreDistinct, flag_keys, flag_keys_of_texts, flag_list, flag_text, flag_union, flags_in};
+ghost use Rattle.match_text.specs.Flags.{flags_of_texts, flags_without, is_filled, is_flag, is_flag_octet, is_keyword, is_special, is_system_flag, pieces};
 ghost use Rattle.match_text.specs.view.Hashing.{flag_hash, same_alike, same_equiv, same_per};
 ghost use Rattle.match_text.specs.view.Segment.{texts_of};
 ghost use Rattle.match_text.specs.view.Texts.{octets_of_each};
@@ -120,7 +121,7 @@ impl FlagList {
     pub fn is_empty(&self) -> bool
         ensures { IsTrue result ↔ (self.now ≡ []) }
     {
-        self.flags.len() == 0
+        self.len() == 0
     }
 
     /// The flag at a place. Takes no memory.
@@ -146,6 +147,7 @@ impl FlagList {
 fn list_of(flags: IndexSet<Flag>) -> FlagList
     ensures { result ≡ flags.keys }
 {
+    // The set tells here that no two of them are the same.
     let _count = flags.len();
     FlagList { flags }
 }
@@ -378,7 +380,8 @@ fn push_keys<'a>(
 
 // Adds a piece that has octets.
 fn push_filled<'a>(found: &mut Vec<CowSlice<'a, u8>>, piece: &'a [u8]) -> Result<(), AllocError>
-    ensures { OnOk result (octets_of_each found.new.items ≡ octets_of_each found.old.items ++ filter is_filled (piece.now ∷ [])) }
+    ensures { OnOk result (octets_of_each found.new.items
+        ≡ octets_of_each found.old.items ++ filter is_filled (piece.now ∷ [])) }
 {
     if !piece.is_empty() {
         found.push(CowSlice::Borrowed(piece))?;

@@ -19,8 +19,8 @@ pub fn captures_are_slices()
     ensures lengths { (fold : ℕ → ℕ) (items : List Item) (value lengths : List ℕ) → Fits fold items value lengths → map length (taken items lengths value) ≡ lengths }
 {}
 
-/// Flags that are taken once each have no two the same, nor has the union of two lists where the first has none, nor what is left
-/// of such a list without others (RFC 5232, section 2).
+/// The flags of texts have no two the same (RFC 5232, section 2). Nor has the union of two lists where the first has none,
+/// nor what is left of such a list without others.
 pub fn no_two_flags_are_the_same()
     ensures list { (text : List ℕ) → AreDistinct (flag_list text) }
     ensures lists { (texts : List (List ℕ)) → AreDistinct (flags_of_texts texts) }
@@ -33,7 +33,7 @@ pub fn each_of_a_list_is_a_flag()
     ensures { (text : List ℕ) → All (λ flag. is_flag flag ≡ true) (flag_list text) }
 {}
 
-/// A list without repeats stays as it is where each flag is taken once, and so does what is joined to no flags.
+/// A list with no two the same stays as it is where each flag is taken once, and where it is joined to no flags.
 pub fn distinct_flags_stay()
     ensures distinct { (flags : List (List ℕ)) → AreDistinct flags → distinct flags ≡ flags }
     ensures union { (flags : List (List ℕ)) → AreDistinct flags → flag_union [] flags ≡ flags }

@@ -5,4 +5,6 @@ use Rattle.match_text.proofs.flags.flag_keys_of_texts.Given as goal
 
 -- the keys so far, with those of the texts that are left
 abbrev pub invariant-loop-key : goal.invariant-loop-key
-invariant-loop-key l = octets_of_each l.found.items ++ flat_map flag_keys (octets_of_each (drop l.key-index l.keys)) ≡ flag_keys_of_texts (octets_of_each l.keys)
+invariant-loop-key l =
+    octets_of_each l.found.items ++ flat_map flag_keys (octets_of_each (drop l.key-index l.keys))
+    ≡ flag_keys_of_texts (octets_of_each l.keys)

@@ -5,4 +5,6 @@ use Rattle.match_text.proofs.flags.flags_of_texts.Given as goal
 
 -- the flags so far, with those of the texts that are left
 abbrev pub invariant-loop-text : goal.invariant-loop-text
-invariant-loop-text l = flag_union l.flags.keys (flat_map flags_in (octets_of_each (drop l.text-index l.texts))) ≡ flags_of_texts (octets_of_each l.texts)
+invariant-loop-text l =
+    flag_union l.flags.keys (flat_map flags_in (octets_of_each (drop l.text-index l.texts)))
+    ≡ flags_of_texts (octets_of_each l.texts)

@@ -9,6 +9,7 @@ pub returns : goal.returns
 returns c =
     elim c.match-insert.branch [
       | in-Ok w ↦
-          rw w.result-is (w.in-Ok.ensures.keys ∙ ap (insert_key (same ascii_casemap) c.args.flags.now.keys) c.in_ok-copied.ensures ∙ union_one c.args.flags.now.keys c.args.flag.now)
+          rw w.result-is (w.in-Ok.ensures.keys ∙ ap (insert_key (same ascii_casemap) c.args.flags.now.keys) c.in_ok-copied.ensures
+          ∙ union_one c.args.flags.now.keys c.args.flag.now)
       | in-Err w ↦ rw w.result-is tt
     ]

@@ -6,4 +6,6 @@ use Rattle.match_text.proofs.flags.push_keys.Given as goal
 
 -- the keys so far, with those of the pieces that are left
 abbrev pub invariant-loop-piece : goal.invariant-loop-piece
-invariant-loop-piece l = octets_of_each l.found.items ++ filter is_filled (texts_of (drop l.piece-index l.piece-items)) ≡ octets_of_each l.initial.found.items ++ flag_keys l.key
+invariant-loop-piece l =
+    octets_of_each l.found.items ++ filter is_filled (texts_of (drop l.piece-index l.piece-items))
+    ≡ octets_of_each l.initial.found.items ++ flag_keys l.key

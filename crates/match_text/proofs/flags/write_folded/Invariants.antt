@@ -5,4 +5,6 @@ use Rattle.match_text.proofs.flags.write_folded.Given as goal
 
 -- what was written so far
 abbrev pub invariant-loop-octet : goal.invariant-loop-octet
-invariant-loop-octet g l = l.state ≡ fold g.H.Hasher.write l.initial.state (flat_map (λ b. fed.u8 (ascii_casemap b)) (take l.octet-index l.octets))
+invariant-loop-octet g l =
+    l.state
+    ≡ fold g.H.Hasher.write l.initial.state (flat_map (λ b. fed.u8 (ascii_casemap b)) (take l.octet-index l.octets))
