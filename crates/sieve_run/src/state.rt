@@ -1,5 +1,5 @@
 //! The state of a run, and the actions that are performed.
-ghost use Rattle.std.specs.Prelude.{◌≡◌, IfOk, OnOk, false, map};
+ghost use Rattle.std.specs.Prelude.{◌≡◌, IfOk, false, map};
 ghost use Rattle.std.specs.List.{list_any};
 ghost use Rattle.sieve_run.specs.Run.{joined_with, same_action, with_action};
 ghost use Rattle.sieve_run.specs.view.State.{performed_as};
@@ -11,6 +11,7 @@ use match_text::{FlagList, union};
 use sieve_base::limits::MAX_ACTIONS;
 use sieve_variables::Values;
 use std::alloc::{AllocError, Global};
+use std::mem;
 
 /// The state of a run.
 #[derive(Debug, Drop)]
@@ -48,33 +49,41 @@ fn has_action(action: &Action, actions: &[Action]) -> bool
     actions.iter().any(|other| same_action(action, other))
 }
 
-/// Joins an action that is there with one that is performed, where the two are one: the flags of both stores are then its own.
-fn join(alloc: Global, action: &Action, there: &mut Action) -> Result<(), AllocError>
-    ensures { OnOk result (there.new ≡ joined_with action.now there.old) }
+/// An action that is there, joined with one that is performed, where the two are one: a store then has the flags of both.
+fn joined_with(alloc: Global, action: &Action, there: Action) -> Result<Action, AllocError>
+    ensures { IfOk result (λ joined. joined ≡ joined_with action.now there) }
 {
-    if !same_action(action, there) {
-        return Ok(());
+    if !same_action(action, &there) {
+        return Ok(there);
     }
     match (action, there) {
-        (Action::Store { flags, .. }, Action::Store { flags: held, .. }) => {
-            *held = union(alloc, held, flags)?;
-            Ok(())
-        }
-        _ => Ok(()),
+        (
+            Action::Store { flags, .. },
+            Action::Store {
+                mailbox,
+                flags: held,
+            },
+        ) => Ok(Action::Store {
+            mailbox,
+            flags: union(alloc, &held, flags)?,
+        }),
+        (_, other) => Ok(other),
     }
 }
 
-/// Joins each action that is there with one that is performed.
-fn join_all(alloc: Global, action: &Action, actions: &mut [Action]) -> Result<(), AllocError>
-    ensures { OnOk result (actions.new ≡ map (joined_with action.now) actions.old) }
+/// The actions that are there, each joined with one that is performed.
+fn all_joined(
+    alloc: Global,
+    action: &Action,
+    actions: Vec<Action>,
+) -> Result<Vec<Action>, AllocError>
+    ensures { IfOk result (λ joined. joined.items ≡ map (joined_with action.now) actions.items) }
 {
-    match actions {
-        [] => Ok(()),
-        [first, rest @ ..] => {
-            join(alloc, action, first)?;
-            join_all(alloc, action, rest)
-        }
+    let mut joined = Vec::with_capacity(alloc, actions.len())?;
+    for there in actions {
+        joined.push(joined_with(alloc, action, there)?)?;
     }
+    Ok(joined)
 }
 
 /// Adds an action, or joins it with the one that is there already. Answers whether there is room for it.
@@ -87,7 +96,8 @@ pub(crate) fn add_action(
     ensures value { IfOk result (λ has_room. performed_as has_room actions.new.items ≡ with_action action actions.old.items) }
 {
     if has_action(&action, actions) {
-        join_all(alloc, &action, actions)?;
+        let held = mem::replace(actions, Vec::new(alloc));
+        *actions = all_joined(alloc, &action, held)?;
         return Ok(true);
     }
     if actions.len() >= MAX_ACTIONS {
