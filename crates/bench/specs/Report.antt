@@ -55,7 +55,7 @@ mailbox_words word mailbox = word ++ quoted mailbox
 
 -- the line of a word and a mailbox with flags
 unfoldable pub mailbox_line : List ℕ → List ℕ → List (List ℕ) → List ℕ
-mailbox_line word mailbox flags = mailbox_words word mailbox ++ (flag_words flags ++ codes "\n")
+mailbox_line word mailbox flags = mailbox_words word mailbox ++ flag_words flags ++ codes "\n"
 
 -- the line of an action
 unfoldable pub action_line : Action → List ℕ

@@ -149,6 +149,7 @@ fn what_is_needed_is_required(rt: HostRuntime) -> Result<(), Fail> {
         &rt,
         Some((1, b"not-required".as_slice())),
         &[
+            b"keep :flags \"x\";",
             b"fileinto \"x\";",
             b"if envelope \"from\" \"x\" {}",
             b"if not anyof (true, envelope \"from\" \"x\") {}",
@@ -233,7 +234,8 @@ fn tags(rt: HostRuntime) -> Result<(), Fail> {
             b"if anyof :over (true) {}",
             b"if not :is true {}",
             b"if :is true {}",
-            b"keep :flags \"x\";",
+            b"discard :flags \"x\";",
+            b"require \"imap4flags\"; keep :flags \"x\" :flags \"y\";",
             b"if address :all :domain \"to\" \"x\" {}",
             b"if address :localpart :localpart \"to\" \"x\" {}",
             b"if header :all \"to\" \"x\" {}",
