@@ -134,11 +134,7 @@ fn write_flags<W: Sink>(flags: &FlagList, writer: &mut W) -> Result<(), WriteFau
 
 /// Writes a word and a mailbox.
 #[tactic(auto, unfolding(crate::specs::Report::mailbox_words))]
-fn write_mailbox<W: Sink>(
-    word: &[u8],
-    mailbox: &[u8],
-    writer: &mut W,
-) -> Result<(), WriteFault>
+fn write_mailbox<W: Sink>(word: &[u8], mailbox: &[u8], writer: &mut W) -> Result<(), WriteFault>
     ensures ok { OnOk result (Wrote W.contents W.fault_count writer.old writer.new (mailbox_words word.now mailbox.now)) }
     ensures err { OnErr result (WroteFront W.contents W.fault_count writer.old writer.new (mailbox_words word.now mailbox.now)) }
 {

@@ -296,10 +296,7 @@ fn write_worded<W: Sink>(word: &[u8], string: &[Part], writer: &mut W) -> Result
 
 /// Writes the flags of what is stored: those that are named, or that these are the internal ones.
 #[tactic(auto, unfolding(crate::specs::Dump::stored_flags))]
-fn write_stored_flags<W: Sink>(
-    flags: &Option<Vec<Parts>>,
-    writer: &mut W,
-) -> Result<(), WriteFault>
+fn write_stored_flags<W: Sink>(flags: &Option<Vec<Parts>>, writer: &mut W) -> Result<(), WriteFault>
     ensures ok { OnOk result (Wrote W.contents W.fault_count writer.old writer.new (stored_flags (given_strings flags.now))) }
     ensures err { OnErr result (WroteFront W.contents W.fault_count writer.old writer.new (stored_flags (given_strings flags.now))) }
 {

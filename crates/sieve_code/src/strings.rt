@@ -48,10 +48,7 @@ fn copied_strings(alloc: Global, texts: &[Text]) -> Result<Vec<Parts>, AllocErro
 }
 
 /// Copies of the parts of strings that may be left out.
-fn given_strings(
-    alloc: Global,
-    texts: Option<&[Text]>,
-) -> Result<Option<Vec<Parts>>, AllocError>
+fn given_strings(alloc: Global, texts: Option<&[Text]>) -> Result<Option<Vec<Parts>>, AllocError>
     ensures { IfOk result (λ copies. given_strings copies ≡ option_map (λ given. texts_as given.now) texts.entry) }
 {
     match texts {

@@ -164,14 +164,6 @@ pub(crate) fn envelope_holds(
     ensures truth { IfOk result (λ truth. truth ≡ truth_of (delivery_as delivery.now) (state_of state.old) (compares (envelope_values part (strings_of names.now)) match_type collation (strings_of keys.now))) }
     ensures behind { IfOk result (λ truth. state_of state.new ≡ behind_test (delivery_as delivery.now) (compares (envelope_values part (strings_of names.now)) match_type collation (strings_of keys.now)) (state_of state.old)) }
 {
-    let found = find_match(
-        delivery,
-        &*state,
-        part,
-        match_type,
-        collation,
-        names,
-        keys,
-    )?;
+    let found = find_match(delivery, &*state, part, match_type, collation, names, keys)?;
     Ok(keep_found(match_type, found, state))
 }

@@ -326,7 +326,12 @@ fn check_keep(rt: &impl Abort, keep: &Command) {
         (keep.name.as_slice(), keep.line, keep.kind()),
         (b"keep".as_slice(), 1, Some(CommandKind::Keep))
     );
-    assert!(rt; matches!(keep.reading(), Some(CommandReading::Acts(Leaf::Keep { flags: None }))));
+    assert!(rt;
+        matches!(
+            keep.reading(),
+            Some(CommandReading::Acts(Leaf::Keep { flags: None }))
+        )
+    );
     assert!(rt; keep.args.is_empty() && keep.block.is_none());
 }
 

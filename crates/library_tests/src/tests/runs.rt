@@ -4,7 +4,8 @@ ghost use Rattle.std.specs.Prelude.{◌≤◌, IfOk, length};
 
 use indexmap::IndexMap;
 use sieve_run::{
-    Action, Envelope, FlagList, Message, Meter, Octets, Outcome, Place, RunError, ScriptName, Shelf, run,
+    Action, Envelope, FlagList, Message, Meter, Octets, Outcome, Place, RunError, ScriptName,
+    Shelf, run,
 };
 use std::alloc::{AllocError, Global};
 use std::cmp::Ordering;
