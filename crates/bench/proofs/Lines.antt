@@ -1,5 +1,7 @@
 -- How the lines of a report are put together from their pieces.
-use Rattle.std.proofs.Common.{◌≡◌, ℕ, List, [], ◌++◌, refl, sym, ap, ◌∙◌, append_assoc, Option, None, Some, codes, decimal}
+use Rattle.std.proofs.Common.{◌≡◌, ℕ, zero, suc, ◌<◌, ◌+◌, List, [], ◌∷◌, ◌++◌, length, take, get_or, slice_get, refl, sym, ap, ◌∙◌, append_assoc, append-nil, Option, None, Some, codes, decimal}
+use Rattle.std.proofs.lemmas.Grind.{flat_map-append}
+use Rattle.std.proofs.lemmas.List.{take_more}
 use Rattle.sieve_base.specs.Writers.{quoted}
 use Rattle.sieve_check.specs.Judgement.{Judgement, sound, faulty, fault_of, fault_word, judgement_of}
 use Rattle.sieve_check.specs.declared.judged.FaultKind.{FaultKind}
@@ -7,7 +9,7 @@ use Rattle.sieve_run.specs.ErrorKind.{error_word}
 use Rattle.sieve_run.specs.declared.envelope.Envelope.{Envelope}
 use Rattle.sieve_run.specs.declared.name.ScriptName.{ScriptName}
 use Rattle.sieve_run.specs.declared.outcome.RunError.{RunError}
-use Rattle.bench.specs.Report.{place_word, name_text, judgement_text, envelope_line, script_line, error_line, total_line}
+use Rattle.bench.specs.Report.{place_word, name_text, judgement_text, envelope_line, script_line, error_line, flag_word, flag_words, total_line}
 
 -- the line of the envelope
 pub envelope_pieces : (envelope : Envelope) (from to mailbox : List ℕ) → from ≡ envelope.from → to ≡ envelope.to → mailbox ≡ envelope.mailbox
@@ -50,3 +52,18 @@ pub run_error_line : (error : RunError) (word octets kind_word : List ℕ) → w
     → error_line (Some error) ≡ codes "  error " ++ (word ++ (codes " " ++ (quoted octets ++ (codes " line " ++ (decimal error.line ++ (codes " " ++ (kind_word ++ (codes "\n" ++ []))))))))
 unfolding error_line
 run_error_line error word octets kind_word w o k = rw (w, o, k) (simp append_assoc)
+
+-- a flag at a place, and those up to it
+flag_at : (flags : List (List ℕ)) (i : ℕ) (flag : List ℕ) → slice_get flags i ≡ Some flag → flag ≡ get_or flags i flag
+flag_at [] i flag at = cc
+flag_at (x ∷ xs) zero flag at = cc
+flag_at (x ∷ xs) (suc i) flag at = flag_at xs i flag at
+
+pub flag_there : (flags : List (List ℕ)) (i : ℕ) (flag : List ℕ) → slice_get flags i ≡ Some flag → flag_word flag ≡ flag_word (get_or flags i flag)
+flag_there flags i flag at = ap flag_word (flag_at flags i flag at)
+
+pub flags_more : (flags : List (List ℕ)) (i : ℕ) (flag : List ℕ) → i < length flags → slice_get flags i ≡ Some flag → flag_words (take i flags) ++ flag_word flag ≡ flag_words (take (i + 1) flags)
+flags_more flags i flag below at =
+    ap (λ t. flag_words (take i flags) ++ t) (flag_there flags i flag at)
+    ∙ sym (ap flag_words (take_more flags i flag below) ∙ flat_map-append flag_word (take i flags) (get_or flags i flag ∷ [])
+    ∙ ap (λ t. flag_words (take i flags) ++ t) (append-nil (flag_word (get_or flags i flag))))

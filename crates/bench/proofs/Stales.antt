@@ -1,5 +1,5 @@
 -- Worked rows of which messages an edit touches.
-use Rattle.std.proofs.Common.{◌≡◌, ℕ, Bool, true, false, List, [], ◌∷◌, length, Some, nat_eq, nat_lt, refl, codes}
+use Rattle.std.proofs.Common.{◌≡◌, ℕ, Bool, true, false, List, [], ◌∷◌, length, None, Some, nat_eq, nat_lt, refl, codes}
 use lib.Pointwise.{pointwise}
 use Rattle.sieve_base.specs.Limits.{text_limit}
 use Rattle.sieve_base.specs.declared.place.Place.TheVariants.{Personal, Global}
@@ -102,7 +102,7 @@ faulty_row : (text : List ℕ) (line : ℕ) (kind : FaultKind) → nat_lt text_l
 unfolding outcome_of
 faulty_row text line kind short judged bytes = rw (short, judged) refl
 
-keep_row : (text : List ℕ) (tree : List Node) → nat_lt text_limit (length text) ≡ false → judgement_of text ≡ sound tree → script_of tree ≡ acts keep_leaf 1 no_commands → IsAlone text
+keep_row : (text : List ℕ) (tree : List Node) → nat_lt text_limit (length text) ≡ false → judgement_of text ≡ sound tree → script_of tree ≡ acts (keep_leaf None) 1 no_commands → IsAlone text
 unfolding outcome_of exec
 keep_row text tree short judged commands bytes = rw (short, judged, commands) refl
 

@@ -42,16 +42,31 @@ judgement_text (faulty line kind) = codes "line " ++ decimal line ++ codes " " +
 unfoldable pub script_line : ScriptName × List ℕ → List ℕ
 script_line (name, text) = codes "script " ++ name_text name ++ codes " " ++ judgement_text (judgement_of text) ++ codes "\n"
 
+-- a flag behind a space
+abbrev pub flag_word : List ℕ → List ℕ
+flag_word flag = codes " " ++ quoted flag
+
+abbrev pub flag_words : List (List ℕ) → List ℕ
+flag_words flags = flat_map flag_word flags
+
+-- a word and a mailbox
+unfoldable pub mailbox_words : List ℕ → List ℕ → List ℕ
+mailbox_words word mailbox = word ++ quoted mailbox
+
+-- the line of a word and a mailbox with flags
+unfoldable pub mailbox_line : List ℕ → List ℕ → List (List ℕ) → List ℕ
+mailbox_line word mailbox flags = mailbox_words word mailbox ++ flag_words flags ++ codes "\n"
+
 -- the line of an action
 unfoldable pub action_line : Action → List ℕ
-action_line (Store mailbox) = codes "  store " ++ quoted mailbox ++ codes "\n"
+action_line (Store mailbox flags) = mailbox_line (codes "  store ") mailbox flags
 action_line (Redirect address) = codes "  redirect " ++ quoted address ++ codes "\n"
 action_line Discard = codes "  discard\n"
 
--- the line of the implicit keep, where it stands
-unfoldable pub implicit_line : List ℕ → Bool → List ℕ
-implicit_line mailbox true = codes "  implicit " ++ quoted mailbox ++ codes "\n"
-implicit_line mailbox false = []
+-- the line of the implicit keep with its flags, where it stands
+unfoldable pub implicit_line : List ℕ → Option (List (List ℕ)) → List ℕ
+implicit_line mailbox (Some flags) = mailbox_line (codes "  implicit ") mailbox flags
+implicit_line mailbox None = []
 
 -- the line of the error, where there is one
 unfoldable pub error_line : Option RunError → List ℕ

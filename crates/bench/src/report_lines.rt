@@ -1,10 +1,10 @@
 ghost use Rattle.std.specs.Prelude.{◌≡◌, OnOk, OnErr};
 ghost use Rattle.std.specs.Option.{option_copied};
 ghost use Rattle.sieve_base.specs.Writers.{Wrote, WroteFront};
-ghost use Rattle.bench.specs.Report.{place_word, main_line, envelope_line, script_line, action_line, implicit_line, error_line, read_line, message_line, total_line};
+ghost use Rattle.bench.specs.Report.{place_word, main_line, envelope_line, script_line, flag_word, flag_words, mailbox_words, mailbox_line, action_line, implicit_line, error_line, read_line, message_line, total_line};
 
-use sieve_base::{Octets, Piece, Place, Sink, WriteFault, write_pieces};
-use sieve_run::{Action, Envelope, Outcome, Script, ScriptName};
+use sieve_base::{Octets, Piece, Place, Sink, WriteFault, write_out, write_pieces};
+use sieve_run::{Action, Envelope, FlagList, Outcome, Script, ScriptName};
 
 /// The word of a place.
 fn place_word(place: Place) -> &'static [u8]
@@ -112,6 +112,51 @@ pub(crate) fn write_message<W: Sink>(id: &Octets, writer: &mut W) -> Result<(), 
     )
 }
 
+/// Writes a flag behind a space.
+fn write_flag<W: Sink>(flag: &[u8], writer: &mut W) -> Result<(), WriteFault>
+    ensures ok { OnOk result (Wrote W.contents W.fault_count writer.old writer.new (flag_word flag.now)) }
+    ensures err { OnErr result (WroteFront W.contents W.fault_count writer.old writer.new (flag_word flag.now)) }
+{
+    write_pieces(&[Piece::Raw(b" "), Piece::Quoted(flag)], writer)
+}
+
+/// Writes flags, each behind a space.
+#[tactic(auto, using(sieve_base::proofs::Writing::writing_items))]
+fn write_flags<W: Sink>(flags: &FlagList, writer: &mut W) -> Result<(), WriteFault>
+    ensures ok { OnOk result (Wrote W.contents W.fault_count writer.old writer.new (flag_words flags.now)) }
+    ensures err { OnErr result (WroteFront W.contents W.fault_count writer.old writer.new (flag_words flags.now)) }
+{
+    for i in 0..flags.len() {
+        write_flag(flags.get(i), writer)?;
+    }
+    Ok(())
+}
+
+/// Writes a word and a mailbox.
+#[tactic(auto, unfolding(crate::specs::Report::mailbox_words))]
+fn write_mailbox<W: Sink>(word: &[u8], mailbox: &[u8], writer: &mut W) -> Result<(), WriteFault>
+    ensures ok { OnOk result (Wrote W.contents W.fault_count writer.old writer.new (mailbox_words word.now mailbox.now)) }
+    ensures err { OnErr result (WroteFront W.contents W.fault_count writer.old writer.new (mailbox_words word.now mailbox.now)) }
+{
+    write_pieces(&[Piece::Raw(word), Piece::Quoted(mailbox)], writer)
+}
+
+/// Writes the line of a word and a mailbox with flags.
+#[tactic(auto, using(sieve_base::proofs::Writing::writing), unfolding(crate::specs::Report::mailbox_line))]
+fn write_mailbox_line<W: Sink>(
+    word: &[u8],
+    mailbox: &[u8],
+    flags: &FlagList,
+    writer: &mut W,
+) -> Result<(), WriteFault>
+    ensures ok { OnOk result (Wrote W.contents W.fault_count writer.old writer.new (mailbox_line word.now mailbox.now flags.now)) }
+    ensures err { OnErr result (WroteFront W.contents W.fault_count writer.old writer.new (mailbox_line word.now mailbox.now flags.now)) }
+{
+    write_mailbox(word, mailbox, writer)?;
+    write_flags(flags, writer)?;
+    write_out(b"\n", writer)
+}
+
 /// Writes the line of an action.
 #[tactic(auto, unfolding(crate::specs::Report::action_line))]
 pub(crate) fn write_action<W: Sink>(action: &Action, writer: &mut W) -> Result<(), WriteFault>
@@ -119,14 +164,9 @@ pub(crate) fn write_action<W: Sink>(action: &Action, writer: &mut W) -> Result<(
     ensures err { OnErr result (WroteFront W.contents W.fault_count writer.old writer.new (action_line action.now)) }
 {
     match action {
-        Action::Store { mailbox } => write_pieces(
-            &[
-                Piece::Raw(b"  store "),
-                Piece::Quoted(mailbox.as_slice()),
-                Piece::Raw(b"\n"),
-            ],
-            writer,
-        ),
+        Action::Store { mailbox, flags } => {
+            write_mailbox_line(b"  store ", mailbox.as_slice(), flags, writer)
+        }
         Action::Redirect { address } => write_pieces(
             &[
                 Piece::Raw(b"  redirect "),
@@ -139,7 +179,7 @@ pub(crate) fn write_action<W: Sink>(action: &Action, writer: &mut W) -> Result<(
     }
 }
 
-/// Writes the line of the implicit keep, where it stands.
+/// Writes the line of the implicit keep with its flags, where it stands.
 #[tactic(auto, unfolding(crate::specs::Report::implicit_line))]
 pub(crate) fn write_implicit<W: Sink>(
     envelope: &Envelope,
@@ -149,17 +189,11 @@ pub(crate) fn write_implicit<W: Sink>(
     ensures ok { OnOk result (Wrote W.contents W.fault_count writer.old writer.new (implicit_line envelope.now.mailbox outcome.now.implicit)) }
     ensures err { OnErr result (WroteFront W.contents W.fault_count writer.old writer.new (implicit_line envelope.now.mailbox outcome.now.implicit)) }
 {
-    if outcome.implicit() {
-        write_pieces(
-            &[
-                Piece::Raw(b"  implicit "),
-                Piece::Quoted(envelope.mailbox.as_slice()),
-                Piece::Raw(b"\n"),
-            ],
-            writer,
-        )
-    } else {
-        write_pieces(&[], writer)
+    match outcome.implicit() {
+        Some(flags) => {
+            write_mailbox_line(b"  implicit ", envelope.mailbox.as_slice(), flags, writer)
+        }
+        None => write_pieces(&[], writer),
     }
 }
 

@@ -86,16 +86,16 @@ Standard output is the report:
   script PLACE \"NAME\" ok                 for each script, PLACE being personal or global
   script PLACE \"NAME\" line N KIND        or its first fault: syntax, or the broken rule's word
   message \"MAIL\"
-    store \"BOX\"                          for each action: mail is stored,
+    store \"BOX\" \"FLAG\"..                for each action: mail is stored, with these flags,
     redirect \"ADDRESS\"                   sent on
     discard                              or dropped
-    implicit \"BOX\"                       no action took the mail over: it is kept
+    implicit \"BOX\" \"FLAG\"..             no action took the mail over: it is kept
     error PLACE \"NAME\" line N KIND       the run failed there, and the mail is kept
     read PLACE \"NAME\"                    for each script that was looked up,
     read PLACE \"NAME\" missing            or was not there
   total 1 messages E errors
-Names, addresses and mailboxes are quoted: \\ before \" and \\, and \\xHH for each octet outside 32
-to 126.
+Names, addresses, mailboxes and flags are quoted: \\ before \" and \\, and \\xHH for each octet
+outside 32 to 126.
 
 Limits: 1048576 octets a script, 16777216 the mail; 1024 a name, an address and the word MAIL; 255
 the mailbox; 1024 scripts.

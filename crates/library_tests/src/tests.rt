@@ -5,6 +5,7 @@ mod codes;
 mod comparators;
 mod examples_of_variables;
 mod faults;
+mod flags;
 mod judging;
 mod limits;
 mod messages;

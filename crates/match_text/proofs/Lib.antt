@@ -9,4 +9,7 @@ pub mod Standing
 pub mod Taking
 pub mod Passing
 pub mod Slices
+pub mod FlagLists
+pub mod Keywords
+mod FlagRows
 mod Rows

@@ -1,3 +1,4 @@
 pub mod Comparator
+pub mod Flags
 pub mod Wildcard
 pub mod view

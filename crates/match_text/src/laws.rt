@@ -1,5 +1,7 @@
 //! Laws over the definitions. Each of these functions does nothing: its contract is the law.
-ghost use Rattle.std.specs.Prelude.{◌≡◌, ◌↔◌, ℕ, List, None, Some, length, map};
+ghost use Rattle.std.specs.Prelude.{◌≡◌, ◌↔◌, ℕ, List, [], None, Some, length, map, true};
+ghost use Rattle.std.specs.List.{All};
+ghost use Rattle.match_text.specs.Flags.{AreDistinct, distinct, flag_list, flag_union, flags_of_texts, flags_without, is_flag};
 ghost use Rattle.match_text.specs.Wildcard.{Fits, IsLeastFit, TakeInTurn, least_fit, taken};
 ghost use Rattle.match_text.specs.declared.pattern.Item.{Item};
 
@@ -15,4 +17,24 @@ pub fn the_least_fit_is_least()
 pub fn captures_are_slices()
     ensures slices { (fold : ℕ → ℕ) (items : List Item) (value lengths : List ℕ) → Fits fold items value lengths → TakeInTurn fold items value (taken items lengths value) }
     ensures lengths { (fold : ℕ → ℕ) (items : List Item) (value lengths : List ℕ) → Fits fold items value lengths → map length (taken items lengths value) ≡ lengths }
+{}
+
+/// The flags of texts have no two the same (RFC 5232, section 2). Nor has the union of two lists where the first has none,
+/// nor what is left of such a list without others.
+pub fn no_two_flags_are_the_same()
+    ensures list { (text : List ℕ) → AreDistinct (flag_list text) }
+    ensures lists { (texts : List (List ℕ)) → AreDistinct (flags_of_texts texts) }
+    ensures union { (a b : List (List ℕ)) → AreDistinct a → AreDistinct (flag_union a b) }
+    ensures without { (a b : List (List ℕ)) → AreDistinct a → AreDistinct (flags_without a b) }
+{}
+
+/// Each flag of a text is a flag (RFC 5232, section 2).
+pub fn each_of_a_list_is_a_flag()
+    ensures { (text : List ℕ) → All (λ flag. is_flag flag ≡ true) (flag_list text) }
+{}
+
+/// A list with no two the same stays as it is where each flag is taken once, and where it is joined to no flags.
+pub fn distinct_flags_stay()
+    ensures distinct { (flags : List (List ℕ)) → AreDistinct flags → distinct flags ≡ flags }
+    ensures union { (flags : List (List ℕ)) → AreDistinct flags → flag_union [] flags ≡ flags }
 {}

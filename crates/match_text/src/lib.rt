@@ -5,6 +5,7 @@
 #![tactic(auto)]
 
 mod comparators;
+mod flags;
 pub mod laws;
 mod pattern;
 mod segments;
@@ -12,5 +13,8 @@ mod wildcards;
 
 pub use crate::comparators::{
     AsciiCasemap, Collation, Comparator, Octet, contains, contains_in, is,
+};
+pub use crate::flags::{
+    FlagList, flag_keys, flag_keys_of_texts, flag_text, flags_of, flags_of_texts, union, without,
 };
 pub use crate::wildcards::{Captures, matches};

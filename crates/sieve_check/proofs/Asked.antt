@@ -1,24 +1,26 @@
 -- A test that breaks no rule is read as something.
 use Rattle.std.proofs.Common.{◌≡◌, ℕ, Bool, true, false, not, ◌&&◌, ◌||◌, nat_eq, List, [], ◌∷◌, map, Option, None, Some, is_some, refl, sym, ap, ◌∙◌}
 use Rattle.std.proofs.lemmas.Bool.{or_parts, and_parts}
-use Rattle.std.specs.List.{list_any}
+use Rattle.std.specs.List.{list_all, list_any}
+use Rattle.std.specs.Prelude.{if◌then◌else◌}
 use Rattle.std.specs.Option.{option_map}
 use Rattle.match_text.specs.declared.comparators.Collation.{Collation}
 use Rattle.sieve_syntax.specs.Tree as syntax
 use Rattle.sieve_check.specs.Breach.{test_breaks, breaches_in}
 use Rattle.sieve_check.specs.Context.{Context, Required}
 use Rattle.sieve_check.specs.Element.{test_arguments}
-use Rattle.sieve_check.specs.Label.{expecting, fills, is_unfit, labels_from, no_slots, slots_left}
+use Rattle.sieve_check.specs.Label.{expecting, fills, is_unfit, labels_from, no_slots, slots_left, slots_of, slots_with}
 use Rattle.sieve_check.specs.Parted.{parted_labelled, parted_test, parted_test_list, parted_tests, test_labels}
 use Rattle.sieve_check.specs.Readable.{Joins, test_takes}
-use Rattle.sieve_check.specs.Reading.{Ask, Source, address_part_of, address_source, address_values, collation_by, compares_by, compares_from, envelope_source, envelope_values, exists_ask, exists_by, has_tag, header_source, header_values, in_role, is_tagged, labels_in, local_in, match_type_of, number_in, over_ask, part_shape, reads_ask, size_by, size_from, string_source, string_values, tag_number, test_reading_by, text_in, texts_in, under_ask}
+use Rattle.sieve_check.specs.Reading.{Ask, Source, address_part_of, address_source, address_values, all_tags, collation_by, compares_by, compares_from, envelope_source, envelope_values, exists_ask, exists_by, flag_source, flag_values, given_local, given_texts, has_tag, header_source, header_values, in_role, is_tagged, labels_in, local_in, match_type_of, number_in, over_ask, part_shape, reads_ask, size_by, size_from, string_source, string_values, tag_number, test_reading_by, text_in, texts_in, under_ask}
 use Rattle.sieve_check.specs.Role.{same_role}
-use Rattle.sieve_table.specs.Table.{tag_row, test_row}
+use Rattle.sieve_table.specs.Table.{naming_slot, tag_row, test_row}
 use Rattle.sieve_variables.specs.Part.{Part}
 use Rattle.sieve_check.specs.Tree.{Argument, Test, Tests, TestList, no_tests, one_test, test_list}
 use Rattle.sieve_check.specs.Use.{has_repeated, is_of_kind, same_kind, tests_fit}
 use Rattle.sieve_check.specs.declared.label.Label.{Label}
 use Rattle.sieve_check.specs.declared.label.Label.TheVariants.{Tagged, OtherTag, Own, InSlot, Unfit}
+use Rattle.sieve_check.specs.declared.label.Shape.{Shape}
 use Rattle.sieve_check.specs.declared.reading.MatchType.{MatchType}
 use Rattle.sieve_table.specs.declared.row.Form.{Form}
 use Rattle.sieve_table.specs.declared.row.Form.TheVariants as form
@@ -33,9 +35,9 @@ use Rattle.sieve_table.specs.declared.table.Tag.{Tag}
 use Rattle.sieve_table.specs.declared.table.Tag.TheVariants as tag
 use Rattle.sieve_table.specs.declared.table.TestKind.{TestKind}
 use Rattle.sieve_table.specs.declared.table.TestKind.TheVariants as kind
-use Rattle.sieve_check.proofs.Filled.{AsRowSays, as_parted, collation_good, collation_read, local_good, local_read, number_good, number_read, takes, text_good, text_good_alone, text_read, texts_read}
+use Rattle.sieve_check.proofs.Filled.{AsRowSays, as_parted, collation_good, collation_read, given_local_read, given_texts_read, local_good, local_read, number_good, number_read, takes, text_good, text_good_alone, text_read, texts_read}
 use Rattle.sieve_check.proofs.Telling.{of_each_tag, one_kind, one_role, one_tag, own_kind}
-use Rattle.sieve_check.proofs.Roles.{AllKeep, AllTake, MayTake, is_to_come, never_both, not_both, role_fits, role_found}
+use Rattle.sieve_check.proofs.Roles.{AllKeep, AllTake, MayTake, Takes, is_to_come, never_both, none_or, not_both, role_fits, role_found}
 
 -- A ROLE IN A ROW
 
@@ -43,39 +45,62 @@ not_true : (b : Bool) → not b ≡ true → b ≡ false
 not_true true e = absurd (not_both e)
 not_true false e = refl
 
-abbrev is_one : Form → Bool
-is_one form.One = true
-is_one form.List = false
-is_one form.Number = false
+abbrev is_form : Form → Form → Bool
+is_form form.One form.One = true
+is_form form.One form.List = false
+is_form form.One form.Number = false
+is_form form.List form.One = false
+is_form form.List form.List = true
+is_form form.List form.Number = false
+is_form form.Number form.One = false
+is_form form.Number form.List = false
+is_form form.Number form.Number = true
 
-one_form : (f : Form) → is_one f ≡ true → f ≡ form.One
-one_form form.One is = refl
-one_form form.List is = absurd (not_both is)
-one_form form.Number is = absurd (not_both is)
+one_form : (a b : Form) → is_form a b ≡ true → b ≡ a
+one_form form.One form.One is = refl
+one_form form.One form.List is = absurd (not_both is)
+one_form form.One form.Number is = absurd (not_both is)
+one_form form.List form.One is = absurd (not_both is)
+one_form form.List form.List is = refl
+one_form form.List form.Number is = absurd (not_both is)
+one_form form.Number form.One is = absurd (not_both is)
+one_form form.Number form.List is = absurd (not_both is)
+one_form form.Number form.Number is = refl
 
--- a tag that takes anything takes one string, the name of a comparator
-abbrev takes_comparator : Option Slot → Bool
-takes_comparator None = true
-takes_comparator (Some slot) = same_role role.ComparatorName slot.role && is_one slot.form
+implied : (a b : Bool) → (not a || b) ≡ true → a ≡ true → b ≡ true
+implied true b or is = or
+implied false b or is = absurd (not_both is)
 
-tags_take : (t : Tag) → takes_comparator (tag_row t).takes ≡ true
-tags_take = of_each_tag (λ t. takes_comparator (tag_row t).takes) refl
+-- Whether what is taken in a role has a form: for the slots of a row, and for what tags take themselves, this is computed.
+module _ (wanted : Role) (form : Form) where
+  abbrev slot_may : Slot → Bool
+  slot_may slot = not (same_role wanted slot.role) || is_form form slot.form
 
-none_takes : (wanted : Role) (form : Form) (o : Option Slot) → takes_comparator o ≡ true → same_role wanted role.ComparatorName ≡ false → MayTake wanted form o
-none_takes wanted form None takes is = tt
-none_takes wanted form (Some slot) takes is = λ same.
-    absurd (never_both (sym (ap (λ r. same_role r role.ComparatorName) (one_role wanted slot.role same ∙ sym (one_role role.ComparatorName slot.role (and_parts (same_role role.ComparatorName slot.role) (is_one slot.form) takes).0))) ∙ is))
+  abbrev pub may_take : Option Slot → Bool
+  may_take None = true
+  may_take (Some slot) = slot_may slot
 
--- no tag takes an argument in another role
-no_tag_takes : (wanted : Role) (form : Form) → same_role wanted role.ComparatorName ≡ false → (t : Tag) → MayTake wanted form (tag_row t).takes
-no_tag_takes wanted form is t = none_takes wanted form (tag_row t).takes (tags_take t) is
+  abbrev pub all_may_take : List Slot → Bool
+  all_may_take slots = list_all slot_may slots
 
-one_takes : (o : Option Slot) → takes_comparator o ≡ true → MayTake role.ComparatorName form.One o
-one_takes None takes = tt
-one_takes (Some slot) takes = λ same. one_form slot.form (and_parts (same_role role.ComparatorName slot.role) (is_one slot.form) takes).1
+  slot_takes : (slot : Slot) → slot_may slot ≡ true → Takes wanted form slot
+  slot_takes slot is = λ same. one_form form slot.form (implied (same_role wanted slot.role) (is_form form slot.form) is same)
 
-comparators_take : (t : Tag) → MayTake role.ComparatorName form.One (tag_row t).takes
-comparators_take t = one_takes (tag_row t).takes (tags_take t)
+  own_takes : (o : Option Slot) → may_take o ≡ true → MayTake wanted form o
+  own_takes None is = tt
+  own_takes (Some slot) is = slot_takes slot is
+
+  slots_take : (slots : List Slot) → all_may_take slots ≡ true → AllTake wanted form slots
+  slots_take [] is = tt
+  slots_take (slot ∷ slots) is =
+      let parts = and_parts (slot_may slot) (list_all slot_may slots) is in
+      (slot_takes slot parts.0, slots_take slots parts.1)
+
+  abbrev pub tags_may_take : Bool
+  tags_may_take = list_all (λ t. may_take (tag_row t).takes) all_tags
+
+  tags_take : tags_may_take ≡ true → (t : Tag) → MayTake wanted form (tag_row t).takes
+  tags_take all t = own_takes (tag_row t).takes (of_each_tag (λ t. may_take (tag_row t).takes) all t)
 
 module _ (tags : List Tag) (slots : List Slot) (args : List Argument) where
   abbrev pub its_labels : List Label
@@ -86,38 +111,55 @@ module _ (tags : List Tag) (slots : List Slot) (args : List Argument) where
       let parts = and_parts (not (list_any is_unfit its_labels)) (no_slots (slots_left (expecting slots) (map (part_shape tags) args))) filled in
       role_found wanted tags args (expecting slots) (not_true (list_any is_unfit its_labels) parts.0) parts.1 comes
 
-  texts_are_read : (wanted : Role) → same_role wanted role.ComparatorName ≡ false → AllTake wanted form.List slots → is_to_come wanted slots ≡ true → fills (expecting slots) (map (part_shape tags) args) ≡ true → AllKeep its_labels args
+  texts_fit : (wanted : Role) → tags_may_take wanted form.List ≡ true → all_may_take wanted form.List slots ≡ true → AllKeep its_labels args → none_or (λ a. is_some (texts_in (Some a))) (in_role wanted its_labels args) ≡ true
+  texts_fit wanted own take keep =
+      role_fits wanted form.List (tags_take wanted form.List own) tags (λ a. is_some (texts_in (Some a))) (λ r a same keeps fit. text_good tags r a keeps fit) args (expecting slots) tt (slots_take wanted form.List slots take) keep
+
+  local_fits : all_may_take role.NameToSet form.One slots ≡ true → AllKeep its_labels args → none_or (λ a. is_some (local_in (Some a))) (in_role role.NameToSet its_labels args) ≡ true
+  local_fits take keep =
+      role_fits role.NameToSet form.One (tags_take role.NameToSet form.One refl) tags (λ a. is_some (local_in (Some a))) (local_good tags) args (expecting slots) tt (slots_take role.NameToSet form.One slots take) keep
+
+  pub texts_are_read : (wanted : Role) → tags_may_take wanted form.List ≡ true → all_may_take wanted form.List slots ≡ true → is_to_come wanted slots ≡ true → fills (expecting slots) (map (part_shape tags) args) ≡ true → AllKeep its_labels args
       → is_some (texts_in (in_role wanted its_labels args)) ≡ true
-  texts_are_read wanted is take comes filled keep =
-      texts_read (in_role wanted its_labels args)
-      (role_fits wanted form.List (no_tag_takes wanted form.List is) tags (λ a. is_some (texts_in (Some a))) (λ r a same keeps fit. text_good tags r a keeps fit) args (expecting slots) tt take keep)
-      (is_there wanted comes filled)
+  texts_are_read wanted own take comes filled keep = texts_read (in_role wanted its_labels args) (texts_fit wanted own take keep) (is_there wanted comes filled)
 
-  pub text_is_read : (wanted : Role) → same_role wanted role.ComparatorName ≡ false → AllTake wanted form.One slots → is_to_come wanted slots ≡ true → fills (expecting slots) (map (part_shape tags) args) ≡ true → AllKeep its_labels args
+  -- those that may be left out
+  pub given_texts_are_read : (wanted : Role) → tags_may_take wanted form.List ≡ true → all_may_take wanted form.List slots ≡ true → AllKeep its_labels args → is_some (given_texts (in_role wanted its_labels args)) ≡ true
+  given_texts_are_read wanted own take keep = given_texts_read (in_role wanted its_labels args) (texts_fit wanted own take keep)
+
+  pub text_is_read : (wanted : Role) → tags_may_take wanted form.One ≡ true → all_may_take wanted form.One slots ≡ true → is_to_come wanted slots ≡ true → fills (expecting slots) (map (part_shape tags) args) ≡ true → AllKeep its_labels args
       → is_some (text_in (in_role wanted its_labels args)) ≡ true
-  text_is_read wanted is take comes filled keep =
+  text_is_read wanted own take comes filled keep =
       text_read (in_role wanted its_labels args)
-      (role_fits wanted form.One (no_tag_takes wanted form.One is) tags (λ a. is_some (text_in (Some a))) (λ r a same keeps fit. text_good_alone tags r a keeps fit) args (expecting slots) tt take keep)
+      (role_fits wanted form.One (tags_take wanted form.One own) tags (λ a. is_some (text_in (Some a))) (λ r a same keeps fit. text_good_alone tags r a keeps fit) args (expecting slots) tt (slots_take wanted form.One slots take) keep)
       (is_there wanted comes filled)
 
-  pub local_is_read : AllTake role.NameToSet form.One slots → is_to_come role.NameToSet slots ≡ true → fills (expecting slots) (map (part_shape tags) args) ≡ true → AllKeep its_labels args
+  pub local_is_read : all_may_take role.NameToSet form.One slots ≡ true → is_to_come role.NameToSet slots ≡ true → fills (expecting slots) (map (part_shape tags) args) ≡ true → AllKeep its_labels args
       → is_some (local_in (in_role role.NameToSet its_labels args)) ≡ true
-  local_is_read take comes filled keep =
-      local_read (in_role role.NameToSet its_labels args)
-      (role_fits role.NameToSet form.One (no_tag_takes role.NameToSet form.One refl) tags (λ a. is_some (local_in (Some a))) (local_good tags) args (expecting slots) tt take keep)
-      (is_there role.NameToSet comes filled)
+  local_is_read take comes filled keep = local_read (in_role role.NameToSet its_labels args) (local_fits take keep) (is_there role.NameToSet comes filled)
 
-  number_is_read : (wanted : Role) → same_role wanted role.ComparatorName ≡ false → AllTake wanted form.Number slots → is_to_come wanted slots ≡ true → fills (expecting slots) (map (part_shape tags) args) ≡ true → AllKeep its_labels args
+  pub given_local_is_read : all_may_take role.NameToSet form.One slots ≡ true → AllKeep its_labels args → is_some (given_local (in_role role.NameToSet its_labels args)) ≡ true
+  given_local_is_read take keep = given_local_read (in_role role.NameToSet its_labels args) (local_fits take keep)
+
+  number_is_read : (wanted : Role) → tags_may_take wanted form.Number ≡ true → all_may_take wanted form.Number slots ≡ true → is_to_come wanted slots ≡ true → fills (expecting slots) (map (part_shape tags) args) ≡ true → AllKeep its_labels args
       → is_some (number_in (in_role wanted its_labels args)) ≡ true
-  number_is_read wanted is take comes filled keep =
+  number_is_read wanted own take comes filled keep =
       number_read (in_role wanted its_labels args)
-      (role_fits wanted form.Number (no_tag_takes wanted form.Number is) tags (λ a. is_some (number_in (Some a))) (λ r a same keeps fit. number_good tags r a keeps fit) args (expecting slots) tt take keep)
+      (role_fits wanted form.Number (tags_take wanted form.Number own) tags (λ a. is_some (number_in (Some a))) (λ r a same keeps fit. number_good tags r a keeps fit) args (expecting slots) tt (slots_take wanted form.Number slots take) keep)
       (is_there wanted comes filled)
 
-  collation_is_read : AllTake role.ComparatorName form.One slots → AllKeep its_labels args → is_some (collation_by (in_role role.ComparatorName its_labels args)) ≡ true
+  collation_is_read : all_may_take role.ComparatorName form.One slots ≡ true → AllKeep its_labels args → is_some (collation_by (in_role role.ComparatorName its_labels args)) ≡ true
   collation_is_read take keep =
       collation_read (in_role role.ComparatorName its_labels args)
-      (role_fits role.ComparatorName form.One comparators_take tags (λ a. is_some (collation_by (Some a))) (collation_good tags) args (expecting slots) tt take keep)
+      (role_fits role.ComparatorName form.One (tags_take role.ComparatorName form.One refl) tags (λ a. is_some (collation_by (Some a))) (collation_good tags) args (expecting slots) tt (slots_take role.ComparatorName form.One slots take) keep)
+
+-- what holds of the slots of a row, with the one in front and without it
+pub either_slots : (passes : List Slot → Bool) (front : Slot) (slots : List Slot) (shapes : List Shape) → passes (front ∷ slots) ≡ true → passes slots ≡ true → passes (slots_with (Some front) slots shapes) ≡ true
+either_slots passes front slots shapes longer shorter = chosen (fills (expecting (front ∷ slots)) shapes)
+  where
+    chosen : (b : Bool) → passes (if b then front ∷ slots else slots) ≡ true
+    chosen true = longer
+    chosen false = shorter
 
 -- `:over` AND `:under`
 
@@ -217,38 +259,49 @@ header_reads : (args : List Argument) (ts : syntax.Tests) → Says kind.Header a
 header_reads args ts says =
     let row = test_row kind.Header in
     compares_all (header_source (labels_in row args) args) (match_type_of (labels_in row args)) _ _
-    (maps_some header_values _ (texts_are_read row.tags row.slots args role.FieldNames refl ((λ same. refl), ((λ same. refl), tt)) refl says.filled says.keep))
-    (collation_is_read row.tags row.slots args ((λ same. absurd (not_both same)), ((λ same. absurd (not_both same)), tt)) says.keep)
-    (texts_are_read row.tags row.slots args role.Keys refl ((λ same. refl), ((λ same. refl), tt)) refl says.filled says.keep)
+    (maps_some header_values _ (texts_are_read row.tags row.slots args role.FieldNames refl refl refl says.filled says.keep))
+    (collation_is_read row.tags row.slots args refl says.keep)
+    (texts_are_read row.tags row.slots args role.Keys refl refl refl says.filled says.keep)
 
 address_reads : (args : List Argument) (ts : syntax.Tests) → Says kind.Address args ts → let labels = labels_in (test_row kind.Address) args in is_some (compares_by (address_source labels args) labels args) ≡ true
 address_reads args ts says =
     let row = test_row kind.Address in
     compares_all (address_source (labels_in row args) args) (match_type_of (labels_in row args)) _ _
-    (maps_some (address_values (address_part_of (labels_in row args))) _ (texts_are_read row.tags row.slots args role.AddressFields refl ((λ same. refl), ((λ same. refl), tt)) refl says.filled says.keep))
-    (collation_is_read row.tags row.slots args ((λ same. absurd (not_both same)), ((λ same. absurd (not_both same)), tt)) says.keep)
-    (texts_are_read row.tags row.slots args role.Keys refl ((λ same. refl), ((λ same. refl), tt)) refl says.filled says.keep)
+    (maps_some (address_values (address_part_of (labels_in row args))) _ (texts_are_read row.tags row.slots args role.AddressFields refl refl refl says.filled says.keep))
+    (collation_is_read row.tags row.slots args refl says.keep)
+    (texts_are_read row.tags row.slots args role.Keys refl refl refl says.filled says.keep)
 
 envelope_reads : (args : List Argument) (ts : syntax.Tests) → Says kind.Envelope args ts → let labels = labels_in (test_row kind.Envelope) args in is_some (compares_by (envelope_source labels args) labels args) ≡ true
 envelope_reads args ts says =
     let row = test_row kind.Envelope in
     compares_all (envelope_source (labels_in row args) args) (match_type_of (labels_in row args)) _ _
-    (maps_some (envelope_values (address_part_of (labels_in row args))) _ (texts_are_read row.tags row.slots args role.EnvelopeParts refl ((λ same. refl), ((λ same. refl), tt)) refl says.filled says.keep))
-    (collation_is_read row.tags row.slots args ((λ same. absurd (not_both same)), ((λ same. absurd (not_both same)), tt)) says.keep)
-    (texts_are_read row.tags row.slots args role.Keys refl ((λ same. refl), ((λ same. refl), tt)) refl says.filled says.keep)
+    (maps_some (envelope_values (address_part_of (labels_in row args))) _ (texts_are_read row.tags row.slots args role.EnvelopeParts refl refl refl says.filled says.keep))
+    (collation_is_read row.tags row.slots args refl says.keep)
+    (texts_are_read row.tags row.slots args role.Keys refl refl refl says.filled says.keep)
 
 string_reads : (args : List Argument) (ts : syntax.Tests) → Says kind.String args ts → let labels = labels_in (test_row kind.String) args in is_some (compares_by (string_source labels args) labels args) ≡ true
 string_reads args ts says =
     let row = test_row kind.String in
     compares_all (string_source (labels_in row args) args) (match_type_of (labels_in row args)) _ _
-    (maps_some string_values _ (texts_are_read row.tags row.slots args role.Text refl ((λ same. refl), ((λ same. refl), tt)) refl says.filled says.keep))
-    (collation_is_read row.tags row.slots args ((λ same. absurd (not_both same)), ((λ same. absurd (not_both same)), tt)) says.keep)
-    (texts_are_read row.tags row.slots args role.Keys refl ((λ same. refl), ((λ same. refl), tt)) refl says.filled says.keep)
+    (maps_some string_values _ (texts_are_read row.tags row.slots args role.Text refl refl refl says.filled says.keep))
+    (collation_is_read row.tags row.slots args refl says.keep)
+    (texts_are_read row.tags row.slots args role.Keys refl refl refl says.filled says.keep)
+
+hasflag_reads : (args : List Argument) (ts : syntax.Tests) → Says kind.HasFlag args ts → let labels = labels_in (test_row kind.HasFlag) args in is_some (compares_by (flag_source labels args) labels args) ≡ true
+hasflag_reads args ts says =
+    let row = test_row kind.HasFlag in
+    let shapes = map (part_shape row.tags) args in
+    let slots = slots_of row shapes in
+    let front = naming_slot form.List role.NamesToRead in
+    compares_all (flag_source (labels_in row args) args) (match_type_of (labels_in row args)) _ _
+    (maps_some flag_values _ (given_texts_are_read row.tags slots args role.NamesToRead refl (either_slots (all_may_take role.NamesToRead form.List) front row.slots shapes refl refl) says.keep))
+    (collation_is_read row.tags slots args (either_slots (all_may_take role.ComparatorName form.One) front row.slots shapes refl refl) says.keep)
+    (texts_are_read row.tags slots args role.Keys refl (either_slots (all_may_take role.Keys form.List) front row.slots shapes refl refl) (either_slots (is_to_come role.Keys) front row.slots shapes refl refl) says.filled says.keep)
 
 exists_reads : (args : List Argument) (ts : syntax.Tests) → Says kind.Exists args ts → is_some (exists_by (labels_in (test_row kind.Exists) args) args) ≡ true
 exists_reads args ts says =
     let row = test_row kind.Exists in
-    maps_some exists_ask _ (texts_are_read row.tags row.slots args role.FieldNames refl ((λ same. refl), tt) refl says.filled says.keep)
+    maps_some exists_ask _ (texts_are_read row.tags row.slots args role.FieldNames refl refl refl says.filled says.keep)
 
 size_reads : (args : List Argument) (ts : syntax.Tests) → Says kind.Size args ts → is_some (size_by (labels_in (test_row kind.Size) args) args) ≡ true
 size_reads args ts says =
@@ -256,7 +309,7 @@ size_reads args ts says =
     let labels = labels_in row args in
     size_asks (has_tag tag.Over labels) (has_tag tag.Under labels) _
     (one_bound labels (or_parts _ _ (or_parts _ _ says.tags).1).0 (not_lacking (list_any (is_of_kind tag_kind.Bound) labels) says.kind))
-    (number_is_read row.tags row.slots args role.Limit refl ((λ same. refl), tt) refl says.filled says.keep)
+    (number_is_read row.tags row.slots args role.Limit refl refl refl says.filled says.keep)
   where
     not_lacking : (b : Bool) → not b ≡ false → b ≡ true
     not_lacking true e = refl
@@ -296,6 +349,7 @@ module _ (required : Required) where
   joins kind.True args ts says = none_fit ts says.tests
   joins kind.False args ts says = none_fit ts says.tests
   joins kind.String args ts says = joins_none _ (parted_tests required ts) (string_reads args ts says) (none_fit ts says.tests)
+  joins kind.HasFlag args ts says = joins_none _ (parted_tests required ts) (hasflag_reads args ts says) (none_fit ts says.tests)
 
   -- a test of some kind or none that breaks no rule is of a kind, and is read
   pub test_is_read : (context : Context) (k : Option TestKind) (args : List syntax.Argument) (ts : syntax.Tests) → ((rule : Rule) → test_breaks context k args ts rule ≡ false) → breaches_in (test_arguments context k args ts) ≡ []

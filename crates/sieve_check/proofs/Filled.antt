@@ -2,6 +2,7 @@
 use Rattle.std.proofs.Common.{◌≡◌, ℕ, suc, Bool, true, false, not, ◌&&◌, ◌||◌, List, [], ◌∷◌, map, length, drop, Option, None, Some, is_some, refl, sym, ap, ◌∙◌, subst, arith, append-nil}
 use Rattle.std.proofs.lemmas.Bool.{or_parts}
 use Rattle.std.proofs.lemmas.Bool.Decides.{nat_tests}
+use Rattle.std.specs.Option.{option_map}
 use Rattle.std.specs.Prelude.{if◌then◌else◌, is_none, nat_eq, codes}
 use lib.Pointwise.{pointwise}
 use Rattle.match_text.specs.declared.comparators.Collation.TheVariants.{Octet, Casemap}
@@ -12,7 +13,7 @@ use Rattle.sieve_check.specs.Element.{argument_elements, judged_labels, labelled
 use Rattle.sieve_check.specs.Label.{fits, is_filled, labels_of}
 use Rattle.sieve_check.specs.Parted.{parted_argument, parted_labelled, parted_text, parts_in}
 use Rattle.sieve_check.specs.Readable.{row_takes}
-use Rattle.sieve_check.specs.Reading.{collation_by, local_in, local_in_parts, number_in, part_shape, plain_text, text_in, texts_in}
+use Rattle.sieve_check.specs.Reading.{collation_by, given_local, given_texts, local_in, local_in_parts, number_in, part_shape, plain_text, text_in, texts_in}
 use Rattle.sieve_check.specs.Role.{first_role, has_role}
 use Rattle.sieve_check.specs.Shape.{row_labels, shape_of, shapes_of, texts_shape}
 use Rattle.sieve_table.specs.Table.{Row}
@@ -200,10 +201,18 @@ local_good tags r (strings (t ∷ s ∷ ts) bracketed) is keeps fit = absurd (tw
 local_good tags r (number value line) is keeps fit = absurd (not_both fit)
 local_good tags r (tag name line) is keeps fit = absurd (not_both fit)
 
--- what an argument that is there is read as
+given_some : {X : Type 0} (o : Option X) → is_some o ≡ true → is_some (option_map Some o) ≡ true
+given_some None is = absurd (not_both is)
+given_some (Some x) is = refl
+
+-- what an argument that is there is read as, and one that may be left out
 pub texts_read : (o : Option Argument) → none_or (λ a. is_some (texts_in (Some a))) o ≡ true → is_some o ≡ true → is_some (texts_in o) ≡ true
 texts_read None good there = absurd (not_both there)
 texts_read (Some a) good there = good
+
+pub given_texts_read : (o : Option Argument) → none_or (λ a. is_some (texts_in (Some a))) o ≡ true → is_some (given_texts o) ≡ true
+given_texts_read None good = refl
+given_texts_read (Some a) good = given_some (texts_in (Some a)) good
 
 pub text_read : (o : Option Argument) → none_or (λ a. is_some (text_in (Some a))) o ≡ true → is_some o ≡ true → is_some (text_in o) ≡ true
 text_read None good there = absurd (not_both there)
@@ -212,6 +221,10 @@ text_read (Some a) good there = good
 pub local_read : (o : Option Argument) → none_or (λ a. is_some (local_in (Some a))) o ≡ true → is_some o ≡ true → is_some (local_in o) ≡ true
 local_read None good there = absurd (not_both there)
 local_read (Some a) good there = good
+
+pub given_local_read : (o : Option Argument) → none_or (λ a. is_some (local_in (Some a))) o ≡ true → is_some (given_local o) ≡ true
+given_local_read None good = refl
+given_local_read (Some a) good = given_some (local_in (Some a)) good
 
 pub number_read : (o : Option Argument) → none_or (λ a. is_some (number_in (Some a))) o ≡ true → is_some o ≡ true → is_some (number_in o) ≡ true
 number_read None good there = absurd (not_both there)

@@ -1,5 +1,5 @@
 -- Worked rows of what the laws speak of.
-use Rattle.std.proofs.Common.{◌≡◌, ℕ, false, List, [], ◌∷◌, map, Some, refl, codes}
+use Rattle.std.proofs.Common.{◌≡◌, ℕ, false, List, [], ◌∷◌, map, None, Some, refl, codes}
 use Rattle.sieve_syntax.specs.Tree as syntax
 use Rattle.sieve_syntax.specs.Word.{identifier, number_word, string_word}
 use Rattle.sieve_check.specs.Breach.{breaches_at, breaches_in, breaches_of}
@@ -29,11 +29,11 @@ last line inner = syntax.node (codes "else") line [] syntax.no_tests (syntax.blo
 abbrev branches : List syntax.Node
 branches = branch (codes "if") 1 (codes "true") (plain (codes "keep") 1) ∷ branch (codes "elsif") 2 (codes "false") (plain (codes "stop") 2) ∷ last 3 (plain (codes "discard") 3) ∷ plain (codes "keep") 4 ∷ []
 
-marks_row : marks (script_of (parted branches)) ≡ choice_mark always ∷ act_mark keep_leaf 1 ∷ choice_mark never ∷ stop_mark ∷ act_mark discard_leaf 3 ∷ act_mark keep_leaf 4 ∷ []
+marks_row : marks (script_of (parted branches)) ≡ choice_mark always ∷ act_mark (keep_leaf None) 1 ∷ choice_mark never ∷ stop_mark ∷ act_mark discard_leaf 3 ∷ act_mark (keep_leaf None) 4 ∷ []
 unfolding marks chain_of node_before block_commands condition_of conditions_in command_named test_named
 marks_row = refl
 
-tree_marks_row : nodes_marks (nodes (parted branches)) ≡ choice_mark always ∷ act_mark keep_leaf 1 ∷ choice_mark never ∷ stop_mark ∷ act_mark discard_leaf 3 ∷ act_mark keep_leaf 4 ∷ []
+tree_marks_row : nodes_marks (nodes (parted branches)) ≡ choice_mark always ∷ act_mark (keep_leaf None) 1 ∷ choice_mark never ∷ stop_mark ∷ act_mark discard_leaf 3 ∷ act_mark (keep_leaf None) 4 ∷ []
 unfolding nodes_marks node_marks block_marks condition_of conditions_in command_named test_named
 tree_marks_row = refl
 

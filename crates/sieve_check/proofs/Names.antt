@@ -18,6 +18,9 @@ command_found command.Redirect = refl
 command_found command.Discard = refl
 command_found command.Stop = refl
 command_found command.Set = refl
+command_found command.SetFlag = refl
+command_found command.AddFlag = refl
+command_found command.RemoveFlag = refl
 
 pub test_found : (kind : TestKind) → test_named (test_row kind).name ≡ Some kind
 unfolding test_named
@@ -32,5 +35,6 @@ test_found test.Not = refl
 test_found test.True = refl
 test_found test.False = refl
 test_found test.String = refl
+test_found test.HasFlag = refl
 
 pub ruleset names = (command_found, test_found)

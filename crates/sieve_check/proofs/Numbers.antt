@@ -79,5 +79,6 @@ tag_at tag.LowerFirst = refl
 tag_at tag.UpperFirst = refl
 tag_at tag.QuoteWildcard = refl
 tag_at tag.Length = refl
+tag_at tag.Flags = refl
 
 pub ruleset numbered = (role_at, tag_at, kind_at)

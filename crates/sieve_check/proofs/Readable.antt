@@ -8,10 +8,14 @@ use Rattle.sieve_check.specs.Element.{block_elements, command_arguments, node_el
 use Rattle.sieve_check.specs.Parted.{command_labels, parted, parted_block, parted_labelled, parted_node, parted_nodes, parted_test, parted_test_list, parted_tests}
 use Rattle.sieve_check.specs.Readable.{IsReadable, ReadsBlock, ReadsNode, ReadsNodes, ReadsTest, ReadsTestList, ReadsTests, Stands, command_takes, may_go_on}
 use Rattle.sieve_check.specs.Reading as reading
-use Rattle.sieve_check.specs.Reading.{Leaf, command_reading, command_reading_by, fileinto_leaf, in_role, part_shape, redirect_leaf, set_from, text_in}
-use Rattle.sieve_table.specs.Table.{command_named, command_row, test_named}
+use Rattle.sieve_check.specs.Reading.{Leaf, command_reading, command_reading_by, fileinto_from, flags_by, flags_from, keep_leaf, labels_in, part_shape, redirect_leaf, set_from}
+use Rattle.sieve_check.specs.Label.{slots_of}
+use Rattle.sieve_table.specs.Table.{command_named, command_row, flag_command, naming_slot, test_named}
 use Rattle.sieve_check.specs.Tree.{Argument, Block, Tests, no_tests, Nodes, end_nodes, more_nodes, no_block, block, items, nodes}
 use Rattle.sieve_check.specs.Use.{block_fits, has_block}
+use Rattle.sieve_check.specs.declared.reading.FlagChange.{FlagChange}
+use Rattle.sieve_check.specs.declared.reading.FlagChange.TheVariants as change
+use Rattle.sieve_table.specs.declared.row.Form.TheVariants as form
 use Rattle.sieve_table.specs.declared.row.Role.TheVariants as role
 use Rattle.sieve_table.specs.declared.rule.Rule.{Rule}
 use Rattle.sieve_table.specs.declared.rule.Rule.TheVariants.{BadArguments, BadTag, ElsePlace, UnknownCommand}
@@ -19,9 +23,9 @@ use Rattle.sieve_table.specs.declared.table.CommandKind.{CommandKind}
 use Rattle.sieve_table.specs.declared.table.CommandKind.TheVariants as command
 use Rattle.sieve_variables.specs.Part.{Part}
 use Rattle.sieve_variables.specs.declared.modifier.Modifiers.{Modifiers}
-use Rattle.sieve_check.proofs.Asked.{local_is_read, maps_some, none_fit, one_fits, test_is_read, text_is_read}
+use Rattle.sieve_check.proofs.Asked.{all_may_take, either_slots, given_local_is_read, given_texts_are_read, local_is_read, maps_some, none_fit, one_fits, test_is_read, text_is_read, texts_are_read}
 use Rattle.sieve_check.proofs.Filled.{AsRowSays, as_parted, takes}
-use Rattle.sieve_check.proofs.Roles.{never_both, not_both}
+use Rattle.sieve_check.proofs.Roles.{is_to_come, never_both, not_both}
 use Rattle.sieve_check.proofs.Unbroken.{keeps, none_in_both, none_in_front}
 
 -- WHERE A COMMAND STANDS
@@ -48,9 +52,33 @@ module _ (required : Required) (context : Context) where
   sets_all (Some name) modifiers None n v = absurd (not_both v)
   sets_all (Some name) modifiers (Some value) n v = refl
 
+  files_all : (mailbox : Option (List Part)) (flags : Option (Option (List (List Part)))) → is_some mailbox ≡ true → is_some flags ≡ true → is_some (fileinto_from mailbox flags) ≡ true
+  files_all None flags m f = absurd (not_both m)
+  files_all (Some mailbox) None m f = absurd (not_both f)
+  files_all (Some mailbox) (Some flags) m f = refl
+
+  changes_all : (how : FlagChange) (variable : Option (Option (List ℕ))) (flags : Option (List (List Part))) → is_some variable ≡ true → is_some flags ≡ true → is_some (flags_from how variable flags) ≡ true
+  changes_all how None flags v f = absurd (not_both v)
+  changes_all how (Some variable) None v f = absurd (not_both f)
+  changes_all how (Some variable) (Some flags) v f = refl
+
   stands_acting : (leaf : Option Leaf) (ts : Tests) (ending : Block) → is_some (option_map reading.acts leaf) ≡ true → ts ≡ no_tests → ending ≡ no_block → Stands context.follows_if (option_map reading.acts leaf) ts ending
   stands_acting None ts ending is none ends = absurd (not_both is)
   stands_acting (Some leaf) ts ending is none ends = (none, ends)
+
+  -- a command that changes flags, whatever its name
+  flags_stand : (how : FlagChange) (name : List ℕ) (args : List Argument) (ts : syntax.Tests) (ending : syntax.Block) → let row = flag_command name in
+      AsRowSays row (map (part_shape row.tags) args) args ts (has_block ending) → Stands context.follows_if (option_map reading.acts (flags_by how (labels_in row args) args)) (parted_tests required ts) (parted_block required ending)
+  flags_stand how name args ts ending says =
+      let row = flag_command name in
+      let shapes = map (part_shape row.tags) args in
+      let slots = slots_of row shapes in
+      let front = naming_slot form.One role.NameToSet in
+      stands_acting _ (parted_tests required ts) (parted_block required ending)
+      (maps_some reading.acts _ (changes_all how _ _
+      (given_local_is_read row.tags slots args (either_slots (all_may_take role.NameToSet form.One) front row.slots shapes refl refl) says.keep)
+      (texts_are_read row.tags slots args role.Flags refl (either_slots (all_may_take role.Flags form.List) front row.slots shapes refl refl) (either_slots (is_to_come role.Flags) front row.slots shapes refl refl) says.filled says.keep)))
+      (none_fit required ts says.tests) (none_there ending says.block)
 
   -- with the tests and the block that its row says, and behind an `if` where it goes on with one
   stands : (k : CommandKind) (args : List Argument) (ts : syntax.Tests) (ending : syntax.Block) → Says k args ts (has_block ending) → (continues_if k && not context.follows_if) ≡ false
@@ -67,16 +95,22 @@ module _ (required : Required) (context : Context) where
   stands command.Else args ts ending says place =
       let b = block_there ending says.block in
       (not_false context.follows_if place, b.0, none_fit required ts says.tests, b.1)
-  stands command.Keep args ts ending says place = (none_fit required ts says.tests, none_there ending says.block)
+  stands command.Keep args ts ending says place =
+      let row = command_row command.Keep in
+      stands_acting _ (parted_tests required ts) (parted_block required ending)
+      (maps_some reading.acts _ (maps_some keep_leaf _ (given_texts_are_read row.tags row.slots args role.Flags refl refl says.keep)))
+      (none_fit required ts says.tests) (none_there ending says.block)
   stands command.Fileinto args ts ending says place =
       let row = command_row command.Fileinto in
       stands_acting _ (parted_tests required ts) (parted_block required ending)
-      (maps_some reading.acts _ (maps_some fileinto_leaf _ (text_is_read row.tags row.slots args role.Mailbox refl ((λ same. refl), tt) refl says.filled says.keep)))
+      (maps_some reading.acts _ (files_all _ _
+      (text_is_read row.tags row.slots args role.Mailbox refl refl refl says.filled says.keep)
+      (given_texts_are_read row.tags row.slots args role.Flags refl refl says.keep)))
       (none_fit required ts says.tests) (none_there ending says.block)
   stands command.Redirect args ts ending says place =
       let row = command_row command.Redirect in
       stands_acting _ (parted_tests required ts) (parted_block required ending)
-      (maps_some reading.acts _ (maps_some redirect_leaf _ (text_is_read row.tags row.slots args role.Address refl ((λ same. refl), tt) refl says.filled says.keep)))
+      (maps_some reading.acts _ (maps_some redirect_leaf _ (text_is_read row.tags row.slots args role.Address refl refl refl says.filled says.keep)))
       (none_fit required ts says.tests) (none_there ending says.block)
   stands command.Discard args ts ending says place = (none_fit required ts says.tests, none_there ending says.block)
   stands command.Stop args ts ending says place = (none_fit required ts says.tests, none_there ending says.block)
@@ -84,9 +118,12 @@ module _ (required : Required) (context : Context) where
       let row = command_row command.Set in
       stands_acting _ (parted_tests required ts) (parted_block required ending)
       (maps_some reading.acts _ (sets_all _ _ _
-      (local_is_read row.tags row.slots args ((λ same. refl), ((λ same. absurd (not_both same)), tt)) refl says.filled says.keep)
-      (text_is_read row.tags row.slots args role.Text refl ((λ same. absurd (not_both same)), ((λ same. refl), tt)) refl says.filled says.keep)))
+      (local_is_read row.tags row.slots args refl refl says.filled says.keep)
+      (text_is_read row.tags row.slots args role.Text refl refl refl says.filled says.keep)))
       (none_fit required ts says.tests) (none_there ending says.block)
+  stands command.SetFlag args ts ending says place = flags_stand change.Set _ args ts ending says
+  stands command.AddFlag args ts ending says place = flags_stand change.Add _ args ts ending says
+  stands command.RemoveFlag args ts ending says place = flags_stand change.Remove _ args ts ending says
 
   -- a command of some kind or none that breaks no rule is of a kind, takes its arguments, and stands where it may
   command_is_read : (k : Option CommandKind) (args : List syntax.Argument) (ts : syntax.Tests) (ending : syntax.Block) → ((rule : Rule) → command_breaks context k args ts ending rule ≡ false) → breaches_in (command_arguments context k args ts ending) ≡ []
@@ -107,12 +144,15 @@ module _ (required : Required) (context : Context) where
   kind_goes_on (Some command.If) written args = refl
   kind_goes_on (Some command.Elsif) written args = refl
   kind_goes_on (Some command.Else) written args = refl
-  kind_goes_on (Some command.Keep) written args = refl
+  kind_goes_on (Some command.Keep) written args = acting_ends _
   kind_goes_on (Some command.Fileinto) written args = acting_ends _
   kind_goes_on (Some command.Redirect) written args = acting_ends _
   kind_goes_on (Some command.Discard) written args = refl
   kind_goes_on (Some command.Stop) written args = refl
   kind_goes_on (Some command.Set) written args = acting_ends _
+  kind_goes_on (Some command.SetFlag) written args = acting_ends _
+  kind_goes_on (Some command.AddFlag) written args = acting_ends _
+  kind_goes_on (Some command.RemoveFlag) written args = acting_ends _
 
   block_keeps : (before : Context) (ending : syntax.Block) → (behind_block before ending).follows_if ≡ before.follows_if
   unfolding behind_block

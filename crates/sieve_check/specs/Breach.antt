@@ -11,7 +11,7 @@ use Rattle.sieve_check.specs.Assigned.{is_new_local}
 use Rattle.sieve_table.specs.Capability.{is_capability}
 use Rattle.sieve_check.specs.Context.{Context, Required, takes_references, is_require, continues_if}
 use Rattle.sieve_check.specs.Element.{Element, the_command, the_test, the_text, the_number, elements_of}
-use Rattle.sieve_check.specs.Role.{has_role}
+use Rattle.sieve_check.specs.Role.{has_role, names_variable}
 use Rattle.sieve_check.specs.Shape.{row_labels, shapes_of}
 use Rattle.sieve_table.specs.Table.{Row, command_named, test_named, command_row, test_row}
 use Rattle.sieve_check.specs.Use.{has_bad_tag, has_bad_arguments, has_block, lacks_required}
@@ -62,26 +62,27 @@ is_comparator_name name = pointwise nat_eq (codes "i;octet") name || pointwise n
 abbrev pub is_known : Required → Option Role → List ℕ → Bool
 is_known required role octets = not (takes_references required role && has_reference octets)
 
--- What may not be set: what is neither the name of a variable of the script nor that of one that scripts share. So no match
--- variable is set, and nothing in another namespace (RFC 5229, section 4).
+-- What names no variable that may be set: neither one of the script nor one that scripts share. So no match variable is set, and
+-- nothing in another namespace (RFC 5229, section 4). Those that are read are named alike (RFC 5232, section 4).
 abbrev pub is_bad_name : List ℕ → Bool
 is_bad_name octets = not (is_identifier octets) && not (is_global_name octets)
 
--- a variable in a namespace, of which there is none: one that is set (RFC 5229, section 4), or one that is referred to (section 3)
+-- a variable in a namespace, of which there is none: one that is named (RFC 5229, section 4), or one that is referred to (section
+-- 3)
 abbrev pub names_namespace : Required → Option Role → List ℕ → Bool
-names_namespace required role octets = (has_role NameToSet role && is_global_name octets) || (takes_references required role && has_namespace octets)
+names_namespace required role octets = (names_variable role && is_global_name octets) || (takes_references required role && has_namespace octets)
 
 -- the name of one local variable too many (RFC 5229, section 6)
 abbrev pub is_past_locals : List ℕ → List (List ℕ) → Bool
 is_past_locals octets assigned = is_new_local octets assigned && not (nat_lt (length assigned) local_limit)
 
 -- a string: that of a leading `require` (RFC 5228, section 3.2), of a comparator (section 2.7.3), a part of an envelope (section
--- 5.4), a field that holds addresses (section 5.1), the name of a variable that is set (RFC 5229, section 4), or one with
--- references to variables (sections 3 and 6)
+-- 5.4), a field that holds addresses (section 5.1), the name of a variable (RFC 5229, section 4; RFC 5232, sections 3 and 4), or
+-- one with references to variables (RFC 5229, sections 3 and 6)
 abbrev pub text_breaks : Context → Option Role → List ℕ → Rule → Bool
 text_breaks context role octets UnknownCapability = has_role Capabilities role && (context.leads && not (is_capability octets))
 text_breaks context role octets UnknownComparator = has_role ComparatorName role && not (is_comparator_name octets)
-text_breaks context role octets BadVariableName = has_role NameToSet role && is_bad_name octets
+text_breaks context role octets BadVariableName = names_variable role && is_bad_name octets
 text_breaks context role octets BadNamespace = names_namespace context.required role octets
 text_breaks context role octets MatchIndex = takes_references context.required role && has_far_index octets
 text_breaks context role octets BadEnvelopePart = has_role EnvelopeParts role && (not (is_envelope_part octets) && is_known context.required role octets)

@@ -10,7 +10,7 @@ use Rattle.sieve_table.specs.declared.capability.Capability.{Capability}
 use Rattle.sieve_table.specs.declared.capability.Capability.TheVariants as capability
 use Rattle.sieve_table.specs.declared.row.Role.{Role}
 use Rattle.sieve_table.specs.declared.table.CommandKind.{CommandKind}
-use Rattle.sieve_table.specs.declared.table.CommandKind.TheVariants.{Require, If, Elsif, Else, Keep, Fileinto, Redirect, Discard, Stop, Set}
+use Rattle.sieve_table.specs.declared.table.CommandKind.TheVariants.{Require, If, Elsif, Else, Keep, Fileinto, Redirect, Discard, Stop, Set, SetFlag, AddFlag, RemoveFlag}
 
 -- what is required, of what commands, tests, tags and arguments may need (RFC 5228, section 2.10.5)
 pub record Required : Type 0 where
@@ -88,6 +88,9 @@ is_require Redirect = false
 is_require Discard = false
 is_require Stop = false
 is_require Set = false
+is_require SetFlag = false
+is_require AddFlag = false
+is_require RemoveFlag = false
 
 -- an elsif or else may follow if and elsif
 abbrev pub allows_else : CommandKind → Bool
@@ -101,6 +104,9 @@ allows_else Redirect = false
 allows_else Discard = false
 allows_else Stop = false
 allows_else Set = false
+allows_else SetFlag = false
+allows_else AddFlag = false
+allows_else RemoveFlag = false
 
 -- elsif and else go on with what an if began
 abbrev pub continues_if : CommandKind → Bool
@@ -114,6 +120,9 @@ continues_if Redirect = false
 continues_if Discard = false
 continues_if Stop = false
 continues_if Set = false
+continues_if SetFlag = false
+continues_if AddFlag = false
+continues_if RemoveFlag = false
 
 -- what is required behind a command with such arguments: a `require` at the top adds what it names
 abbrev pub required_behind : Context → CommandKind → List Argument → Required

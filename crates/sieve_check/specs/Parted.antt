@@ -3,24 +3,23 @@
 use Rattle.std.specs.Prelude.{ℕ, List, [], ◌∷◌, Option, Some, None, map, drop, if◌then◌else◌}
 use Rattle.sieve_syntax.specs.Tree as syntax
 use Rattle.sieve_check.specs.Context.{Required, nothing_required, required_from, takes_references}
-use Rattle.sieve_check.specs.Role.{first_role, has_role}
+use Rattle.sieve_check.specs.Role.{first_role, names_variable}
 use Rattle.sieve_check.specs.Shape.{row_labels}
 use Rattle.sieve_table.specs.Table.{command_named, test_named, command_row, test_row}
 use Rattle.sieve_check.specs.Tree.{Text, Argument, strings, number, tag, Test, test, Tests, no_tests, one_test, test_list, TestList, end_tests, more_tests, Node, node, Block, no_block, block, Nodes, end_nodes, more_nodes, items}
 use Rattle.sieve_check.specs.declared.label.Label.{Label}
 use Rattle.sieve_table.specs.declared.row.Role.{Role}
-use Rattle.sieve_table.specs.declared.row.Role.TheVariants.{NameToSet}
 use Rattle.sieve_table.specs.declared.table.CommandKind.{CommandKind}
 use Rattle.sieve_table.specs.declared.table.TestKind.{TestKind}
 use Rattle.sieve_variables.specs.Name.{folded_name}
 use Rattle.sieve_variables.specs.Part.{Part, literal, local_part}
 use Rattle.sieve_variables.specs.Scan.{parts_of}
 
--- The parts of a string: where a variable is set, that variable; where references stand for values, the octets and references in
--- it; else its octets.
+-- The parts of a string: where it names a variable, that variable; where references stand for values, the octets and references
+-- in it; else its octets.
 abbrev pub parts_in : Required → Option Role → List ℕ → List Part
 parts_in required role octets =
-    if has_role NameToSet role then local_part (folded_name octets) ∷ [] else
+    if names_variable role then local_part (folded_name octets) ∷ [] else
     if takes_references required role then parts_of octets else literal octets ∷ []
 
 abbrev pub parted_text : Required → Option Role → syntax.Text → Text

@@ -17,6 +17,8 @@ use Rattle.sieve_check.specs.declared.label.Label.{Label}
 use Rattle.sieve_check.specs.declared.label.Label.TheVariants.{Tagged, OtherTag, Own, InSlot, Unfit}
 use Rattle.sieve_check.specs.declared.label.Shape.{Shape}
 use Rattle.sieve_check.specs.declared.label.Shape.TheVariants as shape
+use Rattle.sieve_check.specs.declared.reading.FlagChange.{FlagChange}
+use Rattle.sieve_check.specs.declared.reading.FlagChange.TheVariants as change
 use Rattle.sieve_check.specs.declared.reading.MatchType.{MatchType}
 use Rattle.sieve_check.specs.declared.reading.MatchType.TheVariants.{Is, Contains, Matches}
 use Rattle.sieve_table.specs.declared.row.Role.{Role}
@@ -33,13 +35,14 @@ use Rattle.sieve_variables.specs.declared.modifier.LetterCase.TheVariants as let
 use Rattle.sieve_variables.specs.declared.modifier.Modifiers.{Modifiers}
 
 -- Where a test takes values from: the fields of some names (RFC 5228, section 5.7), a part of the addresses in such fields
--- (section 5.1), a part of an envelope's addresses (section 5.4), or strings themselves (RFC 5229, section 5). A string is its
--- parts.
+-- (section 5.1), a part of an envelope's addresses (section 5.4), strings themselves (RFC 5229, section 5), or flags: those that
+-- some variables hold, or else the internal ones (RFC 5232, section 4). A string is its parts.
 pub data Source : Type 0 where
   header_values : (names : List (List Part)) → Source
   address_values : (part : AddressPart) (names : List (List Part)) → Source
   envelope_values : (part : AddressPart) (names : List (List Part)) → Source
   string_values : (texts : List (List Part)) → Source
+  flag_values : (variables : Option (List (List Part))) → Source
 
 -- a test without tests in it (RFC 5228, section 5): it compares values with keys (section 2.7), or looks at the message
 pub data Ask : Type 0 where
@@ -48,13 +51,15 @@ pub data Ask : Type 0 where
   over_ask : (limit : ℕ) → Ask
   under_ask : (limit : ℕ) → Ask
 
--- a command that acts
+-- A command that acts. One that stores may name the flags of what it stores (RFC 5232, section 5). One that changes flags changes
+-- those that a variable of the script holds, or else the internal ones (section 3).
 pub data Leaf : Type 0 where
-  keep_leaf : Leaf
-  fileinto_leaf : (mailbox : List Part) → Leaf
+  keep_leaf : (flags : Option (List (List Part))) → Leaf
+  fileinto_leaf : (mailbox : List Part) (flags : Option (List (List Part))) → Leaf
   redirect_leaf : (address : List Part) → Leaf
   discard_leaf : Leaf
   set_leaf : (name : List ℕ) (modifiers : Modifiers) (value : List Part) → Leaf
+  flag_leaf : (change : FlagChange) (variable : Option (List ℕ)) (flags : List (List Part)) → Leaf
 
 -- ARGUMENTS
 
@@ -79,6 +84,11 @@ texts_in (Some (strings items bracketed)) = Some (map (λ t. t.parts) items)
 texts_in (Some (number value line)) = None
 texts_in (Some (tag name line)) = None
 
+-- the strings of an argument that may be left out
+abbrev pub given_texts : Option Argument → Option (Option (List (List Part)))
+given_texts None = Some None
+given_texts (Some a) = option_map Some (texts_in (Some a))
+
 -- the one string that an argument is
 abbrev pub text_in : Option Argument → Option (List Part)
 text_in None = None
@@ -89,7 +99,7 @@ text_in (Some (number value line)) = None
 text_in (Some (tag name line)) = None
 
 -- The variable of the script that an argument names, by its name in lower case. What is set is such a variable, and no match
--- variable or one in a namespace (RFC 5229, section 4).
+-- variable or one in a namespace (RFC 5229, section 4; RFC 5232, section 3).
 abbrev pub local_in_parts : List Part → Option (List ℕ)
 local_in_parts [] = None
 local_in_parts (literal octets ∷ parts) = None
@@ -104,6 +114,11 @@ local_in (Some (strings (t ∷ []) bracketed)) = local_in_parts t.parts
 local_in (Some (strings (t ∷ s ∷ ts) bracketed)) = None
 local_in (Some (number value line)) = None
 local_in (Some (tag name line)) = None
+
+-- the variable that an argument names that may be left out
+abbrev pub given_local : Option Argument → Option (Option (List ℕ))
+given_local None = Some None
+given_local (Some a) = option_map Some (local_in (Some a))
 
 -- the number that an argument is
 abbrev pub number_in : Option Argument → Option ℕ
@@ -129,10 +144,11 @@ tag_number tag.LowerFirst = 11
 tag_number tag.UpperFirst = 12
 tag_number tag.QuoteWildcard = 13
 tag_number tag.Length = 14
+tag_number tag.Flags = 15
 
 -- the tags in the order of their numbers
 abbrev pub all_tags : List Tag
-all_tags = tag.Comparator ∷ tag.Is ∷ tag.Contains ∷ tag.Matches ∷ tag.All ∷ tag.LocalPart ∷ tag.Domain ∷ tag.Over ∷ tag.Under ∷ tag.Lower ∷ tag.Upper ∷ tag.LowerFirst ∷ tag.UpperFirst ∷ tag.QuoteWildcard ∷ tag.Length ∷ []
+all_tags = tag.Comparator ∷ tag.Is ∷ tag.Contains ∷ tag.Matches ∷ tag.All ∷ tag.LocalPart ∷ tag.Domain ∷ tag.Over ∷ tag.Under ∷ tag.Lower ∷ tag.Upper ∷ tag.LowerFirst ∷ tag.UpperFirst ∷ tag.QuoteWildcard ∷ tag.Length ∷ tag.Flags ∷ []
 
 abbrev pub is_tagged : Tag → Label → Bool
 is_tagged wanted (Tagged taken) = nat_eq (tag_number wanted) (tag_number taken)
@@ -202,6 +218,10 @@ envelope_source labels args = option_map (envelope_values (address_part_of label
 abbrev pub string_source : List Label → List Argument → Option Source
 string_source labels args = option_map string_values (texts_in (in_role role.Text labels args))
 
+-- a `hasflag` test (RFC 5232, section 4)
+abbrev pub flag_source : List Label → List Argument → Option Source
+flag_source labels args = option_map flag_values (given_texts (in_role role.NamesToRead labels args))
+
 -- what an `exists` test asks (RFC 5228, section 5.5)
 abbrev pub exists_by : List Label → List Argument → Option Ask
 exists_by labels args = option_map exists_ask (texts_in (in_role role.FieldNames labels args))
@@ -239,11 +259,29 @@ test_reading_by (Some kind.Not) args = Some reads_not
 test_reading_by (Some kind.True) args = Some reads_always
 test_reading_by (Some kind.False) args = Some reads_never
 test_reading_by (Some kind.String) args = let labels = labels_in (test_row kind.String) args in option_map reads_ask (compares_by (string_source labels args) labels args)
+test_reading_by (Some kind.HasFlag) args = let labels = labels_in (test_row kind.HasFlag) args in option_map reads_ask (compares_by (flag_source labels args) labels args)
 
 abbrev pub test_reading : Test → Option TestReading
 test_reading (test name line args ts) = test_reading_by (test_named name) args
 
 -- COMMANDS
+
+-- what a `keep` does (RFC 5228, section 4.3; RFC 5232, section 5)
+abbrev pub keep_by : List Label → List Argument → Option Leaf
+keep_by labels args = option_map keep_leaf (given_texts (in_role role.Flags labels args))
+
+-- what a `fileinto` does (RFC 5228, section 4.1; RFC 5232, section 5)
+abbrev pub fileinto_from : Option (List Part) → Option (Option (List (List Part))) → Option Leaf
+fileinto_from (Some mailbox) (Some flags) = Some (fileinto_leaf mailbox flags)
+fileinto_from (Some mailbox) None = None
+fileinto_from None flags = None
+
+abbrev pub fileinto_by : List Label → List Argument → Option Leaf
+fileinto_by labels args = fileinto_from (text_in (in_role role.Mailbox labels args)) (given_texts (in_role role.Flags labels args))
+
+-- what a `redirect` does (RFC 5228, section 4.2)
+abbrev pub redirect_by : List Label → List Argument → Option Leaf
+redirect_by labels args = option_map redirect_leaf (text_in (in_role role.Address labels args))
 
 -- the case that one of two tags asks for
 abbrev pub case_of : (lower upper : Bool) → Option LetterCase
@@ -269,6 +307,15 @@ set_from None modifiers value = None
 abbrev pub set_by : List Label → List Argument → Option Leaf
 set_by labels args = set_from (local_in (in_role role.NameToSet labels args)) (modifiers_of labels) (text_in (in_role role.Text labels args))
 
+-- what `setflag`, `addflag` and `removeflag` do (RFC 5232, section 3)
+abbrev pub flags_from : FlagChange → Option (Option (List ℕ)) → Option (List (List Part)) → Option Leaf
+flags_from how (Some variable) (Some flags) = Some (flag_leaf how variable flags)
+flags_from how (Some variable) None = None
+flags_from how None flags = None
+
+abbrev pub flags_by : FlagChange → List Label → List Argument → Option Leaf
+flags_by how labels args = flags_from how (given_local (in_role role.NameToSet labels args)) (texts_in (in_role role.Flags labels args))
+
 -- a command apart from its test and its block: it opens a chain of branches, goes on with one, or ends it (RFC 5228, section
 -- 3.1), stops (section 3.3), does nothing, or acts
 pub data CommandReading : Type 0 where
@@ -285,12 +332,15 @@ command_reading_by (Some command.Require) args = Some nothing
 command_reading_by (Some command.If) args = Some opens
 command_reading_by (Some command.Elsif) args = Some continues
 command_reading_by (Some command.Else) args = Some otherwise
-command_reading_by (Some command.Keep) args = Some (acts keep_leaf)
-command_reading_by (Some command.Fileinto) args = option_map acts (option_map fileinto_leaf (text_in (in_role role.Mailbox (labels_in (command_row command.Fileinto) args) args)))
-command_reading_by (Some command.Redirect) args = option_map acts (option_map redirect_leaf (text_in (in_role role.Address (labels_in (command_row command.Redirect) args) args)))
+command_reading_by (Some command.Keep) args = option_map acts (keep_by (labels_in (command_row command.Keep) args) args)
+command_reading_by (Some command.Fileinto) args = option_map acts (fileinto_by (labels_in (command_row command.Fileinto) args) args)
+command_reading_by (Some command.Redirect) args = option_map acts (redirect_by (labels_in (command_row command.Redirect) args) args)
 command_reading_by (Some command.Discard) args = Some (acts discard_leaf)
 command_reading_by (Some command.Stop) args = Some stops
 command_reading_by (Some command.Set) args = option_map acts (set_by (labels_in (command_row command.Set) args) args)
+command_reading_by (Some command.SetFlag) args = option_map acts (flags_by change.Set (labels_in (command_row command.SetFlag) args) args)
+command_reading_by (Some command.AddFlag) args = option_map acts (flags_by change.Add (labels_in (command_row command.AddFlag) args) args)
+command_reading_by (Some command.RemoveFlag) args = option_map acts (flags_by change.Remove (labels_in (command_row command.RemoveFlag) args) args)
 
 -- the kind of a command
 abbrev pub kind_of : Node → Option CommandKind

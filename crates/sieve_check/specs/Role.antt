@@ -1,5 +1,5 @@
 -- What an argument is for, by its label.
-use Rattle.std.specs.Prelude.{ℕ, Bool, true, false, List, [], ◌∷◌, Option, Some, None, nat_eq}
+use Rattle.std.specs.Prelude.{ℕ, Bool, true, false, ◌||◌, List, [], ◌∷◌, Option, Some, None, nat_eq}
 use Rattle.sieve_check.specs.declared.label.Label.{Label}
 use Rattle.sieve_check.specs.declared.label.Label.TheVariants.{Tagged, OtherTag, Own, InSlot, Unfit}
 use Rattle.sieve_table.specs.declared.row.Role.{Role}
@@ -34,6 +34,11 @@ same_role a b = nat_eq (role_number a) (role_number b)
 abbrev pub has_role : Role → Option Role → Bool
 has_role wanted None = false
 has_role wanted (Some role) = same_role wanted role
+
+-- The roles of strings that name variables: one that is set (RFC 5229, section 4; RFC 5232, section 3), and some that are read
+-- (RFC 5232, section 4).
+abbrev pub names_variable : Option Role → Bool
+names_variable given = has_role role.NameToSet given || has_role role.NamesToRead given
 
 -- The roles of strings in which references to variables stand for values (RFC 5229, section 3). The standard leaves out none but
 -- the names of variables that are set (section 4). That the strings of `require`, comparators and other names are left out too

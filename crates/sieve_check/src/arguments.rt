@@ -5,7 +5,7 @@ ghost use Rattle.sieve_syntax.specs.view.Tree.{argument_of, tests_of, text_of};
 ghost use Rattle.sieve_check.specs.Breach.{breaches_at, is_bad_name, is_comparator_name, is_known, names_namespace, text_breaks};
 ghost use Rattle.sieve_check.specs.Context.{takes_references};
 ghost use Rattle.sieve_check.specs.Element.{argument_elements, labelled_elements, text_elements, the_number, the_text};
-ghost use Rattle.sieve_check.specs.Role.{has_role};
+ghost use Rattle.sieve_check.specs.Role.{has_role, names_variable};
 ghost use Rattle.sieve_check.specs.Shape.{row_labels};
 ghost use Rattle.sieve_check.specs.view.Context.{context_as, required_as};
 ghost use Rattle.sieve_check.specs.view.Finds.{Finds, FindsIn};
@@ -17,7 +17,7 @@ ghost use Rattle.sieve_variables.specs.Scan.{has_far_index, has_namespace, has_r
 
 use crate::context::{Context, Required, takes_references};
 use crate::label::Label;
-use crate::role::{behind_first, first_role, has_role};
+use crate::role::{behind_first, first_role, has_role, names_variable};
 use crate::shape::row_labels;
 use crate::usage::{has_bad_arguments, has_bad_tag, lacks_required};
 use crate::validator::CheckFault;
@@ -40,8 +40,8 @@ fn is_known(required: Required, role: Option<Role>, octets: &[u8]) -> bool
     !(takes_references(required, role) && references_in(octets).any)
 }
 
-/// Whether a string may not be set: it is neither the name of a variable of the script nor that of one that scripts share
-/// (RFC 5229, section 4).
+/// Whether a string names no variable that may be set: neither one of the script nor one that scripts share (RFC 5229, section
+/// 4).
 fn is_bad_name(octets: &[u8]) -> bool
     ensures { result ≡ is_bad_name octets.now }
 {
@@ -52,7 +52,7 @@ fn is_bad_name(octets: &[u8]) -> bool
 fn names_namespace(required: Required, role: Option<Role>, octets: &[u8]) -> bool
     ensures { result ≡ names_namespace (required_as required) role octets.now }
 {
-    (has_role(Role::NameToSet, role) && is_global_name(octets))
+    (names_variable(role) && is_global_name(octets))
         || (takes_references(required, role) && references_in(octets).namespaced)
 }
 
@@ -68,7 +68,7 @@ fn text_breaks(context: Context<'_>, role: Option<Role>, octets: &[u8], rule: Ru
         Rule::UnknownComparator => {
             has_role(Role::ComparatorName, role) && !is_comparator_name(octets)
         }
-        Rule::BadVariableName => has_role(Role::NameToSet, role) && is_bad_name(octets),
+        Rule::BadVariableName => names_variable(role) && is_bad_name(octets),
         Rule::BadNamespace => names_namespace(required, role, octets),
         Rule::MatchIndex => takes_references(required, role) && references_in(octets).far,
         Rule::BadEnvelopePart => {

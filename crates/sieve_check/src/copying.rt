@@ -15,7 +15,7 @@ ghost use Rattle.sieve_variables.specs.view.Part.{part_of};
 
 use crate::context::{Required, required_in, takes_references};
 use crate::label::Shaped;
-use crate::role::{has_role, role_of};
+use crate::role::{names_variable, role_of};
 use crate::shape::row_expected;
 use crate::tree::{Argument, Command, Test, Tests, Text};
 use sieve_table::{Role, Row, command_named, test_named};
@@ -47,7 +47,7 @@ fn parts_in(
 ) -> Result<Parts, AllocError>
     ensures { IfOk result (λ parts. map part_of parts.items ≡ parts_in (required_as required) role octets.now) }
 {
-    if has_role(Role::NameToSet, role) {
+    if names_variable(role) {
         return local_parts(alloc, octets);
     }
     if takes_references(required, role) {

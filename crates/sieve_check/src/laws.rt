@@ -14,7 +14,7 @@ ghost use Rattle.sieve_check.specs.Order.{IsInTextOrder};
 ghost use Rattle.sieve_check.specs.Parted.{parted, parts_in};
 ghost use Rattle.sieve_check.specs.Readable.{IsReadable, DoesAll};
 ghost use Rattle.sieve_check.specs.Reading.{all_tags, tag_number};
-ghost use Rattle.sieve_check.specs.Role.{all_roles, has_role, role_number};
+ghost use Rattle.sieve_check.specs.Role.{all_roles, names_variable, role_number};
 ghost use Rattle.sieve_table.specs.Capability.{is_name_of};
 ghost use Rattle.sieve_table.specs.Rule.{rule_number};
 ghost use Rattle.sieve_table.specs.Table.{command_named, command_row, test_named, test_row};
@@ -22,7 +22,6 @@ ghost use Rattle.sieve_check.specs.Tree as checked;
 ghost use Rattle.sieve_check.specs.Use.{all_kinds, kind_number};
 ghost use Rattle.sieve_table.specs.declared.capability.Capability.{Capability};
 ghost use Rattle.sieve_table.specs.declared.row.Role.{Role};
-ghost use Rattle.sieve_table.specs.declared.row.Role.TheVariants.{NameToSet};
 ghost use Rattle.sieve_table.specs.declared.row.TagKind.{TagKind};
 ghost use Rattle.sieve_table.specs.declared.rule.Rule.{Rule};
 ghost use Rattle.sieve_table.specs.declared.table.CommandKind.{CommandKind};
@@ -61,12 +60,12 @@ pub fn what_is_named_is_required()
 {}
 
 /// How a string is cut into parts goes by its role. One whose references stand for values is a text that can be written for its
-/// parts (RFC 5229, section 3), the name of a variable that is set is that variable alone (section 4), and any other stands for
-/// itself.
+/// parts (RFC 5229, section 3), the name of a variable is that variable alone (section 4; RFC 5232, sections 3 and 4), and any
+/// other stands for itself.
 pub fn parts_go_by_the_role()
     ensures expanded { (required : Required) (role : Option Role) (octets : List ℕ) → takes_references required role ≡ true → AreWritten (parts_in required role octets) octets }
-    ensures name { (required : Required) (octets : List ℕ) → parts_in required (Some NameToSet) octets ≡ local_part (folded_name octets) ∷ [] }
-    ensures plain { (required : Required) (role : Option Role) (octets : List ℕ) → has_role NameToSet role ≡ false → takes_references required role ≡ false → parts_in required role octets ≡ literal octets ∷ [] }
+    ensures name { (required : Required) (role : Option Role) (octets : List ℕ) → names_variable role ≡ true → parts_in required role octets ≡ local_part (folded_name octets) ∷ [] }
+    ensures plain { (required : Required) (role : Option Role) (octets : List ℕ) → names_variable role ≡ false → takes_references required role ≡ false → parts_in required role octets ≡ literal octets ∷ [] }
 {}
 
 /// Each command and each test is found by the name of its row.

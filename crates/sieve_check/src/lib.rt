@@ -21,7 +21,7 @@ mod validator;
 
 pub use checked::Checked;
 pub use judged::{FaultKind, JudgeFault, Judged, judge};
-pub use reading::{Ask, CommandReading, Leaf, MatchType, Source, TestReading};
+pub use reading::{Ask, CommandReading, FlagChange, Leaf, MatchType, Source, TestReading};
 pub use sieve_table::{CommandKind, Rule, TestKind};
 pub use sieve_variables::{LetterCase, Modifiers, Part, Parts, SmallOctets};
 pub use tree::{Argument, Command, Test, Tests, Text};

@@ -3,7 +3,7 @@ ghost use Rattle.std.specs.Prelude.{◌≡◌, true, false, length, drop, Some, 
 ghost use Rattle.std.specs.Option.{option_map};
 ghost use Rattle.std.specs.List.{flat_map, starts_with};
 ghost use lib.Pointwise.{pointwise};
-ghost use Rattle.sieve_check.specs.Reading.{acts, address_part_of, address_source, case_of, collation_by, collation_named, command_reading, command_reading_by, compares_by, envelope_source, exists_by, fileinto_leaf, has_tag, header_source, in_role, kind_of, labels_in, local_in, local_in_parts, match_type_of, modifiers_of, number_in, plain_part, plain_text, reads_ask, redirect_leaf, set_by, size_by, string_source, test_reading, test_reading_by, text_in, texts_in};
+ghost use Rattle.sieve_check.specs.Reading.{acts, address_part_of, address_source, case_of, collation_by, collation_named, command_reading, command_reading_by, compares_by, envelope_source, exists_by, fileinto_by, flag_source, flags_by, given_local, given_texts, has_tag, header_source, keep_by, kind_of, labels_in, local_in, local_in_parts, match_type_of, modifiers_of, number_in, plain_part, plain_text, reads_ask, redirect_by, set_by, size_by, string_source, test_reading, test_reading_by, text_in, texts_in};
 ghost use Rattle.sieve_check.specs.view.Reading.{ask_as, command_reading_as, source_as, test_reading_as, texts_as};
 ghost use Rattle.sieve_table.specs.view.Row.{row_as};
 ghost use Rattle.sieve_check.specs.view.Tree.{argument_of, node_of, test_of, text_of};
@@ -53,6 +53,11 @@ pub enum Source<'a> {
     String {
         /// The strings.
         texts: &'a [Text],
+    },
+    /// Flags (RFC 5232, section 4).
+    Flags {
+        /// The variables that hold them, each by its name; the internal flags where none are named.
+        variables: Option<&'a [Text]>,
     },
 }
 
@@ -104,15 +109,31 @@ pub enum TestReading<'a> {
     Not,
 }
 
+/// How a command changes flags (RFC 5232, section 3).
+#[derive(Clone, Copy, Debug, PartialEq, Eq)]
+pub enum FlagChange {
+    /// They become those that it names (RFC 5232, section 3.1).
+    Set,
+    /// Those that it names come to them (RFC 5232, section 3.2).
+    Add,
+    /// Those that it names are taken out of them (RFC 5232, section 3.3).
+    Remove,
+}
+
 /// What a command does that acts.
 #[derive(Clone, Copy, Debug)]
 pub enum Leaf<'a> {
     /// It stores into the mailbox of the delivery (RFC 5228, section 4.3).
-    Keep,
+    Keep {
+        /// Its flags, where it names them (RFC 5232, section 5).
+        flags: Option<&'a [Text]>,
+    },
     /// It stores into the mailbox of that name (RFC 5228, section 4.1).
     Fileinto {
         /// The name, as its parts.
         mailbox: &'a [Part],
+        /// Its flags, where it names them (RFC 5232, section 5).
+        flags: Option<&'a [Text]>,
     },
     /// It sends the message on to that address (RFC 5228, section 4.2).
     Redirect {
@@ -129,6 +150,15 @@ pub enum Leaf<'a> {
         modifiers: Modifiers,
         /// The value, as its parts.
         value: &'a [Part],
+    },
+    /// It changes flags (RFC 5232, section 3).
+    Flags {
+        /// How it changes them.
+        change: FlagChange,
+        /// The variable that holds them, by its name in lower case; the internal flags where none is named.
+        variable: Option<&'a [u8]>,
+        /// The flags that it names.
+        flags: &'a [Text],
     },
 }
 
@@ -158,6 +188,16 @@ fn texts_in(argument: Option<&Argument>) -> Option<&[Text]>
         Some(Argument::Number { .. }) => None,
         Some(Argument::Tag { .. }) => None,
         None => None,
+    }
+}
+
+/// The strings of an argument that may be left out.
+fn given_texts(argument: Option<&Argument>) -> Option<Option<&[Text]>>
+    ensures { option_map (option_map (λ texts. texts_as texts.now)) result ≡ given_texts (option_map (λ a. argument_of a.now) argument.entry) }
+{
+    match argument {
+        Some(argument) => Some(Some(texts_in(Some(argument))?)),
+        None => Some(None),
     }
 }
 
@@ -198,6 +238,16 @@ fn local_in(argument: Option<&Argument>) -> Option<&[u8]>
         Some(Argument::Number { .. }) => None,
         Some(Argument::Tag { .. }) => None,
         None => None,
+    }
+}
+
+/// The variable that an argument names that may be left out.
+fn given_local(argument: Option<&Argument>) -> Option<Option<&[u8]>>
+    ensures { option_map (option_map (λ name. name.now)) result ≡ given_local (option_map (λ a. argument_of a.now) argument.entry) }
+{
+    match argument {
+        Some(argument) => Some(Some(local_in(Some(argument))?)),
+        None => Some(None),
     }
 }
 
@@ -338,6 +388,14 @@ fn string_source<'a>(row: &Row, args: &'a [Argument]) -> Option<Source<'a>>
     Some(Source::String { texts })
 }
 
+/// From where a `hasflag` test takes its values.
+fn flag_source<'a>(row: &Row, args: &'a [Argument]) -> Option<Source<'a>>
+    ensures { option_map source_as result ≡ flag_source (labels_in (row_as row.now) (map argument_of args.now)) (map argument_of args.now) }
+{
+    let variables = given_texts(argument_in(row, Role::NamesToRead, args))?;
+    Some(Source::Flags { variables })
+}
+
 /// What a test asks that compares values with keys.
 fn compares_by<'a>(source: Option<Source<'a>>, row: &Row, args: &'a [Argument]) -> Option<Ask<'a>>
     ensures { option_map ask_as result ≡ compares_by (option_map source_as source.entry) (labels_in (row_as row.now) (map argument_of args.now)) (map argument_of args.now) }
@@ -380,6 +438,13 @@ fn string_ask<'a>(row: &Row, args: &'a [Argument]) -> Option<Ask<'a>>
     ensures { option_map ask_as result ≡ (let labels = labels_in (row_as row.now) (map argument_of args.now) in compares_by (string_source labels (map argument_of args.now)) labels (map argument_of args.now)) }
 {
     compares_by(string_source(row, args), row, args)
+}
+
+/// What a `hasflag` test asks.
+fn flag_ask<'a>(row: &Row, args: &'a [Argument]) -> Option<Ask<'a>>
+    ensures { option_map ask_as result ≡ (let labels = labels_in (row_as row.now) (map argument_of args.now) in compares_by (flag_source labels (map argument_of args.now)) labels (map argument_of args.now)) }
+{
+    compares_by(flag_source(row, args), row, args)
 }
 
 /// What an `exists` test asks.
@@ -432,6 +497,7 @@ fn test_reading_by(kind: TestKind, args: &[Argument]) -> Option<TestReading<'_>>
         TestKind::True => Some(TestReading::Always),
         TestKind::False => Some(TestReading::Never),
         TestKind::String => asking(string_ask(&kind.row(), args)),
+        TestKind::HasFlag => asking(flag_ask(&kind.row(), args)),
     }
 }
 
@@ -448,17 +514,26 @@ impl Test {
     }
 }
 
+/// What a `keep` does.
+fn keep_leaf<'a>(row: &Row, args: &'a [Argument]) -> Option<CommandReading<'a>>
+    ensures { option_map command_reading_as result ≡ option_map acts (keep_by (labels_in (row_as row.now) (map argument_of args.now)) (map argument_of args.now)) }
+{
+    let flags = given_texts(argument_in(row, Role::Flags, args))?;
+    Some(CommandReading::Acts(Leaf::Keep { flags }))
+}
+
 /// What a `fileinto` does.
 fn fileinto_leaf<'a>(row: &Row, args: &'a [Argument]) -> Option<CommandReading<'a>>
-    ensures { option_map command_reading_as result ≡ option_map acts (option_map fileinto_leaf (text_in (in_role Role.Mailbox (labels_in (row_as row.now) (map argument_of args.now)) (map argument_of args.now)))) }
+    ensures { option_map command_reading_as result ≡ option_map acts (fileinto_by (labels_in (row_as row.now) (map argument_of args.now)) (map argument_of args.now)) }
 {
     let mailbox = text_in(argument_in(row, Role::Mailbox, args))?;
-    Some(CommandReading::Acts(Leaf::Fileinto { mailbox }))
+    let flags = given_texts(argument_in(row, Role::Flags, args))?;
+    Some(CommandReading::Acts(Leaf::Fileinto { mailbox, flags }))
 }
 
 /// What a `redirect` does.
 fn redirect_leaf<'a>(row: &Row, args: &'a [Argument]) -> Option<CommandReading<'a>>
-    ensures { option_map command_reading_as result ≡ option_map acts (option_map redirect_leaf (text_in (in_role Role.Address (labels_in (row_as row.now) (map argument_of args.now)) (map argument_of args.now)))) }
+    ensures { option_map command_reading_as result ≡ option_map acts (redirect_by (labels_in (row_as row.now) (map argument_of args.now)) (map argument_of args.now)) }
 {
     let address = text_in(argument_in(row, Role::Address, args))?;
     Some(CommandReading::Acts(Leaf::Redirect { address }))
@@ -505,6 +580,19 @@ fn set_leaf<'a>(row: &Row, args: &'a [Argument]) -> Option<CommandReading<'a>>
     }))
 }
 
+/// What a command does that changes flags.
+fn flag_leaf<'a>(change: FlagChange, row: &Row, args: &'a [Argument]) -> Option<CommandReading<'a>>
+    ensures { option_map command_reading_as result ≡ option_map acts (flags_by change (labels_in (row_as row.now) (map argument_of args.now)) (map argument_of args.now)) }
+{
+    let variable = given_local(argument_in(row, Role::NameToSet, args))?;
+    let flags = texts_in(argument_in(row, Role::Flags, args))?;
+    Some(CommandReading::Acts(Leaf::Flags {
+        change,
+        variable,
+        flags,
+    }))
+}
+
 /// What a command of a kind is.
 fn command_reading_by(kind: CommandKind, args: &[Argument]) -> Option<CommandReading<'_>>
     ensures { option_map command_reading_as result ≡ command_reading_by (Some kind) (map argument_of args.now) }
@@ -514,12 +602,15 @@ fn command_reading_by(kind: CommandKind, args: &[Argument]) -> Option<CommandRea
         CommandKind::If => Some(CommandReading::Opens),
         CommandKind::Elsif => Some(CommandReading::Continues),
         CommandKind::Else => Some(CommandReading::Otherwise),
-        CommandKind::Keep => Some(CommandReading::Acts(Leaf::Keep)),
+        CommandKind::Keep => keep_leaf(&kind.row(), args),
         CommandKind::Fileinto => fileinto_leaf(&kind.row(), args),
         CommandKind::Redirect => redirect_leaf(&kind.row(), args),
         CommandKind::Discard => Some(CommandReading::Acts(Leaf::Discard)),
         CommandKind::Stop => Some(CommandReading::Stops),
         CommandKind::Set => set_leaf(&kind.row(), args),
+        CommandKind::SetFlag => flag_leaf(FlagChange::Set, &kind.row(), args),
+        CommandKind::AddFlag => flag_leaf(FlagChange::Add, &kind.row(), args),
+        CommandKind::RemoveFlag => flag_leaf(FlagChange::Remove, &kind.row(), args),
     }
 }
 

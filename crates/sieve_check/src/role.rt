@@ -1,6 +1,6 @@
 //! What an argument is for, by its label.
 ghost use Rattle.std.specs.Prelude.{◌≡◌, drop};
-ghost use Rattle.sieve_check.specs.Role.{first_role, has_role, is_expanded, role_number, role_of, same_role};
+ghost use Rattle.sieve_check.specs.Role.{first_role, has_role, is_expanded, names_variable, role_number, role_of, same_role};
 
 use crate::label::Label;
 use sieve_table::Role;
@@ -27,6 +27,13 @@ pub(crate) fn has_role(wanted: Role, role: Option<Role>) -> bool
         Some(role) => same_role(wanted, role),
         None => false,
     }
+}
+
+/// Whether strings of that role name variables (RFC 5229, section 4; RFC 5232, sections 3 and 4).
+pub(crate) fn names_variable(role: Option<Role>) -> bool
+    ensures { result ≡ names_variable role }
+{
+    has_role(Role::NameToSet, role) || has_role(Role::NamesToRead, role)
 }
 
 /// Whether references to variables stand for values in strings of that role (RFC 5229, section 3).

@@ -4,16 +4,17 @@ use Rattle.match_text.specs.declared.comparators.Collation.TheVariants.{Casemap,
 use Rattle.std.specs.Fmt.{digits}
 use Rattle.sieve_base.specs.Writers.{quoted}
 use Rattle.message_text.specs.declared.addressing.AddressPart.TheVariants as part
-use Rattle.sieve_check.specs.Reading.{Ask, header_values, address_values, envelope_values, string_values, compares, over_ask, keep_leaf, fileinto_leaf, redirect_leaf, discard_leaf, set_leaf}
+use Rattle.sieve_check.specs.Reading.{Ask, header_values, address_values, envelope_values, string_values, flag_values, compares, over_ask, keep_leaf, fileinto_leaf, redirect_leaf, discard_leaf, set_leaf, flag_leaf}
 use Rattle.sieve_check.specs.Script as script
 use Rattle.sieve_check.specs.Script.{chain_of, condition_of, conditions_in, conditions, block_commands}
 use Rattle.sieve_table.specs.Table.{command_named, test_named}
 use Rattle.sieve_variables.specs.Part.{Part, literal, local_part, match_part}
 use Rattle.sieve_variables.specs.declared.modifier.LetterCase.TheVariants as letter_case
 use Rattle.sieve_check.specs.Tree.{Argument, strings, number, tag, Test, test, no_tests, one_test, test_list, tests, Node, node, Block, no_block, block, nodes}
+use Rattle.sieve_check.specs.declared.reading.FlagChange.TheVariants.{Set, Add}
 use Rattle.sieve_check.specs.declared.reading.MatchType.TheVariants.{Contains, Is, Matches}
 use Rattle.sieve_code.specs.Choice.{code_of, placed, test_before, tests_before, list_before, first_before, node_before, block_before, nodes_before}
-use Rattle.sieve_code.specs.Dump.{address_words, ask_text, comparing_words, further_list, line_text, list_text, operation_text, set_words, string_text, two_lists, worded_text}
+use Rattle.sieve_code.specs.Dump.{address_words, ask_text, changing_words, comparing_words, flag_lists, further_list, internal_list, line_text, list_text, operation_text, set_words, stored_flags, string_text, two_lists, worded_flags, worded_text}
 use Rattle.sieve_code.specs.Operation.{Operation, sets, inverts, asks, jumps, jumps_if, acts, stops}
 use Rattle.sieve_code.specs.Walk.{Walk, at_end, by_stop, cut_off, asked, acted, code_walk, walk_from, tree_walk, commands_walk, condition_walk, gone, met_ask, met_leaf, ended, unanswered}
 
@@ -67,7 +68,7 @@ worked_code =
     ∷ jumps_if true 3
     ∷ asks (over_ask 1048576)
     ∷ jumps_if false 6
-    ∷ acts keep_leaf 2
+    ∷ acts (keep_leaf None) 2
     ∷ jumps 7
     ∷ acts discard_leaf 4
     ∷ []
@@ -93,19 +94,19 @@ unfolding placed nodes_before node_before block_before test_before tests_before 
 nested_row = refl
 
 -- if allof (true) { keep; }: one test in the list is that test alone
-single_row : code_of (testing (codes "if") 1 (list_of (codes "allof") (constant (codes "true") ∷ [])) (keep_at 1 ∷ []) ∷ []) ≡ sets true ∷ jumps_if false 3 ∷ acts keep_leaf 1 ∷ []
+single_row : code_of (testing (codes "if") 1 (list_of (codes "allof") (constant (codes "true") ∷ [])) (keep_at 1 ∷ []) ∷ []) ≡ sets true ∷ jumps_if false 3 ∷ acts (keep_leaf None) 1 ∷ []
 unfolding placed nodes_before node_before block_before test_before tests_before list_before first_before command_named test_named
 single_row = refl
 
 -- if true { keep; } elsif false { discard; } stop;
 without_else_row : code_of (testing (codes "if") 1 (constant (codes "true")) (keep_at 1 ∷ []) ∷ testing (codes "elsif") 2 (constant (codes "false")) (discard_at 2 ∷ []) ∷ stop_at 3 ∷ [])
-    ≡ sets true ∷ jumps_if false 4 ∷ acts keep_leaf 1 ∷ jumps 7 ∷ sets false ∷ jumps_if false 7 ∷ acts discard_leaf 2 ∷ stops ∷ []
+    ≡ sets true ∷ jumps_if false 4 ∷ acts (keep_leaf None) 1 ∷ jumps 7 ∷ sets false ∷ jumps_if false 7 ∷ acts discard_leaf 2 ∷ stops ∷ []
 unfolding placed nodes_before node_before block_before test_before tests_before list_before first_before command_named test_named
 without_else_row = refl
 
 -- if true { keep; } elsif false { discard; } else { stop; }
 with_else_row : code_of (testing (codes "if") 1 (constant (codes "true")) (keep_at 1 ∷ []) ∷ testing (codes "elsif") 2 (constant (codes "false")) (discard_at 2 ∷ []) ∷ last_branch (stop_at 3 ∷ []) ∷ [])
-    ≡ sets true ∷ jumps_if false 4 ∷ acts keep_leaf 1 ∷ jumps 9 ∷ sets false ∷ jumps_if false 8 ∷ acts discard_leaf 2 ∷ jumps 9 ∷ stops ∷ []
+    ≡ sets true ∷ jumps_if false 4 ∷ acts (keep_leaf None) 1 ∷ jumps 9 ∷ sets false ∷ jumps_if false 8 ∷ acts discard_leaf 2 ∷ jumps 9 ∷ stops ∷ []
 unfolding placed nodes_before node_before block_before test_before tests_before list_before first_before command_named test_named
 with_else_row = refl
 
@@ -115,14 +116,14 @@ unfolding placed nodes_before node_before block_before test_before tests_before 
 empty_blocks_row = refl
 
 -- stop; keep;
-behind_stop_row : code_of (stop_at 1 ∷ keep_at 2 ∷ []) ≡ stops ∷ acts keep_leaf 2 ∷ []
+behind_stop_row : code_of (stop_at 1 ∷ keep_at 2 ∷ []) ≡ stops ∷ acts (keep_leaf None) 2 ∷ []
 unfolding placed nodes_before node_before block_before command_named
 behind_stop_row = refl
 
 -- WALKS
 
 abbrev worked_walk : Walk
-worked_walk = asked list_ask (acted keep_leaf 2 at_end) (asked (over_ask 1048576) (acted keep_leaf 2 at_end) (acted discard_leaf 4 at_end))
+worked_walk = asked list_ask (acted (keep_leaf None) 2 at_end) (asked (over_ask 1048576) (acted (keep_leaf None) 2 at_end) (acted discard_leaf 4 at_end))
 
 worked_code_row : code_walk worked_code 7 ≡ worked_walk
 unfolding walk_from
@@ -133,15 +134,15 @@ unfolding commands_walk condition_walk chain_of script.node_before block_command
 worked_tree_row = refl
 
 -- five operations are too few on the longest way alone
-cut_row : code_walk worked_code 5 ≡ asked list_ask (acted keep_leaf 2 at_end) (asked (over_ask 1048576) (acted keep_leaf 2 cut_off) (acted discard_leaf 4 at_end))
+cut_row : code_walk worked_code 5 ≡ asked list_ask (acted (keep_leaf None) 2 at_end) (asked (over_ask 1048576) (acted (keep_leaf None) 2 cut_off) (acted discard_leaf 4 at_end))
 unfolding walk_from
 cut_row = refl
 
-stop_row : code_walk (stops ∷ acts keep_leaf 2 ∷ []) 2 ≡ by_stop
+stop_row : code_walk (stops ∷ acts (keep_leaf None) 2 ∷ []) 2 ≡ by_stop
 unfolding walk_from
 stop_row = refl
 
-answers_row : gone worked_walk (false ∷ true ∷ true ∷ []) ≡ record { met = met_ask list_ask ∷ met_ask (over_ask 1048576) ∷ met_leaf keep_leaf 2 ∷ []; ending = ended }
+answers_row : gone worked_walk (false ∷ true ∷ true ∷ []) ≡ record { met = met_ask list_ask ∷ met_ask (over_ask 1048576) ∷ met_leaf (keep_leaf None) 2 ∷ []; ending = ended }
 unfolding gone
 answers_row = refl
 
@@ -163,8 +164,8 @@ size_line_row : line_text 2 (asks (over_ask 1048576)) ≡ codes "2: size over 10
 unfolding line_text operation_text digits ask_text
 size_line_row = refl
 
-keep_line_row : line_text 4 (acts keep_leaf 2) ≡ codes "4: keep internal @2\n"
-unfolding line_text operation_text digits
+keep_line_row : line_text 4 (acts (keep_leaf None) 2) ≡ codes "4: keep internal @2\n"
+unfolding line_text operation_text digits worded_flags stored_flags
 keep_line_row = refl
 
 discard_line_row : line_text 6 (acts discard_leaf 4) ≡ codes "6: discard @4\n"
@@ -201,6 +202,32 @@ redirect_line_row : line_text 2 (acts (redirect_leaf (one_text (codes "a@b.examp
 unfolding line_text operation_text digits worded_text string_text quoted
 redirect_line_row = refl
 
-fileinto_line_row : line_text 6 (acts (fileinto_leaf (one_text (codes "A"))) 3) ≡ codes "6: fileinto \"A\" internal @3\n"
-unfolding line_text operation_text digits worded_text string_text quoted
+fileinto_line_row : line_text 6 (acts (fileinto_leaf (one_text (codes "A")) None) 3) ≡ codes "6: fileinto \"A\" internal @3\n"
+unfolding line_text operation_text digits worded_text stored_flags string_text quoted
 fileinto_line_row = refl
+
+keep_flags_line_row : line_text 0 (acts (keep_leaf (Some (one_text (codes "d") ∷ []))) 2) ≡ codes "0: keep flags [\"d\"] @2\n"
+unfolding line_text operation_text digits worded_flags stored_flags list_text string_text quoted
+keep_flags_line_row = refl
+
+fileinto_flags_line_row : line_text 0 (acts (fileinto_leaf (one_text (codes "A")) (Some (one_text (codes "e") ∷ []))) 2) ≡ codes "0: fileinto \"A\" flags [\"e\"] @2\n"
+unfolding line_text operation_text digits worded_text stored_flags list_text string_text quoted
+fileinto_flags_line_row = refl
+
+-- setflag "F" ["a", "b"];
+setflag_line_row : line_text 0 (acts (flag_leaf Set (Some (codes "f")) (one_text (codes "a") ∷ one_text (codes "b") ∷ [])) 2) ≡ codes "0: setflag local(f) [\"a\", \"b\"] @2\n"
+unfolding line_text operation_text digits changing_words list_text string_text quoted
+setflag_line_row = refl
+
+addflag_line_row : line_text 1 (acts (flag_leaf Add None (one_text (codes "c") ∷ [])) 2) ≡ codes "1: addflag internal [\"c\"] @2\n"
+unfolding line_text operation_text digits changing_words list_text string_text quoted
+addflag_line_row = refl
+
+-- hasflag :contains ["f", "G"] "a"
+variables_line_row : line_text 0 (asks (compares (flag_values (Some ((local_part (codes "f") ∷ []) ∷ (local_part (codes "g") ∷ []) ∷ []))) Contains Casemap (one_text (codes "a") ∷ []))) ≡ codes "0: hasflag contains casemap [local(f), local(g)] [\"a\"]\n"
+unfolding line_text operation_text digits ask_text comparing_words flag_lists internal_list further_list list_text string_text quoted
+variables_line_row = refl
+
+internal_line_row : line_text 0 (asks (compares (flag_values None) Is Casemap (one_text (codes "a") ∷ []))) ≡ codes "0: hasflag is casemap internal [\"a\"]\n"
+unfolding line_text operation_text digits ask_text comparing_words flag_lists internal_list further_list list_text string_text quoted
+internal_line_row = refl

@@ -6,7 +6,9 @@ use Rattle.match_text.specs.declared.comparators.Collation.TheVariants.{Octet, C
 use Rattle.sieve_base.specs.Writers.{quoted}
 use Rattle.message_text.specs.declared.addressing.AddressPart.{AddressPart}
 use Rattle.message_text.specs.declared.addressing.AddressPart.TheVariants as address_part
-use Rattle.sieve_check.specs.Reading.{header_values, address_values, envelope_values, string_values, Ask, compares, exists_ask, over_ask, under_ask, Leaf, keep_leaf, fileinto_leaf, redirect_leaf, discard_leaf, set_leaf}
+use Rattle.sieve_check.specs.Reading.{header_values, address_values, envelope_values, string_values, flag_values, Ask, compares, exists_ask, over_ask, under_ask, Leaf, keep_leaf, fileinto_leaf, redirect_leaf, discard_leaf, set_leaf, flag_leaf}
+use Rattle.sieve_check.specs.declared.reading.FlagChange.{FlagChange}
+use Rattle.sieve_check.specs.declared.reading.FlagChange.TheVariants as change
 use Rattle.sieve_check.specs.declared.reading.MatchType.{MatchType}
 use Rattle.sieve_check.specs.declared.reading.MatchType.TheVariants.{Is, Contains, Matches}
 use Rattle.sieve_variables.specs.Part.{Part, literal, local_part, match_part}
@@ -64,11 +66,21 @@ further_list strings = codes " " ++ list_text strings
 unfoldable pub two_lists : List (List Part) → List (List Part) → List ℕ
 two_lists names keys = further_list names ++ further_list keys
 
+-- the flags of the variables that are named, or the internal ones
+unfoldable pub internal_list : Option (List (List Part)) → List ℕ
+internal_list None = codes " internal"
+internal_list (Some variables) = further_list variables
+
+-- the flags and the keys of a `hasflag`
+unfoldable pub flag_lists : Option (List (List Part)) → List (List Part) → List ℕ
+flag_lists variables keys = internal_list variables ++ further_list keys
+
 unfoldable pub ask_text : Ask → List ℕ
 ask_text (compares (header_values names) match_type collation keys) = comparing_words (codes "header") match_type collation ++ two_lists names keys
 ask_text (compares (address_values part names) match_type collation keys) = address_words (codes "address") match_type collation part ++ two_lists names keys
 ask_text (compares (envelope_values part names) match_type collation keys) = address_words (codes "envelope") match_type collation part ++ two_lists names keys
 ask_text (compares (string_values texts) match_type collation keys) = comparing_words (codes "string") match_type collation ++ two_lists texts keys
+ask_text (compares (flag_values variables) match_type collation keys) = comparing_words (codes "hasflag") match_type collation ++ flag_lists variables keys
 ask_text (exists_ask names) = codes "exists " ++ list_text names
 ask_text (over_ask limit) = codes "size over " ++ decimal limit
 ask_text (under_ask limit) = codes "size under " ++ decimal limit
@@ -76,6 +88,15 @@ ask_text (under_ask limit) = codes "size under " ++ decimal limit
 -- a string behind a command's word
 unfoldable pub worded_text : List ℕ → List Part → List ℕ
 worded_text word string = word ++ string_text string
+
+-- the flags of what is stored: those that are named, or the internal ones
+unfoldable pub stored_flags : Option (List (List Part)) → List ℕ
+stored_flags None = codes " internal"
+stored_flags (Some flags) = codes " flags " ++ list_text flags
+
+-- these behind a command's word
+unfoldable pub worded_flags : List ℕ → Option (List (List Part)) → List ℕ
+worded_flags word flags = word ++ stored_flags flags
 
 -- the words of modifiers, those of higher precedence first
 abbrev pub case_word : Option LetterCase → List ℕ
@@ -96,12 +117,23 @@ given_word true word = word
 unfoldable pub set_words : List ℕ → Modifiers → List ℕ
 set_words name modifiers = codes "set local(" ++ name ++ codes ")" ++ case_word modifiers.letter_case ++ first_word modifiers.first_letter ++ given_word modifiers.quote_wildcard (codes " quotewildcard") ++ given_word modifiers.length (codes " length") ++ codes " "
 
+abbrev pub change_word : FlagChange → List ℕ
+change_word change.Set = codes "setflag"
+change_word change.Add = codes "addflag"
+change_word change.Remove = codes "removeflag"
+
+-- what changes flags: those of a variable, or the internal ones
+unfoldable pub changing_words : FlagChange → Option (List ℕ) → List ℕ
+changing_words how None = change_word how ++ codes " internal "
+changing_words how (Some name) = change_word how ++ codes " local(" ++ name ++ codes ") "
+
 abbrev pub leaf_text : Leaf → List ℕ
-leaf_text keep_leaf = codes "keep internal"
-leaf_text (fileinto_leaf mailbox) = worded_text (codes "fileinto ") mailbox ++ codes " internal"
+leaf_text (keep_leaf flags) = worded_flags (codes "keep") flags
+leaf_text (fileinto_leaf mailbox flags) = worded_text (codes "fileinto ") mailbox ++ stored_flags flags
 leaf_text (redirect_leaf address) = worded_text (codes "redirect ") address
 leaf_text discard_leaf = codes "discard"
 leaf_text (set_leaf name modifiers value) = worded_text (set_words name modifiers) value
+leaf_text (flag_leaf how variable flags) = changing_words how variable ++ list_text flags
 
 unfoldable pub operation_text : Operation → List ℕ
 operation_text (sets true) = codes "true"

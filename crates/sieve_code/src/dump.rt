@@ -1,18 +1,19 @@
 //! The lines of a dump.
 ghost use Rattle.std.specs.Prelude.{◌≡◌, ◌++◌, codes, decimal, map, OnOk, OnErr};
 ghost use Rattle.std.specs.List.{flat_map};
+ghost use Rattle.std.specs.Option.{option_map};
 ghost use Rattle.sieve_base.specs.Writers.{Wrote, WroteFront};
-ghost use Rattle.sieve_code.specs.Dump.{address_part_word, address_words, case_word, collation_word, comparing_words, first_word, further_list, given_word, line_text, list_text, match_word, operation_text, part_text, separated, set_words, string_text, two_lists, worded_text};
+ghost use Rattle.sieve_code.specs.Dump.{address_part_word, address_words, case_word, change_word, changing_words, collation_word, comparing_words, first_word, flag_lists, further_list, given_word, internal_list, line_text, list_text, match_word, operation_text, part_text, separated, set_words, stored_flags, string_text, two_lists, worded_flags, worded_text};
 ghost use Rattle.sieve_code.specs.view.Marked.{marked_part, marked_string};
-ghost use Rattle.sieve_code.specs.view.Op.{op_as};
+ghost use Rattle.sieve_code.specs.view.Op.{given_strings, op_as};
 ghost use Rattle.sieve_variables.specs.view.Part.{part_of, strings_of};
 
 use crate::op::Op;
 use match_text::Collation;
 use message_text::AddressPart;
 use sieve_base::{Piece, Sink, WriteFault, write_out, write_pieces};
-use sieve_check::MatchType;
-use sieve_variables::{LetterCase, Modifiers, Part, Parts};
+use sieve_check::{FlagChange, MatchType};
+use sieve_variables::{LetterCase, Modifiers, Part, Parts, SmallOctets};
 
 /// The word of a match type.
 fn match_word(match_type: MatchType) -> &'static [u8]
@@ -204,6 +205,51 @@ fn write_lists<W: Sink>(names: &[Parts], keys: &[Parts], writer: &mut W) -> Resu
     write_further_list(keys, writer)
 }
 
+/// Writes the variables whose flags a test looks at, or that these are the internal ones.
+#[tactic(auto, unfolding(crate::specs::Dump::internal_list))]
+fn write_internal_list<W: Sink>(
+    variables: &Option<Vec<Parts>>,
+    writer: &mut W,
+) -> Result<(), WriteFault>
+    ensures ok { OnOk result (Wrote W.contents W.fault_count writer.old writer.new (internal_list (given_strings variables.now))) }
+    ensures err { OnErr result (WroteFront W.contents W.fault_count writer.old writer.new (internal_list (given_strings variables.now))) }
+{
+    match variables {
+        Some(variables) => write_further_list(variables, writer),
+        None => write_out(b" internal", writer),
+    }
+}
+
+/// Writes the flags and the keys of a `hasflag`.
+#[tactic(auto, using(sieve_base::proofs::Writing::writing), unfolding(crate::specs::Dump::flag_lists))]
+fn write_flag_lists<W: Sink>(
+    variables: &Option<Vec<Parts>>,
+    keys: &[Parts],
+    writer: &mut W,
+) -> Result<(), WriteFault>
+    ensures ok { OnOk result (Wrote W.contents W.fault_count writer.old writer.new (flag_lists (given_strings variables.now) (strings_of keys.now))) }
+    ensures err { OnErr result (WroteFront W.contents W.fault_count writer.old writer.new (flag_lists (given_strings variables.now) (strings_of keys.now))) }
+{
+    write_internal_list(variables, writer)?;
+    write_further_list(keys, writer)
+}
+
+/// Writes a `hasflag`.
+#[tactic(auto, using(sieve_base::proofs::Writing::writing))]
+fn write_hasflag<W: Sink>(
+    match_type: MatchType,
+    collation: Collation,
+    variables: &Option<Vec<Parts>>,
+    keys: &[Parts],
+    writer: &mut W,
+) -> Result<(), WriteFault>
+    ensures ok { OnOk result (Wrote W.contents W.fault_count writer.old writer.new (comparing_words (codes "hasflag") match_type collation ++ flag_lists (given_strings variables.now) (strings_of keys.now))) }
+    ensures err { OnErr result (WroteFront W.contents W.fault_count writer.old writer.new (comparing_words (codes "hasflag") match_type collation ++ flag_lists (given_strings variables.now) (strings_of keys.now))) }
+{
+    write_comparing(b"hasflag", match_type, collation, writer)?;
+    write_flag_lists(variables, keys, writer)
+}
+
 /// Writes a test of this name that compares values with keys.
 #[tactic(auto, using(sieve_base::proofs::Writing::writing))]
 fn write_test<W: Sink>(
@@ -248,14 +294,59 @@ fn write_worded<W: Sink>(word: &[u8], string: &[Part], writer: &mut W) -> Result
     write_string(word, string, writer)
 }
 
+/// Writes the flags of what is stored: those that are named, or that these are the internal ones.
+#[tactic(auto, unfolding(crate::specs::Dump::stored_flags))]
+fn write_stored_flags<W: Sink>(flags: &Option<Vec<Parts>>, writer: &mut W) -> Result<(), WriteFault>
+    ensures ok { OnOk result (Wrote W.contents W.fault_count writer.old writer.new (stored_flags (given_strings flags.now))) }
+    ensures err { OnErr result (WroteFront W.contents W.fault_count writer.old writer.new (stored_flags (given_strings flags.now))) }
+{
+    match flags {
+        Some(flags) => write_list(b" flags ", flags, writer),
+        None => write_out(b" internal", writer),
+    }
+}
+
+/// Writes a command's word and then the flags of what is stored.
+#[tactic(auto, using(sieve_base::proofs::Writing::writing), unfolding(crate::specs::Dump::worded_flags))]
+fn write_worded_flags<W: Sink>(
+    word: &[u8],
+    flags: &Option<Vec<Parts>>,
+    writer: &mut W,
+) -> Result<(), WriteFault>
+    ensures ok { OnOk result (Wrote W.contents W.fault_count writer.old writer.new (worded_flags word.now (given_strings flags.now))) }
+    ensures err { OnErr result (WroteFront W.contents W.fault_count writer.old writer.new (worded_flags word.now (given_strings flags.now))) }
+{
+    write_out(word, writer)?;
+    write_stored_flags(flags, writer)
+}
+
+/// Writes a `keep`.
+#[tactic(auto, using(sieve_base::proofs::Writing::writing))]
+fn write_keep<W: Sink>(
+    flags: &Option<Vec<Parts>>,
+    line: u64,
+    writer: &mut W,
+) -> Result<(), WriteFault>
+    ensures ok { OnOk result (Wrote W.contents W.fault_count writer.old writer.new (worded_flags (codes "keep") (given_strings flags.now) ++ (codes " @" ++ decimal line))) }
+    ensures err { OnErr result (WroteFront W.contents W.fault_count writer.old writer.new (worded_flags (codes "keep") (given_strings flags.now) ++ (codes " @" ++ decimal line))) }
+{
+    write_worded_flags(b"keep", flags, writer)?;
+    write_number(b" @", line, writer)
+}
+
 /// Writes a `fileinto`.
 #[tactic(auto, using(sieve_base::proofs::Writing::writing))]
-fn write_fileinto<W: Sink>(mailbox: &[Part], line: u64, writer: &mut W) -> Result<(), WriteFault>
-    ensures ok { OnOk result (Wrote W.contents W.fault_count writer.old writer.new (worded_text (codes "fileinto ") (map part_of mailbox.now) ++ codes " internal" ++ (codes " @" ++ decimal line))) }
-    ensures err { OnErr result (WroteFront W.contents W.fault_count writer.old writer.new (worded_text (codes "fileinto ") (map part_of mailbox.now) ++ codes " internal" ++ (codes " @" ++ decimal line))) }
+fn write_fileinto<W: Sink>(
+    mailbox: &[Part],
+    flags: &Option<Vec<Parts>>,
+    line: u64,
+    writer: &mut W,
+) -> Result<(), WriteFault>
+    ensures ok { OnOk result (Wrote W.contents W.fault_count writer.old writer.new (worded_text (codes "fileinto ") (map part_of mailbox.now) ++ stored_flags (given_strings flags.now) ++ (codes " @" ++ decimal line))) }
+    ensures err { OnErr result (WroteFront W.contents W.fault_count writer.old writer.new (worded_text (codes "fileinto ") (map part_of mailbox.now) ++ stored_flags (given_strings flags.now) ++ (codes " @" ++ decimal line))) }
 {
     write_worded(b"fileinto ", mailbox, writer)?;
-    write_out(b" internal", writer)?;
+    write_stored_flags(flags, writer)?;
     write_number(b" @", line, writer)
 }
 
@@ -340,6 +431,59 @@ fn write_set<W: Sink>(
     write_number(b" @", line, writer)
 }
 
+/// The word of a command that changes flags.
+fn change_word(change: FlagChange) -> &'static [u8]
+    ensures { result.now ≡ change_word change }
+{
+    match change {
+        FlagChange::Set => b"setflag",
+        FlagChange::Add => b"addflag",
+        FlagChange::Remove => b"removeflag",
+    }
+}
+
+/// Writes whose flags a command changes.
+#[tactic(auto, unfolding(crate::specs::Dump::changing_words))]
+fn write_changing_words<W: Sink>(
+    change: FlagChange,
+    variable: &Option<SmallOctets>,
+    writer: &mut W,
+) -> Result<(), WriteFault>
+    ensures ok { OnOk result (Wrote W.contents W.fault_count writer.old writer.new (changing_words change (option_map (λ name. name.items) variable.now))) }
+    ensures err { OnErr result (WroteFront W.contents W.fault_count writer.old writer.new (changing_words change (option_map (λ name. name.items) variable.now))) }
+{
+    let word = change_word(change);
+    match variable {
+        Some(name) => write_pieces(
+            &[
+                Piece::Raw(word),
+                Piece::Raw(b" local("),
+                Piece::Raw(name),
+                Piece::Raw(b") "),
+            ],
+            writer,
+        ),
+        None => write_pieces(&[Piece::Raw(word), Piece::Raw(b" internal ")], writer),
+    }
+}
+
+/// Writes a command that changes flags.
+#[tactic(auto, using(sieve_base::proofs::Writing::writing))]
+fn write_flags<W: Sink>(
+    change: FlagChange,
+    variable: &Option<SmallOctets>,
+    flags: &[Parts],
+    line: u64,
+    writer: &mut W,
+) -> Result<(), WriteFault>
+    ensures ok { OnOk result (Wrote W.contents W.fault_count writer.old writer.new (changing_words change (option_map (λ name. name.items) variable.now) ++ list_text (strings_of flags.now) ++ (codes " @" ++ decimal line))) }
+    ensures err { OnErr result (WroteFront W.contents W.fault_count writer.old writer.new (changing_words change (option_map (λ name. name.items) variable.now) ++ list_text (strings_of flags.now) ++ (codes " @" ++ decimal line))) }
+{
+    write_changing_words(change, variable, writer)?;
+    write_list(b"", flags, writer)?;
+    write_number(b" @", line, writer)
+}
+
 /// Writes an operation.
 #[tactic(auto, unfolding(crate::specs::Dump::operation_text, crate::specs::Dump::ask_text))]
 fn write_op<W: Sink>(op: &Op, writer: &mut W) -> Result<(), WriteFault>
@@ -362,6 +506,12 @@ fn write_op<W: Sink>(op: &Op, writer: &mut W) -> Result<(), WriteFault>
             texts,
             keys,
         } => write_test(b"string", *match_type, *collation, texts, keys, writer),
+        Op::HasFlag {
+            match_type,
+            collation,
+            variables,
+            keys,
+        } => write_hasflag(*match_type, *collation, variables, keys, writer),
         Op::Address {
             match_type,
             collation,
@@ -398,8 +548,12 @@ fn write_op<W: Sink>(op: &Op, writer: &mut W) -> Result<(), WriteFault>
         Op::Jump(target) => write_number(b"jump ", *target as u64, writer),
         Op::JumpIfFalse(target) => write_number(b"jump-if-false ", *target as u64, writer),
         Op::JumpIfTrue(target) => write_number(b"jump-if-true ", *target as u64, writer),
-        Op::Keep(line) => write_number(b"keep internal @", *line, writer),
-        Op::Fileinto { mailbox, line } => write_fileinto(mailbox, *line, writer),
+        Op::Keep { flags, line } => write_keep(flags, *line, writer),
+        Op::Fileinto {
+            mailbox,
+            flags,
+            line,
+        } => write_fileinto(mailbox, flags, *line, writer),
         Op::Redirect { address, line } => write_redirect(address, *line, writer),
         Op::Discard(line) => write_number(b"discard @", *line, writer),
         Op::Set {
@@ -408,6 +562,12 @@ fn write_op<W: Sink>(op: &Op, writer: &mut W) -> Result<(), WriteFault>
             value,
             line,
         } => write_set(name, *modifiers, value, *line, writer),
+        Op::Flags {
+            change,
+            variable,
+            flags,
+            line,
+        } => write_flags(*change, variable, flags, *line, writer),
         Op::Stop => write_out(b"stop", writer),
     }
 }

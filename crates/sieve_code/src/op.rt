@@ -2,7 +2,7 @@
 
 use match_text::Collation;
 use message_text::AddressPart;
-use sieve_check::MatchType;
+use sieve_check::{FlagChange, MatchType};
 use sieve_variables::{Modifiers, Parts, SmallOctets};
 
 /// An operation. Code has one truth register, which tests set. A string is its parts in order.
@@ -62,6 +62,17 @@ pub enum Op {
         /// The keys.
         keys: Vec<Parts>,
     },
+    /// Whether some flag matches some key (RFC 5232, section 4).
+    HasFlag {
+        /// How a flag is compared with a key.
+        match_type: MatchType,
+        /// Which octets are equal.
+        collation: Collation,
+        /// The variables that hold the flags, each by its name; the internal flags where none are named.
+        variables: Option<Vec<Parts>>,
+        /// The keys.
+        keys: Vec<Parts>,
+    },
     /// Whether all named fields are there (RFC 5228, section 5.5).
     Exists {
         /// The names of fields.
@@ -77,16 +88,23 @@ pub enum Op {
     JumpIfFalse(usize),
     /// Goes on there where the register is true, and else behind this operation.
     JumpIfTrue(usize),
-    /// Stores into the mailbox of the delivery (RFC 5228, section 4.3), with the command's line.
-    Keep(u64),
-    /// Stores into the mailbox of that name (RFC 5228, section 4.1), with the command's line.
-    Fileinto {
-        /// The name.
-        mailbox: Parts,
+    /// Stores into the mailbox of the delivery (RFC 5228, section 4.3).
+    Keep {
+        /// Its flags, where they are named (RFC 5232, section 5).
+        flags: Option<Vec<Parts>>,
         /// The command's line.
         line: u64,
     },
-    /// Sends the message on to that address (RFC 5228, section 4.2), with the command's line.
+    /// Stores into the mailbox of that name (RFC 5228, section 4.1).
+    Fileinto {
+        /// The name.
+        mailbox: Parts,
+        /// Its flags, where they are named (RFC 5232, section 5).
+        flags: Option<Vec<Parts>>,
+        /// The command's line.
+        line: u64,
+    },
+    /// Sends the message on to that address (RFC 5228, section 4.2).
     Redirect {
         /// The address.
         address: Parts,
@@ -103,6 +121,17 @@ pub enum Op {
         modifiers: Modifiers,
         /// The value.
         value: Parts,
+        /// The command's line.
+        line: u64,
+    },
+    /// Changes flags (RFC 5232, section 3).
+    Flags {
+        /// How it changes them.
+        change: FlagChange,
+        /// The variable that holds them, by its name in lower case; the internal flags where none is named.
+        variable: Option<SmallOctets>,
+        /// The flags that are named.
+        flags: Vec<Parts>,
         /// The command's line.
         line: u64,
     },

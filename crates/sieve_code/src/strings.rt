@@ -1,10 +1,11 @@
 //! Copies of the strings of tests, and the operations of tests and commands that stand alone.
 ghost use Rattle.std.specs.Prelude.{◌≡◌, map, IfOk};
+ghost use Rattle.std.specs.Option.{option_map};
 ghost use Rattle.sieve_check.specs.Reading.{compares};
 ghost use Rattle.sieve_check.specs.view.Reading.{ask_as, leaf_as, source_as, texts_as};
 ghost use Rattle.sieve_check.specs.view.Tree.{text_of};
 ghost use Rattle.sieve_code.specs.Operation.{asks, acts};
-ghost use Rattle.sieve_code.specs.view.Op.{op_as, parts_of};
+ghost use Rattle.sieve_code.specs.view.Op.{given_strings, op_as, parts_of};
 ghost use Rattle.sieve_variables.specs.view.Part.{part_of, strings_of};
 
 use crate::op::Op;
@@ -46,6 +47,26 @@ fn copied_strings(alloc: Global, texts: &[Text]) -> Result<Vec<Parts>, AllocErro
     Ok(copies)
 }
 
+/// Copies of the parts of strings that may be left out.
+fn given_strings(alloc: Global, texts: Option<&[Text]>) -> Result<Option<Vec<Parts>>, AllocError>
+    ensures { IfOk result (λ copies. given_strings copies ≡ option_map (λ given. texts_as given.now) texts.entry) }
+{
+    match texts {
+        Some(texts) => Ok(Some(copied_strings(alloc, texts)?)),
+        None => Ok(None),
+    }
+}
+
+/// A copy of the name of a variable that may be left out.
+fn given_name(alloc: Global, name: Option<&[u8]>) -> Result<Option<SmallOctets>, AllocError>
+    ensures { IfOk result (λ copy. option_map (λ octets. octets.items) copy ≡ option_map (λ octets. octets.now) name.entry) }
+{
+    match name {
+        Some(name) => Ok(Some(SmallOctets::from_slice(alloc, name)?)),
+        None => Ok(None),
+    }
+}
+
 /// The operation that compares values with keys.
 fn comparing_op(
     alloc: Global,
@@ -83,6 +104,12 @@ fn comparing_op(
             texts: copied_strings(alloc, texts)?,
             keys,
         }),
+        Source::Flags { variables } => Ok(Op::HasFlag {
+            match_type,
+            collation,
+            variables: given_strings(alloc, *variables)?,
+            keys,
+        }),
     }
 }
 
@@ -113,11 +140,15 @@ pub(crate) fn leaf_op(alloc: Global, leaf: Leaf<'_>, line: u64) -> Result<Op, Al
     ensures { IfOk result (λ op. op_as op ≡ acts (leaf_as leaf.entry) line) }
 {
     match leaf {
-        Leaf::Keep => Ok(Op::Keep(line)),
-        Leaf::Fileinto { mailbox } => {
-            let mailbox = copied_parts(alloc, mailbox)?;
-            Ok(Op::Fileinto { mailbox, line })
+        Leaf::Keep { flags } => {
+            let flags = given_strings(alloc, flags)?;
+            Ok(Op::Keep { flags, line })
         }
+        Leaf::Fileinto { mailbox, flags } => Ok(Op::Fileinto {
+            mailbox: copied_parts(alloc, mailbox)?,
+            flags: given_strings(alloc, flags)?,
+            line,
+        }),
         Leaf::Redirect { address } => {
             let address = copied_parts(alloc, address)?;
             Ok(Op::Redirect { address, line })
@@ -131,6 +162,16 @@ pub(crate) fn leaf_op(alloc: Global, leaf: Leaf<'_>, line: u64) -> Result<Op, Al
             name: SmallOctets::from_slice(alloc, name)?,
             modifiers,
             value: copied_parts(alloc, value)?,
+            line,
+        }),
+        Leaf::Flags {
+            change,
+            variable,
+            flags,
+        } => Ok(Op::Flags {
+            change,
+            variable: given_name(alloc, variable)?,
+            flags: copied_strings(alloc, flags)?,
             line,
         }),
     }

@@ -4,7 +4,8 @@ use Rattle.std.specs.Prelude.{if◌then◌else◌}
 use Rattle.message_text.specs.Addresses.{addresses_of}
 use Rattle.sieve_check.specs.Reading.{fileinto_leaf, redirect_leaf}
 use Rattle.sieve_run.specs.Delivery.{Delivery}
-use Rattle.sieve_run.specs.Run.{RunState, Ending, act_of, fails_at, is_mailbox, only_address, performs, redirects}
+use Rattle.sieve_run.specs.Run.{Ending, act_of, fails_at, is_mailbox, only_address, performs, redirects, stored_flags}
+use Rattle.sieve_run.specs.State.{RunState}
 use Rattle.sieve_run.specs.declared.outcome.Action.TheVariants.{Store, Redirect}
 use Rattle.sieve_run.specs.declared.outcome.ErrorKind.TheVariants.{BadAddress, BadMailbox}
 use Rattle.sieve_run.specs.view.Acting.{mailbox_named}
@@ -12,22 +13,23 @@ use Rattle.sieve_variables.specs.Part.{Part}
 use Rattle.sieve_variables.specs.Value.{text_value}
 
 module _ (delivery : Delivery) (line : ℕ) (state : RunState) where
-  by_name : (named : Bool) (name other : List ℕ) → Some other ≡ (if named then Some name else None) → performs delivery line (Store other) state ≡ (if named then performs delivery line (Store name) state else fails_at delivery line BadMailbox state)
-  by_name true name other is = ap (λ o. performs delivery line (Store o) state) (one_of other name is)
+  by_name : (flags : List (List ℕ)) (named : Bool) (name other : List ℕ) → Some other ≡ (if named then Some name else None) → performs delivery line (Store other flags) state ≡ (if named then performs delivery line (Store name flags) state else fails_at delivery line BadMailbox state)
+  by_name flags true name other is = ap (λ o. performs delivery line (Store o flags) state) (one_of other name is)
     where
       one_of : (a b : List ℕ) → Some a ≡ Some b → a ≡ b
       one_of a b e = cc
-  by_name false name other is = cc
+  by_name flags false name other is = cc
 
-  by_none : (named : Bool) (name : List ℕ) → None ≡ (if named then Some name else None) → fails_at delivery line BadMailbox state ≡ (if named then performs delivery line (Store name) state else fails_at delivery line BadMailbox state)
-  by_none true name is = cc
-  by_none false name is = refl
+  by_none : (flags : List (List ℕ)) (named : Bool) (name : List ℕ) → None ≡ (if named then Some name else None) → fails_at delivery line BadMailbox state ≡ (if named then performs delivery line (Store name flags) state else fails_at delivery line BadMailbox state)
+  by_none flags true name is = cc
+  by_none flags false name is = refl
 
-  pub files_into : (mailbox : List Part) (name : List ℕ) (ending : Ending) → Some name ≡ mailbox_named state.values mailbox → ending ≡ performs delivery line (Store name) state → ending ≡ act_of delivery (fileinto_leaf mailbox) line state
-  files_into mailbox name ending is does = does ∙ by_name (is_mailbox (text_value state.values mailbox)) (text_value state.values mailbox) name is
+  pub files_into : (mailbox : List Part) (texts : Option (List (List Part))) (name : List ℕ) (flags : List (List ℕ)) (ending : Ending) → Some name ≡ mailbox_named state.values mailbox → flags ≡ stored_flags state texts → ending ≡ performs delivery line (Store name flags) state → ending ≡ act_of delivery (fileinto_leaf mailbox texts) line state
+  files_into mailbox texts name flags ending is has does =
+      does ∙ ap (λ f. performs delivery line (Store name f) state) has ∙ by_name (stored_flags state texts) (is_mailbox (text_value state.values mailbox)) (text_value state.values mailbox) name is
 
-  pub files_nowhere : (mailbox : List Part) → None ≡ mailbox_named state.values mailbox → fails_at delivery line BadMailbox state ≡ act_of delivery (fileinto_leaf mailbox) line state
-  files_nowhere mailbox is = by_none (is_mailbox (text_value state.values mailbox)) (text_value state.values mailbox) is
+  pub files_nowhere : (mailbox : List Part) (texts : Option (List (List Part))) → None ≡ mailbox_named state.values mailbox → fails_at delivery line BadMailbox state ≡ act_of delivery (fileinto_leaf mailbox texts) line state
+  files_nowhere mailbox texts is = by_none (stored_flags state texts) (is_mailbox (text_value state.values mailbox)) (text_value state.values mailbox) is
 
   pub sends_to : (address : List Part) (octets : List ℕ) (ending : Ending) → Some octets ≡ only_address (addresses_of (text_value state.values address)) → ending ≡ performs delivery line (Redirect octets) state → ending ≡ act_of delivery (redirect_leaf address) line state
   sends_to address octets ending is does = does ∙ ap (λ o. redirects delivery line o state) is

@@ -11,7 +11,8 @@ use Rattle.sieve_run.specs.Perform.{answers_after, answers_of, chosen_answers, d
 use Rattle.sieve_run.specs.declared.envelope.Envelope.{Envelope}
 use Rattle.sieve_run.specs.declared.name.ScriptName.{ScriptName}
 use Rattle.sieve_run.specs.view.Step.{doing}
-use Rattle.sieve_run.specs.Run.{RunState, Ending, Answer, goes_on, stopped, failed, also, or_else, act_of, and_then, answer_of, begun, chosen, decide, exec, verdict_at, verdict_of}
+use Rattle.sieve_run.specs.Run.{Ending, Answer, goes_on, stopped, failed, also, or_else, act_of, and_then, answer_of, begun, chosen, decide, exec, verdict_at, verdict_of}
+use Rattle.sieve_run.specs.State.{RunState}
 
 module _ (ask : Ask → RunState → Answer) (act : Leaf → ℕ → RunState → Ending) where
   -- TESTS

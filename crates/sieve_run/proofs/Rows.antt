@@ -3,7 +3,7 @@ use Rattle.std.proofs.Common.{◌≡◌, ℕ, Bool, true, false, List, [], ◌�
 use Rattle.match_text.specs.declared.comparators.Collation.{Collation}
 use Rattle.match_text.specs.declared.comparators.Collation.TheVariants.{Octet, Casemap}
 use Rattle.message_text.specs.Fields.{fields_of, field_groups}
-use Rattle.sieve_check.specs.Reading.{Ask, header_values, address_values, envelope_values, string_values, compares, exists_ask, over_ask, under_ask, keep_leaf, fileinto_leaf, redirect_leaf, discard_leaf, set_leaf}
+use Rattle.sieve_check.specs.Reading.{Ask, header_values, address_values, envelope_values, string_values, flag_values, compares, exists_ask, over_ask, under_ask, keep_leaf, fileinto_leaf, redirect_leaf, discard_leaf, set_leaf, flag_leaf}
 use Rattle.sieve_check.specs.Script.{Condition, always, never, asks, negated, both, either, Commands, no_commands, stops, acts, chooses, chain_of, node_before, block_commands, conditions_in}
 use Rattle.sieve_table.specs.Table.{command_named}
 use Rattle.sieve_variables.specs.Part.{Part, literal, local_part, match_part}
@@ -11,6 +11,7 @@ use Rattle.sieve_variables.specs.Modifier.{modified}
 use Rattle.sieve_variables.specs.Value.{Values, no_values, with_local, with_matched}
 use Rattle.sieve_variables.specs.declared.modifier.Modifiers.{Modifiers}
 use Rattle.sieve_check.specs.Tree.{node, no_tests, no_block}
+use Rattle.sieve_check.specs.declared.reading.FlagChange.TheVariants.{Set, Add, Remove}
 use Rattle.sieve_check.specs.declared.reading.MatchType.{MatchType}
 use Rattle.sieve_check.specs.declared.reading.MatchType.TheVariants.{Is, Contains, Matches}
 use Rattle.sieve_base.specs.declared.place.Place.TheVariants.{Personal}
@@ -20,13 +21,16 @@ use Rattle.message_text.specs.declared.addressing.AddressPart.TheVariants as par
 use Rattle.sieve_table.specs.Address.{is_address_field}
 use Rattle.sieve_run.specs.Delivery.{Delivery}
 use Rattle.sieve_run.specs.Library.{Lookup, missing, invalid, present}
+use Rattle.match_text.specs.Flags.{distinct, flag_keys, flag_keys_of_texts, flag_list, flag_text, flag_union, flags_of_texts, flags_without}
 use Rattle.match_text.specs.Wildcard.{least_fit, matched}
-use Rattle.sieve_run.specs.Matching.{match_found, truth_of, values_behind, values_named, values_of, pairs_of}
-use Rattle.sieve_run.specs.Run.{RunState, Ending, goes_on, stopped, failed, Answer, answer_of, act_of, decide, exec, begun, verdict_at, outcome_of}
+use Rattle.sieve_run.specs.Matching.{keys_of, match_found, truth_of, values_behind, values_named, values_of, pairs_of}
+use Rattle.sieve_run.specs.Run.{Ending, goes_on, stopped, failed, Answer, answer_of, act_of, decide, exec, begun, verdict_at, verdict_of, outcome_of}
+use Rattle.sieve_run.specs.State.{RunState}
 use Rattle.sieve_run.specs.declared.envelope.Envelope.{Envelope}
 use Rattle.sieve_run.specs.declared.name.ScriptName.{ScriptName}
 use Rattle.sieve_run.specs.declared.outcome.Action.{Action}
 use Rattle.sieve_run.specs.declared.outcome.Action.TheVariants.{Store, Redirect, Discard}
+use Rattle.sieve_run.specs.declared.outcome.RunError.{RunError}
 use Rattle.sieve_run.specs.declared.outcome.ErrorKind.TheVariants.{MissingScript, InvalidScript, BadAddress, BadMailbox}
 
 -- DELIVERIES
@@ -62,62 +66,62 @@ abbrev header : MatchType → Collation → List ℕ → List ℕ → Ask
 header match_type collation name key = compares (header_values (text name ∷ [])) match_type collation (text key ∷ [])
 
 -- an absent field contains nothing, not even the empty key
-absent_row : truth_of (delivered (headed (codes "Subject: a"))) no_values (header Contains Casemap (codes "X-None") []) ≡ false
+absent_row : truth_of (delivered (headed (codes "Subject: a"))) (begun main) (header Contains Casemap (codes "X-None") []) ≡ false
 unfolding truth_of match_found fields_of field_groups
 absent_row = refl
 
 -- an empty field contains the empty key
-empty_row : truth_of (delivered (headed (codes "X-None:"))) no_values (header Contains Casemap (codes "X-None") []) ≡ true
+empty_row : truth_of (delivered (headed (codes "X-None:"))) (begun main) (header Contains Casemap (codes "X-None") []) ≡ true
 unfolding truth_of match_found fields_of field_groups
 empty_row = refl
 
 -- i;ascii-casemap ignores the case of a value
-casemap_row : truth_of (delivered (headed (codes "Subject: HELLO"))) no_values (header Is Casemap (codes "subject") (codes "hello")) ≡ true
+casemap_row : truth_of (delivered (headed (codes "Subject: HELLO"))) (begun main) (header Is Casemap (codes "subject") (codes "hello")) ≡ true
 unfolding truth_of match_found fields_of field_groups
 casemap_row = refl
 
 -- i;octet minds it, though names of fields still ignore it
-octet_row : truth_of (delivered (headed (codes "Subject: HELLO"))) no_values (header Is Octet (codes "subject") (codes "hello")) ≡ false
+octet_row : truth_of (delivered (headed (codes "Subject: HELLO"))) (begun main) (header Is Octet (codes "subject") (codes "hello")) ≡ false
 unfolding truth_of match_found fields_of field_groups
 octet_row = refl
 
-octet_same_row : truth_of (delivered (headed (codes "Subject: HELLO"))) no_values (header Is Octet (codes "subject") (codes "HELLO")) ≡ true
+octet_same_row : truth_of (delivered (headed (codes "Subject: HELLO"))) (begun main) (header Is Octet (codes "subject") (codes "HELLO")) ≡ true
 unfolding truth_of match_found fields_of field_groups
 octet_same_row = refl
 
 -- a part of a value is contained, and isn't the value
-is_row : truth_of (delivered (headed (codes "Subject: hello"))) no_values (header Is Casemap (codes "Subject") (codes "ell")) ≡ false
+is_row : truth_of (delivered (headed (codes "Subject: hello"))) (begun main) (header Is Casemap (codes "Subject") (codes "ell")) ≡ false
 unfolding truth_of match_found fields_of field_groups
 is_row = refl
 
-contains_row : truth_of (delivered (headed (codes "Subject: hello"))) no_values (header Contains Casemap (codes "Subject") (codes "ell")) ≡ true
+contains_row : truth_of (delivered (headed (codes "Subject: hello"))) (begun main) (header Contains Casemap (codes "Subject") (codes "ell")) ≡ true
 unfolding truth_of match_found fields_of field_groups
 contains_row = refl
 
 -- all of a value has to match a pattern
-wildcard_row : truth_of (delivered (headed (codes "Subject: hello"))) no_values (header Matches Casemap (codes "Subject") (codes "H*L?")) ≡ true
+wildcard_row : truth_of (delivered (headed (codes "Subject: hello"))) (begun main) (header Matches Casemap (codes "Subject") (codes "H*L?")) ≡ true
 unfolding truth_of match_found matched least_fit fields_of field_groups
 wildcard_row = refl
 
-front_row : truth_of (delivered (headed (codes "Subject: hello"))) no_values (header Matches Casemap (codes "Subject") (codes "H*L")) ≡ false
+front_row : truth_of (delivered (headed (codes "Subject: hello"))) (begun main) (header Matches Casemap (codes "Subject") (codes "H*L")) ≡ false
 unfolding truth_of match_found matched least_fit fields_of field_groups
 front_row = refl
 
 -- what the first pair that matches gives: the value and what each wildcard took; without wildcards nothing
-first_row : match_found (delivered (headed_twice (codes "A: x1") (codes "A: y2"))) no_values (header_values (text (codes "A") ∷ [])) Matches Octet (text (codes "y*") ∷ text (codes "*1") ∷ []) ≡ Some (codes "x1" ∷ codes "x" ∷ [])
+first_row : match_found (delivered (headed_twice (codes "A: x1") (codes "A: y2"))) (begun main) (header_values (text (codes "A") ∷ [])) Matches Octet (text (codes "y*") ∷ text (codes "*1") ∷ []) ≡ Some (codes "x1" ∷ codes "x" ∷ [])
 unfolding match_found matched least_fit fields_of field_groups
 first_row = refl
 
-plain_match_row : match_found (delivered (headed (codes "A: x"))) no_values (header_values (text (codes "A") ∷ [])) Is Octet (text (codes "x") ∷ []) ≡ Some []
+plain_match_row : match_found (delivered (headed (codes "A: x"))) (begun main) (header_values (text (codes "A") ∷ [])) Is Octet (text (codes "x") ∷ []) ≡ Some []
 unfolding match_found fields_of field_groups
 plain_match_row = refl
 
 -- exists asks for all names
-exists_row : truth_of (delivered (headed_twice (codes "From: a") (codes "To: b"))) no_values (exists_ask (text (codes "to") ∷ text (codes "from") ∷ [])) ≡ true
+exists_row : truth_of (delivered (headed_twice (codes "From: a") (codes "To: b"))) (begun main) (exists_ask (text (codes "to") ∷ text (codes "from") ∷ [])) ≡ true
 unfolding truth_of match_found fields_of field_groups
 exists_row = refl
 
-one_absent_row : truth_of (delivered (headed_twice (codes "From: a") (codes "To: b"))) no_values (exists_ask (text (codes "From") ∷ text (codes "Cc") ∷ [])) ≡ false
+one_absent_row : truth_of (delivered (headed_twice (codes "From: a") (codes "To: b"))) (begun main) (exists_ask (text (codes "From") ∷ text (codes "Cc") ∷ [])) ≡ false
 unfolding truth_of match_found fields_of field_groups
 one_absent_row = refl
 
@@ -131,7 +135,7 @@ unfolding fields_of field_groups
 order_row = refl
 
 -- by names, then by fields, then by keys
-pairs_row : pairs_of (values_of (delivered (codes "A: 1" ++ (10 ∷ headed_twice (codes "B: 2") (codes "A: 3")))) no_values (header_values (text (codes "B") ∷ text (codes "A") ∷ []))) (codes "x" ∷ codes "y" ∷ [])
+pairs_row : pairs_of (values_of (delivered (codes "A: 1" ++ (10 ∷ headed_twice (codes "B: 2") (codes "A: 3")))) (begun main) (header_values (text (codes "B") ∷ text (codes "A") ∷ []))) (codes "x" ∷ codes "y" ∷ [])
     ≡ record { value = codes "2"; key = codes "x" } ∷ record { value = codes "2"; key = codes "y" }
     ∷ record { value = codes "1"; key = codes "x" } ∷ record { value = codes "1"; key = codes "y" }
     ∷ record { value = codes "3"; key = codes "x" } ∷ record { value = codes "3"; key = codes "y" } ∷ []
@@ -141,41 +145,41 @@ pairs_row = refl
 -- ADDRESSES
 
 -- by names, then by fields, then by addresses
-addresses_row : values_of (delivered (codes "To: a@x, b@y" ++ (10 ∷ headed_twice (codes "Cc: c@z") (codes "to: d@w")))) no_values (address_values part.All (text (codes "Cc") ∷ text (codes "To") ∷ []))
+addresses_row : values_of (delivered (codes "To: a@x, b@y" ++ (10 ∷ headed_twice (codes "Cc: c@z") (codes "to: d@w")))) (begun main) (address_values part.All (text (codes "Cc") ∷ text (codes "To") ∷ []))
     ≡ codes "c@z" ∷ codes "a@x" ∷ codes "b@y" ∷ codes "d@w" ∷ []
 unfolding fields_of field_groups addresses_of marks_from is_address_field
 addresses_row = refl
 
 -- an address without the part gives nothing, and neither does a field that holds no addresses
-no_part_row : values_of (delivered (headed_twice (codes "To: a, b@y") (codes "Subject: c@z"))) no_values (address_values part.Domain (text (codes "To") ∷ text (codes "Subject") ∷ [])) ≡ codes "y" ∷ []
+no_part_row : values_of (delivered (headed_twice (codes "To: a, b@y") (codes "Subject: c@z"))) (begun main) (address_values part.Domain (text (codes "To") ∷ text (codes "Subject") ∷ [])) ≡ codes "y" ∷ []
 unfolding fields_of field_groups addresses_of marks_from is_address_field
 no_part_row = refl
 
 -- no sender is the empty string, whatever part is asked for
-no_sender_row : truth_of (sent_by []) no_values (compares (envelope_values part.Domain (text (codes "from") ∷ [])) Is Casemap (text [] ∷ [])) ≡ true
+no_sender_row : truth_of (sent_by []) (begun main) (compares (envelope_values part.Domain (text (codes "from") ∷ [])) Is Casemap (text [] ∷ [])) ≡ true
 unfolding truth_of match_found envelope_address_of
 no_sender_row = refl
 
-sender_row : truth_of (sent_by (codes "a@example.org")) no_values (compares (envelope_values part.Domain (text (codes "from") ∷ [])) Is Casemap (text [] ∷ [])) ≡ false
+sender_row : truth_of (sent_by (codes "a@example.org")) (begun main) (compares (envelope_values part.Domain (text (codes "from") ∷ [])) Is Casemap (text [] ∷ [])) ≡ false
 unfolding truth_of match_found envelope_address_of addresses_of marks_from
 sender_row = refl
 
 -- SIZE
 
 -- three octets are neither over nor under 3
-over_row : truth_of (delivered (codes "abc")) no_values (over_ask 3) ≡ false
+over_row : truth_of (delivered (codes "abc")) (begun main) (over_ask 3) ≡ false
 unfolding truth_of
 over_row = refl
 
-under_row : truth_of (delivered (codes "abc")) no_values (under_ask 3) ≡ false
+under_row : truth_of (delivered (codes "abc")) (begun main) (under_ask 3) ≡ false
 unfolding truth_of
 under_row = refl
 
-over_less_row : truth_of (delivered (codes "abc")) no_values (over_ask 2) ≡ true
+over_less_row : truth_of (delivered (codes "abc")) (begun main) (over_ask 2) ≡ true
 unfolding truth_of
 over_less_row = refl
 
-under_more_row : truth_of (delivered (codes "abc")) no_values (under_ask 4) ≡ true
+under_more_row : truth_of (delivered (codes "abc")) (begun main) (under_ask 4) ≡ true
 unfolding truth_of
 under_more_row = refl
 
@@ -203,11 +207,11 @@ negated_row state = refl
 -- COMMANDS
 
 abbrev inbox : Action
-inbox = Store (codes "INBOX")
+inbox = Store (codes "INBOX") []
 
 -- the state of a run of the main script after some actions
 abbrev after : List Action → Bool → RunState
-after actions cancelled = record { actions = actions; cancelled = cancelled; reads = (main, true) ∷ []; values = no_values }
+after actions cancelled = record { actions = actions; cancelled = cancelled; reads = (main, true) ∷ []; values = no_values; flags = [] }
 
 -- what commands do to a message of such octets
 abbrev done : List ℕ → Commands → Ending
@@ -219,27 +223,27 @@ unfolding exec
 no_commands_row = refl
 
 -- if true { keep; stop; discard; } discard;
-stop_row : done [] (chooses always (acts keep_leaf 1 (stops (acts discard_leaf 1 no_commands))) no_commands (acts discard_leaf 2 no_commands)) ≡ stopped (after (inbox ∷ []) true)
+stop_row : done [] (chooses always (acts (keep_leaf None) 1 (stops (acts discard_leaf 1 no_commands))) no_commands (acts discard_leaf 2 no_commands)) ≡ stopped (after (inbox ∷ []) true)
 unfolding exec decide
 stop_row = refl
 
 -- discard; keep;
-discard_row : done [] (acts discard_leaf 1 (acts keep_leaf 2 no_commands)) ≡ goes_on (after (Discard ∷ inbox ∷ []) true)
+discard_row : done [] (acts discard_leaf 1 (acts (keep_leaf None) 2 no_commands)) ≡ goes_on (after (Discard ∷ inbox ∷ []) true)
 unfolding exec
 discard_row = refl
 
 -- keep; discard; keep; discard;
-second_row_of_keep : done [] (acts keep_leaf 1 (acts discard_leaf 2 (acts keep_leaf 3 (acts discard_leaf 4 no_commands)))) ≡ goes_on (after (inbox ∷ Discard ∷ []) true)
-unfolding exec
+second_row_of_keep : done [] (acts (keep_leaf None) 1 (acts discard_leaf 2 (acts (keep_leaf None) 3 (acts discard_leaf 4 no_commands)))) ≡ goes_on (after (inbox ∷ Discard ∷ []) true)
+unfolding exec flag_union distinct flags_without
 second_row_of_keep = refl
 
 -- fileinto "A"; discard; fileinto "A";
-fileinto_row : done [] (acts (fileinto_leaf (text (codes "A"))) 1 (acts discard_leaf 2 (acts (fileinto_leaf (text (codes "A"))) 3 no_commands))) ≡ goes_on (after (Store (codes "A") ∷ Discard ∷ []) true)
-unfolding exec
+fileinto_row : done [] (acts (fileinto_leaf (text (codes "A")) None) 1 (acts discard_leaf 2 (acts (fileinto_leaf (text (codes "A")) None) 3 no_commands))) ≡ goes_on (after (Store (codes "A") [] ∷ Discard ∷ []) true)
+unfolding exec flag_union distinct flags_without
 fileinto_row = refl
 
 -- discard; fileinto "";
-bad_mailbox_row : done [] (acts discard_leaf 1 (acts (fileinto_leaf (text [])) 2 no_commands)) ≡ failed (record { script = main; line = 2; kind = BadMailbox }) (after (Discard ∷ []) true)
+bad_mailbox_row : done [] (acts discard_leaf 1 (acts (fileinto_leaf (text []) None) 2 no_commands)) ≡ failed (record { script = main; line = 2; kind = BadMailbox }) (after (Discard ∷ []) true)
 unfolding exec
 bad_mailbox_row = refl
 
@@ -259,10 +263,10 @@ two_addresses_row = refl
 
 -- if size :over 3 { keep; } elsif size :over 2 { discard; } else { stop; } keep;
 abbrev branches : Commands
-branches = chooses (asks (over_ask 3)) (acts keep_leaf 1 no_commands) (chooses (asks (over_ask 2)) (acts discard_leaf 2 no_commands) (stops no_commands) no_commands) (acts keep_leaf 4 no_commands)
+branches = chooses (asks (over_ask 3)) (acts (keep_leaf None) 1 no_commands) (chooses (asks (over_ask 2)) (acts discard_leaf 2 no_commands) (stops no_commands) no_commands) (acts (keep_leaf None) 4 no_commands)
 
 if_row : done (codes "abcd") branches ≡ goes_on (after (inbox ∷ []) true)
-unfolding exec decide truth_of match_found values_behind
+unfolding exec decide truth_of match_found values_behind flag_union distinct flags_without
 if_row = refl
 
 elsif_row : done (codes "abc") branches ≡ goes_on (after (Discard ∷ inbox ∷ []) true)
@@ -277,7 +281,7 @@ else_row = refl
 
 -- the state of a run that has done nothing but set variables
 abbrev holding : Values → RunState
-holding values = record { actions = []; cancelled = false; reads = (main, true) ∷ []; values = values }
+holding values = record { actions = []; cancelled = false; reads = (main, true) ∷ []; values = values; flags = [] }
 
 -- string :matches ["ab", "b"] ["b*", "?b"]
 abbrev matches_second : Ask
@@ -289,12 +293,12 @@ unfolding truth_of values_behind match_found matched least_fit
 matched_row = refl
 
 -- where none matches they stay
-unmatched_row : (matched : List (List ℕ)) → values_behind (delivered []) (with_matched matched no_values) (compares (string_values (text (codes "x") ∷ [])) Matches Octet (text (codes "y*") ∷ [])) ≡ with_matched matched no_values
+unmatched_row : (matched : List (List ℕ)) → values_behind (delivered []) (holding (with_matched matched no_values)) (compares (string_values (text (codes "x") ∷ [])) Matches Octet (text (codes "y*") ∷ [])) ≡ with_matched matched no_values
 unfolding values_behind match_found matched least_fit
 unmatched_row matched = refl
 
 -- so they do under another match type
-plain_row : (matched : List (List ℕ)) → values_behind (delivered []) (with_matched matched no_values) (compares (string_values (text (codes "x") ∷ [])) Is Octet (text (codes "x") ∷ [])) ≡ with_matched matched no_values
+plain_row : (matched : List (List ℕ)) → values_behind (delivered []) (holding (with_matched matched no_values)) (compares (string_values (text (codes "x") ∷ [])) Is Octet (text (codes "x") ∷ [])) ≡ with_matched matched no_values
 unfolding values_behind match_found
 plain_row matched = refl
 
@@ -303,31 +307,84 @@ abbrev plainly : Modifiers
 plainly = record { letter_case = None; first_letter = None; quote_wildcard = false; length = false }
 
 -- set "a" "x"; fileinto "${a}y${b}${1}";
-set_row : done [] (acts (set_leaf (codes "a") plainly (text (codes "x"))) 1 (acts (fileinto_leaf (local_part (codes "a") ∷ literal (codes "y") ∷ local_part (codes "b") ∷ match_part 1 ∷ [])) 2 no_commands))
-    ≡ goes_on (record { actions = Store (codes "xy") ∷ []; cancelled = true; reads = (main, true) ∷ []; values = with_local (codes "a") (codes "x") no_values })
+set_row : done [] (acts (set_leaf (codes "a") plainly (text (codes "x"))) 1 (acts (fileinto_leaf (local_part (codes "a") ∷ literal (codes "y") ∷ local_part (codes "b") ∷ match_part 1 ∷ []) None) 2 no_commands))
+    ≡ goes_on (record { actions = Store (codes "xy") [] ∷ []; cancelled = true; reads = (main, true) ∷ []; values = with_local (codes "a") (codes "x") no_values; flags = [] })
 unfolding exec modified
 set_row = refl
+
+-- FLAGS
+
+-- the state of a run that has done nothing but change flags
+abbrev flagged : List (List ℕ) → RunState
+flagged flags = record { actions = []; cancelled = false; reads = (main, true) ∷ []; values = no_values; flags = flags }
+
+-- fileinto :flags "\\Seen" "A"; addflag "$X"; fileinto "A";
+joined_row : done [] (acts (fileinto_leaf (text (codes "A")) (Some (text (codes "\\Seen") ∷ []))) 1 (acts (flag_leaf Add None (text (codes "$X") ∷ [])) 2 (acts (fileinto_leaf (text (codes "A")) None) 3 no_commands)))
+    ≡ goes_on (record { actions = Store (codes "A") (codes "\\Seen" ∷ codes "$X" ∷ []) ∷ []; cancelled = true; reads = (main, true) ∷ []; values = no_values; flags = codes "$X" ∷ [] })
+unfolding exec flags_of_texts flag_union distinct flags_without
+joined_row = refl
+
+-- setflag "a b c"; removeflag "B";
+removed_row : done [] (acts (flag_leaf Set None (text (codes "a b c") ∷ [])) 1 (acts (flag_leaf Remove None (text (codes "B") ∷ [])) 2 no_commands)) ≡ goes_on (flagged (codes "a" ∷ codes "c" ∷ []))
+unfolding exec flags_of_texts distinct flags_without
+removed_row = refl
+
+-- addflag "\\Seen \\seen"; addflag ["", "$Junk", "\\Recent"];
+added_row : done [] (acts (flag_leaf Add None (text (codes "\\Seen \\seen") ∷ [])) 1 (acts (flag_leaf Add None (text [] ∷ text (codes "$Junk") ∷ text (codes "\\Recent") ∷ [])) 2 no_commands)) ≡ goes_on (flagged (codes "\\Seen" ∷ codes "$Junk" ∷ []))
+unfolding exec flags_of_texts flag_union distinct flags_without
+added_row = refl
+
+-- addflag "v" ["a", "b"]; addflag "v" "A c";
+variable_row : done [] (acts (flag_leaf Add (Some (codes "v")) (text (codes "a") ∷ text (codes "b") ∷ [])) 1 (acts (flag_leaf Add (Some (codes "v")) (text (codes "A c") ∷ [])) 2 no_commands)) ≡ goes_on (holding (with_local (codes "v") (codes "a b c") no_values))
+unfolding exec flags_of_texts flag_list flag_text flag_union distinct flags_without
+variable_row = refl
+
+-- hasflag "B" where the flags are "A b", and hasflag :contains "" where there are none
+hasflag_row : truth_of (delivered []) (flagged (codes "A" ∷ codes "b" ∷ [])) (compares (flag_values None) Is Casemap (text (codes "B") ∷ [])) ≡ true
+unfolding truth_of match_found flag_keys_of_texts flag_keys
+hasflag_row = refl
+
+no_flag_row : truth_of (delivered []) (begun main) (compares (flag_values None) Contains Casemap (text [] ∷ [])) ≡ false
+unfolding truth_of match_found flag_keys_of_texts flag_keys
+no_flag_row = refl
+
+-- hasflag :comparator "i;octet" "a" where the flag is "A"
+octet_flag_row : truth_of (delivered []) (flagged (codes "A" ∷ [])) (compares (flag_values None) Is Octet (text (codes "a") ∷ [])) ≡ false
+unfolding truth_of match_found flag_keys_of_texts flag_keys
+octet_flag_row = refl
+
+-- keys are cut at spaces and not checked; the empty one stays, and spaces alone give none
+cut_row : keys_of (begun main) (flag_values None) (text (codes "a  (b") ∷ text [] ∷ text (codes " ") ∷ []) ≡ codes "a" ∷ codes "(b" ∷ [] ∷ []
+unfolding flag_keys_of_texts flag_keys
+cut_row = refl
+
+-- the implicit keep has the internal flags of the end, and after an error none
+flagged_verdict_row : verdict_of (goes_on (flagged (codes "a" ∷ []))) ≡ record { actions = []; implicit = Some (codes "a" ∷ []); error = None; reads = (main, true) ∷ [] }
+flagged_verdict_row = refl
+
+failed_verdict_row : (error : RunError) → verdict_of (failed error (flagged (codes "a" ∷ []))) ≡ record { actions = []; implicit = Some []; error = Some error; reads = (main, true) ∷ [] }
+failed_verdict_row error = refl
 
 -- OUTCOMES
 
 -- no main script: the implicit keep stands, and nothing was looked up
-no_main_row : (find : ScriptName → Lookup) (message : List ℕ) → outcome_of find None envelope message ≡ record { actions = []; implicit = true; error = None; reads = [] }
+no_main_row : (find : ScriptName → Lookup) (message : List ℕ) → outcome_of find None envelope message ≡ record { actions = []; implicit = Some []; error = None; reads = [] }
 unfolding outcome_of
 no_main_row find message = refl
 
 missing_row : (message : List ℕ) → outcome_of (λ name. missing) (Some main) envelope message
-    ≡ record { actions = []; implicit = true; error = Some (record { script = main; line = 0; kind = MissingScript }); reads = (main, false) ∷ [] }
+    ≡ record { actions = []; implicit = Some []; error = Some (record { script = main; line = 0; kind = MissingScript }); reads = (main, false) ∷ [] }
 unfolding outcome_of
 missing_row message = refl
 
 invalid_row : (message : List ℕ) → outcome_of (λ name. invalid) (Some main) envelope message
-    ≡ record { actions = []; implicit = true; error = Some (record { script = main; line = 0; kind = InvalidScript }); reads = (main, true) ∷ [] }
+    ≡ record { actions = []; implicit = Some []; error = Some (record { script = main; line = 0; kind = InvalidScript }); reads = (main, true) ∷ [] }
 unfolding outcome_of
 invalid_row message = refl
 
 -- a name of 1,025 octets is missing in every library
 long_name_row : (find : ScriptName → Lookup) (name : ScriptName) (message : List ℕ) → length name.name ≡ 1025 → outcome_of find (Some name) envelope message
-    ≡ record { actions = []; implicit = true; error = Some (record { script = name; line = 0; kind = MissingScript }); reads = (name, false) ∷ [] }
+    ≡ record { actions = []; implicit = Some []; error = Some (record { script = name; line = 0; kind = MissingScript }); reads = (name, false) ∷ [] }
 unfolding outcome_of
 long_name_row find name message is = ap (λ n. verdict_at envelope message name (if nat_lt name_limit n then missing else find name)) is
 
@@ -337,12 +394,12 @@ unfolding outcome_of
 limit_name_row find name message is = ap (λ n. verdict_at envelope message name (if nat_lt name_limit n then missing else find name)) is
 
 -- an empty script: the implicit keep stands
-empty_script_row : (message : List ℕ) → outcome_of (λ name. present []) (Some main) envelope message ≡ record { actions = []; implicit = true; error = None; reads = (main, true) ∷ [] }
+empty_script_row : (message : List ℕ) → outcome_of (λ name. present []) (Some main) envelope message ≡ record { actions = []; implicit = Some []; error = None; reads = (main, true) ∷ [] }
 unfolding outcome_of exec chain_of
 empty_script_row message = refl
 
 -- discard; discard; keep;
 present_row : (message : List ℕ) → outcome_of (λ name. present (node (codes "discard") 1 [] no_tests no_block ∷ node (codes "DISCARD") 2 [] no_tests no_block ∷ node (codes "keep") 3 [] no_tests no_block ∷ [])) (Some main) envelope message
-    ≡ record { actions = Discard ∷ inbox ∷ []; implicit = false; error = None; reads = (main, true) ∷ [] }
+    ≡ record { actions = Discard ∷ inbox ∷ []; implicit = None; error = None; reads = (main, true) ∷ [] }
 unfolding outcome_of exec chain_of node_before block_commands conditions_in command_named
 present_row message = refl

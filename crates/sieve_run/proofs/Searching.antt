@@ -8,13 +8,15 @@ use Rattle.match_text.specs.declared.comparators.Collation.{Collation}
 use Rattle.message_text.specs.Addresses.{AddrSpec, addresses_of, envelope_address_of, part_of}
 use Rattle.message_text.specs.Fields.{Field, fields_of}
 use Rattle.message_text.specs.declared.addressing.AddressPart.{AddressPart}
-use Rattle.sieve_check.specs.Reading.{envelope_values, string_values}
+use Rattle.sieve_check.specs.Reading.{envelope_values, flag_values, string_values}
 use Rattle.sieve_variables.specs.Part.{Part}
-use Rattle.sieve_variables.specs.Value.{Values, text_value}
+use Rattle.sieve_variables.specs.Value.{text_value}
 use Rattle.sieve_check.specs.declared.reading.MatchType.{MatchType}
 use Rattle.sieve_table.specs.Address.{is_address_field}
 use Rattle.sieve_run.specs.Delivery.{Delivery}
-use Rattle.sieve_run.specs.Matching.{envelope_named, envelope_text, first_match, first_some, fold_of, is_field_named, match_found, match_of, pairs_with, parts_in, parts_named, parts_of_envelope, parts_of_value, values_named, values_of}
+use Rattle.match_text.specs.Flags.{flag_keys_of_texts, flag_list}
+use Rattle.sieve_run.specs.State.{RunState}
+use Rattle.sieve_run.specs.Matching.{envelope_named, envelope_text, first_match, first_some, fold_of, is_field_named, match_found, match_of, pairs_with, parts_in, parts_named, parts_of_envelope, parts_of_value, values_named, values_of, keys_from, keys_of, pairs_of}
 use Rattle.sieve_run.specs.view.FieldTests.{field_source, name_found, part_found, path_found, path_name_found, value_found}
 
 -- a function of an element that is known at a place
@@ -22,6 +24,11 @@ pub get-mapped : {X Y Z : Type 0} (h : X → Y) (k : Y → Z) (xs : List X) (i :
 get-mapped h k [] i y at = cc
 get-mapped h k (x ∷ xs) zero y at = ap (option_map k) at
 get-mapped h k (x ∷ xs) (suc i) y at = get-mapped h k xs i y at
+
+pub get_map : {X Y : Type 0} (f : X → Y) (xs : List X) (i : ℕ) (x : X) → slice_get xs i ≡ Some x → slice_get (map f xs) i ≡ Some (f x)
+get_map f [] i x at = cc
+get_map f (y ∷ ys) zero x at = ap (option_map f) at
+get_map f (y ∷ ys) (suc i) x at = get_map f ys i x at
 
 module _ {X Y : Type 0} (p : X → Bool) (f : X → Option Y) where
   -- an element gives nothing where the test fails, and else what it gives
@@ -143,54 +150,76 @@ module _ (find : List ℕ → Option (List (List ℕ))) where
       ∙ first_same (λ value. first_some find (parts_of_value part value)) (value_found find (Some part)) (λ value. first_part part (addresses_of value)) (values_named fields name)
       ∙ first_named (value_found find (Some part)) name fields)
 
-  first_of_names : (part : Option AddressPart) (delivery : Delivery) (values : Values) (names : List (List Part)) → first_some find (values_of delivery values (field_source part names)) ≡ first_some (name_found find part (fields_of delivery.message)) (map (text_value values) names)
-  first_of_names None delivery values names =
-      first_flat find (values_named (fields_of delivery.message)) (map (text_value values) names)
-      ∙ first_same (λ name. first_some find (values_named (fields_of delivery.message) name)) (name_found find None (fields_of delivery.message)) (λ name. first_named find name (fields_of delivery.message)) (map (text_value values) names)
-  first_of_names (Some part) delivery values names =
-      first_flat find (parts_named part (fields_of delivery.message)) (map (text_value values) names)
-      ∙ first_same (λ name. first_some find (parts_named part (fields_of delivery.message) name)) (name_found find (Some part) (fields_of delivery.message)) (λ name. first_parts_named part (fields_of delivery.message) name) (map (text_value values) names)
+  first_of_names : (part : Option AddressPart) (delivery : Delivery) (state : RunState) (names : List (List Part)) → first_some find (values_of delivery state (field_source part names)) ≡ first_some (name_found find part (fields_of delivery.message)) (map (text_value state.values) names)
+  first_of_names None delivery state names =
+      first_flat find (values_named (fields_of delivery.message)) (map (text_value state.values) names)
+      ∙ first_same (λ name. first_some find (values_named (fields_of delivery.message) name)) (name_found find None (fields_of delivery.message)) (λ name. first_named find name (fields_of delivery.message)) (map (text_value state.values) names)
+  first_of_names (Some part) delivery state names =
+      first_flat find (parts_named part (fields_of delivery.message)) (map (text_value state.values) names)
+      ∙ first_same (λ name. first_some find (parts_named part (fields_of delivery.message) name)) (name_found find (Some part) (fields_of delivery.message)) (λ name. first_parts_named part (fields_of delivery.message) name) (map (text_value state.values) names)
 
   first_of_path : (part : AddressPart) (path : Option (List ℕ)) → first_some find (parts_of_envelope part path) ≡ option_and_then (path_found find part) path
   first_of_path part None = refl
   first_of_path part (Some text) = one_part (part_of part (envelope_address_of text)) [] ∙ or_none (part_found find part (envelope_address_of text))
 
-  first_of_paths : (part : AddressPart) (delivery : Delivery) (values : Values) (names : List (List Part)) → first_some find (values_of delivery values (envelope_values part names)) ≡ first_some (path_name_found find part delivery.envelope) (map (text_value values) names)
-  first_of_paths part delivery values names =
-      first_flat find (envelope_named part delivery.envelope) (map (text_value values) names)
-      ∙ first_same (λ name. first_some find (envelope_named part delivery.envelope name)) (path_name_found find part delivery.envelope) (λ name. first_of_path part (envelope_text delivery.envelope name)) (map (text_value values) names)
+  first_of_paths : (part : AddressPart) (delivery : Delivery) (state : RunState) (names : List (List Part)) → first_some find (values_of delivery state (envelope_values part names)) ≡ first_some (path_name_found find part delivery.envelope) (map (text_value state.values) names)
+  first_of_paths part delivery state names =
+      first_flat find (envelope_named part delivery.envelope) (map (text_value state.values) names)
+      ∙ first_same (λ name. first_some find (envelope_named part delivery.envelope name)) (path_name_found find part delivery.envelope) (λ name. first_of_path part (envelope_text delivery.envelope name)) (map (text_value state.values) names)
 
 -- TESTS
+
+-- tests of fields are asked for their keys as they are
+field_keys : (part : Option AddressPart) (names : List (List Part)) (texts : List (List ℕ)) → keys_from (field_source part names) texts ≡ texts
+field_keys None names texts = refl
+field_keys (Some part) names texts = refl
 
 module _ (match_type : MatchType) (collation : Collation) where
   abbrev found_by : List (List ℕ) → List ℕ → Option (List (List ℕ))
   found_by keys value = first_match match_type (fold_of collation) (pairs_with keys value)
 
   -- what a test finds in fields, where these are its names' and its keys' octets
-  pub fields_found : (part : Option AddressPart) (delivery : Delivery) (values : Values) (names keys : List (List Part)) (named keyed : List (List ℕ)) → named ≡ map (text_value values) names → keyed ≡ map (text_value values) keys
-      → first_some (name_found (λ value. first_match match_type (fold_of collation) (pairs_with keyed value)) part (fields_of delivery.message)) named ≡ match_found delivery values (field_source part names) match_type collation keys
+  pub fields_found : (part : Option AddressPart) (delivery : Delivery) (state : RunState) (names keys : List (List Part)) (named keyed : List (List ℕ)) → named ≡ map (text_value state.values) names → keyed ≡ map (text_value state.values) keys
+      → first_some (name_found (λ value. first_match match_type (fold_of collation) (pairs_with keyed value)) part (fields_of delivery.message)) named ≡ match_found delivery state (field_source part names) match_type collation keys
   unfolding match_found
-  fields_found part delivery values names keys named keyed n k =
+  fields_found part delivery state names keys named keyed n k =
       ap (λ ns. first_some (name_found (found_by keyed) part (fields_of delivery.message)) ns) n
-      ∙ sym (first_of_names (found_by keyed) part delivery values names)
-      ∙ ap (λ ks. first_some (found_by ks) (values_of delivery values (field_source part names))) k
-      ∙ sym (first_flat (λ pair. match_of match_type (fold_of collation) pair.value pair.key) (pairs_with (map (text_value values) keys)) (values_of delivery values (field_source part names)))
+      ∙ sym (first_of_names (found_by keyed) part delivery state names)
+      ∙ ap (λ ks. first_some (found_by ks) (values_of delivery state (field_source part names))) (k ∙ sym (field_keys part names (map (text_value state.values) keys)))
+      ∙ sym (first_flat (λ pair. match_of match_type (fold_of collation) pair.value pair.key) (pairs_with (keys_of state (field_source part names) keys)) (values_of delivery state (field_source part names)))
 
   -- and what it finds in the envelope
-  pub paths_found : (part : AddressPart) (delivery : Delivery) (values : Values) (names keys : List (List Part)) (named keyed : List (List ℕ)) → named ≡ map (text_value values) names → keyed ≡ map (text_value values) keys
-      → first_some (path_name_found (λ value. first_match match_type (fold_of collation) (pairs_with keyed value)) part delivery.envelope) named ≡ match_found delivery values (envelope_values part names) match_type collation keys
+  pub paths_found : (part : AddressPart) (delivery : Delivery) (state : RunState) (names keys : List (List Part)) (named keyed : List (List ℕ)) → named ≡ map (text_value state.values) names → keyed ≡ map (text_value state.values) keys
+      → first_some (path_name_found (λ value. first_match match_type (fold_of collation) (pairs_with keyed value)) part delivery.envelope) named ≡ match_found delivery state (envelope_values part names) match_type collation keys
   unfolding match_found
-  paths_found part delivery values names keys named keyed n k =
+  paths_found part delivery state names keys named keyed n k =
       ap (λ ns. first_some (path_name_found (found_by keyed) part delivery.envelope) ns) n
-      ∙ sym (first_of_paths (found_by keyed) part delivery values names)
-      ∙ ap (λ ks. first_some (found_by ks) (values_of delivery values (envelope_values part names))) k
-      ∙ sym (first_flat (λ pair. match_of match_type (fold_of collation) pair.value pair.key) (pairs_with (map (text_value values) keys)) (values_of delivery values (envelope_values part names)))
+      ∙ sym (first_of_paths (found_by keyed) part delivery state names)
+      ∙ ap (λ ks. first_some (found_by ks) (values_of delivery state (envelope_values part names))) k
+      ∙ sym (first_flat (λ pair. match_of match_type (fold_of collation) pair.value pair.key) (pairs_with (map (text_value state.values) keys)) (values_of delivery state (envelope_values part names)))
 
   -- and what it finds in strings
-  pub texts_found : (delivery : Delivery) (values : Values) (texts keys : List (List Part)) (named keyed : List (List ℕ)) → named ≡ map (text_value values) texts → keyed ≡ map (text_value values) keys
-      → first_some (λ value. first_match match_type (fold_of collation) (pairs_with keyed value)) named ≡ match_found delivery values (string_values texts) match_type collation keys
+  pub texts_found : (delivery : Delivery) (state : RunState) (texts keys : List (List Part)) (named keyed : List (List ℕ)) → named ≡ map (text_value state.values) texts → keyed ≡ map (text_value state.values) keys
+      → first_some (λ value. first_match match_type (fold_of collation) (pairs_with keyed value)) named ≡ match_found delivery state (string_values texts) match_type collation keys
   unfolding match_found
-  texts_found delivery values texts keys named keyed n k =
+  texts_found delivery state texts keys named keyed n k =
       ap (λ ns. first_some (found_by keyed) ns) n
-      ∙ ap (λ ks. first_some (found_by ks) (map (text_value values) texts)) k
-      ∙ sym (first_flat (λ pair. match_of match_type (fold_of collation) pair.value pair.key) (pairs_with (map (text_value values) keys)) (map (text_value values) texts))
+      ∙ ap (λ ks. first_some (found_by ks) (map (text_value state.values) texts)) k
+      ∙ sym (first_flat (λ pair. match_of match_type (fold_of collation) pair.value pair.key) (pairs_with (map (text_value state.values) keys)) (map (text_value state.values) texts))
+
+  -- and what it finds in flags, those of these texts, and the internal ones
+  pub flags_found : (delivery : Delivery) (state : RunState) (variables keys : List (List Part)) (named keyed cut : List (List ℕ)) → named ≡ map (text_value state.values) variables → keyed ≡ map (text_value state.values) keys → cut ≡ flag_keys_of_texts keyed
+      → first_some (λ text. first_some (found_by cut) (flag_list text)) named ≡ match_found delivery state (flag_values (Some variables)) match_type collation keys
+  unfolding match_found
+  flags_found delivery state variables keys named keyed cut n k c =
+      ap (λ ns. first_some (λ text. first_some (found_by cut) (flag_list text)) ns) n
+      ∙ sym (first_flat (found_by cut) flag_list (map (text_value state.values) variables))
+      ∙ ap (λ ks. first_some (found_by ks) (values_of delivery state (flag_values (Some variables)))) (c ∙ ap flag_keys_of_texts k)
+      ∙ sym (first_flat (λ pair. match_of match_type (fold_of collation) pair.value pair.key) (pairs_with (keys_of state (flag_values (Some variables)) keys)) (values_of delivery state (flag_values (Some variables))))
+
+  pub internal_found : (delivery : Delivery) (state : RunState) (keys : List (List Part)) (keyed cut : List (List ℕ)) → keyed ≡ map (text_value state.values) keys → cut ≡ flag_keys_of_texts keyed
+      → first_some (found_by cut) state.flags ≡ match_found delivery state (flag_values None) match_type collation keys
+  unfolding match_found
+  internal_found delivery state keys keyed cut k c =
+      ap (λ ks. first_some (found_by ks) state.flags) (c ∙ ap flag_keys_of_texts k)
+      ∙ sym (first_flat (λ pair. match_of match_type (fold_of collation) pair.value pair.key) (pairs_with (keys_of state (flag_values None) keys)) state.flags)

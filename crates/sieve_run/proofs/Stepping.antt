@@ -9,7 +9,8 @@ use Rattle.sieve_code.specs.Walk.{Walk, at_limit, code_walk, walk_from}
 use Rattle.sieve_run.specs.Delivery.{Delivery}
 use Rattle.sieve_run.specs.Matching.{truth_of, values_behind}
 use Rattle.sieve_run.specs.Perform.{perform}
-use Rattle.sieve_run.specs.Run.{RunState, goes_on, act_of, and_then, behind_test, chosen}
+use Rattle.sieve_run.specs.Run.{goes_on, act_of, and_then, behind_test, chosen}
+use Rattle.sieve_run.specs.State.{RunState}
 use Rattle.sieve_variables.specs.Part.{Part}
 use Rattle.sieve_run.specs.declared.flow.Flow.{Flow}
 use Rattle.sieve_run.specs.declared.flow.Flow.TheVariants as flow
@@ -41,18 +42,18 @@ module _ (delivery : Delivery) where
   by_answer false f s = refl
 
   -- a test that comes to a truth, and leaves a state
-  pub asks_steps : (ask : Ask) (truth : Bool) (behind : ℕ) (register : Bool) (old new : RunState) → truth ≡ truth_of delivery old.values ask → new ≡ behind_test delivery ask old → StepsTo delivery (asks ask) behind register old (Next behind truth) new
+  pub asks_steps : (ask : Ask) (truth : Bool) (behind : ℕ) (register : Bool) (old new : RunState) → truth ≡ truth_of delivery old ask → new ≡ behind_test delivery ask old → StepsTo delivery (asks ask) behind register old (Next behind truth) new
   unfolding perform
   asks_steps ask truth behind register old new is moves = record {
     before = λ place go at.
-        by_answer (truth_of delivery old.values ask) (go (place + 1)) (behind_test delivery ask old)
+        by_answer (truth_of delivery old ask) (go (place + 1)) (behind_test delivery ask old)
         ∙ sym (ap (λ t. doing delivery (go (place + 1) t) (behind_test delivery ask old)) is)
         ∙ sym (ap (λ s. doing delivery (go (place + 1) truth) s) moves)
         ∙ on_behind go truth behind place new at;
   }
 
   -- one that looks at the message alone
-  pub exists_steps : (names : List (List Part)) (truth : Bool) (behind : ℕ) (register : Bool) (s : RunState) → truth ≡ truth_of delivery s.values (exists_ask names) → StepsTo delivery (asks (exists_ask names)) behind register s (Next behind truth) s
+  pub exists_steps : (names : List (List Part)) (truth : Bool) (behind : ℕ) (register : Bool) (s : RunState) → truth ≡ truth_of delivery s (exists_ask names) → StepsTo delivery (asks (exists_ask names)) behind register s (Next behind truth) s
   unfolding values_behind
   exists_steps names truth behind register s is = asks_steps (exists_ask names) truth behind register s s is refl
 

@@ -6,7 +6,8 @@ use Rattle.sieve_check.specs.declared.reading.MatchType.TheVariants.{Is, Contain
 use Rattle.sieve_check.specs.Script.{Condition, always, never, asks, negated, both, either, Commands, stops}
 use Rattle.sieve_run.specs.Delivery.{Delivery}
 use Rattle.sieve_run.specs.Matching.{match_found, values_behind, with_found}
-use Rattle.sieve_run.specs.Run.{RunState, SetsMatched, Ending, Answer, answer_of, also, behind_test, or_else, decide, exec}
+use Rattle.sieve_run.specs.Run.{SetsMatched, Ending, Answer, answer_of, also, behind_test, or_else, decide, exec}
+use Rattle.sieve_run.specs.State.{RunState}
 use Rattle.sieve_variables.specs.Value.{with_matched}
 
 -- with what another match gave
@@ -32,7 +33,7 @@ found_keeps Contains found state = (state.values.matched, refl)
 
 ask_keeps : (delivery : Delivery) (ask : Ask) (state : RunState) → SetsMatched state (behind_test delivery ask state)
 unfolding values_behind
-ask_keeps delivery (compares source match_type collation keys) state = found_keeps match_type (match_found delivery state.values source match_type collation keys) state
+ask_keeps delivery (compares source match_type collation keys) state = found_keeps match_type (match_found delivery state source match_type collation keys) state
 ask_keeps delivery (exists_ask names) state = (state.values.matched, refl)
 ask_keeps delivery (over_ask limit) state = (state.values.matched, refl)
 ask_keeps delivery (under_ask limit) state = (state.values.matched, refl)

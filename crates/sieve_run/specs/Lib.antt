@@ -7,5 +7,6 @@ pub mod Name
 pub mod Perform
 pub mod Run
 pub mod Shelf
+pub mod State
 pub mod Verdict
 pub mod view

@@ -5,17 +5,19 @@ use Rattle.std.specs.List.{filter_map, flat_map, list_any, list_all}
 use Rattle.std.specs.Option.{option_or}
 use Rattle.std.specs.Str.{str_eq_ignore_ascii_case}
 use Rattle.match_text.specs.Comparator.{same, is_part, octet, ascii_casemap}
+use Rattle.match_text.specs.Flags.{flag_keys_of_texts, flag_list}
 use Rattle.match_text.specs.Wildcard.{matched}
 use Rattle.match_text.specs.declared.comparators.Collation.{Collation}
 use Rattle.match_text.specs.declared.comparators.Collation.TheVariants.{Octet, Casemap}
 use Rattle.message_text.specs.Addresses.{AddrSpec, part_of, addresses_of, envelope_address_of}
 use Rattle.message_text.specs.Fields.{Field, fields_of}
 use Rattle.message_text.specs.declared.addressing.AddressPart.{AddressPart}
-use Rattle.sieve_check.specs.Reading.{Source, header_values, address_values, envelope_values, string_values, Ask, compares, exists_ask, over_ask, under_ask}
+use Rattle.sieve_check.specs.Reading.{Source, header_values, address_values, envelope_values, string_values, flag_values, Ask, compares, exists_ask, over_ask, under_ask}
 use Rattle.sieve_check.specs.declared.reading.MatchType.{MatchType}
 use Rattle.sieve_check.specs.declared.reading.MatchType.TheVariants.{Is, Contains, Matches}
 use Rattle.sieve_table.specs.Address.{is_address_field}
 use Rattle.sieve_run.specs.Delivery.{Delivery}
+use Rattle.sieve_run.specs.State.{RunState}
 use Rattle.sieve_run.specs.declared.envelope.Envelope.{Envelope}
 use Rattle.sieve_variables.specs.Part.{Part}
 use Rattle.sieve_variables.specs.Value.{Values, text_value, with_matched}
@@ -76,11 +78,24 @@ envelope_named part envelope name = parts_of_envelope part (envelope_text envelo
 
 -- What a test compares with its keys, by names, then by fields, then by addresses; an absent field gives nothing. Strings stand for
 -- what they do when the test begins.
-abbrev pub values_of : Delivery → Values → Source → List (List ℕ)
-values_of delivery values (header_values names) = flat_map (values_named (fields_of delivery.message)) (map (text_value values) names)
-values_of delivery values (address_values part names) = flat_map (parts_named part (fields_of delivery.message)) (map (text_value values) names)
-values_of delivery values (envelope_values part names) = flat_map (envelope_named part delivery.envelope) (map (text_value values) names)
-values_of delivery values (string_values texts) = map (text_value values) texts
+abbrev pub values_of : Delivery → RunState → Source → List (List ℕ)
+values_of delivery state (header_values names) = flat_map (values_named (fields_of delivery.message)) (map (text_value state.values) names)
+values_of delivery state (address_values part names) = flat_map (parts_named part (fields_of delivery.message)) (map (text_value state.values) names)
+values_of delivery state (envelope_values part names) = flat_map (envelope_named part delivery.envelope) (map (text_value state.values) names)
+values_of delivery state (string_values texts) = map (text_value state.values) texts
+values_of delivery state (flag_values None) = state.flags
+values_of delivery state (flag_values (Some variables)) = flat_map flag_list (map (text_value state.values) variables)
+
+-- what a test compares values with: its keys; those of flags are cut at spaces (RFC 5232, section 4)
+abbrev pub keys_from : Source → List (List ℕ) → List (List ℕ)
+keys_from (header_values names) texts = texts
+keys_from (address_values part names) texts = texts
+keys_from (envelope_values part names) texts = texts
+keys_from (string_values strings) texts = texts
+keys_from (flag_values variables) texts = flag_keys_of_texts texts
+
+abbrev pub keys_of : RunState → Source → List (List Part) → List (List ℕ)
+keys_of state source keys = keys_from source (map (text_value state.values) keys)
 
 -- each value with each key, in this order (RFC 5228, section 5.7)
 abbrev pub pairs_of : List (List ℕ) → List (List ℕ) → List Pair
@@ -100,16 +115,17 @@ abbrev pub first_match : MatchType → (ℕ → ℕ) → List Pair → Option (L
 first_match match_type fold pairs = first_some (λ pair. match_of match_type fold pair.value pair.key) pairs
 
 -- what a test finds that compares values with keys
-unfoldable pub match_found : Delivery → Values → Source → MatchType → Collation → List (List Part) → Option (List (List ℕ))
-match_found delivery values source match_type collation keys = first_match match_type (fold_of collation) (pairs_of (values_of delivery values source) (map (text_value values) keys))
+unfoldable pub match_found : Delivery → RunState → Source → MatchType → Collation → List (List Part) → Option (List (List ℕ))
+match_found delivery state source match_type collation keys = first_match match_type (fold_of collation) (pairs_of (values_of delivery state source) (keys_of state source keys))
 
--- Whether what a test asks is so: header, address and envelope, where some pair matches (RFC 5228, sections 5.7, 5.1 and 5.4), exists (section 5.5), size
--- (section 5.9), where a message of exactly the limit's octets is neither over nor under it.
-unfoldable pub truth_of : Delivery → Values → Ask → Bool
-truth_of delivery values (compares source match_type collation keys) = is_some (match_found delivery values source match_type collation keys)
-truth_of delivery values (exists_ask names) = list_all (has_field (fields_of delivery.message)) (map (text_value values) names)
-truth_of delivery values (over_ask limit) = nat_lt limit (length delivery.message)
-truth_of delivery values (under_ask limit) = nat_lt (length delivery.message) limit
+-- Whether what a test asks is so: header, address, envelope, string and hasflag, where some pair matches (RFC 5228, sections 5.7, 5.1
+-- and 5.4; RFC 5229, section 5; RFC 5232, section 4), exists (RFC 5228, section 5.5), size (section 5.9), where a message of exactly
+-- the limit's octets is neither over nor under it.
+unfoldable pub truth_of : Delivery → RunState → Ask → Bool
+truth_of delivery state (compares source match_type collation keys) = is_some (match_found delivery state source match_type collation keys)
+truth_of delivery state (exists_ask names) = list_all (has_field (fields_of delivery.message)) (map (text_value state.values) names)
+truth_of delivery state (over_ask limit) = nat_lt limit (length delivery.message)
+truth_of delivery state (under_ask limit) = nat_lt (length delivery.message) limit
 
 -- under `:matches`, the match variables are what the first pair that matches gives; where none does, and under the other match
 -- types, they stay (RFC 5229, section 3.2)
@@ -120,8 +136,8 @@ with_found Is found values = values
 with_found Contains found values = values
 
 -- the variables behind what a test asks
-unfoldable pub values_behind : Delivery → Values → Ask → Values
-values_behind delivery values (compares source match_type collation keys) = with_found match_type (match_found delivery values source match_type collation keys) values
-values_behind delivery values (exists_ask names) = values
-values_behind delivery values (over_ask limit) = values
-values_behind delivery values (under_ask limit) = values
+unfoldable pub values_behind : Delivery → RunState → Ask → Values
+values_behind delivery state (compares source match_type collation keys) = with_found match_type (match_found delivery state source match_type collation keys) state.values
+values_behind delivery state (exists_ask names) = state.values
+values_behind delivery state (over_ask limit) = state.values
+values_behind delivery state (under_ask limit) = state.values

@@ -1,10 +1,13 @@
 -- What running a script does (RFC 5228, sections 2.10 and 4).
-use Rattle.std.specs.Prelude.{◌≡◌, ℕ, List, [], ◌∷◌, ◌++◌, length, Bool, true, false, not, ◌&&◌, Option, None, Some, is_some, if◌then◌else◌, nat_eq, nat_lt, nat_le}
+use Rattle.std.specs.Prelude.{◌≡◌, ℕ, List, [], ◌∷◌, ◌++◌, length, map, take, Bool, true, false, not, ◌&&◌, Option, None, Some, is_some, if◌then◌else◌, nat_eq, nat_lt, nat_le}
 use Rattle.std.specs.List.{list_all, list_any}
 use lib.Pointwise.{pointwise}
+use Rattle.match_text.specs.Flags.{flag_list, flag_text, flag_union, flags_of_texts, flags_without}
 use Rattle.message_text.specs.Addresses.{AddrSpec, addresses_of}
-use Rattle.sieve_base.specs.Limits.{action_limit, mailbox_limit}
-use Rattle.sieve_check.specs.Reading.{Ask, Leaf, keep_leaf, fileinto_leaf, redirect_leaf, discard_leaf, set_leaf}
+use Rattle.sieve_base.specs.Limits.{action_limit, mailbox_limit, value_limit}
+use Rattle.sieve_check.specs.Reading.{Ask, Leaf, keep_leaf, fileinto_leaf, redirect_leaf, discard_leaf, set_leaf, flag_leaf}
+use Rattle.sieve_check.specs.declared.reading.FlagChange.{FlagChange}
+use Rattle.sieve_check.specs.declared.reading.FlagChange.TheVariants as change
 use Rattle.sieve_check.specs.Script.{Condition, always, never, asks, negated, both, either, Commands, no_commands, stops, acts, chooses, script_of}
 use Rattle.sieve_run.specs.declared.name.ScriptName.{ScriptName}
 use Rattle.sieve_run.specs.declared.envelope.Envelope.{Envelope}
@@ -16,17 +19,11 @@ use Rattle.sieve_run.specs.declared.outcome.ErrorKind.TheVariants.{MissingScript
 use Rattle.sieve_run.specs.Delivery.{Delivery}
 use Rattle.sieve_run.specs.Matching.{truth_of, values_behind}
 use Rattle.sieve_run.specs.Library.{Lookup, missing, invalid, present, found_at}
+use Rattle.sieve_run.specs.State.{RunState}
 use Rattle.sieve_run.specs.Verdict.{Verdict}
 use Rattle.sieve_variables.specs.Modifier.{modified}
-use Rattle.sieve_variables.specs.Value.{Values, no_values, text_value, with_local, with_matched}
-
--- the state of a run: the actions in order, whether one of them cancelled the implicit keep, the names looked up so far, and the
--- variables of the script that runs
-pub record RunState : Type 0 where
-  pub actions : List Action
-  pub cancelled : Bool
-  pub reads : List (ScriptName × Bool)
-  pub values : Values
+use Rattle.sieve_variables.specs.Part.{Part}
+use Rattle.sieve_variables.specs.Value.{local_value, no_values, text_value, with_local, with_matched}
 
 -- how a list of commands ends
 pub data Ending : Type 0 where
@@ -39,26 +36,39 @@ pub data Ending : Type 0 where
 -- whether two actions are one: stores into one mailbox (RFC 5228, section 2.10.3), redirects to one address, octet for octet, and
 -- discards
 abbrev pub same_action : Action → Action → Bool
-same_action (Store mailbox) (Store other) = pointwise nat_eq mailbox other
-same_action (Store mailbox) (Redirect other) = false
-same_action (Store mailbox) Discard = false
-same_action (Redirect address) (Store other) = false
+same_action (Store mailbox flags) (Store other there) = pointwise nat_eq mailbox other
+same_action (Store mailbox flags) (Redirect other) = false
+same_action (Store mailbox flags) Discard = false
+same_action (Redirect address) (Store other there) = false
 same_action (Redirect address) (Redirect other) = pointwise nat_eq address other
 same_action (Redirect address) Discard = false
-same_action Discard (Store other) = false
+same_action Discard (Store other there) = false
 same_action Discard (Redirect other) = false
 same_action Discard Discard = true
+
+-- A store into a mailbox that is stored into already brings its flags to that store; other actions bring nothing. RFC 5232, section
+-- 5, lets the last list of flags stand in place of the union.
+abbrev pub with_flags_of : Action → Action → Action
+with_flags_of (Store mailbox flags) (Store other there) = Store other (flag_union there flags)
+with_flags_of (Store mailbox flags) (Redirect other) = Redirect other
+with_flags_of (Store mailbox flags) Discard = Discard
+with_flags_of (Redirect address) other = other
+with_flags_of Discard other = other
+
+-- an action that is there, joined with one that is performed, where the two are one
+abbrev pub joined_with : Action → Action → Action
+joined_with action there = if same_action action there then with_flags_of action there else there
 
 -- what becomes of the actions of a run where one is performed: they are then these, or there is one too many
 pub data Performed : Type 0 where
   performed : (actions : List Action) → Performed
   one_too_many : Performed
 
--- one that is there already adds nothing, and none is taken away (RFC 5228, sections 2.10.1 and 2.10.3); past so many there is one
+-- one that is there already adds no entry, and none is taken away (RFC 5228, sections 2.10.1 and 2.10.3); past so many there is one
 -- too many (section 2.10.4)
 abbrev pub with_action : Action → List Action → Performed
 with_action action actions =
-    if list_any (same_action action) actions then performed actions else
+    if list_any (same_action action) actions then performed (map (joined_with action) actions) else
     if nat_lt (length actions) action_limit then performed (actions ++ action ∷ []) else one_too_many
 
 -- WHAT COMMANDS DO
@@ -98,17 +108,44 @@ abbrev pub redirects : Delivery → ℕ → Option (List ℕ) → RunState → E
 redirects delivery line None state = fails_at delivery line BadAddress state
 redirects delivery line (Some address) state = performs delivery line (Redirect address) state
 
+-- FLAGS
+
+-- the flags that strings name (RFC 5232, section 2)
+abbrev pub flags_named : RunState → List (List Part) → List (List ℕ)
+flags_named state texts = flags_of_texts (map (text_value state.values) texts)
+
+-- the flags of what is stored: those that are named, or else the internal ones as they are then (RFC 5232, section 5)
+abbrev pub stored_flags : RunState → Option (List (List Part)) → List (List ℕ)
+stored_flags state None = state.flags
+stored_flags state (Some texts) = flags_named state texts
+
+-- flags after a command that names some: setflag (RFC 5232, section 3.1), addflag (section 3.2) and removeflag (section 3.3)
+abbrev pub changed_flags : FlagChange → List (List ℕ) → (named : List (List ℕ)) → List (List ℕ)
+changed_flags change.Set flags named = named
+changed_flags change.Add flags named = flag_union flags named
+changed_flags change.Remove flags named = flags_without flags named
+
+-- what a variable holds of flags; like each value it has a limit (RFC 5229, section 6)
+abbrev pub held_flags : List (List ℕ) → List ℕ
+held_flags flags = take value_limit (flag_text flags)
+
+-- the state behind such a command: it changes the internal flags, or those that the value of a variable is read as
+abbrev pub with_flags : FlagChange → Option (List ℕ) → List (List Part) → RunState → RunState
+with_flags how None texts state = record state { flags = changed_flags how state.flags (flags_named state texts) }
+with_flags how (Some name) texts state = record state { values = with_local name (held_flags (changed_flags how (flag_list (local_value state.values name)) (flags_named state texts))) state.values }
+
 -- what a command that acts does: keep stores into the delivery's mailbox (RFC 5228, section 4.3), fileinto into the one that it
 -- names (section 4.1), redirect sends the message on to an address (section 4.2), discard discards (section 4.4), set gives a
--- variable a value (RFC 5229, section 4)
+-- variable a value (RFC 5229, section 4), and setflag, addflag and removeflag change flags (RFC 5232, section 3)
 abbrev pub act_of : Delivery → Leaf → ℕ → RunState → Ending
-act_of delivery keep_leaf line state = performs delivery line (Store delivery.envelope.mailbox) state
-act_of delivery (fileinto_leaf mailbox) line state =
+act_of delivery (keep_leaf flags) line state = performs delivery line (Store delivery.envelope.mailbox (stored_flags state flags)) state
+act_of delivery (fileinto_leaf mailbox flags) line state =
     let name = text_value state.values mailbox in
-    if is_mailbox name then performs delivery line (Store name) state else fails_at delivery line BadMailbox state
+    if is_mailbox name then performs delivery line (Store name (stored_flags state flags)) state else fails_at delivery line BadMailbox state
 act_of delivery (redirect_leaf address) line state = redirects delivery line (only_address (addresses_of (text_value state.values address))) state
 act_of delivery discard_leaf line state = performs delivery line Discard state
 act_of delivery (set_leaf name modifiers value) line state = goes_on (record state { values = with_local name (modified modifiers (text_value state.values value)) state.values })
+act_of delivery (flag_leaf how variable flags) line state = goes_on (with_flags how variable flags state)
 
 -- what follows runs only where nothing has ended the run
 abbrev pub and_then : Ending → (RunState → Ending) → Ending
@@ -125,11 +162,11 @@ pub record Answer : Type 0 where
 
 -- the state behind what a test asks: match variables are set at most
 abbrev pub behind_test : Delivery → Ask → RunState → RunState
-behind_test delivery ask state = record state { values = values_behind delivery state.values ask }
+behind_test delivery ask state = record state { values = values_behind delivery state ask }
 
 -- what a test asks of the delivery
 abbrev pub answer_of : Delivery → Ask → RunState → Answer
-answer_of delivery ask state = record { truth = truth_of delivery state.values ask; state = behind_test delivery ask state }
+answer_of delivery ask state = record { truth = truth_of delivery state ask; state = behind_test delivery ask state }
 
 -- one state is another but for what a match gave
 abbrev pub SetsMatched : RunState → RunState → Type 0
@@ -173,26 +210,30 @@ exec ask act (acts leaf line rest) state = and_then (act leaf line state) (exec 
 exec ask act (chooses condition block otherwise rest) state =
     and_then (chosen (decide ask condition state).truth (exec ask act block) (exec ask act otherwise) (decide ask condition state).state) (exec ask act rest)
 
--- the implicit keep stands where no action cancelled it (RFC 5228, section 2.10.2); after an error no action is taken, and it
--- stands (section 2.10.6)
+-- the flags of the implicit keep, which stands where no action cancelled it (RFC 5228, section 2.10.2): the internal ones at the end
+-- (RFC 5232, section 5)
+abbrev pub implicit_of : RunState → Option (List (List ℕ))
+implicit_of state = if state.cancelled then None else Some state.flags
+
+-- after an error no action is taken, and the implicit keep stands (RFC 5228, section 2.10.6), without flags
 abbrev pub verdict_of : Ending → Verdict
-verdict_of (goes_on state) = record { actions = state.actions; implicit = not state.cancelled; error = None; reads = state.reads }
-verdict_of (stopped state) = record { actions = state.actions; implicit = not state.cancelled; error = None; reads = state.reads }
-verdict_of (failed error state) = record { actions = []; implicit = true; error = Some error; reads = state.reads }
+verdict_of (goes_on state) = record { actions = state.actions; implicit = implicit_of state; error = None; reads = state.reads }
+verdict_of (stopped state) = record { actions = state.actions; implicit = implicit_of state; error = None; reads = state.reads }
+verdict_of (failed error state) = record { actions = []; implicit = Some []; error = Some error; reads = state.reads }
 
 -- the state in which the main script begins
 abbrev pub begun : ScriptName → RunState
-begun main = record { actions = []; cancelled = false; reads = (main, true) ∷ []; values = no_values }
+begun main = record { actions = []; cancelled = false; reads = (main, true) ∷ []; values = no_values; flags = [] }
 
 -- the verdict where the main script is this
 abbrev pub verdict_at : Envelope → List ℕ → ScriptName → Lookup → Verdict
-verdict_at envelope message main missing = record { actions = []; implicit = true; error = Some (record { script = main; line = 0; kind = MissingScript }); reads = (main, false) ∷ [] }
-verdict_at envelope message main invalid = record { actions = []; implicit = true; error = Some (record { script = main; line = 0; kind = InvalidScript }); reads = (main, true) ∷ [] }
+verdict_at envelope message main missing = record { actions = []; implicit = Some []; error = Some (record { script = main; line = 0; kind = MissingScript }); reads = (main, false) ∷ [] }
+verdict_at envelope message main invalid = record { actions = []; implicit = Some []; error = Some (record { script = main; line = 0; kind = InvalidScript }); reads = (main, true) ∷ [] }
 verdict_at envelope message main (present tree) =
     let delivery : Delivery = record { message = message; envelope = envelope; script = main } in
     verdict_of (exec (answer_of delivery) (act_of delivery) (script_of tree) (begun main))
 
 -- the verdict on a message, and the names that it looked up, over a library
 unfoldable pub outcome_of : (ScriptName → Lookup) → Option ScriptName → Envelope → List ℕ → Verdict
-outcome_of find None envelope message = record { actions = []; implicit = true; error = None; reads = [] }
+outcome_of find None envelope message = record { actions = []; implicit = Some []; error = None; reads = [] }
 outcome_of find (Some main) envelope message = verdict_at envelope message main (found_at find main)

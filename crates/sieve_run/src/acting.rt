@@ -4,6 +4,7 @@ ghost use Rattle.std.specs.List.{list_all};
 ghost use Rattle.std.specs.Option.{option_map};
 ghost use Rattle.message_text.specs.Addresses.{addresses_of};
 ghost use Rattle.sieve_check.specs.Reading.{discard_leaf, fileinto_leaf, keep_leaf, redirect_leaf, set_leaf};
+ghost use Rattle.sieve_code.specs.view.Op.{given_strings};
 ghost use Rattle.sieve_run.specs.Run.{act_of, is_mailbox, is_no_control, only_address, performs, whole_address};
 ghost use Rattle.sieve_run.specs.view.Delivery.{delivery_as};
 ghost use Rattle.sieve_run.specs.view.Flow.{ending_by};
@@ -14,13 +15,14 @@ ghost use Rattle.sieve_variables.specs.Value.{text_value};
 ghost use Rattle.sieve_variables.specs.view.Part.{part_of};
 
 use crate::delivery::Delivery;
+use crate::flagging::stored_flags;
 use crate::flow::Flow;
 use crate::outcome::{Action, ErrorKind};
 use crate::state::{State, add_action};
 use message_text::{Address, AddressPart, addresses};
 use sieve_base::Octets;
 use sieve_base::limits::MAX_MAILBOX;
-use sieve_variables::{Modifiers, Part, Values};
+use sieve_variables::{Modifiers, Part, Parts, Values};
 use std::alloc::AllocError;
 
 /// Performs an action, which takes the place of the implicit keep (RFC 5228, section 2.10.2).
@@ -32,7 +34,7 @@ fn perform(
 ) -> Result<Flow, AllocError>
     ensures { IfOk result (λ flow. ending_by (delivery_as delivery.now) flow (state_of state.new) ≡ performs (delivery_as delivery.now) line action (state_of state.old)) }
 {
-    if add_action(&mut state.actions, action)? {
+    if add_action(delivery.alloc, &mut state.actions, action)? {
         state.cancelled = true;
         Ok(Flow::GoesOn)
     } else {
@@ -44,13 +46,15 @@ fn perform(
 /// Stores into the mailbox of the delivery (RFC 5228, section 4.3).
 pub(crate) fn keep(
     delivery: &Delivery<'_>,
+    flags: &Option<Vec<Parts>>,
     line: u64,
     state: &mut State,
 ) -> Result<Flow, AllocError>
-    ensures { IfOk result (λ flow. ending_by (delivery_as delivery.now) flow (state_of state.new) ≡ act_of (delivery_as delivery.now) keep_leaf line (state_of state.old)) }
+    ensures { IfOk result (λ flow. ending_by (delivery_as delivery.now) flow (state_of state.new) ≡ act_of (delivery_as delivery.now) (keep_leaf (given_strings flags.now)) line (state_of state.old)) }
 {
     let mailbox = Octets::copied(delivery.alloc, delivery.envelope.mailbox.as_slice())?;
-    perform(delivery, Action::Store { mailbox }, line, state)
+    let flags = stored_flags(delivery, &*state, flags)?;
+    perform(delivery, Action::Store { mailbox, flags }, line, state)
 }
 
 /// Discards the message (RFC 5228, section 4.4).
@@ -106,13 +110,17 @@ fn mailbox_named(
 pub(crate) fn file_into(
     delivery: &Delivery<'_>,
     mailbox: &[Part],
+    flags: &Option<Vec<Parts>>,
     line: u64,
     state: &mut State,
 ) -> Result<Flow, AllocError>
-    ensures { IfOk result (λ flow. ending_by (delivery_as delivery.now) flow (state_of state.new) ≡ act_of (delivery_as delivery.now) (fileinto_leaf (map part_of mailbox.now)) line (state_of state.old)) }
+    ensures { IfOk result (λ flow. ending_by (delivery_as delivery.now) flow (state_of state.new) ≡ act_of (delivery_as delivery.now) (fileinto_leaf (map part_of mailbox.now) (given_strings flags.now)) line (state_of state.old)) }
 {
     match mailbox_named(delivery, &state.values, mailbox)? {
-        Some(mailbox) => perform(delivery, Action::Store { mailbox }, line, state),
+        Some(mailbox) => {
+            let flags = stored_flags(delivery, &*state, flags)?;
+            perform(delivery, Action::Store { mailbox, flags }, line, state)
+        }
         None => {
             let kind = ErrorKind::BadMailbox;
             Ok(Flow::Failed { line, kind })

@@ -19,7 +19,7 @@ use crate::state::State;
 use match_text::Collation;
 use message_text::{AddressPart, addresses};
 use sieve_check::MatchType;
-use sieve_variables::{Parts, Values};
+use sieve_variables::Parts;
 use std::alloc::{AllocError, Global};
 use std::borrow::CowSlice;
 
@@ -136,17 +136,17 @@ fn find_compared(
 /// What a test of the envelope finds. All strings are expanded before the first comparison.
 fn find_match(
     delivery: &Delivery<'_>,
-    values: &Values,
+    state: &State,
     part: AddressPart,
     match_type: MatchType,
     collation: Collation,
     names: &[Parts],
     keys: &[Parts],
 ) -> Result<Option<MatchValues>, AllocError>
-    ensures { IfOk result (λ found. found ≡ match_found (delivery_as delivery.now) values.now (envelope_values part (strings_of names.now)) match_type collation (strings_of keys.now)) }
+    ensures { IfOk result (λ found. found ≡ match_found (delivery_as delivery.now) (state_of state.now) (envelope_values part (strings_of names.now)) match_type collation (strings_of keys.now)) }
 {
-    let names = values.expanded(delivery.alloc, names)?;
-    let keys = values.expanded(delivery.alloc, keys)?;
+    let names = state.values.expanded(delivery.alloc, names)?;
+    let keys = state.values.expanded(delivery.alloc, keys)?;
     find_compared(delivery, part, match_type, collation, &names, &keys)
 }
 
@@ -161,17 +161,9 @@ pub(crate) fn envelope_holds(
     keys: &[Parts],
     state: &mut State,
 ) -> Result<bool, AllocError>
-    ensures truth { IfOk result (λ truth. truth ≡ truth_of (delivery_as delivery.now) (state_of state.old).values (compares (envelope_values part (strings_of names.now)) match_type collation (strings_of keys.now))) }
+    ensures truth { IfOk result (λ truth. truth ≡ truth_of (delivery_as delivery.now) (state_of state.old) (compares (envelope_values part (strings_of names.now)) match_type collation (strings_of keys.now))) }
     ensures behind { IfOk result (λ truth. state_of state.new ≡ behind_test (delivery_as delivery.now) (compares (envelope_values part (strings_of names.now)) match_type collation (strings_of keys.now)) (state_of state.old)) }
 {
-    let found = find_match(
-        delivery,
-        &state.values,
-        part,
-        match_type,
-        collation,
-        names,
-        keys,
-    )?;
+    let found = find_match(delivery, &*state, part, match_type, collation, names, keys)?;
     Ok(keep_found(match_type, found, state))
 }

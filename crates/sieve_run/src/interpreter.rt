@@ -1,4 +1,4 @@
-ghost use Rattle.std.specs.Prelude.{◌≡◌, ◌≤◌, [], ◌∷◌, true, None, Some, IfOk, length};
+ghost use Rattle.std.specs.Prelude.{◌≡◌, ◌≤◌, [], ◌∷◌, true, None, Some, IfOk, if◌then◌else◌, length};
 ghost use Rattle.std.specs.Option.{option_copied};
 ghost use Rattle.sieve_run.specs.Library.{found_at, lookup_of};
 ghost use Rattle.sieve_run.specs.Meter.{next_run};
@@ -21,6 +21,7 @@ use crate::outcome::{ErrorKind, Outcome, RunError};
 use crate::state::State;
 use crate::steps::execute;
 use indexmap::IndexMap;
+use match_text::FlagList;
 use message_text::Message;
 use sieve_base::limits::MAX_NAME;
 use sieve_code::Code;
@@ -36,7 +37,7 @@ fn failed_at_main(
 ) -> Result<Outcome, AllocError>
     ensures { IfOk result (λ outcome. outcome ≡ record {
       actions = [];
-      implicit = true;
+      implicit = Some [];
       error = Some (record { script = main.now; line = 0; kind = kind });
       reads = (main.now, is_present) ∷ [];
     }) }
@@ -45,7 +46,7 @@ fn failed_at_main(
     let reads = first_read(alloc, main, is_present)?;
     Ok(Outcome {
         actions: Vec::new(alloc),
-        implicit: true,
+        implicit: Some(FlagList::new(alloc)),
         error: Some(RunError {
             script,
             line: 0,
@@ -68,6 +69,13 @@ fn first_read(
     Ok(reads)
 }
 
+/// The flags of the implicit keep, where no action cancelled it.
+fn kept(cancelled: bool, flags: FlagList) -> Option<FlagList>
+    ensures { result ≡ if cancelled then None else Some flags }
+{
+    if cancelled { None } else { Some(flags) }
+}
+
 /// The outcome of a run of the main script that ended so.
 fn ended(alloc: Global, main: &ScriptName, flow: Flow, state: State) -> Result<Outcome, AllocError>
     requires { length state.actions.items ≤ action_limit }
@@ -78,11 +86,12 @@ fn ended(alloc: Global, main: &ScriptName, flow: Flow, state: State) -> Result<O
         cancelled,
         reads,
         values: _,
+        flags,
     } = state;
     match flow {
         Flow::Failed { line, kind } => Ok(Outcome {
             actions: Vec::new(alloc),
-            implicit: true,
+            implicit: Some(FlagList::new(alloc)),
             error: Some(RunError {
                 script: main.copy(alloc)?,
                 line,
@@ -92,7 +101,7 @@ fn ended(alloc: Global, main: &ScriptName, flow: Flow, state: State) -> Result<O
         }),
         Flow::GoesOn | Flow::Stopped => Ok(Outcome {
             actions,
-            implicit: !cancelled,
+            implicit: kept(cancelled, flags),
             error: None,
             reads,
         }),
@@ -114,6 +123,7 @@ fn run_main(
         cancelled: false,
         reads: first_read(alloc, main, true)?,
         values: Values::new(alloc),
+        flags: FlagList::new(alloc),
     };
     let delivery = Delivery {
         alloc,
@@ -127,11 +137,11 @@ fn run_main(
 
 /// The outcome where there is no main script: the implicit keep, and nothing is looked up.
 fn no_main(alloc: Global) -> Outcome
-    ensures { result ≡ record { actions = []; implicit = true; error = None; reads = [] } }
+    ensures { result ≡ record { actions = []; implicit = Some []; error = None; reads = [] } }
 {
     Outcome {
         actions: Vec::new(alloc),
-        implicit: true,
+        implicit: Some(FlagList::new(alloc)),
         error: None,
         reads: IndexMap::new(alloc),
     }

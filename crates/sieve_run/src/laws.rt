@@ -13,7 +13,8 @@ ghost use Rattle.sieve_run.specs.Matching.{envelope_text};
 ghost use Rattle.sieve_run.specs.declared.envelope.Envelope.{Envelope};
 ghost use Rattle.sieve_run.specs.Name.{name_cmp, name_eq};
 ghost use Rattle.sieve_run.specs.Perform.{answers_of, do_gone, perform};
-ghost use Rattle.sieve_run.specs.Run.{Answer, Ending, RunState, SetsMatched, answer_of, decide, exec, outcome_of};
+ghost use Rattle.sieve_run.specs.Run.{Answer, Ending, SetsMatched, answer_of, decide, exec, outcome_of};
+ghost use Rattle.sieve_run.specs.State.{RunState};
 ghost use Rattle.sieve_run.specs.declared.name.ScriptName as names;
 
 use crate::name::ScriptName;

@@ -19,7 +19,7 @@ use match_text::{AsciiCasemap, Collation, is};
 use message_text::{Address, AddressPart, Message, addresses};
 use sieve_check::MatchType;
 use sieve_table::is_address_field;
-use sieve_variables::{Parts, Values};
+use sieve_variables::Parts;
 use std::alloc::{AllocError, Global};
 use std::borrow::CowSlice;
 
@@ -203,17 +203,17 @@ fn find_compared(
 /// What a test finds in fields, or in that part of the addresses in them. All strings are expanded before the first comparison.
 fn find_match(
     delivery: &Delivery<'_>,
-    values: &Values,
+    state: &State,
     part: Option<AddressPart>,
     match_type: MatchType,
     collation: Collation,
     names: &[Parts],
     keys: &[Parts],
 ) -> Result<Option<MatchValues>, AllocError>
-    ensures { IfOk result (λ found. found ≡ match_found (delivery_as delivery.now) values.now (field_source part (strings_of names.now)) match_type collation (strings_of keys.now)) }
+    ensures { IfOk result (λ found. found ≡ match_found (delivery_as delivery.now) (state_of state.now) (field_source part (strings_of names.now)) match_type collation (strings_of keys.now)) }
 {
-    let names = values.expanded(delivery.alloc, names)?;
-    let keys = values.expanded(delivery.alloc, keys)?;
+    let names = state.values.expanded(delivery.alloc, names)?;
+    let keys = state.values.expanded(delivery.alloc, keys)?;
     find_compared(delivery, part, match_type, collation, &names, &keys)
 }
 
@@ -228,18 +228,10 @@ pub(crate) fn fields_hold(
     keys: &[Parts],
     state: &mut State,
 ) -> Result<bool, AllocError>
-    ensures truth { IfOk result (λ truth. truth ≡ truth_of (delivery_as delivery.now) (state_of state.old).values (compares (field_source part (strings_of names.now)) match_type collation (strings_of keys.now))) }
+    ensures truth { IfOk result (λ truth. truth ≡ truth_of (delivery_as delivery.now) (state_of state.old) (compares (field_source part (strings_of names.now)) match_type collation (strings_of keys.now))) }
     ensures behind { IfOk result (λ truth. state_of state.new ≡ behind_test (delivery_as delivery.now) (compares (field_source part (strings_of names.now)) match_type collation (strings_of keys.now)) (state_of state.old)) }
 {
-    let found = find_match(
-        delivery,
-        &state.values,
-        part,
-        match_type,
-        collation,
-        names,
-        keys,
-    )?;
+    let found = find_match(delivery, &*state, part, match_type, collation, names, keys)?;
     Ok(keep_found(match_type, found, state))
 }
 
@@ -247,12 +239,12 @@ pub(crate) fn fields_hold(
 #[tactic(auto, unfolding(crate::specs::Matching::truth_of))]
 pub(crate) fn exists(
     delivery: &Delivery<'_>,
-    values: &Values,
+    state: &State,
     names: &[Parts],
 ) -> Result<bool, AllocError>
-    ensures { IfOk result (λ truth. truth ≡ truth_of (delivery_as delivery.now) values.now (exists_ask (strings_of names.now))) }
+    ensures { IfOk result (λ truth. truth ≡ truth_of (delivery_as delivery.now) (state_of state.now) (exists_ask (strings_of names.now))) }
 {
-    let names = values.expanded(delivery.alloc, names)?;
+    let names = state.values.expanded(delivery.alloc, names)?;
     Ok(has_fields(delivery.message, &names))
 }
 

@@ -5,14 +5,15 @@ ghost use Rattle.sieve_run.specs.ErrorKind.{error_word};
 
 use crate::name::ScriptName;
 use indexmap::IndexMap;
+use match_text::FlagList;
 use sieve_base::Octets;
 use std::marker::Model;
 
 /// What is done with a message.
 #[derive(Debug, Drop)]
 pub enum Action {
-    /// It is stored into a mailbox.
-    Store { mailbox: Octets },
+    /// It is stored into a mailbox, with flags (RFC 5232, section 5).
+    Store { mailbox: Octets, flags: FlagList },
     /// It is sent on to an address (RFC 5228, section 4.2).
     Redirect { address: Octets },
     /// It is discarded (RFC 5228, section 4.4).
@@ -76,7 +77,7 @@ pub struct RunError {
 #[derive(Debug, Drop)]
 pub struct Outcome {
     pub(crate) actions: Vec<Action>,
-    pub(crate) implicit: bool,
+    pub(crate) implicit: Option<FlagList>,
     pub(crate) error: Option<RunError>,
     pub(crate) reads: IndexMap<ScriptName, bool>,
 }
@@ -102,11 +103,11 @@ impl Outcome {
         self.actions.as_slice()
     }
 
-    /// Whether the implicit keep stands (RFC 5228, section 2.10.2). Takes no memory.
-    pub fn implicit(&self) -> bool
-        ensures { result ≡ self.now.implicit }
+    /// The flags of the implicit keep, where it stands (RFC 5228, section 2.10.2; RFC 5232, section 5). Takes no memory.
+    pub fn implicit(&self) -> Option<&FlagList>
+        ensures { option_copied result ≡ self.now.implicit }
     {
-        self.implicit
+        self.implicit.as_ref()
     }
 
     /// The error that ended the run, if there was one. Takes no memory.

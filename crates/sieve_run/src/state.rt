@@ -1,15 +1,17 @@
 //! The state of a run, and the actions that are performed.
-ghost use Rattle.std.specs.Prelude.{◌≡◌, IfOk, false};
+ghost use Rattle.std.specs.Prelude.{◌≡◌, IfOk, false, map};
 ghost use Rattle.std.specs.List.{list_any};
-ghost use Rattle.sieve_run.specs.Run.{same_action, with_action};
+ghost use Rattle.sieve_run.specs.Run.{joined_with, same_action, with_action};
 ghost use Rattle.sieve_run.specs.view.State.{performed_as};
 
 use crate::name::ScriptName;
 use crate::outcome::Action;
 use indexmap::IndexMap;
+use match_text::{FlagList, union};
 use sieve_base::limits::MAX_ACTIONS;
 use sieve_variables::Values;
-use std::alloc::AllocError;
+use std::alloc::{AllocError, Global};
+use std::mem;
 
 /// The state of a run.
 #[derive(Debug, Drop)]
@@ -20,6 +22,8 @@ pub(crate) struct State {
     pub(crate) reads: IndexMap<ScriptName, bool>,
     /// The variables of the script that runs.
     pub(crate) values: Values,
+    /// The internal flags (RFC 5232, section 2).
+    pub(crate) flags: FlagList,
 }
 
 /// Whether two actions are one.
@@ -27,7 +31,7 @@ fn same_action(action: &Action, other: &Action) -> bool
     ensures { result ≡ same_action action.now other.now }
 {
     match (action, other) {
-        (Action::Store { mailbox: a }, Action::Store { mailbox: b }) => {
+        (Action::Store { mailbox: a, .. }, Action::Store { mailbox: b, .. }) => {
             a.as_slice() == b.as_slice()
         }
         (Action::Redirect { address: a }, Action::Redirect { address: b }) => {
@@ -45,12 +49,55 @@ fn has_action(action: &Action, actions: &[Action]) -> bool
     actions.iter().any(|other| same_action(action, other))
 }
 
-/// Adds an action, unless it is there already. Answers whether there is room for it.
-pub(crate) fn add_action(actions: &mut Vec<Action>, action: Action) -> Result<bool, AllocError>
+/// An action that is there, joined with one that is performed, where the two are one: a store then has the flags of both.
+fn joined_with(alloc: Global, action: &Action, there: Action) -> Result<Action, AllocError>
+    ensures { IfOk result (λ joined. joined ≡ joined_with action.now there) }
+{
+    if !same_action(action, &there) {
+        return Ok(there);
+    }
+    match (action, there) {
+        (
+            Action::Store { flags, .. },
+            Action::Store {
+                mailbox,
+                flags: held,
+            },
+        ) => Ok(Action::Store {
+            mailbox,
+            flags: union(alloc, &held, flags)?,
+        }),
+        (_, other) => Ok(other),
+    }
+}
+
+/// The actions that are there, each joined with one that is performed.
+fn all_joined(
+    alloc: Global,
+    action: &Action,
+    actions: Vec<Action>,
+) -> Result<Vec<Action>, AllocError>
+    ensures { IfOk result (λ joined. joined.items ≡ map (joined_with action.now) actions.items) }
+{
+    let mut joined = Vec::with_capacity(alloc, actions.len())?;
+    for there in actions {
+        joined.push(joined_with(alloc, action, there)?)?;
+    }
+    Ok(joined)
+}
+
+/// Adds an action, or joins it with the one that is there already. Answers whether there is room for it.
+pub(crate) fn add_action(
+    alloc: Global,
+    actions: &mut Vec<Action>,
+    action: Action,
+) -> Result<bool, AllocError>
     ensures kept { IfOk result (λ has_room. has_room ≡ false → actions.new.items ≡ actions.old.items) }
     ensures value { IfOk result (λ has_room. performed_as has_room actions.new.items ≡ with_action action actions.old.items) }
 {
     if has_action(&action, actions) {
+        let held = mem::replace(actions, Vec::new(alloc));
+        *actions = all_joined(alloc, &action, held)?;
         return Ok(true);
     }
     if actions.len() >= MAX_ACTIONS {

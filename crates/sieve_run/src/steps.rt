@@ -12,6 +12,8 @@ ghost use Rattle.sieve_run.specs.declared.steps.Step.TheVariants.{Next};
 use crate::acting::{discard, file_into, keep, redirect, set};
 use crate::delivery::Delivery;
 use crate::envelope_tests::envelope_holds;
+use crate::flag_tests::flags_hold;
+use crate::flagging::change;
 use crate::flow::Flow;
 use crate::matching::{exists, fields_hold, is_over, is_under};
 use crate::outcome::ErrorKind;
@@ -125,8 +127,17 @@ fn carry_out(
             let truth = strings_hold(delivery, *match_type, *collation, texts, keys, state)?;
             Ok(proceed(truth, behind))
         }
+        Op::HasFlag {
+            match_type,
+            collation,
+            variables,
+            keys,
+        } => {
+            let truth = flags_hold(delivery, *match_type, *collation, variables, keys, state)?;
+            Ok(proceed(truth, behind))
+        }
         Op::Exists { names } => {
-            let truth = exists(delivery, &state.values, names)?;
+            let truth = exists(delivery, &*state, names)?;
             Ok(proceed(truth, behind))
         }
         Op::SizeOver(limit) => Ok(proceed(is_over(delivery, *limit), behind)),
@@ -134,12 +145,16 @@ fn carry_out(
         Op::Jump(target) => Ok(proceed(register, *target)),
         Op::JumpIfFalse(target) => Ok(proceed(register, chosen(register, behind, *target))),
         Op::JumpIfTrue(target) => Ok(proceed(register, chosen(register, *target, behind))),
-        Op::Keep(line) => {
-            let flow = keep(delivery, *line, state)?;
+        Op::Keep { flags, line } => {
+            let flow = keep(delivery, flags, *line, state)?;
             Ok(step_after(flow, behind, register))
         }
-        Op::Fileinto { mailbox, line } => {
-            let flow = file_into(delivery, mailbox, *line, state)?;
+        Op::Fileinto {
+            mailbox,
+            flags,
+            line,
+        } => {
+            let flow = file_into(delivery, mailbox, flags, *line, state)?;
             Ok(step_after(flow, behind, register))
         }
         Op::Redirect { address, line } => {
@@ -157,6 +172,15 @@ fn carry_out(
             line,
         } => {
             let flow = set(delivery, name, *modifiers, value, *line, state)?;
+            Ok(step_after(flow, behind, register))
+        }
+        Op::Flags {
+            change: how,
+            variable,
+            flags,
+            line,
+        } => {
+            let flow = change(delivery, *how, variable, flags, *line, state)?;
             Ok(step_after(flow, behind, register))
         }
         Op::Stop => Ok(Step::Stopped),

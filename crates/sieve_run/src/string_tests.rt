@@ -14,7 +14,7 @@ use crate::delivery::Delivery;
 use crate::state::State;
 use match_text::Collation;
 use sieve_check::MatchType;
-use sieve_variables::{Parts, Values};
+use sieve_variables::Parts;
 use std::alloc::{AllocError, Global};
 use std::borrow::CowSlice;
 
@@ -55,16 +55,16 @@ fn find_compared(
 /// What a test finds in strings. All strings are expanded before the first comparison.
 fn find_match(
     delivery: &Delivery<'_>,
-    values: &Values,
+    state: &State,
     match_type: MatchType,
     collation: Collation,
     texts: &[Parts],
     keys: &[Parts],
 ) -> Result<Option<MatchValues>, AllocError>
-    ensures { IfOk result (λ found. found ≡ match_found (delivery_as delivery.now) values.now (string_values (strings_of texts.now)) match_type collation (strings_of keys.now)) }
+    ensures { IfOk result (λ found. found ≡ match_found (delivery_as delivery.now) (state_of state.now) (string_values (strings_of texts.now)) match_type collation (strings_of keys.now)) }
 {
-    let texts = values.expanded(delivery.alloc, texts)?;
-    let keys = values.expanded(delivery.alloc, keys)?;
+    let texts = state.values.expanded(delivery.alloc, texts)?;
+    let keys = state.values.expanded(delivery.alloc, keys)?;
     find_compared(delivery.alloc, match_type, collation, &texts, &keys)
 }
 
@@ -78,9 +78,9 @@ pub(crate) fn strings_hold(
     keys: &[Parts],
     state: &mut State,
 ) -> Result<bool, AllocError>
-    ensures truth { IfOk result (λ truth. truth ≡ truth_of (delivery_as delivery.now) (state_of state.old).values (compares (string_values (strings_of texts.now)) match_type collation (strings_of keys.now))) }
+    ensures truth { IfOk result (λ truth. truth ≡ truth_of (delivery_as delivery.now) (state_of state.old) (compares (string_values (strings_of texts.now)) match_type collation (strings_of keys.now))) }
     ensures behind { IfOk result (λ truth. state_of state.new ≡ behind_test (delivery_as delivery.now) (compares (string_values (strings_of texts.now)) match_type collation (strings_of keys.now)) (state_of state.old)) }
 {
-    let found = find_match(delivery, &state.values, match_type, collation, texts, keys)?;
+    let found = find_match(delivery, &*state, match_type, collation, texts, keys)?;
     Ok(keep_found(match_type, found, state))
 }

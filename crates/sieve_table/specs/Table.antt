@@ -55,6 +55,10 @@ pub record TagRow : Type 0 where
 abbrev pub slot : Form → Role → Slot
 slot form role = record { form = form; role = role; needs = None }
 
+-- an argument that names variables, for which `variables` has to be required
+abbrev pub naming_slot : Form → Role → Slot
+naming_slot form role = record { form = form; role = role; needs = Some capability.Variables }
+
 -- what takes nothing
 abbrev pub bare : List ℕ → Row
 bare name = record { name = name; tags = []; one_of = None; front = None; slots = []; tests = inner.None; has_block = false; needs = [] }
@@ -88,6 +92,8 @@ tag_row tag.UpperFirst = bare_tag (codes "upperfirst") kind.FirstLetter
 tag_row tag.QuoteWildcard = bare_tag (codes "quotewildcard") kind.QuoteWildcard
 -- RFC 5229, section 4.1.1
 tag_row tag.Length = bare_tag (codes "length") kind.Length
+-- RFC 5232, section 5
+tag_row tag.Flags = record (bare_tag (codes "flags") kind.Flags) { takes = Some (slot form.List role.Flags); needs = Some capability.Imap4flags }
 
 -- the match types
 abbrev pub match_tags : List Tag
@@ -105,6 +111,10 @@ address_tags = tag.All ∷ tag.LocalPart ∷ tag.Domain ∷ comparing_tags
 abbrev pub modifier_tags : List Tag
 modifier_tags = tag.Lower ∷ tag.Upper ∷ tag.LowerFirst ∷ tag.UpperFirst ∷ tag.QuoteWildcard ∷ tag.Length ∷ []
 
+-- a command that changes flags, those of a variable where one is named (RFC 5232, section 3)
+abbrev pub flag_command : List ℕ → Row
+flag_command name = record (bare name) { front = Some (naming_slot form.One role.NameToSet); slots = slot form.List role.Flags ∷ []; needs = capability.Imap4flags ∷ [] }
+
 abbrev pub command_row : CommandKind → Row
 -- RFC 5228, section 3.2
 command_row command.Require = record (bare (codes "require")) { slots = slot form.List role.Capabilities ∷ [] }
@@ -112,10 +122,10 @@ command_row command.Require = record (bare (codes "require")) { slots = slot for
 command_row command.If = record (bare (codes "if")) { tests = inner.One; has_block = true }
 command_row command.Elsif = record (bare (codes "elsif")) { tests = inner.One; has_block = true }
 command_row command.Else = record (bare (codes "else")) { has_block = true }
--- RFC 5228, section 4.3
-command_row command.Keep = bare (codes "keep")
--- RFC 5228, section 4.1
-command_row command.Fileinto = record (bare (codes "fileinto")) { slots = slot form.One role.Mailbox ∷ []; needs = capability.Fileinto ∷ [] }
+-- RFC 5228, section 4.3; RFC 5232, section 5
+command_row command.Keep = record (bare (codes "keep")) { tags = tag.Flags ∷ [] }
+-- RFC 5228, section 4.1; RFC 5232, section 5
+command_row command.Fileinto = record (bare (codes "fileinto")) { tags = tag.Flags ∷ []; slots = slot form.One role.Mailbox ∷ []; needs = capability.Fileinto ∷ [] }
 -- RFC 5228, section 4.2
 command_row command.Redirect = record (bare (codes "redirect")) { slots = slot form.One role.Address ∷ [] }
 -- RFC 5228, section 4.4
@@ -124,6 +134,10 @@ command_row command.Discard = bare (codes "discard")
 command_row command.Stop = bare (codes "stop")
 -- RFC 5229, section 4
 command_row command.Set = record (bare (codes "set")) { tags = modifier_tags; slots = slot form.One role.NameToSet ∷ slot form.One role.Text ∷ []; needs = capability.Variables ∷ [] }
+-- RFC 5232, sections 3.1, 3.2 and 3.3
+command_row command.SetFlag = flag_command (codes "setflag")
+command_row command.AddFlag = flag_command (codes "addflag")
+command_row command.RemoveFlag = flag_command (codes "removeflag")
 
 abbrev pub test_row : TestKind → Row
 -- RFC 5228, section 5.7
@@ -146,6 +160,8 @@ test_row test.True = bare (codes "true")
 test_row test.False = bare (codes "false")
 -- RFC 5229, section 5
 test_row test.String = record (bare (codes "string")) { tags = comparing_tags; slots = slot form.List role.Text ∷ slot form.List role.Keys ∷ []; needs = capability.Variables ∷ [] }
+-- RFC 5232, section 4
+test_row test.HasFlag = record (bare (codes "hasflag")) { tags = comparing_tags; front = Some (naming_slot form.List role.NamesToRead); slots = slot form.List role.Keys ∷ []; needs = capability.Imap4flags ∷ [] }
 
 -- THE LOOK-UP
 
@@ -154,10 +170,10 @@ abbrev pub is_named : List ℕ → List ℕ → Bool
 is_named name written = str_eq_ignore_ascii_case name written
 
 abbrev pub commands : List CommandKind
-commands = command.Require ∷ command.If ∷ command.Elsif ∷ command.Else ∷ command.Keep ∷ command.Fileinto ∷ command.Redirect ∷ command.Discard ∷ command.Stop ∷ command.Set ∷ []
+commands = command.Require ∷ command.If ∷ command.Elsif ∷ command.Else ∷ command.Keep ∷ command.Fileinto ∷ command.Redirect ∷ command.Discard ∷ command.Stop ∷ command.Set ∷ command.SetFlag ∷ command.AddFlag ∷ command.RemoveFlag ∷ []
 
 abbrev pub tests : List TestKind
-tests = test.Header ∷ test.Address ∷ test.Envelope ∷ test.Exists ∷ test.Size ∷ test.AllOf ∷ test.AnyOf ∷ test.Not ∷ test.True ∷ test.False ∷ test.String ∷ []
+tests = test.Header ∷ test.Address ∷ test.Envelope ∷ test.Exists ∷ test.Size ∷ test.AllOf ∷ test.AnyOf ∷ test.Not ∷ test.True ∷ test.False ∷ test.String ∷ test.HasFlag ∷ []
 
 -- the command of that name
 unfoldable pub command_named : List ℕ → Option CommandKind

@@ -22,10 +22,11 @@ pub enum Capability {
 }
 
 /// The capabilities that there are.
-const CAPABILITIES: [Capability; 5] = [
+const CAPABILITIES: [Capability; 6] = [
     Capability::Fileinto,
     Capability::Envelope,
     Capability::Variables,
+    Capability::Imap4flags,
     Capability::OctetComparator,
     Capability::CasemapComparator,
 ];

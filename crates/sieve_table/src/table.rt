@@ -29,6 +29,12 @@ pub enum CommandKind {
     Stop,
     /// `set` (RFC 5229, section 4).
     Set,
+    /// `setflag` (RFC 5232, section 3.1).
+    SetFlag,
+    /// `addflag` (RFC 5232, section 3.2).
+    AddFlag,
+    /// `removeflag` (RFC 5232, section 3.3).
+    RemoveFlag,
 }
 
 /// A test that there is.
@@ -56,6 +62,8 @@ pub enum TestKind {
     False,
     /// `string` (RFC 5229, section 5).
     String,
+    /// `hasflag` (RFC 5232, section 4).
+    HasFlag,
 }
 
 /// A tag that there is.
@@ -91,10 +99,12 @@ pub enum Tag {
     QuoteWildcard,
     /// `:length` (RFC 5229, section 4.1.1).
     Length,
+    /// `:flags`, which takes the list behind it (RFC 5232, section 5).
+    Flags,
 }
 
 /// All commands.
-const COMMANDS: [CommandKind; 10] = [
+const COMMANDS: [CommandKind; 13] = [
     CommandKind::Require,
     CommandKind::If,
     CommandKind::Elsif,
@@ -105,10 +115,13 @@ const COMMANDS: [CommandKind; 10] = [
     CommandKind::Discard,
     CommandKind::Stop,
     CommandKind::Set,
+    CommandKind::SetFlag,
+    CommandKind::AddFlag,
+    CommandKind::RemoveFlag,
 ];
 
 /// All tests.
-const TESTS: [TestKind; 11] = [
+const TESTS: [TestKind; 12] = [
     TestKind::Header,
     TestKind::Address,
     TestKind::Envelope,
@@ -120,6 +133,7 @@ const TESTS: [TestKind; 11] = [
     TestKind::True,
     TestKind::False,
     TestKind::String,
+    TestKind::HasFlag,
 ];
 
 /// What takes nothing, and has no name yet.
@@ -147,6 +161,28 @@ const COMPARATOR_NAME: Slot = Slot {
     form: Form::One,
     role: Role::ComparatorName,
     needs: None,
+};
+
+/// A list of flags.
+const FLAGS: Slot = Slot {
+    form: Form::List,
+    role: Role::Flags,
+    needs: None,
+};
+
+/// The variable whose flags a command changes.
+const FLAG_VARIABLE: Slot = Slot {
+    form: Form::One,
+    role: Role::NameToSet,
+    needs: Some(Capability::Variables),
+};
+
+/// A command that changes flags (RFC 5232, section 3), and has no name yet.
+const FLAG_COMMAND: Row = Row {
+    front: Some(FLAG_VARIABLE),
+    slots: &[FLAGS],
+    needs: &[Capability::Imap4flags],
+    ..BARE
 };
 
 impl Tag {
@@ -231,6 +267,12 @@ impl Tag {
                 kind: TagKind::Length,
                 ..BARE_TAG
             },
+            Tag::Flags => TagRow {
+                name: b"flags",
+                kind: TagKind::Flags,
+                takes: Some(FLAGS),
+                needs: Some(Capability::Imap4flags),
+            },
         }
     }
 }
@@ -269,10 +311,12 @@ impl CommandKind {
             },
             CommandKind::Keep => Row {
                 name: b"keep",
+                tags: &[Tag::Flags],
                 ..BARE
             },
             CommandKind::Fileinto => Row {
                 name: b"fileinto",
+                tags: &[Tag::Flags],
                 slots: &[Slot {
                     form: Form::One,
                     role: Role::Mailbox,
@@ -322,6 +366,18 @@ impl CommandKind {
                 ],
                 needs: &[Capability::Variables],
                 ..BARE
+            },
+            CommandKind::SetFlag => Row {
+                name: b"setflag",
+                ..FLAG_COMMAND
+            },
+            CommandKind::AddFlag => Row {
+                name: b"addflag",
+                ..FLAG_COMMAND
+            },
+            CommandKind::RemoveFlag => Row {
+                name: b"removeflag",
+                ..FLAG_COMMAND
             },
         }
     }
@@ -445,6 +501,18 @@ impl TestKind {
                     KEYS,
                 ],
                 needs: &[Capability::Variables],
+                ..BARE
+            },
+            TestKind::HasFlag => Row {
+                name: b"hasflag",
+                tags: &COMPARING_TAGS,
+                front: Some(Slot {
+                    form: Form::List,
+                    role: Role::NamesToRead,
+                    needs: Some(Capability::Variables),
+                }),
+                slots: &[KEYS],
+                needs: &[Capability::Imap4flags],
                 ..BARE
             },
         }

@@ -21,10 +21,14 @@ abbrev pub or_empty : Option (List ℕ) → List ℕ
 or_empty None = []
 or_empty (Some value) = value
 
--- what a part stands for; a variable that isn't set, and a match variable that there isn't, is empty (RFC 5229, sections 3 and 3.2)
+-- what a variable of the script holds; one that isn't set is empty (RFC 5229, section 3)
+abbrev pub local_value : Values → List ℕ → List ℕ
+local_value values name = or_empty (lookup (pointwise nat_eq name) values.locals)
+
+-- what a part stands for; a match variable that there isn't is empty (RFC 5229, section 3.2)
 abbrev pub part_value : Values → Part → List ℕ
 part_value values (literal octets) = octets
-part_value values (local_part name) = or_empty (lookup (pointwise nat_eq name) values.locals)
+part_value values (local_part name) = local_value values name
 part_value values (match_part index) = or_empty (slice_get values.matched index)
 
 -- what a string stands for; what a variable holds isn't looked through for references again

@@ -1,8 +1,6 @@
 //! What variables hold while a script runs (RFC 5229, section 3).
-ghost use Rattle.std.specs.Prelude.{◌≡◌, IfErr, OnErr, OnOk, nat_eq, slice_get};
-ghost use Rattle.std.specs.Map.{lookup};
-ghost use lib.Pointwise.{pointwise};
-ghost use Rattle.sieve_variables.specs.Value.{no_values, or_empty, part_value, with_local, with_matched};
+ghost use Rattle.std.specs.Prelude.{◌≡◌, IfErr, OnErr, OnOk, slice_get};
+ghost use Rattle.sieve_variables.specs.Value.{local_value, no_values, or_empty, part_value, with_local, with_matched};
 ghost use Rattle.sieve_variables.specs.view.Part.{part_of};
 
 use crate::part::Part;
@@ -88,8 +86,8 @@ impl Values {
 
     /// What a variable of the script holds, by its name in lower case: nothing where it isn't set. Takes no memory.
     #[tactic(auto, using(crate::proofs::Locals::lookup_locals))]
-    fn local(&self, name: &[u8]) -> &[u8]
-        ensures { result.now ≡ or_empty (lookup (pointwise nat_eq name.now) self.now.locals) }
+    pub fn local(&self, name: &[u8]) -> &[u8]
+        ensures { result.now ≡ local_value self.now name.now }
     {
         match self.locals.get(name) {
             Some(value) => value.as_slice(),

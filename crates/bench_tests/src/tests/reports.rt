@@ -105,7 +105,12 @@ fn faulty_scripts_have_their_verdicts(rt: HostRuntime) -> Result<(), Fail> {
             (b"kep;", b"", b"line 1 unknown-command", INVALID),
             (b"keep;\n\nkep;", b"", b"line 3 unknown-command", INVALID),
             (b"keep \"x\";", b"", b"line 1 bad-arguments", INVALID),
-            (b"keep :flags \"x\";", b"", b"line 1 bad-tag", INVALID),
+            (
+                b"keep :flags \"x\";",
+                b"",
+                b"line 1 not-required",
+                INVALID,
+            ),
         ],
     )
 }

@@ -149,6 +149,7 @@ fn what_is_needed_is_required(rt: HostRuntime) -> Result<(), Fail> {
         &rt,
         Some((1, b"not-required".as_slice())),
         &[
+            b"keep :flags \"x\";",
             b"fileinto \"x\";",
             b"if envelope \"from\" \"x\" {}",
             b"if not anyof (true, envelope \"from\" \"x\") {}",
@@ -233,7 +234,8 @@ fn tags(rt: HostRuntime) -> Result<(), Fail> {
             b"if anyof :over (true) {}",
             b"if not :is true {}",
             b"if :is true {}",
-            b"keep :flags \"x\";",
+            b"discard :flags \"x\";",
+            b"require \"imap4flags\"; keep :flags \"x\" :flags \"y\";",
             b"if address :all :domain \"to\" \"x\" {}",
             b"if address :localpart :localpart \"to\" \"x\" {}",
             b"if header :all \"to\" \"x\" {}",
@@ -324,7 +326,12 @@ fn check_keep(rt: &impl Abort, keep: &Command) {
         (keep.name.as_slice(), keep.line, keep.kind()),
         (b"keep".as_slice(), 1, Some(CommandKind::Keep))
     );
-    assert!(rt; matches!(keep.reading(), Some(CommandReading::Acts(Leaf::Keep))));
+    assert!(rt;
+        matches!(
+            keep.reading(),
+            Some(CommandReading::Acts(Leaf::Keep { flags: None }))
+        )
+    );
     assert!(rt; keep.args.is_empty() && keep.block.is_none());
 }
 

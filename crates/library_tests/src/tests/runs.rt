@@ -4,7 +4,8 @@ ghost use Rattle.std.specs.Prelude.{◌≤◌, IfOk, length};
 
 use indexmap::IndexMap;
 use sieve_run::{
-    Action, Envelope, Message, Meter, Octets, Outcome, Place, RunError, ScriptName, Shelf, run,
+    Action, Envelope, FlagList, Message, Meter, Octets, Outcome, Place, RunError, ScriptName,
+    Shelf, run,
 };
 use std::alloc::{AllocError, Global};
 use std::cmp::Ordering;
@@ -38,11 +39,21 @@ fn push_octets(out: &mut String, octets: &[u8]) -> Result<(), AllocError> {
     Ok(())
 }
 
+/// Prints flags, each behind a colon.
+fn push_flags(out: &mut String, flags: &FlagList) -> Result<(), AllocError> {
+    for i in 0..flags.len() {
+        out.push_str(":")?;
+        push_octets(out, flags.get(i))?;
+    }
+    Ok(())
+}
+
 fn push_action(out: &mut String, action: &Action) -> Result<(), AllocError> {
     match action {
-        Action::Store { mailbox } => {
+        Action::Store { mailbox, flags } => {
             out.push_str("store=")?;
             push_octets(out, mailbox.as_slice())?;
+            push_flags(out, flags)?;
             out.push_str(" ")
         }
         Action::Redirect { address } => {
@@ -83,10 +94,21 @@ fn push_reads(out: &mut String, reads: &IndexMap<ScriptName, bool>) -> Result<()
     Ok(())
 }
 
+fn push_implicit(out: &mut String, outcome: &Outcome) -> Result<(), AllocError> {
+    match outcome.implicit() {
+        Some(flags) => {
+            out.push_str("implicit")?;
+            push_flags(out, flags)?;
+            out.push_str(" ")
+        }
+        None => Ok(()),
+    }
+}
+
 /// Prints an outcome as words, each with a space behind it.
 fn push_outcome(out: &mut String, alloc: Global, outcome: &Outcome) -> Result<(), AllocError> {
     push_actions(out, outcome.actions())?;
-    out.push_str(if outcome.implicit() { "implicit " } else { "" })?;
+    push_implicit(out, outcome)?;
     if let Some(error) = outcome.error() {
         push_error(out, alloc, error)?;
     }

@@ -1,5 +1,6 @@
 -- The program's readings of commands and tests.
 use Rattle.std.specs.Prelude.{List, map}
+use Rattle.std.specs.Option.{option_map}
 use Rattle.sieve_check.specs.Reading as reading
 use Rattle.sieve_check.specs.view.Tree.{text_of}
 use Rattle.sieve_variables.specs.Part.{Part}
@@ -9,7 +10,7 @@ use Rattle.sieve_check.specs.declared.reading.Ask.TheVariants.{Compares, Exists,
 use Rattle.sieve_check.specs.declared.reading.CommandReading.{CommandReading}
 use Rattle.sieve_check.specs.declared.reading.CommandReading.TheVariants.{Opens, Continues, Otherwise, Stops, Nothing, Acts}
 use Rattle.sieve_check.specs.declared.reading.Leaf.{Leaf}
-use Rattle.sieve_check.specs.declared.reading.Leaf.TheVariants.{Keep, Fileinto, Redirect, Discard, Set}
+use Rattle.sieve_check.specs.declared.reading.Leaf.TheVariants.{Keep, Fileinto, Redirect, Discard, Set, Flags}
 use Rattle.sieve_check.specs.declared.reading.Source.{Source}
 use Rattle.sieve_check.specs.declared.reading.Source.TheVariants as source
 use Rattle.sieve_check.specs.declared.reading.TestReading.{TestReading}
@@ -25,6 +26,7 @@ source_as (source.Header names) = reading.header_values (texts_as names.now)
 source_as (source.Address part names) = reading.address_values part (texts_as names.now)
 source_as (source.Envelope part names) = reading.envelope_values part (texts_as names.now)
 source_as (source.String texts) = reading.string_values (texts_as texts.now)
+source_as (source.Flags variables) = reading.flag_values (option_map (λ texts. texts_as texts.now) variables)
 
 abbrev pub ask_as : Ask → reading.Ask
 ask_as (Compares source match_type collation keys) = reading.compares (source_as source) match_type collation (texts_as keys.now)
@@ -41,11 +43,12 @@ test_reading_as AnyOf = reading.reads_any
 test_reading_as Not = reading.reads_not
 
 abbrev pub leaf_as : Leaf → reading.Leaf
-leaf_as Keep = reading.keep_leaf
-leaf_as (Fileinto mailbox) = reading.fileinto_leaf (map part_of mailbox.now)
+leaf_as (Keep flags) = reading.keep_leaf (option_map (λ texts. texts_as texts.now) flags)
+leaf_as (Fileinto mailbox flags) = reading.fileinto_leaf (map part_of mailbox.now) (option_map (λ texts. texts_as texts.now) flags)
 leaf_as (Redirect address) = reading.redirect_leaf (map part_of address.now)
 leaf_as Discard = reading.discard_leaf
 leaf_as (Set name modifiers value) = reading.set_leaf name.now modifiers (map part_of value.now)
+leaf_as (Flags change variable flags) = reading.flag_leaf change (option_map (λ name. name.now) variable) (texts_as flags.now)
 
 abbrev pub command_reading_as : CommandReading → reading.CommandReading
 command_reading_as Opens = reading.opens

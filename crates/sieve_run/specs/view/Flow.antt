@@ -1,7 +1,8 @@
 -- How the interpreter says that commands ended.
 use Rattle.std.specs.Prelude.{ℕ, Bool}
 use Rattle.sieve_run.specs.Delivery.{Delivery}
-use Rattle.sieve_run.specs.Run.{RunState, Ending, goes_on, stopped, failed, fails_at, verdict_of}
+use Rattle.sieve_run.specs.Run.{Ending, goes_on, stopped, failed, fails_at, verdict_of}
+use Rattle.sieve_run.specs.State.{RunState}
 use Rattle.sieve_run.specs.Verdict.{Verdict}
 use Rattle.sieve_run.specs.declared.name.ScriptName.{ScriptName}
 use Rattle.sieve_run.specs.declared.flow.Flow.{Flow}

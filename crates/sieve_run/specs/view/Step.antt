@@ -5,7 +5,8 @@ use Rattle.sieve_code.specs.Walk as walk
 use Rattle.sieve_code.specs.Walk.{Walk}
 use Rattle.sieve_run.specs.Delivery.{Delivery}
 use Rattle.sieve_run.specs.Perform.{perform}
-use Rattle.sieve_run.specs.Run.{RunState, Ending, stopped, act_of, answer_of, fails_at}
+use Rattle.sieve_run.specs.Run.{Ending, stopped, act_of, answer_of, fails_at}
+use Rattle.sieve_run.specs.State.{RunState}
 use Rattle.sieve_run.specs.declared.steps.Step.{Step}
 use Rattle.sieve_run.specs.declared.steps.Step.TheVariants.{Next, Stopped, Failed}
 

@@ -1,6 +1,6 @@
 use Rattle.std.proofs.Common.{Some, ◌∙◌, ap, map, sym}
 use Rattle.std.specs.Option.{option_map}
-use Rattle.sieve_check.specs.Reading.{address_source, compares_by, envelope_source, exists_by, header_source, labels_in, reads_ask, size_by, string_source, test_reading_by}
+use Rattle.sieve_check.specs.Reading.{address_source, compares_by, envelope_source, exists_by, flag_source, header_source, labels_in, reads_ask, size_by, string_source, test_reading_by}
 use Rattle.sieve_table.specs.Table.{test_row}
 use Rattle.sieve_check.specs.view.Tree.{argument_of}
 use Rattle.sieve_check.proofs.reading.test_reading_by.Goals as goal
@@ -46,3 +46,10 @@ returns-in-String c =
     c.asking-in-String.ensures
     ∙ ap (option_map reads_ask) (c.string_ask.ensures ∙ ap (λ r. compares_by (string_source (labels_in r args) args) (labels_in r args) args) (c.row-in-String.ensures ∙ ap test_row c.in-String.is))
     ∙ sym (ap (λ kind. test_reading_by (Some kind) args) c.in-String.is)
+
+pub returns-in-HasFlag : goal.returns-in-HasFlag
+returns-in-HasFlag c =
+    let args = map argument_of c.args.args.now in
+    c.asking-in-HasFlag.ensures
+    ∙ ap (option_map reads_ask) (c.flag_ask.ensures ∙ ap (λ r. compares_by (flag_source (labels_in r args) args) (labels_in r args) args) (c.row-in-HasFlag.ensures ∙ ap test_row c.in-HasFlag.is))
+    ∙ sym (ap (λ kind. test_reading_by (Some kind) args) c.in-HasFlag.is)

@@ -1,5 +1,6 @@
 use Rattle.std.proofs.Common.{◌∙◌, ap}
 use Rattle.sieve_run.specs.view.Delivery.{delivery_as}
+use Rattle.sieve_run.specs.view.State.{state_of}
 use Rattle.sieve_variables.specs.view.Part.{strings_of}
 use Rattle.sieve_variables.specs.view.Value.{octets_of_each}
 use Rattle.sieve_run.proofs.Searching.{answers_so, paths_found}
@@ -8,6 +9,6 @@ use Rattle.sieve_run.proofs.envelope_tests.find_match.Goals as goal
 pub returns : goal.returns
 returns c =
     answers_so c.find_compared.result _ _
-    (paths_found c.args.match_type c.args.collation c.args.part (delivery_as c.args.delivery.now) c.args.values.now (strings_of c.args.names.now) (strings_of c.args.keys.now)
+    (paths_found c.args.match_type c.args.collation c.args.part (delivery_as c.args.delivery.now) (state_of c.args.state.now) (strings_of c.args.names.now) (strings_of c.args.keys.now)
     (octets_of_each c.deref.result.now) (octets_of_each c.deref-2.result.now) (ap octets_of_each c.deref.ensures.value ∙ c.in_ok-names.ensures) (ap octets_of_each c.deref-2.ensures.value ∙ c.in_ok-keys.ensures))
     c.find_compared.ensures

@@ -23,5 +23,5 @@ returns c =
     let ops = ops_of c.args.code.now in
     let new = state_of c.execute.new.state in
     IfOk-weaker c.ended.result (λ (outcome : Verdict). outcome ≡ verdict_by c.args.main.now c.in_ok-flow.flow new) (λ (outcome : Verdict). outcome ≡ verdict_of (doing d (code_walk ops (length ops)) (begun c.args.main.now)))
-    (λ outcome is. is ∙ main_verdict d (code_walk ops (length ops)) c.new.result.items c.in_ok-first_read.field-0.entries c.new-2.result c.in_ok-flow.flow _ new refl c.new.ensures.items c.in_ok-first_read.ensures c.new-2.ensures c.in_ok-flow.ensures)
+    (λ outcome is. is ∙ main_verdict d (code_walk ops (length ops)) c.new.result.items c.in_ok-first_read.field-0.entries c.new-2.result c.new-3.result c.in_ok-flow.flow _ new refl c.new.ensures.items c.in_ok-first_read.ensures c.new-2.ensures c.new-3.ensures c.in_ok-flow.ensures)
     c.ended.ensures

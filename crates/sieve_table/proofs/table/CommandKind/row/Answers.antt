@@ -30,3 +30,12 @@ returns-in-Stop c = rw c.in-Stop.is refl
 
 pub returns-in-Set : goal.returns-in-Set
 returns-in-Set c = rw c.in-Set.is refl
+
+pub returns-in-SetFlag : goal.returns-in-SetFlag
+returns-in-SetFlag c = rw c.in-SetFlag.is refl
+
+pub returns-in-AddFlag : goal.returns-in-AddFlag
+returns-in-AddFlag c = rw c.in-AddFlag.is refl
+
+pub returns-in-RemoveFlag : goal.returns-in-RemoveFlag
+returns-in-RemoveFlag c = rw c.in-RemoveFlag.is refl

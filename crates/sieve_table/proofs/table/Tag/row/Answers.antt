@@ -45,3 +45,6 @@ returns-in-QuoteWildcard c = rw c.in-QuoteWildcard.is refl
 
 pub returns-in-Length : goal.returns-in-Length
 returns-in-Length c = rw c.in-Length.is refl
+
+pub returns-in-Flags : goal.returns-in-Flags
+returns-in-Flags c = rw c.in-Flags.is refl

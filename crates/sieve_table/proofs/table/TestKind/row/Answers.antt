@@ -33,3 +33,6 @@ returns-in-False c = rw c.in-False.is refl
 
 pub returns-in-String : goal.returns-in-String
 returns-in-String c = rw c.in-String.is refl
+
+pub returns-in-HasFlag : goal.returns-in-HasFlag
+returns-in-HasFlag c = rw c.in-HasFlag.is refl

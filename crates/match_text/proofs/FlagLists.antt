@@ -1,0 +1,246 @@
+-- Lists of flags that are joined, filtered and taken once each.
+use Rattle.std.proofs.Common.{◌≡◌, ℕ, ◌+◌, ◌<◌, ◌≤◌, length, drop, get_or, Bool, true, false, not, cond, ◌&&◌, ◌||◌, List, [], ◌∷◌, ◌++◌, filter, if◌then◌else◌, refl, sym, ap, subst, ◌∙◌, append-nil, append_assoc, true≢false}
+use Rattle.std.specs.List.{All, AllByRecursion, IsDistinct, flat_map}
+use Rattle.std.proofs.lemmas.List.{at_drop_more, drop_all}
+use Rattle.std.proofs.lemmas.List.Elements.{All-cons, All-filter, All-head, All-tail, filter-append, filter_agree, filter_passes}
+use Rattle.std.proofs.lemmas.List.Folds.{list_any-append}
+use Rattle.std.proofs.lemmas.Map.Steps.{list_any_congr}
+use Rattle.indexmap.specs.IndexSet.{insert_key}
+use Rattle.match_text.specs.Comparator.{ascii_casemap, same}
+use Rattle.match_text.specs.Flags.{AreDistinct, distinct, flag_list, flag_union, flags_in, flags_of_texts, flags_without, has_flag, is_flag, pieces}
+use Rattle.match_text.specs.view.Hashing.{same_equiv}
+
+-- FILTERS
+
+module _ {X : Type 0} (p q r : X → Bool) where
+  -- two filters are the filter of both tests
+  filter_twice : ((x : X) → (p x && q x) ≡ r x) → (xs : List X) → filter q (filter p xs) ≡ filter r xs
+  filter_twice both [] = refl
+  filter_twice both (x ∷ xs) = by (p x) (both x) (filter_twice both xs)
+    where
+      by : (s : Bool) → (s && q x) ≡ r x → filter q (filter p xs) ≡ filter r xs
+          → filter q (cond s (x ∷ filter p xs) (filter p xs)) ≡ cond (r x) (x ∷ filter r xs) (filter r xs)
+      by true e rest = λ j. cond (e j) (x ∷ rest j) (rest j)
+      by false e rest = λ j. cond (e j) (x ∷ rest j) (rest j)
+
+-- THOSE THAT AREN'T AMONG OTHERS
+
+abbrev other : List (List ℕ) → List ℕ → Bool
+other others flag = not (has_flag others flag)
+
+either_not : (s t : Bool) → (not s && not t) ≡ not (s || t)
+either_not true t = refl
+either_not false t = refl
+
+-- without some, and then without others, is without both
+without_twice : (flags a b : List (List ℕ)) → flags_without (flags_without flags a) b ≡ flags_without flags (a ++ b)
+unfolding flags_without
+without_twice flags a b =
+    filter_twice (other a) (other b) (other (a ++ b))
+    (λ flag. either_not (has_flag a flag) (has_flag b flag) ∙ ap not (sym (list_any-append (same ascii_casemap flag) a b))) flags
+
+without_alike : (a b : List (List ℕ)) → ((flag : List ℕ) → has_flag a flag ≡ has_flag b flag) → (flags : List (List ℕ))
+    → flags_without flags a ≡ flags_without flags b
+unfolding flags_without
+without_alike a b alike flags = filter_agree (other a) (other b) (λ flag. ap not (alike flag)) flags
+
+-- without none all stay
+pub without_none : (flags : List (List ℕ)) → flags_without flags [] ≡ flags
+unfolding flags_without
+without_none [] = refl
+without_none (flag ∷ flags) = ap (λ l. flag ∷ l) (without_none flags)
+
+pub without-cons : (flag : List ℕ) (flags others : List (List ℕ))
+    → flags_without (flag ∷ flags) others ≡ flags_without (flag ∷ []) others ++ flags_without flags others
+unfolding flags_without
+without-cons flag flags others = filter-append (other others) (flag ∷ []) flags
+
+-- UNIONS
+
+pub union_nil : (a : List (List ℕ)) → flag_union a [] ≡ a
+unfolding flag_union distinct flags_without
+union_nil a = append-nil a
+
+-- of one flag it is what a set does with one
+pub union_one : (a : List (List ℕ)) (flag : List ℕ) → insert_key (same ascii_casemap) a flag ≡ flag_union a (flag ∷ [])
+unfolding flag_union distinct flags_without
+union_one a flag = by (has_flag a flag)
+  where
+    by : (b : Bool) → (if b then a else a ++ flag ∷ []) ≡ a ++ cond (not b) (flag ∷ []) []
+    by true = sym (append-nil a)
+    by false = refl
+
+or_swap : (s t : Bool) → (t || (s || false)) ≡ (s || t)
+or_swap true true = refl
+or_swap true false = refl
+or_swap false true = refl
+or_swap false false = refl
+
+-- a flag is among both alike
+has_one_more : (a : List (List ℕ)) (flag x : List ℕ) → has_flag (flag_union a (flag ∷ [])) x ≡ has_flag (flag ∷ a) x
+unfolding flag_union distinct flags_without
+has_one_more a flag x = by (has_flag a flag) refl
+  where
+    there : (b : Bool) → same ascii_casemap x flag ≡ b → has_flag a flag ≡ true → has_flag a x ≡ (b || has_flag a x)
+    there true e h = list_any_congr same_equiv x flag a e ∙ h
+    there false e h = refl
+
+    by : (b : Bool) → has_flag a flag ≡ b → has_flag (a ++ cond (not b) (flag ∷ []) []) x
+        ≡ (same ascii_casemap x flag || has_flag a x)
+    by true h = ap (λ l. has_flag l x) (append-nil a) ∙ there (same ascii_casemap x flag) refl h
+    by false h = list_any-append (same ascii_casemap x) a (flag ∷ []) ∙ or_swap (same ascii_casemap x flag) (has_flag a x)
+
+-- one flag after the other
+pub union_step : (a : List (List ℕ)) (flag : List ℕ) (flags : List (List ℕ))
+    → flag_union (flag_union a (flag ∷ [])) flags ≡ flag_union a (flag ∷ flags)
+unfolding flag_union distinct flags_without
+union_step a flag flags =
+    ap (λ l. (a ++ flags_without (flag ∷ []) a) ++ l)
+    (without_alike (flag_union a (flag ∷ [])) (flag ∷ a) (has_one_more a flag) (distinct flags) ∙ sym (without_twice (distinct flags) (flag ∷ []) a))
+    ∙ append_assoc a (flags_without (flag ∷ []) a) (flags_without (flags_without (distinct flags) (flag ∷ [])) a)
+    ∙ ap (λ l. a ++ l) (sym (without-cons flag (flags_without (distinct flags) (flag ∷ [])) a))
+
+-- one list after the other
+pub union_append : (a b c : List (List ℕ)) → flag_union (flag_union a b) c ≡ flag_union a (b ++ c)
+union_append a [] c = ap (λ l. flag_union l c) (union_nil a)
+union_append a (flag ∷ b) c =
+    ap (λ l. flag_union l c) (sym (union_step a flag b))
+    ∙ union_append (flag_union a (flag ∷ [])) b c ∙ union_step a flag (b ++ c)
+
+-- One more of the items of a loop, where F gives the flags of those that are left, and each those of one.
+module _ {X : Type 0} (F : List X → List (List ℕ)) where
+  pub union_more : (each : X → List (List ℕ)) → ((x : X) (rest : List X) → F (x ∷ rest) ≡ each x ++ F rest)
+      → (items : List X) (i : ℕ) (d : X)
+      (old new whole : List (List ℕ)) → i < length items → new ≡ flag_union old (each (get_or items i d))
+      → flag_union old (F (drop i items)) ≡ whole → flag_union new (F (drop (i + 1) items)) ≡ whole
+  union_more each first items i d old new whole below made is =
+      let x = get_or items i d in let rest = drop (i + 1) items in
+      ap (λ l. flag_union l (F rest)) made ∙ union_append old (each x) (F rest)
+      ∙ ap (flag_union old) (sym (at_drop_more F items i d below ∙ first x rest)) ∙ is
+
+  -- none are left
+  pub union_end : F [] ≡ [] → (items : List X) (n : ℕ) (old whole : List (List ℕ)) → length items ≤ n
+      → flag_union old (F (drop n items)) ≡ whole → old ≡ whole
+  union_end none items n old whole past is =
+      sym (ap (λ l. flag_union old (F l)) (drop_all n items past) ∙ ap (flag_union old) none ∙ union_nil old) ∙ is
+
+pub without_present : (flag : List ℕ) (others : List (List ℕ))
+    → has_flag others flag ≡ true → flags_without (flag ∷ []) others ≡ []
+unfolding flags_without
+without_present flag others h = λ j. cond (not (h j)) (flag ∷ []) []
+
+pub without_absent : (flag : List ℕ) (others : List (List ℕ))
+    → has_flag others flag ≡ false → flags_without (flag ∷ []) others ≡ flag ∷ []
+unfolding flags_without
+without_absent flag others h = λ j. cond (not (h j)) (flag ∷ []) []
+
+pub without_from_none : (others : List (List ℕ)) → flags_without [] others ≡ []
+unfolding flags_without
+without_from_none others = refl
+
+pub union_from_none : (flags : List (List ℕ)) → flag_union [] flags ≡ distinct flags
+unfolding flag_union
+union_from_none flags = without_none (distinct flags)
+
+-- NO TWO THE SAME
+
+module _ {X : Type 0} (P : X → Type 0) (p : X → Bool) where
+  kept : (xs : List X) → AllByRecursion P xs → AllByRecursion P (filter p xs)
+  kept [] all = tt
+  kept (x ∷ xs) all = by (p x) (kept xs all.1)
+    where
+      by : (b : Bool) → AllByRecursion P (filter p xs) → AllByRecursion P (cond b (x ∷ filter p xs) (filter p xs))
+      by true rest = (all.0, rest)
+      by false rest = rest
+
+-- what is left of a list without repeats has none
+pub distinct_without : (a b : List (List ℕ)) → AreDistinct a → AreDistinct (flags_without a b)
+unfolding flags_without IsDistinct
+distinct_without [] b h = tt
+distinct_without (flag ∷ a) b h = by (other b flag) (distinct_without a b h.1)
+  where
+    by : (s : Bool) → AreDistinct (filter (other b) a) → AreDistinct (cond s (flag ∷ filter (other b) a) (filter (other b) a))
+    by true rest = (kept (λ y. same ascii_casemap flag y ≡ false) (other b) a h.0, rest)
+    by false rest = rest
+
+-- nor has it with a flag that is the same as none
+distinct-push : (a : List (List ℕ)) (flag : List ℕ) → AreDistinct a → has_flag a flag ≡ false → AreDistinct (a ++ flag ∷ [])
+unfolding IsDistinct
+distinct-push [] flag h none = (tt, tt)
+distinct-push (x ∷ a) flag h none = (last a h.0 differs.0, distinct-push a flag h.1 differs.1)
+  where
+    or_false : (s t : Bool) → (s || t) ≡ false → (s ≡ false) × (t ≡ false)
+    or_false true t e = absurd (true≢false e)
+    or_false false t e = (refl, e)
+
+    split : (same ascii_casemap flag x ≡ false) × (has_flag a flag ≡ false)
+    split = or_false (same ascii_casemap flag x) (has_flag a flag) none
+
+    differs : (same ascii_casemap x flag ≡ false) × (has_flag a flag ≡ false)
+    differs = (same_equiv.symm x flag ∙ split.0, split.1)
+
+    last : (l : List (List ℕ)) → AllByRecursion (λ y. same ascii_casemap x y ≡ false) l → same ascii_casemap x flag ≡ false
+        → AllByRecursion (λ y. same ascii_casemap x y ≡ false) (l ++ flag ∷ [])
+    last [] all e = (e, tt)
+    last (y ∷ l) all e = (all.0, last l all.1 e)
+
+distinct-one : (a : List (List ℕ)) (flag : List ℕ) → AreDistinct a → AreDistinct (flag_union a (flag ∷ []))
+unfolding flag_union distinct flags_without
+distinct-one a flag h = by (has_flag a flag) refl
+  where
+    by : (b : Bool) → has_flag a flag ≡ b → AreDistinct (a ++ cond (not b) (flag ∷ []) [])
+    by true e = let nil = append-nil a in rw nil h
+    by false e = distinct-push a flag h e
+
+-- nor a union of one without repeats
+pub distinct_union : (a b : List (List ℕ)) → AreDistinct a → AreDistinct (flag_union a b)
+distinct_union a [] h = let nil = union_nil a in rw nil h
+distinct_union a (flag ∷ b) h =
+    let step = sym (union_step a flag b) in
+    rw step (distinct_union (flag_union a (flag ∷ [])) b (distinct-one a flag h))
+
+none_distinct : AreDistinct []
+unfolding IsDistinct
+none_distinct = tt
+
+pub distinct_distinct : (flags : List (List ℕ)) → AreDistinct (distinct flags)
+distinct_distinct flags = subst AreDistinct (union_from_none flags) (distinct_union [] flags none_distinct)
+
+-- a list without repeats stays as it is
+pub distinct_stays : (flags : List (List ℕ)) → AreDistinct flags → distinct flags ≡ flags
+unfolding distinct flags_without IsDistinct
+distinct_stays [] h = refl
+distinct_stays (flag ∷ flags) h =
+    ap (λ l. flag ∷ flags_without l (flag ∷ [])) (distinct_stays flags h.1) ∙ ap (λ l. flag ∷ l) (all_stay flags h.0)
+  where
+    all_stay : (l : List (List ℕ)) → AllByRecursion (λ y. same ascii_casemap flag y ≡ false) l → flags_without l (flag ∷ []) ≡ l
+    all_stay [] all = refl
+    all_stay (y ∷ l) all =
+        let e = same_equiv.symm y flag ∙ all.0 in
+        let rest = all_stay l all.1 in λ j. cond (not (e j || false)) (y ∷ rest j) (rest j)
+
+pub union_copies : (flags : List (List ℕ)) → AreDistinct flags → flag_union [] flags ≡ flags
+union_copies flags h = union_from_none flags ∙ distinct_stays flags h
+
+-- EACH A FLAG
+
+module _ (P : List ℕ → Type 0) where
+  all_distinct : (flags : List (List ℕ)) → All P flags → All P (distinct flags)
+  unfolding distinct flags_without
+  all_distinct [] all = all
+  all_distinct (flag ∷ flags) all =
+      All-cons P flag (flags_without (distinct flags) (flag ∷ []))
+      (All-head P flag flags all)
+      (All-filter (other (flag ∷ [])) P (distinct flags) (all_distinct flags (All-tail P flag flags all)))
+
+pub flag_list-distinct : (text : List ℕ) → AreDistinct (flag_list text)
+unfolding flag_list
+flag_list-distinct text = distinct_distinct (flags_in text)
+
+pub flags_of_texts-distinct : (texts : List (List ℕ)) → AreDistinct (flags_of_texts texts)
+unfolding flags_of_texts
+flags_of_texts-distinct texts = distinct_distinct (flat_map flags_in texts)
+
+pub flag_list-flags : (text : List ℕ) → All (λ flag. is_flag flag ≡ true) (flag_list text)
+unfolding flag_list
+flag_list-flags text = all_distinct (λ flag. is_flag flag ≡ true) (flags_in text) (filter_passes is_flag (pieces text))

@@ -1,0 +1,8 @@
+use Rattle.std.proofs.Common.{◌≡◌, ◌∷◌, ◌++◌, drop, flat_map}
+use Rattle.sieve_base.specs.Octet.{octet_of}
+use Rattle.match_text.specs.Flags.{flag_text}
+use Rattle.match_text.proofs.flags.flag_text.Given as goal
+
+-- the text so far, with that of the flags that are left
+abbrev pub invariant-loop-flag : goal.invariant-loop-flag
+invariant-loop-flag l = l.text.items ++ flat_map (λ next. octet_of " " ∷ next) (drop l.flag-index l.rest) ≡ flag_text l.list

@@ -1,0 +1,7 @@
+use Rattle.std.proofs.Common.{◌≡◌, drop}
+use Rattle.match_text.specs.Flags.{flag_union, flags_without}
+use Rattle.match_text.proofs.flags.without.Given as goal
+
+-- the flags so far, with those of the first list that are left
+abbrev pub invariant-loop-flag : goal.invariant-loop-flag
+invariant-loop-flag l = flag_union l.flags.keys (flags_without (drop l.flag-index l.flag-items) l.b) ≡ flags_without l.a l.b

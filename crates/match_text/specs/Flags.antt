@@ -1,0 +1,96 @@
+-- Flags of messages (RFC 5232, sections 2 and 3): which texts are flags, how texts are cut into them, and lists of flags.
+-- A flag is known by its spelling: two are the same where they are equal under i;ascii-casemap.
+use Rattle.std.specs.Prelude.{ℕ, Bool, true, false, not, ◌&&◌, ◌||◌, ◌==◌, List, [], ◌∷◌, ◌++◌, filter, codes}
+use Rattle.std.specs.List.{IsDistinct, flat_map, list_all, list_any, slice_split}
+use Rattle.sieve_base.specs.Octet.{is_visible, octet_of}
+use Rattle.match_text.specs.Comparator.{ascii_casemap, same}
+
+-- FLAGS (RFC 3501, section 9: flag, without flag-extension)
+
+-- what no atom has of the visible characters: atom-specials
+abbrev pub is_special : ℕ → Bool
+is_special b =
+    b == octet_of "(" || (b == octet_of ")" || (b == octet_of "{" || (b == octet_of "%" || (b == octet_of "*"
+    || (b == octet_of "\"" || (b == octet_of "\\" || b == octet_of "]"))))))
+
+-- an octet of an atom: ATOM-CHAR
+abbrev pub is_flag_octet : ℕ → Bool
+is_flag_octet b = is_visible b && not (is_special b)
+
+-- whether it has octets
+abbrev pub is_filled : List ℕ → Bool
+is_filled [] = false
+is_filled (b ∷ rest) = true
+
+-- a keyword: an atom
+abbrev pub is_keyword : List ℕ → Bool
+is_keyword text = is_filled text && list_all is_flag_octet text
+
+-- one of the flags with a `\` that a script may set, in any case of letters; `\Recent` is none of them
+abbrev pub is_system_flag : List ℕ → Bool
+is_system_flag text =
+    same ascii_casemap text (codes "\\Answered") || (same ascii_casemap text (codes "\\Flagged")
+    || (same ascii_casemap text (codes "\\Deleted") || (same ascii_casemap text (codes "\\Seen")
+    || same ascii_casemap text (codes "\\Draft"))))
+
+abbrev pub is_flag : List ℕ → Bool
+is_flag text = is_system_flag text || is_keyword text
+
+-- LISTS OF FLAGS
+
+-- whether a flag is the same as a member of the list
+abbrev pub has_flag : List (List ℕ) → List ℕ → Bool
+has_flag flags flag = list_any (same ascii_casemap flag) flags
+
+-- no two are the same
+abbrev pub AreDistinct : List (List ℕ) → Type 0
+AreDistinct flags = IsDistinct (same ascii_casemap) flags
+
+-- those that are the same as no member of the others
+unfoldable pub flags_without : List (List ℕ) → (others : List (List ℕ)) → List (List ℕ)
+flags_without flags others = filter (λ flag. not (has_flag others flag)) flags
+
+-- each flag once, where it stands first and as it is spelled there
+unfoldable pub distinct : List (List ℕ) → List (List ℕ)
+distinct [] = []
+distinct (flag ∷ flags) = flag ∷ flags_without (distinct flags) (flag ∷ [])
+
+-- the first, and behind them those of the second that aren't there yet
+unfoldable pub flag_union : (first second : List (List ℕ)) → List (List ℕ)
+flag_union first second = first ++ flags_without (distinct second) first
+
+-- FLAGS OF TEXTS (RFC 5232, section 2)
+
+abbrev pub is_space : ℕ → Bool
+is_space b = b == octet_of " "
+
+-- what stands between the spaces of a text
+abbrev pub pieces : List ℕ → List (List ℕ)
+pieces text = slice_split is_space text
+
+-- the pieces of a text that are flags
+abbrev pub flags_in : List ℕ → List (List ℕ)
+flags_in text = filter is_flag (pieces text)
+
+-- the flags of a text, each once; what isn't a flag is left out
+unfoldable pub flag_list : List ℕ → List (List ℕ)
+flag_list text = distinct (flags_in text)
+
+-- the flags of several texts
+unfoldable pub flags_of_texts : List (List ℕ) → List (List ℕ)
+flags_of_texts texts = distinct (flat_map flags_in texts)
+
+-- flags as a variable holds them: with one space between two
+unfoldable pub flag_text : List (List ℕ) → List ℕ
+flag_text [] = []
+flag_text (flag ∷ flags) = flag ++ flat_map (λ next. octet_of " " ∷ next) flags
+
+-- FLAGS TO LOOK FOR (RFC 5232, section 4)
+
+-- What a key of a test stands for: its pieces, whether they are flags or not. The empty key stands for itself.
+unfoldable pub flag_keys : List ℕ → List (List ℕ)
+flag_keys [] = [] ∷ []
+flag_keys (b ∷ rest) = filter is_filled (pieces (b ∷ rest))
+
+unfoldable pub flag_keys_of_texts : List (List ℕ) → List (List ℕ)
+flag_keys_of_texts keys = flat_map flag_keys keys

@@ -1,0 +1,135 @@
+//! What commands do with flags (RFC 5232, sections 3 and 5).
+ghost use Rattle.std.specs.Prelude.{◌≡◌, IfOk, OnOk, Some, None};
+ghost use Rattle.std.specs.Option.{option_map};
+ghost use Rattle.match_text.specs.Flags.{flag_list};
+ghost use Rattle.sieve_check.specs.Reading.{flag_leaf};
+ghost use Rattle.sieve_code.specs.view.Op.{given_strings};
+ghost use Rattle.sieve_run.specs.Run.{act_of, changed_flags, flags_named, held_flags, stored_flags, with_flags};
+ghost use Rattle.sieve_run.specs.view.Delivery.{delivery_as};
+ghost use Rattle.sieve_run.specs.view.Flow.{ending_by};
+ghost use Rattle.sieve_run.specs.view.State.{state_of};
+ghost use Rattle.sieve_variables.specs.Value.{local_value};
+ghost use Rattle.sieve_variables.specs.view.Part.{strings_of};
+
+use crate::delivery::Delivery;
+use crate::flow::Flow;
+use crate::state::State;
+use match_text::{FlagList, flag_text, flags_of, flags_of_texts, union, without};
+use sieve_base::Octets;
+use sieve_base::limits::MAX_VALUE;
+use sieve_check::FlagChange;
+use sieve_variables::{Parts, SmallOctets};
+use std::alloc::{AllocError, Global};
+
+/// The flags that strings name (RFC 5232, section 2).
+fn flags_named(
+    delivery: &Delivery<'_>,
+    state: &State,
+    texts: &[Parts],
+) -> Result<FlagList, AllocError>
+    ensures { IfOk result (λ list. list ≡ flags_named (state_of state.now) (strings_of texts.now)) }
+{
+    let texts = state.values.expanded(delivery.alloc, texts)?;
+    flags_of_texts(delivery.alloc, &texts)
+}
+
+/// The flags of what is stored: those that are named, or the internal ones (RFC 5232, section 5).
+pub(crate) fn stored_flags(
+    delivery: &Delivery<'_>,
+    state: &State,
+    texts: &Option<Vec<Parts>>,
+) -> Result<FlagList, AllocError>
+    ensures { IfOk result (λ list. list ≡ stored_flags (state_of state.now) (given_strings texts.now)) }
+{
+    match texts {
+        Some(texts) => flags_named(delivery, state, texts),
+        None => state.flags.copied(delivery.alloc),
+    }
+}
+
+/// Flags after a command that names some.
+fn changed_flags(
+    alloc: Global,
+    change: FlagChange,
+    flags: &FlagList,
+    named: FlagList,
+) -> Result<FlagList, AllocError>
+    ensures { IfOk result (λ list. list ≡ changed_flags change flags.now named) }
+{
+    match change {
+        FlagChange::Set => Ok(named),
+        FlagChange::Add => union(alloc, flags, &named),
+        FlagChange::Remove => without(alloc, flags, &named),
+    }
+}
+
+/// What a variable holds of flags: their text, its first 4,096 octets at most (RFC 5229, section 6).
+#[tactic(auto, unfolding(crate::specs::Run::held_flags))]
+fn held_flags(alloc: Global, flags: &FlagList) -> Result<Octets, AllocError>
+    ensures { IfOk result (λ octets. octets ≡ held_flags flags.now) }
+{
+    let mut text = flag_text(alloc, flags)?;
+    text.truncate(MAX_VALUE);
+    Ok(Octets::from_vec(text))
+}
+
+/// What a variable holds after a command that names some flags.
+fn changed_value(
+    alloc: Global,
+    change: FlagChange,
+    value: &[u8],
+    named: FlagList,
+) -> Result<Octets, AllocError>
+    ensures { IfOk result (λ octets. octets ≡ held_flags (changed_flags change (flag_list value.now) named)) }
+{
+    let flags = flags_of(alloc, value)?;
+    let flags = changed_flags(alloc, change, &flags, named)?;
+    held_flags(alloc, &flags)
+}
+
+/// Changes the flags that a variable holds.
+fn change_variable(
+    delivery: &Delivery<'_>,
+    change: FlagChange,
+    name: &[u8],
+    texts: &[Parts],
+    state: &mut State,
+) -> Result<(), AllocError>
+    ensures { OnOk result (state_of state.new ≡ with_flags change (Some name.now) (strings_of texts.now) (state_of state.old)) }
+{
+    let named = flags_named(delivery, &*state, texts)?;
+    let value = changed_value(delivery.alloc, change, state.values.local(name), named)?;
+    state.values.set(delivery.alloc, name, value)
+}
+
+/// Changes the internal flags.
+fn change_internal(
+    delivery: &Delivery<'_>,
+    change: FlagChange,
+    texts: &[Parts],
+    state: &mut State,
+) -> Result<(), AllocError>
+    ensures { OnOk result (state_of state.new ≡ with_flags change None (strings_of texts.now) (state_of state.old)) }
+{
+    let named = flags_named(delivery, &*state, texts)?;
+    state.flags = changed_flags(delivery.alloc, change, &state.flags, named)?;
+    Ok(())
+}
+
+/// Changes flags (RFC 5232, section 3).
+pub(crate) fn change(
+    delivery: &Delivery<'_>,
+    change: FlagChange,
+    variable: &Option<SmallOctets>,
+    texts: &[Parts],
+    line: u64,
+    state: &mut State,
+) -> Result<Flow, AllocError>
+    ensures { IfOk result (λ flow. ending_by (delivery_as delivery.now) flow (state_of state.new) ≡ act_of (delivery_as delivery.now) (flag_leaf change (option_map (λ name. name.items) variable.now) (strings_of texts.now)) line (state_of state.old)) }
+{
+    match variable {
+        Some(name) => change_variable(delivery, change, name, texts, state)?,
+        None => change_internal(delivery, change, texts, state)?,
+    }
+    Ok(Flow::GoesOn)
+}
