@@ -1,7 +1,8 @@
 //! Sessions over readers that give little, interrupt or never end, and over writers that fail.
 
-use super::{REPLIES, REPORT, SESSION, TURNS, ended};
-use sievebench::{Counted, SessionEnd, Source};
+use super::{REPLIES, REPORT, SESSION, TURNS};
+use sievebench::{Bench, Counted, Meter, SessionEnd, Sink, Source, session};
+use std::alloc::Global;
 use std::io;
 use std::io::{ErrorKind, Read, Write};
 use std::process::Abort;
@@ -44,6 +45,19 @@ impl Read for Dripping<'_> {
         *place = *first;
         self.octets = rest;
         Ok(1)
+    }
+}
+
+/// How a session on a new bench ends.
+fn ended<R: Source, W: Sink>(
+    alloc: Global,
+    reader: &mut R,
+    writer: &mut W,
+    turns: u64,
+) -> SessionEnd {
+    match Bench::new(alloc) {
+        Ok(mut bench) => session(&mut bench, &mut Meter::new(), reader, writer, turns),
+        Err(_) => SessionEnd::NoMemory,
     }
 }
 
