@@ -10,7 +10,7 @@ REPORT = lines('main personal "main"', runs.SETTINGS, 'script personal "main" ok
 
 def of_sessions(room):
     """All of them."""
-    for part in (of_cuts, of_lines, of_words, of_counts, of_mails, of_texts, of_nesting, of_actions, of_variables, of_flags):
+    for part in (of_cuts, of_lines, of_words, of_counts, of_mails, of_keys, of_texts, of_nesting, of_actions, of_variables, of_flags):
         folder = room / part.__name__
         folder.mkdir()
         yield from part(folder)
@@ -110,6 +110,15 @@ def of_mails(room):
     yield reported(room, "a field of many lines", script, [b"Subject: a\n" + b" b\n" * 100_000 + b" c\n\n"], [["discard"]])
 
 
+def of_keys(room):
+    """Keys of 50,001 octets, of which each place of the value but the last begins all but the end."""
+    mail = b"Subject: " + b"a" * 500_000 + b"b\n\n"
+    for last, octet, casemap in [(b"b", True, True), (b"B", False, True), (b"c", False, False)]:
+        for name, holds in [(b"i;octet", octet), (b"i;ascii-casemap", casemap)]:
+            script = b'if header :contains :comparator "%s" "subject" "%s" { discard; }' % (name, b"a" * 50_000 + last)
+            yield reported(room, f"a long key that ends in {last!r} by {name!r}", script, [mail], [["discard"] if holds else KEPT])
+
+
 def of_texts(room):
     """Long scripts, their lists and strings."""
     script = b'if header "subject" [' + b'"no", ' * 999 + b'"yes"] { discard; }'
@@ -167,6 +176,18 @@ def of_variables(room):
     yield reported(room, "those of a block count", block + b'set "w" "x";', [b""], [[]], "line 131 too-many-variables")
     value = require + b'set "a" "' + b"x" * 4097 + b'"; set :length "b" "${a}"; set :length "c" "${a}${a}"; fileinto "${b}|${c}";'
     yield reported(room, "a value is cut", value, [b""], [['store "4096|8192"']])
+    for modifiers, count, told in [
+        ("", 4_096, "4096"),
+        ("", 4_097, "4096"),
+        (":quotewildcard", 2_047, "4094"),
+        (":quotewildcard", 2_049, "4096"),
+        (":quotewildcard", 4_097, "4096"),
+    ]:
+        octets = require + f'set {modifiers} "b" "{"*" * count}"; set :length "c" "${{b}}"; fileinto "${{c}}";'.encode()
+        yield reported(room, f"{count} stars as a value, set {modifiers}", octets, [b""], [[f'store "{told}"']])
+    for modifiers, told in [(":length", "4097"), (":upper :lowerfirst :quotewildcard :length", "8194")]:
+        octets = require + f'set {modifiers} "b" "{"*" * 4_097}"; fileinto "${{b}}";'.encode()
+        yield reported(room, f"a long value is counted whole, set {modifiers}", octets, [b""], [[f'store "{told}"']])
     held = require + b'fileinto "<${a}${0}>"; set "a" "x"; if string :matches "y" "*" {}'
     yield reported(room, "a run begins with no variable set", held, [b"", b"Subject: x\n\n"], [['store "<>"']] * 2)
 
