@@ -81,8 +81,16 @@ def of_limits(room):
     )
     yield Run("a sender past it", folder, f"sievebench test -f {address}a past.sieve small.eml", b"", f'sievebench: too large "{address}a"\n'.encode(), 2)
     yield Run("a recipient past it", folder, f"sievebench test --to {address}a -m {mailbox}b small.sieve small.eml", b"", f'sievebench: too large "{address}a"\n'.encode(), 2)
+    long, mail = f"-m {mailbox}b --to {address}b", "past.sieve small.eml"
+    yield Run("a sender past it before the others", folder, f"sievebench test {long} -f {address}a {mail}", b"", f'sievebench: too large "{address}a"\n'.encode(), 2)
+    yield Run("a recipient past it before the rest", folder, f"sievebench test {long} {mail}", b"", f'sievebench: too large "{address}b"\n'.encode(), 2)
+    yield Run("a mailbox past it before files", folder, f"sievebench test -m {mailbox}b {mail}", b"", f'sievebench: too large "{mailbox}b"\n'.encode(), 2)
+    full = f"-m {mailbox} --to {address} -f {address} {mail}"
+    yield Run("words at their limits before a script past it", folder, f"sievebench test {full}", b"", b'sievebench: too large "past.sieve"\n', 2)
+    yield Run("what can't be read is told before a word past its limit", folder, f"sievebench test -f {address}a past.sieve absent", b"", b'sievebench: cannot read "absent"\n', 3)
     yield Run("a mailbox past it", folder, f"sievebench test -m {mailbox}b small.sieve small.eml", b"", f'sievebench: too large "{mailbox}b"\n'.encode(), 2)
     path = "./" * (NAME_LIMIT // 2) + "small.eml"
+    yield Run("a script past it before a mail whose path is", folder, f"sievebench test past.sieve {path}", b"", b'sievebench: too large "past.sieve"\n', 2)
     yield Run("a mail whose path is past it", folder, f"sievebench test small.sieve {path}", b"", f'sievebench: too large "{path}"\n'.encode(), 2)
     scripts = [f'personal "{i:04}" ok' for i in range(SCRIPT_LIMIT - 1)] + [small]
     yield Run("as many scripts as there may be", folder, "sievebench test --personal full small.sieve small.eml", report(scripts, "small", "small.eml", kept))
@@ -144,8 +152,72 @@ def of_dumps(room):
     yield Run("a script that isn't there", folder, "sievebench dump '\u00e9\".sieve'", b"", b'sievebench: cannot read "\\xc3\\xa9\\".sieve"\n', 3)
 
 
+def of_trials(room):
+    """Tests of a script and a mail in files: what is reported, in which order files are read, and which of them is named."""
+    folder = room / "trials"
+    write(folder, {"main.sieve": b"discard;\n", "mail.txt": b"Subject: one\n\n", "home/ada/keep.sieve": b"", "mail/1": b"", "home/.sieve": b"kep;"})
+    main = ['personal "main" ok']
+    yield Run(
+        "a sender",
+        folder,
+        "sievebench test -f a@b.example main.sieve mail.txt",
+        report(main, "main", "mail.txt", ["discard"], settings='envelope "a@b.example" "" mailbox "INBOX"'),
+    )
+    yield Run(
+        "a recipient and a mailbox",
+        folder,
+        "sievebench test --to c@d.example -m Sent home/ada/keep.sieve mail/1",
+        report(['personal "keep" ok'], "keep", "mail/1", ['implicit "Sent"'], settings='envelope "" "c@d.example" mailbox "Sent"'),
+    )
+    invalid = ['implicit "INBOX"', 'error personal "" line 0 invalid-script']
+    fault = report(['personal "" line 1 unknown-command'], "", "mail.txt", invalid, 1)
+    yield Run("a script `.sieve` with a fault", folder, "sievebench test home/.sieve mail.txt", fault, status=1)
+    words = "sievebench test --personal p --global g/ main.sieve mail.txt"
+    personal = {"a.sieve": b"stop;", "b.sieve": b"stop\n", "main.sieve": b"keep;", "notes.txt": b"x", ".sieve": b"x", "folder.sieve/x": b"x", b"\xff": b"x"}
+    write(folder / "p", personal)
+    write(folder / "g", {"main.sieve": b"keep;", "x.sieve.sieve": b""})
+    (folder / "p/link.sieve").symlink_to("nowhere")
+    scripts = ['personal "a" ok', 'personal "b" line 2 syntax', *main, 'global "main" ok', 'global "x.sieve" ok']
+    yield Run("the scripts of two folders", folder, words, report(scripts, "main", "mail.txt", ["discard"]), status=1)
+    script = {"main.sieve": b"stop;"}
+    personal = {"p/b.sieve": b"", "p/a.sieve": b"", "p/a-b.sieve": b""}
+    for number, (given, broken, path) in enumerate(
+        [
+            ({}, [], "p"),
+            ({**personal, "g/d.sieve": b"", **script}, ["p/a.sieve"], "p/a.sieve"),
+            ({**personal, "g/d.sieve": b"", **script}, ["p/a.sieve", "p/a-b.sieve"], "p/a-b.sieve"),
+            (personal, [], "g/"),
+            ({**personal, "g/d.sieve": b"", b"g/\xff.sieve": b""}, [], "g/\\xff.sieve"),
+            ({"p/x": b"", "g/x": b"", **script}, [], "mail.txt"),
+        ]
+    ):
+        case = room / f"broken{number}"
+        write(case, given)
+        for name in broken:
+            # It is a plain file, of which nothing can be read.
+            (case / name).unlink()
+            (case / name).symlink_to("/proc/self/mem")
+        yield Run(f"the first file that can't be read, {path}", case, words, b"", f'sievebench: cannot read "{path}"\n'.encode(), 3)
+    order = ["mail.txt", "main.sieve", "g/c.sieve", "p/b.sieve", "p/a.sieve"]
+    for number, path in enumerate(order):
+        case = room / f"large{number}"
+        sizes = {name: TEXT_LIMIT + 1 if order.index(name) <= number else 0 for name in order[1:]}
+        write(case, {"mail.txt": b"a" * (MESSAGE_LIMIT + 1), **{name: b" " * size for name, size in sizes.items()}})
+        yield Run(f"the first file that is too large, {path}", case, words, b"", f'sievebench: too large "{path}"\n'.encode(), 2)
+
+
+def write(folder, files):
+    """Writes files into a folder, and makes all folders that they stand in."""
+    folder.mkdir(exist_ok=True)
+    for path, octets in files.items():
+        path = folder / os.fsdecode(path)
+        path.parent.mkdir(parents=True, exist_ok=True)
+        path.write_bytes(octets)
+
+
 def of_files(room):
     """All of them."""
+    yield from of_trials(room)
     yield from of_dumps(room)
     yield from of_words(room)
     yield from of_odd_names(room)
