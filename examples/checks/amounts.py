@@ -173,6 +173,8 @@ def of_variables(room):
     yield reported(room, "one more", many[1], [b""], [[]], "line 130 too-many-variables")
     yield reported(room, "one again, in another case", many[0] + b'set "V100" "y"; fileinto "${v100}";', [b""], [['store "y"']])
     block = many[0].replace(b"\n", b"\nif false {", 1) + b"}\n"
+    yield reported(room, "one that is only read doesn't count", many[0] + b'fileinto "<${other}>";', [b""], [['store "<>"']])
+    yield reported(room, "one that a block sets", many[0] + b'if false {\nset "other" ""; }', [b""], [[]], "line 131 too-many-variables")
     yield reported(room, "those of a block count", block + b'set "w" "x";', [b""], [[]], "line 131 too-many-variables")
     value = require + b'set "a" "' + b"x" * 4097 + b'"; set :length "b" "${a}"; set :length "c" "${a}${a}"; fileinto "${b}|${c}";'
     yield reported(room, "a value is cut", value, [b""], [['store "4096|8192"']])
