@@ -147,15 +147,22 @@ fn print_commands(out: &mut String, alloc: Global, commands: &[Command]) -> Resu
     Ok(())
 }
 
+/// Prints the tree of a text, or its fault.
+fn print_tree(out: &mut String, alloc: Global, text: &[u8]) -> Result<(), AllocError> {
+    match parse(alloc, text) {
+        Ok(script) => print_commands(out, alloc, &script.commands),
+        Err(_) => out.push_str("a fault"),
+    }
+}
+
 /// Parses each text, and compares its tree.
 pub(super) fn check_trees(
     rt: &(impl AllocGlobal + Abort),
     rows: &[(&[u8], &str)],
 ) -> Result<(), Fail> {
     for (text, wanted) in rows {
-        let script = parse(rt.alloc(), *text)?;
         let mut out = String::new(rt.alloc());
-        print_commands(&mut out, rt.alloc(), &script.commands)?;
+        print_tree(&mut out, rt.alloc(), *text)?;
         assert_eq!(rt; out.as_str(), *wanted, "at {text:?}");
     }
     Ok(())
