@@ -206,5 +206,9 @@ def of_flags(room):
     flags = b" ".join(b"f%d" % i for i in range(60_000))
     spread = require + b'setflag ["' + flags + b'"]; removeflag "' + flags.replace(b"f9", b"g9") + b'"; if hasflag "F9" { discard; }'
     yield reported(room, "sixty thousand flags", spread, [b""], [["discard"]])
+    letters = [bytes([octet]) for octet in range(33, 127) if chr(octet) not in '(){%*"\\]' and not chr(octet).isupper()]
+    different = b" ".join(one + two + three for one in letters for two in letters for three in letters)
+    script = require + b'setflag "' + different + b'"; if hasflag "~~~" { discard; }'
+    yield reported(room, "all 216,000 flags of three octets that differ", script, [b""], [["discard"]])
     held = require + b'keep; addflag "x";'
     yield reported(room, "a run begins with no flag", held, [b"", b"Subject: x\n\n"], [['store "INBOX"']] * 2)
