@@ -10,11 +10,11 @@ use std::test::Fail;
 
 /// Runs the program with these words over folders and files, where those that are not there fail in this way, and compares what it says on
 /// standard error and its status: on standard output it writes nothing.
-fn check_failing(
+fn check_failing<'a>(
     rt: &(impl AllocGlobal + Abort),
-    words: &[&[u8]],
-    folders: Paths<'_>,
-    files: Paths<'_>,
+    words: &'a [&'a [u8]],
+    folders: Paths<'a>,
+    files: Paths<'a>,
     missing: ErrorKind,
     (status, errors): (u8, &[u8]),
 ) -> Result<(), Fail> {
@@ -120,10 +120,10 @@ fn check_large(
 }
 
 /// Names that are too large, of a script in a folder, of the main script and of the message.
-fn check_names(
+fn check_names<'a>(
     rt: &(impl AllocGlobal + Abort),
-    name: &str,
-    file: &str,
+    name: &'a str,
+    file: &'a str,
     listing: &str,
     path: &str,
 ) -> Result<(), Fail> {
