@@ -8,28 +8,40 @@ use std::io::ErrorKind;
 use std::process::Abort;
 use std::test::Fail;
 
-/// Runs the program with these words over folders and files, where those that are not there fail in this way, and compares what it says on
-/// standard error and its status: on standard output it writes nothing.
-fn check_failing<'a>(
-    rt: &(impl AllocGlobal + Abort),
-    words: &'a [&'a [u8]],
-    folders: Paths<'a>,
-    files: Paths<'a>,
+/// Runs the program with these words over folders and files, where those that are not there fail in this way: its status.
+fn failing_status(
+    alloc: Global,
+    words: &[&[u8]],
+    folders: &[(&str, Given<'_>)],
+    files: &[(&str, Given<'_>)],
     missing: ErrorKind,
-    (status, errors): (u8, &[u8]),
-) -> Result<(), Fail> {
-    let written = Written::new(rt.alloc());
-    let machine = Machine {
-        alloc: rt.alloc(),
+    written: &Written,
+) -> u8 {
+    run(&Machine {
+        alloc,
         words,
         input: whole(b""),
         files,
         folders,
         missing,
         room: Room::of(1_000),
-        written: &written,
-    };
-    assert_eq!(rt; run(&machine), status, "at {words:?}");
+        written,
+    })
+}
+
+/// Compares what such a run says on standard error and its status: on standard output it writes nothing.
+fn check_failing(
+    rt: &(impl AllocGlobal + Abort),
+    words: &[&[u8]],
+    folders: &[(&str, Given<'_>)],
+    files: &[(&str, Given<'_>)],
+    missing: ErrorKind,
+    status: u8,
+    errors: &[u8],
+) -> Result<(), Fail> {
+    let written = Written::new(rt.alloc());
+    let answer = failing_status(rt.alloc(), words, folders, files, missing, &written);
+    assert_eq!(rt; answer, status, "at {words:?}");
     check_kept(rt, &written.output, b"")?;
     check_kept(rt, &written.errors, errors)
 }
@@ -72,7 +84,7 @@ fn a_file_that_fails_is_named(rt: HostRuntime) -> Result<(), Fail> {
         ),
     ];
     for (words, folders, files, errors) in rows {
-        check_failing(&rt, words, folders, files, ErrorKind::NotFound, (3, errors))?;
+        check_failing(&rt, words, folders, files, ErrorKind::NotFound, 3, errors)?;
     }
     Ok(())
 }
@@ -81,8 +93,8 @@ fn a_file_that_fails_is_named(rt: HostRuntime) -> Result<(), Fail> {
 #[test]
 fn a_read_without_memory_is_told(rt: HostRuntime) -> Result<(), Fail> {
     let words: [&[u8]; 4] = [b"x", b"test", b"a.sieve", b"m"];
-    let told = (4, b"sievebench: out of memory\n".as_slice());
-    check_failing(&rt, &words, &[], &[], ErrorKind::OutOfMemory, told)
+    let told = b"sievebench: out of memory\n";
+    check_failing(&rt, &words, &[], &[], ErrorKind::OutOfMemory, 4, told)
 }
 
 /// A file is read to one octet past the limit, where this one fails.
@@ -90,9 +102,9 @@ fn a_read_without_memory_is_told(rt: HostRuntime) -> Result<(), Fail> {
 fn large_files_are_refused(rt: HostRuntime) -> Result<(), Fail> {
     let large = vec![in rt.alloc(); b' '; 1_048_577]?;
     let words: [&[u8]; 3] = [b"x", b"dump", b"a"];
-    let told = (2, b"sievebench: too large \"a\"\n".as_slice());
     let files = [("a", failing(large.as_slice()))];
-    check_failing(&rt, &words, &[], &files, ErrorKind::NotFound, told)
+    let told = b"sievebench: too large \"a\"\n";
+    check_failing(&rt, &words, &[], &files, ErrorKind::NotFound, 2, told)
 }
 
 /// So many octets, and an end.
@@ -115,8 +127,15 @@ fn check_large(
     let errors = format!(in rt.alloc(); "sievebench: too large \"{path}\"\n")?;
     let folders = [("p/", whole(listing))];
     let files = [("", whole(b"stop;"))];
-    let told = (2, errors.as_bytes());
-    check_failing(rt, words, &folders, &files, ErrorKind::NotFound, told)
+    check_failing(
+        rt,
+        words,
+        &folders,
+        &files,
+        ErrorKind::NotFound,
+        2,
+        errors.as_bytes(),
+    )
 }
 
 /// Names that are too large, of a script in a folder, of the main script and of the message.
