@@ -29,7 +29,10 @@ index_of digits = min (decimal_from 0 digits) (match_limit + 1)
 abbrev pub folded_name : List ℕ → List ℕ
 folded_name name = str_to_ascii_lowercase name
 
--- the namespace of the variables that scripts share, and its dot (RFC 6609, section 3.4.2)
+-- the namespace of the variables that scripts share, and with its dot (RFC 6609, section 3.4.2)
+abbrev pub global_namespace : List ℕ
+global_namespace = codes "global"
+
 abbrev pub global_prefix : List ℕ
 global_prefix = codes "global."
 
