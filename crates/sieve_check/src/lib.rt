@@ -2,7 +2,6 @@
 #![tactic(auto)]
 
 mod arguments;
-mod assigned;
 mod checked;
 mod command_rules;
 mod context;
@@ -13,6 +12,7 @@ mod labelled;
 pub mod laws;
 mod reading;
 mod role;
+mod scope;
 mod shape;
 mod test_rules;
 mod tree;
