@@ -1,11 +1,12 @@
 -- Worked rows of what variables hold and strings stand for (RFC 5229, section 3).
 use Rattle.std.proofs.Common.{◌≡◌, [], ◌∷◌, refl, codes}
 use Rattle.sieve_variables.specs.Part.{literal, local_part, match_part}
-use Rattle.sieve_variables.specs.Value.{Values, no_values, text_value, with_local, with_matched}
+use Rattle.sieve_variables.specs.Value.{Values, no_values, text_value, with_matched, with_variable}
+use Rattle.sieve_variables.specs.Variable.{local_variable}
 
 -- a variable that is set twice keeps its place, and holds what was set last
 two_variables : Values
-two_variables = with_local (codes "name") (codes "Tim") (with_local (codes "company") (codes "ACME") (with_local (codes "name") (codes "Mary") no_values))
+two_variables = with_variable (local_variable (codes "name")) (codes "Tim") (with_variable (local_variable (codes "company")) (codes "ACME") (with_variable (local_variable (codes "name")) (codes "Mary") no_values))
 
 set_twice : two_variables.locals ≡ (codes "name", codes "Tim") ∷ (codes "company", codes "ACME") ∷ []
 unfolding two_variables
