@@ -256,9 +256,6 @@ pub foreign_cut : (inside namespace name : List ℕ) → words_of inside ≡ nam
 foreign_cut inside namespace name cut =
     sym (ap (λ words. is_foreign (reference words)) cut ∙ foreign_by namespace name (is_identifier name) refl)
 
-pub foreign_word : (inside : List ℕ) → words_of inside ≡ inside ∷ [] → false ≡ is_foreign (reference (words_of inside))
-foreign_word inside one = sym (ap (λ words. is_foreign (reference words)) one)
-
 is_not : (b : Bool) → not b ≡ false → b ≡ true
 is_not true e = refl
 is_not false e = sym e
