@@ -1,5 +1,5 @@
 -- The names of variables (RFC 5229, section 3).
-use Rattle.std.specs.Prelude.{ℕ, Bool, false, ◌&&◌, ◌*◌, ◌+◌, ◌-◌, List, [], ◌∷◌, length, take, drop, min, codes, if◌then◌else◌}
+use Rattle.std.specs.Prelude.{ℕ, Bool, false, ◌&&◌, ◌*◌, ◌+◌, ◌-◌, List, [], ◌∷◌, length, take, drop, min, codes}
 use Rattle.std.specs.List.{list_all}
 use Rattle.std.specs.Str.{str_eq_ignore_ascii_case, str_to_ascii_lowercase}
 use Rattle.sieve_base.specs.Limits.{match_limit}

@@ -1,5 +1,5 @@
 -- A string as its parts: octets that stand for themselves, and references to variables (RFC 5229, section 3).
-use Rattle.std.specs.Prelude.{◌≡◌, ℕ, Bool, true, ◌&&◌, List, [], ◌∷◌, ◌++◌, if◌then◌else◌, codes}
+use Rattle.std.specs.Prelude.{◌≡◌, ℕ, Bool, true, ◌&&◌, List, [], ◌∷◌, ◌++◌, if◌then◌else◌}
 use Rattle.std.specs.Str.{str_eq_ignore_ascii_case}
 use Rattle.sieve_variables.specs.Name.{is_identifier, is_number, index_of, folded_name, global_namespace}
 use Rattle.sieve_variables.specs.Reference.{Piece, reference, octet, written}

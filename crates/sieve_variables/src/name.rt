@@ -15,6 +15,7 @@ const PAST_MATCH_LIMIT: u16 = MAX_MATCH as u16 + 1;
 
 /// The namespace of the variables that scripts share, and with its dot (RFC 6609, section 3.4.2).
 const GLOBAL_NAMESPACE: &[u8] = b"global";
+
 const GLOBAL_PREFIX: &[u8] = b"global.";
 
 /// The name as variables are kept under it: in lower case.

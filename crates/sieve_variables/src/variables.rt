@@ -36,7 +36,7 @@ impl Variables {
     }
 
     /// What is held under a name: nothing where it isn't set. Takes no memory.
-    #[tactic(auto, using(crate::proofs::Locals::lookup_held))]
+    #[tactic(auto, using(crate::proofs::Held::lookup_held))]
     pub(crate) fn get(&self, name: &[u8]) -> &[u8]
         ensures { result.now ≡ held_under name.now self.now }
     {
@@ -82,7 +82,12 @@ impl Variables {
 
     /// Sets a name. What was held under it is dropped. An error, which is a lack of memory, changes nothing. A name that is
     /// set already takes no memory.
-    pub(crate) fn set(&mut self, alloc: Global, name: &[u8], value: Octets) -> Result<(), AllocError>
+    pub(crate) fn set(
+        &mut self,
+        alloc: Global,
+        name: &[u8],
+        value: Octets,
+    ) -> Result<(), AllocError>
         ensures ok { OnOk result (self.new ≡ with_held name.now value self.old) }
         ensures err { OnErr result (self.new ≡ self.old) }
     {
