@@ -1,5 +1,6 @@
 pub mod Delivery
 pub mod ErrorKind
+pub mod Frame
 pub mod Library
 pub mod Matching
 pub mod Meter

@@ -37,6 +37,13 @@ pub data Ending : Type 0 where
   stopped : (state : RunState) → Ending
   failed : (error : RunError) (state : RunState) → Ending
 
+-- the state behind it
+abbrev pub state_behind : Ending → RunState
+state_behind (goes_on state) = state
+state_behind (returned state) = state
+state_behind (stopped state) = state
+state_behind (failed error state) = state
+
 -- ACTIONS
 
 -- whether two actions are one: stores into one mailbox (RFC 5228, section 2.10.3), redirects to one address, octet for octet, and
@@ -265,9 +272,13 @@ is_there missing = false
 is_there invalid = true
 is_there (present tree) = true
 
+-- whether a name is among those looked up
+abbrev pub is_read : ScriptName → List (ScriptName × Bool) → Bool
+is_read name reads = list_any (λ read. name_eq name read.0) reads
+
 -- the names looked up, with one more, each once and in the order of first lookups
 abbrev pub with_read : ScriptName → Bool → List (ScriptName × Bool) → List (ScriptName × Bool)
-with_read name there reads = if list_any (λ read. name_eq name read.0) reads then reads else reads ++ (name, there) ∷ []
+with_read name there reads = if is_read name reads then reads else reads ++ (name, there) ∷ []
 
 abbrev pub looked_up : ScriptName → Lookup → RunState → RunState
 looked_up name lookup state = record state { reads = with_read name (is_there lookup) state.reads }

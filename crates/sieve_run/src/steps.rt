@@ -4,9 +4,10 @@ ghost use Rattle.sieve_code.specs.Walk.{code_walk};
 ghost use Rattle.sieve_code.specs.view.Code.{ops_of};
 ghost use Rattle.sieve_code.specs.view.Op.{op_as};
 ghost use Rattle.sieve_run.specs.Library.{lookup_of};
-ghost use Rattle.sieve_run.specs.Run.{act_of};
+ghost use Rattle.sieve_run.specs.Run.{act_of, included};
 ghost use Rattle.sieve_run.specs.view.Delivery.{delivery_as};
 ghost use Rattle.sieve_run.specs.view.Flow.{ending_by, step_after};
+ghost use Rattle.sieve_run.specs.view.Include.{enters, looks_up};
 ghost use Rattle.sieve_run.specs.view.State.{state_of};
 ghost use Rattle.sieve_run.specs.view.Step.{StepsTo, doing};
 ghost use Rattle.sieve_run.specs.declared.steps.Step.TheVariants.{Next};
@@ -16,14 +17,16 @@ use crate::delivery::Delivery;
 use crate::envelope_tests::envelope_holds;
 use crate::flag_tests::flags_hold;
 use crate::flagging::change;
-use crate::flow::Flow;
-use crate::including::include;
-use crate::library::Library;
+use crate::flow::{Flow, fail};
+use crate::including::{find, including_next, is_running, is_script, is_there, resumed};
+use crate::library::{Found, Library};
 use crate::matching::{exists, fields_hold, is_over, is_under};
 use crate::name::ScriptName;
-use crate::state::State;
+use crate::outcome::ErrorKind;
+use crate::state::{State, note_read};
 use crate::string_tests::strings_hold;
 use sieve_base::Octets;
+use sieve_base::limits::MAX_INCLUDES;
 use sieve_code::{Code, Op};
 use std::alloc::AllocError;
 
@@ -210,6 +213,90 @@ fn carry_out<L: Library>(
         Op::Stop => Ok(Step::Ended(Flow::Stopped)),
         Op::Return => Ok(Step::Ended(Flow::Returned)),
     }
+}
+
+/// Runs the code of a script that is included.
+#[cycle(execute)]
+fn enter<L: Library>(
+    lib: &L,
+    depth: usize,
+    delivery: &Delivery<'_>,
+    name: &ScriptName,
+    code: &Code,
+    state: &mut State,
+) -> Result<Flow, AllocError>
+    ensures { IfOk result (λ flow. ending_by flow (state_of state.new) ≡ enters (λ name. lookup_of (L.texts lib.now name)) depth (delivery_as delivery.now) name.now (ops_of code.now) (state_of state.old)) }
+{
+    state.entered.push(name.copy(delivery.alloc)?)?;
+    let own = state.values.begin(delivery.alloc);
+    let including = including_next(delivery)?;
+    let inner = Delivery {
+        alloc: delivery.alloc,
+        message: delivery.message,
+        envelope: delivery.envelope,
+        script: name,
+        including: including.as_slice(),
+    };
+    let flow = execute(lib, depth, &inner, code, &mut *state)?;
+    state.values.resume(own);
+    Ok(resumed(flow))
+}
+
+/// Looks a script up, and does what an include does with what is found.
+#[cycle(execute)]
+fn look_up<L: Library>(
+    lib: &L,
+    depth: usize,
+    delivery: &Delivery<'_>,
+    name: &ScriptName,
+    optional: bool,
+    line: u64,
+    state: &mut State,
+) -> Result<Flow, AllocError>
+    ensures { IfOk result (λ flow. ending_by flow (state_of state.new) ≡ looks_up (λ name. lookup_of (L.texts lib.now name)) depth (delivery_as delivery.now) name.now optional line (state_of state.old)) }
+{
+    let found = find(lib, name);
+    note_read(delivery.alloc, &mut state.reads, name, is_there(&found))?;
+    match found {
+        Found::Missing => {
+            if optional {
+                Ok(Flow::GoesOn)
+            } else {
+                fail(delivery, line, ErrorKind::MissingScript)
+            }
+        }
+        Found::Invalid => fail(delivery, line, ErrorKind::InvalidScript),
+        Found::Present(code) => enter(lib, depth, delivery, name, code, state),
+    }
+}
+
+/// Includes a script, where scripts may still include one another so deep (RFC 6609, section 3.2).
+#[cycle(execute)]
+fn include<L: Library>(
+    lib: &L,
+    depth: usize,
+    delivery: &Delivery<'_>,
+    name: &ScriptName,
+    once: bool,
+    optional: bool,
+    line: u64,
+    state: &mut State,
+) -> Result<Flow, AllocError>
+    ensures { IfOk result (λ flow. ending_by flow (state_of state.new) ≡ included (λ name. lookup_of (L.texts lib.now name)) depth (delivery_as delivery.now) name.now once optional line (state_of state.old)) }
+{
+    if once && is_script(name, state.entered.as_slice()) {
+        return Ok(Flow::GoesOn);
+    }
+    if is_running(name, delivery) {
+        return fail(delivery, line, ErrorKind::RecursiveInclude);
+    }
+    if depth == 0 {
+        return fail(delivery, line, ErrorKind::IncludeDepth);
+    }
+    if state.entered.len() > MAX_INCLUDES {
+        return fail(delivery, line, ErrorKind::IncludeCount);
+    }
+    look_up(lib, depth - 1, delivery, name, optional, line, state)
 }
 
 /// One of two places.
