@@ -1,6 +1,6 @@
 require ["fileinto", "imap4flags", "variables"];
 
-# What the spam filter marks is read and deleted, wherever it goes.
+# What the spam filter marks is read and deleted, wherever it goes, unless a store names its own flags.
 if header :contains "X-Spam-Flag" "yes" {
     setflag ["\\Seen", "\\Deleted"];
 }
