@@ -2,13 +2,13 @@
 use Rattle.std.proofs.Common.{◌≡◌, ℕ, true, false, List, [], ◌∷◌, Some, None, refl, codes}
 use Rattle.match_text.specs.declared.comparators.Collation.TheVariants.{Octet, Casemap}
 use Rattle.sieve_syntax.specs.Tree as syntax
-use Rattle.sieve_check.specs.Assigned.{assigning}
 use Rattle.sieve_check.specs.Breach.{breaches_of, breaches_in, breaches_at}
 use Rattle.sieve_check.specs.Context.{behind}
 use Rattle.sieve_check.specs.Element.{nodes_elements, node_elements, block_elements, tests_elements, test_elements}
 use Rattle.sieve_check.specs.Label.{labels_of}
 use Rattle.sieve_check.specs.Parted.{parted}
 use Rattle.sieve_check.specs.Reading.{keep_leaf, discard_leaf, flag_leaf, flag_values, header_values, compares}
+use Rattle.sieve_check.specs.Scope.{assigning}
 use Rattle.sieve_check.specs.Script.{no_commands, stops, acts, chooses, always, asks, script_of, chain_of, node_before, block_commands, condition_of, conditions_in}
 use Rattle.sieve_table.specs.Table.{Row, naming_slot, slot, command_named, test_named, test_row}
 use Rattle.sieve_check.specs.declared.label.Label.TheVariants as label
@@ -21,6 +21,7 @@ use Rattle.sieve_check.specs.declared.reading.FlagChange.TheVariants.{Add}
 use Rattle.sieve_check.specs.declared.reading.MatchType.TheVariants.{Is, Contains}
 use Rattle.sieve_variables.specs.Part.{literal}
 use Rattle.sieve_variables.specs.Scan.{pieces_from, inside_at}
+use Rattle.sieve_variables.specs.Variable.{local_variable}
 use Rattle.sieve_table.specs.declared.rule.Rule.TheVariants.{RequirePlace, UnknownCapability, UnknownCommand, ElsePlace, BadTag, BadArguments, UnknownComparator, BadVariableName, NumberTooLarge, NotRequired}
 
 -- a string on line 1, a string without brackets as an argument, and a tag
@@ -163,7 +164,7 @@ octet_row = refl
 -- require "imap4flags"; addflag "V" ["x"]; keep :flags "y"; if hasflag :comparator "i;octet" "a" {}
 flags_row : script_of (parted (plain (codes "require") 1 (one (codes "imap4flags") ∷ []) ∷ plain (codes "addflag") 2 (one (codes "V") ∷ syntax.strings (text (codes "x") ∷ []) true ∷ []) ∷ plain (codes "keep") 3 (tagged (codes "flags") ∷ one (codes "y") ∷ [])
     ∷ branch (codes "if") 4 (syntax.test (codes "hasflag") 4 (tagged (codes "comparator") ∷ one (codes "i;octet") ∷ one (codes "a") ∷ []) syntax.no_tests) [] ∷ []))
-    ≡ acts (flag_leaf Add (Some (codes "v")) ((literal (codes "x") ∷ []) ∷ [])) 2
+    ≡ acts (flag_leaf Add (Some (local_variable (codes "v"))) ((literal (codes "x") ∷ []) ∷ [])) 2
     (acts (keep_leaf (Some ((literal (codes "y") ∷ []) ∷ []))) 3
     (chooses (asks (compares (flag_values None) Is Octet ((literal (codes "a") ∷ []) ∷ []))) no_commands no_commands no_commands))
 unfolding chain_of node_before block_commands condition_of conditions_in command_named test_named
