@@ -15,7 +15,7 @@ use Rattle.sieve_check.specs.Tree.{Argument, strings, number, tag, Test, test, n
 use Rattle.sieve_check.specs.declared.reading.FlagChange.TheVariants.{Set, Add}
 use Rattle.sieve_check.specs.declared.reading.MatchType.TheVariants.{Contains, Is, Matches}
 use Rattle.sieve_code.specs.Choice.{code_of, placed, test_before, tests_before, list_before, first_before, node_before, block_before, nodes_before}
-use Rattle.sieve_code.specs.Dump.{address_words, ask_text, changing_words, comparing_words, flag_lists, further_list, include_words, internal_list, line_text, list_text, operation_text, set_words, stored_flags, string_text, two_lists, worded_flags, worded_text}
+use Rattle.sieve_code.specs.Dump.{address_words, ask_text, changing_words, comparing_words, flag_lists, further_list, include_words, internal_list, line_text, list_text, modifier_words, operation_text, set_words, stored_flags, string_text, two_lists, worded_flags, worded_text, worded_variable}
 use Rattle.sieve_code.specs.Operation.{Operation, sets, inverts, asks, jumps, jumps_if, acts, stops, returns}
 use Rattle.sieve_base.specs.declared.place.Place.TheVariants.{Personal, Global}
 use Rattle.sieve_code.specs.Walk.{Walk, at_end, by_stop, by_return, cut_off, asked, acted, code_walk, walk_from, tree_walk, commands_walk, condition_walk, gone, met_ask, met_leaf, ended, unanswered}
@@ -177,7 +177,7 @@ discard_line_row = refl
 -- set :length :lower "N" "${007}a${Box}";
 set_line_row : line_text 0 (acts (set_leaf (local_variable (codes "n")) (record { letter_case = Some letter_case.Lower; first_letter = None; quote_wildcard = false; length = true }) (match_part 7 ∷ literal (codes "a") ∷ local_part (codes "box") ∷ [])) 2)
     ≡ codes "0: set local(n) lower length match(7)+\"a\"+local(box) @2\n"
-unfolding line_text operation_text digits worded_text set_words string_text quoted
+unfolding line_text operation_text digits worded_text set_words modifier_words worded_variable string_text quoted
 set_line_row = refl
 
 string_line_row : line_text 0 (asks (compares (string_values ((local_part (codes "a") ∷ []) ∷ [])) Matches Octet ((literal (codes "x*") ∷ []) ∷ []))) ≡ codes "0: string matches octet [local(a)] [\"x*\"]\n"
@@ -237,7 +237,7 @@ internal_line_row = refl
 -- VARIABLES THAT SCRIPTS SHARE, AND SCRIPTS THAT ARE INCLUDED
 
 set_global_line_row : line_text 0 (acts (set_leaf (global_variable (codes "g")) (record { letter_case = None; first_letter = None; quote_wildcard = false; length = false }) (one_text (codes "x"))) 2) ≡ codes "0: set global(g) \"x\" @2\n"
-unfolding line_text operation_text digits set_words worded_text string_text quoted
+unfolding line_text operation_text digits set_words modifier_words worded_variable worded_text string_text quoted
 set_global_line_row = refl
 
 addflag_global_line_row : line_text 1 (acts (flag_leaf Add (Some (global_variable (codes "h"))) (one_text (codes "y") ∷ [])) 2) ≡ codes "1: addflag global(h) [\"y\"] @2\n"

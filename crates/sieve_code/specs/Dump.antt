@@ -125,9 +125,17 @@ abbrev pub given_word : Bool → List ℕ → List ℕ
 given_word false word = []
 given_word true word = word
 
+-- modifiers behind the variable
+unfoldable pub modifier_words : Modifiers → List ℕ
+modifier_words modifiers = case_word modifiers.letter_case ++ first_word modifiers.first_letter ++ given_word modifiers.quote_wildcard (codes " quotewildcard") ++ given_word modifiers.length (codes " length") ++ codes " "
+
+-- a variable behind a word
+unfoldable pub worded_variable : List ℕ → Variable → List ℕ
+worded_variable word variable = word ++ scope_word variable ++ name_of variable ++ codes ")"
+
 -- what a `set` does, apart from the value
 unfoldable pub set_words : Variable → Modifiers → List ℕ
-set_words variable modifiers = codes "set " ++ scope_word variable ++ name_of variable ++ codes ")" ++ case_word modifiers.letter_case ++ first_word modifiers.first_letter ++ given_word modifiers.quote_wildcard (codes " quotewildcard") ++ given_word modifiers.length (codes " length") ++ codes " "
+set_words variable modifiers = worded_variable (codes "set ") variable ++ modifier_words modifiers
 
 abbrev pub change_word : FlagChange → List ℕ
 change_word change.Set = codes "setflag"

@@ -3,7 +3,7 @@ ghost use Rattle.std.specs.Prelude.{◌≡◌, ◌++◌, codes, decimal, map, On
 ghost use Rattle.std.specs.List.{flat_map};
 ghost use Rattle.std.specs.Option.{option_map};
 ghost use Rattle.sieve_base.specs.Writers.{Wrote, WroteFront};
-ghost use Rattle.sieve_code.specs.Dump.{address_part_word, address_words, case_word, change_word, changing_words, collation_word, comparing_words, first_word, flag_lists, further_list, given_word, include_words, internal_list, line_text, list_text, match_word, name_of, operation_text, part_text, place_word, scope_word, separated, set_words, stored_flags, string_text, two_lists, worded_flags, worded_text};
+ghost use Rattle.sieve_code.specs.Dump.{address_part_word, address_words, case_word, change_word, changing_words, collation_word, comparing_words, first_word, flag_lists, further_list, given_word, include_words, internal_list, line_text, list_text, match_word, modifier_words, name_of, operation_text, part_text, place_word, scope_word, separated, set_words, stored_flags, string_text, two_lists, worded_flags, worded_text, worded_variable};
 ghost use Rattle.sieve_code.specs.view.Marked.{marked_part, marked_string};
 ghost use Rattle.sieve_code.specs.view.Op.{given_strings, op_as};
 ghost use Rattle.sieve_variables.specs.view.Part.{part_of, strings_of, variable_of};
@@ -409,22 +409,35 @@ fn given_word<'a>(is_given: bool, word: &'a [u8]) -> &'a [u8]
     if is_given { word } else { b"" }
 }
 
-/// Writes what a `set` does, apart from the value.
-#[tactic(auto, unfolding(crate::specs::Dump::set_words))]
-fn write_set_words<W: Sink>(
-    variable: &Variable,
-    modifiers: Modifiers,
+/// Writes a word and then a variable.
+#[tactic(auto, unfolding(crate::specs::Dump::worded_variable))]
+fn write_variable<'x, W: Sink>(
+    word: &'x [u8],
+    variable: &'x Variable,
     writer: &mut W,
 ) -> Result<(), WriteFault>
-    ensures ok { OnOk result (Wrote W.contents W.fault_count writer.old writer.new (set_words (variable_of variable.now) modifiers)) }
-    ensures err { OnErr result (WroteFront W.contents W.fault_count writer.old writer.new (set_words (variable_of variable.now) modifiers)) }
+    ensures ok { OnOk result (Wrote W.contents W.fault_count writer.old writer.new (worded_variable word.now (variable_of variable.now))) }
+    ensures err { OnErr result (WroteFront W.contents W.fault_count writer.old writer.new (worded_variable word.now (variable_of variable.now))) }
 {
     write_pieces(
         &[
-            Piece::Raw(b"set "),
+            Piece::Raw(word),
             Piece::Raw(scope_word(variable)),
             Piece::Raw(name_of(variable)),
             Piece::Raw(b")"),
+        ],
+        writer,
+    )
+}
+
+/// Writes the modifiers of a `set`.
+#[tactic(auto, unfolding(crate::specs::Dump::modifier_words))]
+fn write_modifiers<W: Sink>(modifiers: Modifiers, writer: &mut W) -> Result<(), WriteFault>
+    ensures ok { OnOk result (Wrote W.contents W.fault_count writer.old writer.new (modifier_words modifiers)) }
+    ensures err { OnErr result (WroteFront W.contents W.fault_count writer.old writer.new (modifier_words modifiers)) }
+{
+    write_pieces(
+        &[
             Piece::Raw(case_word(modifiers.letter_case)),
             Piece::Raw(first_word(modifiers.first_letter)),
             Piece::Raw(given_word(modifiers.quote_wildcard, b" quotewildcard")),
@@ -433,6 +446,20 @@ fn write_set_words<W: Sink>(
         ],
         writer,
     )
+}
+
+/// Writes what a `set` does, apart from the value.
+#[tactic(auto, using(sieve_base::proofs::Writing::writing), unfolding(crate::specs::Dump::set_words))]
+fn write_set_words<W: Sink>(
+    variable: &Variable,
+    modifiers: Modifiers,
+    writer: &mut W,
+) -> Result<(), WriteFault>
+    ensures ok { OnOk result (Wrote W.contents W.fault_count writer.old writer.new (set_words (variable_of variable.now) modifiers)) }
+    ensures err { OnErr result (WroteFront W.contents W.fault_count writer.old writer.new (set_words (variable_of variable.now) modifiers)) }
+{
+    write_variable(b"set ", variable, writer)?;
+    write_modifiers(modifiers, writer)
 }
 
 /// Writes a `set`.

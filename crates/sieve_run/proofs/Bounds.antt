@@ -149,9 +149,9 @@ module _ (Holds : RunState → Type 0) (kept : IsKept Holds) where
     included_holds (suc depth) delivery name once optional line s h =
         include_holds find delivery (Some (λ script tree. exec (answer_of (inside script delivery)) (act_of find depth (inside script delivery)) (script_of tree))) name once optional line s
         (λ one is tree t held.
-            let d = inside name delivery in
-            subst (λ (f : ScriptName → List Node → RunState → Ending). Ends (f name tree t)) (one_of _ _ is)
-            (subst Ends (sym (does_walk (answer_of d) (act_of find depth d) tree t)) (walk_holds (act_of find depth d) (acts_hold depth d (included_holds depth d)) d (tree_walk tree) t held)))
+        let d = inside name delivery in
+        subst (λ (f : ScriptName → List Node → RunState → Ending). Ends (f name tree t)) (one_of _ _ is)
+        (subst Ends (sym (does_walk (answer_of d) (act_of find depth d) tree t)) (walk_holds (act_of find depth d) (acts_hold depth d (included_holds depth d)) d (tree_walk tree) t held)))
         h
       where
         one_of : (a b : ScriptName → List Node → RunState → Ending) → Some a ≡ Some b → a ≡ b

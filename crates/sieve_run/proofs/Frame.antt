@@ -40,6 +40,7 @@ same_octets (c ∷ cs) = both (nat_eq c c) (pointwise nat_eq cs cs) (same_octet 
     same_octet : (n : ℕ) → nat_eq n n ≡ true
     same_octet zero = refl
     same_octet (suc n) = same_octet n
+
     both : (a b : Bool) → a ≡ true → b ≡ true → (a && b) ≡ true
     both true b is_a is_b = is_b
     both false b is_a is_b = is_a
@@ -248,6 +249,7 @@ module _ (find other : ScriptName → Lookup) where
       by_grows : (b : Bool) (s : RunState) → Grows s (state_behind (if b then f s else h s))
       by_grows true s = first.grows s
       by_grows false s = second.grows s
+
       by_same : (b : Bool) (s : RunState) → AgreeOn (state_behind (if b then f s else h s)).reads → (if b then g s else k s) ≡ (if b then f s else h s)
       by_same true s agree = first.same s agree
       by_same false s agree = second.same s agree

@@ -98,7 +98,12 @@ fn change_variable(
     ensures { IfOk result (λ flow. ending_by flow (state_of state.new) ≡ changes (delivery_as delivery.now) line change (Some (variable_of variable.now)) (strings_of texts.now) (state_of state.old)) }
 {
     let named = flags_named(delivery, &*state, texts)?;
-    let value = changed_value(delivery.alloc, change, state.values.variable(variable), named)?;
+    let value = changed_value(
+        delivery.alloc,
+        change,
+        state.values.variable(variable),
+        named,
+    )?;
     give(delivery, variable, value, line, state)
 }
 

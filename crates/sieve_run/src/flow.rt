@@ -20,11 +20,7 @@ pub(crate) enum Flow {
 }
 
 /// An error of the script that runs, at a line of it.
-pub(crate) fn fail(
-    delivery: &Delivery<'_>,
-    line: u64,
-    kind: ErrorKind,
-) -> Result<Flow, AllocError>
+pub(crate) fn fail(delivery: &Delivery<'_>, line: u64, kind: ErrorKind) -> Result<Flow, AllocError>
     ensures { IfOk result (λ flow. flow ≡ Failed (record { script = delivery.now.script.now; line = line; kind = kind })) }
 {
     let script = delivery.script.copy(delivery.alloc)?;

@@ -59,7 +59,15 @@ pub(crate) fn execute<L: Library>(
         if place >= code.len() {
             return Ok(Flow::GoesOn);
         }
-        match carry_out(lib, depth, delivery, code.op(place), place + 1, register, &mut *state)? {
+        match carry_out(
+            lib,
+            depth,
+            delivery,
+            code.op(place),
+            place + 1,
+            register,
+            &mut *state,
+        )? {
             Step::Next {
                 place: next,
                 register: truth,

@@ -94,7 +94,6 @@ tag_row tag.QuoteWildcard = bare_tag (codes "quotewildcard") kind.QuoteWildcard
 tag_row tag.Length = bare_tag (codes "length") kind.Length
 -- RFC 5232, section 5
 tag_row tag.Flags = record (bare_tag (codes "flags") kind.Flags) { takes = Some (slot form.List role.Flags); needs = Some capability.Imap4flags }
-
 -- RFC 6609, section 3.2
 tag_row tag.Personal = bare_tag (codes "personal") kind.Location
 tag_row tag.Global = bare_tag (codes "global") kind.Location
