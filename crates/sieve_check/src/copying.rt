@@ -376,5 +376,10 @@ pub(crate) fn parted(
     ensures { IfOk result (λ commands. map node_of commands.items ≡ parted (seen.nodes_of script.now)) }
 {
     let mut declared = Names::new(alloc);
-    parted_commands(alloc, required_in(&script.commands), &mut declared, &script.commands)
+    parted_commands(
+        alloc,
+        required_in(&script.commands),
+        &mut declared,
+        &script.commands,
+    )
 }
