@@ -240,7 +240,7 @@ unknown_namespace_row : breaches_of (both ∷ naming (codes "redirect") 2 (codes
 unfolding breaches_in breaches_at nodes_elements node_elements block_elements tests_elements command_named behind assigning pieces_from inside_at before_brace
 unknown_namespace_row = refl
 
--- redirect "${global.x}"; where scripts can be included, and where they can't
+-- redirect "${Global.x}"; where scripts can be included, and where they can't
 shared_namespace_row : breaches_of (both ∷ naming (codes "redirect") 2 (codes "${Global.x}") ∷ []) ≡ []
 unfolding breaches_in breaches_at nodes_elements node_elements block_elements tests_elements command_named behind assigning pieces_from inside_at before_brace
 shared_namespace_row = refl
@@ -270,11 +270,12 @@ include_row : script_of (parted (both ∷ plain (codes "include") 2 (tagged (cod
 unfolding chain_of node_before block_commands condition_of conditions_in command_named test_named pieces_from inside_at before_brace
 include_row = refl
 
--- include :personal :global "a"; and return; global "a"; where nothing is required
+-- include :personal :global "a";
 places_row : breaches_of (both ∷ plain (codes "include") 2 (tagged (codes "personal") ∷ tagged (codes "global") ∷ one (codes "a") ∷ []) ∷ []) ≡ record { line = 2; rule = BadTag } ∷ []
 unfolding breaches_in breaches_at nodes_elements node_elements block_elements tests_elements command_named behind assigning
 places_row = refl
 
+-- return; global "a"; where scripts can't be included
 include_not_required_row : breaches_of (variables_alone ∷ plain (codes "return") 2 [] ∷ global 3 (codes "a") ∷ []) ≡ record { line = 2; rule = NotRequired } ∷ record { line = 3; rule = NotRequired } ∷ []
 unfolding breaches_in breaches_at nodes_elements node_elements block_elements tests_elements command_named behind assigning pieces_from inside_at
 include_not_required_row = refl
