@@ -1,5 +1,5 @@
 -- A test that breaks no rule is read as something.
-use Rattle.std.proofs.Common.{◌≡◌, ℕ, Bool, true, false, not, ◌&&◌, ◌||◌, nat_eq, List, [], ◌∷◌, map, Option, None, Some, is_some, refl, sym, ap, ◌∙◌}
+use Rattle.std.proofs.Common.{◌≡◌, ℕ, Bool, true, false, not, ◌||◌, nat_eq, List, [], ◌∷◌, map, Option, None, Some, is_some, refl, sym, ap, ◌∙◌}
 use Rattle.std.proofs.lemmas.Bool.{or_parts, and_parts}
 use Rattle.std.specs.List.{list_all, list_any}
 use Rattle.std.specs.Prelude.{if◌then◌else◌}
@@ -36,7 +36,7 @@ use Rattle.sieve_table.specs.declared.table.Tag.TheVariants as tag
 use Rattle.sieve_table.specs.declared.table.TestKind.{TestKind}
 use Rattle.sieve_table.specs.declared.table.TestKind.TheVariants as kind
 use Rattle.sieve_check.proofs.Filled.{AsRowSays, as_parted, collation_good, collation_read, given_texts_read, given_variable_read, literal_good, literal_read, number_good, number_read, takes, text_good, text_good_alone, text_read, texts_read, variable_good, variable_read}
-use Rattle.sieve_check.proofs.Telling.{of_each_tag, one_kind, one_role, one_tag, own_kind}
+use Rattle.sieve_check.proofs.Telling.{of_each_tag, one_kind, one_tag, own_kind}
 use Rattle.sieve_check.proofs.Roles.{AllKeep, AllTake, MayTake, Takes, is_to_come, never_both, none_or, not_both, role_fits, role_found}
 
 -- A ROLE IN A ROW
