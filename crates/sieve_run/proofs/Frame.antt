@@ -1,5 +1,6 @@
 -- A verdict depends on no more of a library than the names that it looked up.
-use Rattle.std.proofs.Common.{◌≡◌, ℕ, zero, suc, Bool, true, false, ◌&&◌, ◌||◌, Option, None, Some, List, [], ◌∷◌, ◌++◌, length, map, nat_lt, nat_eq, refl, subst, sym, ap, ◌∙◌}
+use Rattle.std.proofs.Common.{◌≡◌, ℕ, zero, suc, Bool, true, false, ◌&&◌, ◌||◌, Option, None, Some, List, [], ◌∷◌, ◌++◌, length, map, nat_lt, nat_eq, refl, subst, sym, ap, ◌∙◌, arith}
+use Rattle.std.proofs.lemmas.Bool.Decides.{nat_tests}
 use Rattle.std.specs.Prelude.{if◌then◌else◌}
 use Rattle.std.specs.List.{list_any}
 use lib.Pointwise.{pointwise}
@@ -38,8 +39,7 @@ same_octets [] = refl
 same_octets (c ∷ cs) = both (nat_eq c c) (pointwise nat_eq cs cs) (same_octet c) (same_octets cs)
   where
     same_octet : (n : ℕ) → nat_eq n n ≡ true
-    same_octet zero = refl
-    same_octet (suc n) = same_octet n
+    same_octet n = grind (arith, nat_tests)
 
     both : (a b : Bool) → a ≡ true → b ≡ true → (a && b) ≡ true
     both true b is_a is_b = is_b

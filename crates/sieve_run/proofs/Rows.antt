@@ -8,14 +8,15 @@ use Rattle.sieve_check.specs.Script.{Condition, always, never, asks, negated, bo
 use Rattle.sieve_table.specs.Table.{command_named}
 use Rattle.sieve_variables.specs.Part.{Part, literal, local_part, match_part}
 use Rattle.sieve_variables.specs.Modifier.{modified}
-use Rattle.sieve_variables.specs.Value.{Values, no_values, with_local, with_matched}
+use Rattle.sieve_variables.specs.Value.{Values, no_values, with_matched, with_variable}
+use Rattle.sieve_variables.specs.Variable.{local_variable}
 use Rattle.sieve_variables.specs.declared.modifier.Modifiers.{Modifiers}
 use Rattle.sieve_check.specs.Tree.{node, no_tests, no_block}
 use Rattle.sieve_check.specs.declared.reading.FlagChange.TheVariants.{Set, Add, Remove}
 use Rattle.sieve_check.specs.declared.reading.MatchType.{MatchType}
 use Rattle.sieve_check.specs.declared.reading.MatchType.TheVariants.{Is, Contains, Matches}
 use Rattle.sieve_base.specs.declared.place.Place.TheVariants.{Personal}
-use Rattle.sieve_base.specs.Limits.{name_limit}
+use Rattle.sieve_base.specs.Limits.{include_depth, name_limit}
 use Rattle.message_text.specs.Addresses.{addresses_of, envelope_address_of, marks_from}
 use Rattle.message_text.specs.declared.addressing.AddressPart.TheVariants as part
 use Rattle.sieve_table.specs.Address.{is_address_field}
@@ -43,10 +44,10 @@ envelope = record { from = []; to = []; mailbox = codes "INBOX" }
 
 -- a message in that envelope, and one from a sender
 abbrev delivered : List ℕ → Delivery
-delivered message = record { message = message; envelope = envelope; script = main }
+delivered message = record { message = message; envelope = envelope; script = main; including = [] }
 
 abbrev sent_by : List ℕ → Delivery
-sent_by from = record { message = []; envelope = record { from = from; to = codes "x@y.example"; mailbox = codes "INBOX" }; script = main }
+sent_by from = record { message = []; envelope = record { from = from; to = codes "x@y.example"; mailbox = codes "INBOX" }; script = main; including = [] }
 
 -- FIELDS
 
@@ -211,11 +212,11 @@ inbox = Store (codes "INBOX") []
 
 -- the state of a run of the main script after some actions
 abbrev after : List Action → Bool → RunState
-after actions cancelled = record { actions = actions; cancelled = cancelled; reads = (main, true) ∷ []; values = no_values; flags = [] }
+after actions cancelled = record { actions = actions; cancelled = cancelled; reads = (main, true) ∷ []; entered = main ∷ []; values = no_values; flags = [] }
 
 -- what commands do to a message of such octets
 abbrev done : List ℕ → Commands → Ending
-done message commands = exec (answer_of (delivered message)) (act_of (delivered message)) commands (begun main)
+done message commands = exec (answer_of (delivered message)) (act_of (λ name. missing) include_depth (delivered message)) commands (begun main)
 
 -- no command: nothing is done
 no_commands_row : done [] no_commands ≡ goes_on (after [] false)
@@ -281,7 +282,7 @@ else_row = refl
 
 -- the state of a run that has done nothing but set variables
 abbrev holding : Values → RunState
-holding values = record { actions = []; cancelled = false; reads = (main, true) ∷ []; values = values; flags = [] }
+holding values = record { actions = []; cancelled = false; reads = (main, true) ∷ []; entered = main ∷ []; values = values; flags = [] }
 
 -- string :matches ["ab", "b"] ["b*", "?b"]
 abbrev matches_second : Ask
@@ -307,8 +308,8 @@ abbrev plainly : Modifiers
 plainly = record { letter_case = None; first_letter = None; quote_wildcard = false; length = false }
 
 -- set "a" "x"; fileinto "${a}y${b}${1}";
-set_row : done [] (acts (set_leaf (codes "a") plainly (text (codes "x"))) 1 (acts (fileinto_leaf (local_part (codes "a") ∷ literal (codes "y") ∷ local_part (codes "b") ∷ match_part 1 ∷ []) None) 2 no_commands))
-    ≡ goes_on (record { actions = Store (codes "xy") [] ∷ []; cancelled = true; reads = (main, true) ∷ []; values = with_local (codes "a") (codes "x") no_values; flags = [] })
+set_row : done [] (acts (set_leaf (local_variable (codes "a")) plainly (text (codes "x"))) 1 (acts (fileinto_leaf (local_part (codes "a") ∷ literal (codes "y") ∷ local_part (codes "b") ∷ match_part 1 ∷ []) None) 2 no_commands))
+    ≡ goes_on (record { actions = Store (codes "xy") [] ∷ []; cancelled = true; reads = (main, true) ∷ []; entered = main ∷ []; values = with_variable (local_variable (codes "a")) (codes "x") no_values; flags = [] })
 unfolding exec modified
 set_row = refl
 
@@ -316,11 +317,11 @@ set_row = refl
 
 -- the state of a run that has done nothing but change flags
 abbrev flagged : List (List ℕ) → RunState
-flagged flags = record { actions = []; cancelled = false; reads = (main, true) ∷ []; values = no_values; flags = flags }
+flagged flags = record { actions = []; cancelled = false; reads = (main, true) ∷ []; entered = main ∷ []; values = no_values; flags = flags }
 
 -- fileinto :flags "\\Seen" "A"; addflag "$X"; fileinto "A";
 joined_row : done [] (acts (fileinto_leaf (text (codes "A")) (Some (text (codes "\\Seen") ∷ []))) 1 (acts (flag_leaf Add None (text (codes "$X") ∷ [])) 2 (acts (fileinto_leaf (text (codes "A")) None) 3 no_commands)))
-    ≡ goes_on (record { actions = Store (codes "A") (codes "\\Seen" ∷ codes "$X" ∷ []) ∷ []; cancelled = true; reads = (main, true) ∷ []; values = no_values; flags = codes "$X" ∷ [] })
+    ≡ goes_on (record { actions = Store (codes "A") (codes "\\Seen" ∷ codes "$X" ∷ []) ∷ []; cancelled = true; reads = (main, true) ∷ []; entered = main ∷ []; values = no_values; flags = codes "$X" ∷ [] })
 unfolding exec flags_of_texts flag_union distinct flags_without
 joined_row = refl
 
@@ -335,7 +336,7 @@ unfolding exec flags_of_texts flag_union distinct flags_without
 added_row = refl
 
 -- addflag "v" ["a", "b"]; addflag "v" "A c";
-variable_row : done [] (acts (flag_leaf Add (Some (codes "v")) (text (codes "a") ∷ text (codes "b") ∷ [])) 1 (acts (flag_leaf Add (Some (codes "v")) (text (codes "A c") ∷ [])) 2 no_commands)) ≡ goes_on (holding (with_local (codes "v") (codes "a b c") no_values))
+variable_row : done [] (acts (flag_leaf Add (Some (local_variable (codes "v"))) (text (codes "a") ∷ text (codes "b") ∷ [])) 1 (acts (flag_leaf Add (Some (local_variable (codes "v"))) (text (codes "A c") ∷ [])) 2 no_commands)) ≡ goes_on (holding (with_variable (local_variable (codes "v")) (codes "a b c") no_values))
 unfolding exec flags_of_texts flag_list flag_text flag_union distinct flags_without
 variable_row = refl
 
@@ -386,12 +387,12 @@ invalid_row message = refl
 long_name_row : (find : ScriptName → Lookup) (name : ScriptName) (message : List ℕ) → length name.name ≡ 1025 → outcome_of find (Some name) envelope message
     ≡ record { actions = []; implicit = Some []; error = Some (record { script = name; line = 0; kind = MissingScript }); reads = (name, false) ∷ [] }
 unfolding outcome_of
-long_name_row find name message is = ap (λ n. verdict_at envelope message name (if nat_lt name_limit n then missing else find name)) is
+long_name_row find name message is = ap (λ n. verdict_at find envelope message name (if nat_lt name_limit n then missing else find name)) is
 
 -- and one of 1,024 octets is looked up
-limit_name_row : (find : ScriptName → Lookup) (name : ScriptName) (message : List ℕ) → length name.name ≡ 1024 → outcome_of find (Some name) envelope message ≡ verdict_at envelope message name (find name)
+limit_name_row : (find : ScriptName → Lookup) (name : ScriptName) (message : List ℕ) → length name.name ≡ 1024 → outcome_of find (Some name) envelope message ≡ verdict_at find envelope message name (find name)
 unfolding outcome_of
-limit_name_row find name message is = ap (λ n. verdict_at envelope message name (if nat_lt name_limit n then missing else find name)) is
+limit_name_row find name message is = ap (λ n. verdict_at find envelope message name (if nat_lt name_limit n then missing else find name)) is
 
 -- an empty script: the implicit keep stands
 empty_script_row : (message : List ℕ) → outcome_of (λ name. present []) (Some main) envelope message ≡ record { actions = []; implicit = Some []; error = None; reads = (main, true) ∷ [] }

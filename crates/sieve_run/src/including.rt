@@ -35,7 +35,12 @@ pub(crate) fn is_script(name: &ScriptName, names: &[ScriptName]) -> bool
 fn is_including(name: &ScriptName, names: &[&ScriptName]) -> bool
     ensures { result ≡ is_script name.now (map (λ other. other.now) names.now) }
 {
-    names.iter().any(|other| *name == **other)
+    for other in names {
+        if *name == **other {
+            return true;
+        }
+    }
+    false
 }
 
 /// Whether a script runs: it is the running one, or one that includes it.
