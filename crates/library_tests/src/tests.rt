@@ -1,9 +1,10 @@
 //! Rows for each library's public calls. What is expected was written by hand from the standards.
+//!
+//! What scripts and mails alone tell stands in `examples/rows` and is made in `examples/checks`.
 
 mod addresses_of_values;
 mod codes;
 mod comparators;
-mod examples_of_variables;
 mod faults;
 mod flags;
 mod judging;
@@ -14,6 +15,5 @@ mod runs;
 mod scripts;
 mod spellings;
 mod variables;
-mod variables_in_scripts;
 mod wildcards;
 mod writers;

@@ -59,8 +59,8 @@ same_action Discard (Store other there) = false
 same_action Discard (Redirect other) = false
 same_action Discard Discard = true
 
--- A store into a mailbox that is stored into already brings its flags to that store; other actions bring nothing. RFC 5232,
--- section 5, wants the last list of flags in place of the union.
+-- A store into a mailbox that is stored into already brings its flags to that store; other actions bring nothing. RFC 5232, section
+-- 5, lets the last list of flags stand in place of the union.
 abbrev pub with_flags_of : Action → Action → Action
 with_flags_of (Store mailbox flags) (Store other there) = Store other (flag_union there flags)
 with_flags_of (Store mailbox flags) (Redirect other) = Redirect other

@@ -1,9 +1,9 @@
 //! The program over words, input, output and standard error that are made.
+//!
+//! What it writes where nothing fails stands in `examples/rows` and is made in `examples/checks`.
 
 mod disk;
-mod dumps;
+mod failing_files;
 mod machine;
 mod outputs;
-mod oversizes;
 mod program;
-mod trials;

@@ -1,10 +1,11 @@
-//! Sessions over readers that give little, interrupt or never end, and over writers that fail.
+//! Sessions over readers that give little, interrupt or never end.
 
-use super::{REPLIES, REPORT, SESSION, TURNS, ended};
-use sievebench::{Counted, SessionEnd, Source};
+use super::{REPLIES, REPORT, SESSION, TURNS};
+use sievebench::{Bench, Counted, Meter, SessionEnd, Source, session};
 use std::io;
-use std::io::{ErrorKind, Read, Write};
+use std::io::{ErrorKind, Read};
 use std::process::Abort;
+use std::test::Fail;
 
 /// Two reports of a new bench.
 const TWO_REPORTS: &[u8] =
@@ -54,10 +55,12 @@ fn check_ended<R: Source>(
     turns: u64,
     text: &[u8],
     wanted: SessionEnd,
-) {
+) -> Result<(), Fail> {
+    let mut bench = Bench::new(rt.alloc())?;
     let mut writer = Counted::new(Vec::new(rt.alloc()));
-    let end = ended(rt.alloc(), reader, &mut writer, turns);
+    let end = session(&mut bench, &mut Meter::new(), reader, &mut writer, turns);
     assert_eq!(rt; (end, writer.into_inner().as_slice()), (wanted, text));
+    Ok(())
 }
 
 /// Serves the session in single octets, each after some interruptions, and compares.
@@ -66,101 +69,35 @@ fn check_dripping(
     interruptions: u32,
     text: &[u8],
     wanted: SessionEnd,
-) {
+) -> Result<(), Fail> {
     let mut reader = Counted::new(Dripping::new(SESSION, interruptions));
-    check_ended(rt, &mut reader, TURNS, text, wanted);
+    check_ended(rt, &mut reader, TURNS, text, wanted)
 }
 
 #[test]
-fn the_pieces_of_the_input_do_not_matter(rt: HostRuntime) {
-    check_dripping(&rt, 0, REPLIES, SessionEnd::Done);
-    check_dripping(&rt, 1_000, REPLIES, SessionEnd::Done);
-    check_dripping(&rt, 1_001, b"", SessionEnd::Read);
+fn the_pieces_of_the_input_do_not_matter(rt: HostRuntime) -> Result<(), Fail> {
+    check_dripping(&rt, 0, REPLIES, SessionEnd::Done)?;
+    check_dripping(&rt, 1_000, REPLIES, SessionEnd::Done)?;
+    check_dripping(&rt, 1_001, b"", SessionEnd::Read)
 }
 
 /// Serves a report in single octets with so many reads, and compares.
-fn check_turns(rt: &(impl AllocGlobal + Abort), turns: u64, text: &[u8], wanted: SessionEnd) {
+fn check_turns(
+    rt: &(impl AllocGlobal + Abort),
+    turns: u64,
+    text: &[u8],
+    wanted: SessionEnd,
+) -> Result<(), Fail> {
     let mut reader = Counted::new(Dripping::new(b"report", 0));
-    check_ended(rt, &mut reader, turns, text, wanted);
+    check_ended(rt, &mut reader, turns, text, wanted)?;
     assert_eq!(rt; reader.calls(), turns);
+    Ok(())
 }
 
 #[test]
-fn the_end_of_the_input_is_read_once(rt: HostRuntime) {
-    check_turns(&rt, 7, REPORT, SessionEnd::Done);
-    check_turns(&rt, 6, b"", SessionEnd::TurnLimit);
-}
-
-/// A writer that takes so many octets and then fails.
-#[derive(Drop)]
-struct Brittle {
-    taken: Vec<u8>,
-    room: usize,
-}
-
-impl Write for Brittle {
-    fn write(&mut self, buf: &[u8]) -> io::Result<usize> {
-        if self.taken.len() + buf.len() > self.room {
-            return Err(io::Error::from(ErrorKind::Other));
-        }
-        self.taken.extend_from_slice(buf)?;
-        Ok(buf.len())
-    }
-
-    fn flush(&mut self) -> io::Result<()> {
-        Ok(())
-    }
-}
-
-/// Serves the session to a writer of so much room: it must end so, and hold a front of the replies.
-fn check_brittle(rt: &(impl AllocGlobal + Abort), room: usize, wanted: SessionEnd) {
-    let mut reader = Counted::new(SESSION);
-    let mut writer = Counted::new(Brittle {
-        taken: Vec::new(rt.alloc()),
-        room,
-    });
-    let end = ended(rt.alloc(), &mut reader, &mut writer, TURNS);
-    let is_front = REPLIES.starts_with(writer.into_inner().taken.as_slice());
-    assert_eq!(rt; (end, is_front), (wanted, true), "at {room}");
-}
-
-#[test]
-fn a_writer_that_fails_ends_the_session(rt: HostRuntime) {
-    for room in [0, 2, 3, 20, 60, 100, 158] {
-        check_brittle(&rt, room, SessionEnd::Write);
-    }
-    check_brittle(&rt, 159, SessionEnd::Done);
-}
-
-/// A reader that gives its octets at once, and then fails.
-#[derive(Drop)]
-struct Failing<'a>(&'a [u8]);
-
-impl Read for Failing<'_> {
-    fn read(&mut self, buf: &mut [u8]) -> io::Result<usize> {
-        if self.0.is_empty() {
-            return Err(io::Error::from(ErrorKind::ConnectionReset));
-        }
-        let len = self.0.len().min(buf.len());
-        buf[..len].copy_from_slice(&self.0[..len]);
-        self.0 = &self.0[len..];
-        Ok(len)
-    }
-}
-
-/// Serves these octets from a reader that then fails, and compares what it writes.
-fn check_failing(rt: &(impl AllocGlobal + Abort), input: &[u8], text: &[u8]) {
-    let mut reader = Counted::new(Failing(input));
-    check_ended(rt, &mut reader, TURNS, text, SessionEnd::Read);
-}
-
-/// The commands that came whole are answered, and nothing else is.
-#[test]
-fn a_reader_that_fails_ends_the_session(rt: HostRuntime) {
-    check_failing(&rt, b"", b"");
-    check_failing(&rt, b"message m 0\nmain personal main", b"ok\n");
-    check_failing(&rt, b"no-main\nscript personal main 9\ndisc", b"ok\n");
-    check_failing(&rt, b"frob", b"");
+fn the_end_of_the_input_is_read_once(rt: HostRuntime) -> Result<(), Fail> {
+    check_turns(&rt, 7, REPORT, SessionEnd::Done)?;
+    check_turns(&rt, 6, b"", SessionEnd::TurnLimit)
 }
 
 /// A reader of one line for ever.
@@ -176,16 +113,22 @@ impl Read for Endless<'_> {
 }
 
 /// Serves one line for ever with so many reads, and compares.
-fn check_endless(rt: &(impl AllocGlobal + Abort), line: &[u8], turns: u64, text: &[u8]) {
+fn check_endless(
+    rt: &(impl AllocGlobal + Abort),
+    line: &[u8],
+    turns: u64,
+    text: &[u8],
+) -> Result<(), Fail> {
     let mut reader = Counted::new(Endless(line));
-    check_ended(rt, &mut reader, turns, text, SessionEnd::TurnLimit);
+    check_ended(rt, &mut reader, turns, text, SessionEnd::TurnLimit)?;
     assert_eq!(rt; reader.calls(), turns);
+    Ok(())
 }
 
 #[test]
-fn reads_are_limited(rt: HostRuntime) {
-    check_endless(&rt, b"\n", 5, b"");
-    check_endless(&rt, b"report\n", 1, REPORT);
-    check_endless(&rt, b"report\n", 2, TWO_REPORTS);
-    check_endless(&rt, b"report\n", 0, b"");
+fn reads_are_limited(rt: HostRuntime) -> Result<(), Fail> {
+    check_endless(&rt, b"\n", 5, b"")?;
+    check_endless(&rt, b"report\n", 1, REPORT)?;
+    check_endless(&rt, b"report\n", 2, TWO_REPORTS)?;
+    check_endless(&rt, b"report\n", 0, b"")
 }

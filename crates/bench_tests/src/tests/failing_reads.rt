@@ -41,10 +41,11 @@ impl Failures {
     }
 }
 
-/// A reader that gives one octet a call.
+/// A reader that gives so many octets a call.
 #[derive(Clone, Copy, Debug)]
 struct Faltering<'a> {
     octets: &'a [u8],
+    piece: usize,
     failures: Failures,
     kind: ErrorKind,
 }
@@ -54,14 +55,10 @@ impl Read for Faltering<'_> {
         if self.failures.strike() {
             return Err(io::Error::from(self.kind));
         }
-        match (self.octets.split_first(), buf.first_mut()) {
-            (Some((first, rest)), Some(place)) => {
-                *place = *first;
-                self.octets = rest;
-                Ok(1)
-            }
-            _ => Ok(0),
-        }
+        let len = self.octets.len().min(self.piece).min(buf.len());
+        buf[..len].copy_from_slice(&self.octets[..len]);
+        self.octets = &self.octets[len..];
+        Ok(len)
     }
 }
 
@@ -136,6 +133,7 @@ fn check_run(
     let (text, report) = left_by(octets);
     let input = Faltering {
         octets: SESSION,
+        piece: 1,
         failures: Failures { before, times },
         kind,
     };
@@ -211,6 +209,7 @@ fn check_cut(rt: &(impl AllocGlobal + Abort), octets: &[u8]) -> Result<(), Fail>
     for (times, turns, end, text, last, faults) in ways {
         let input = Faltering {
             octets,
+            piece: 1,
             failures: Failures { before: len, times },
             kind: ErrorKind::UnexpectedEof,
         };
@@ -245,4 +244,37 @@ fn a_put_that_is_cut_puts_nothing(rt: HostRuntime) -> Result<(), Fail> {
         &rt,
         b"script personal a 8\ndiscard;message m 0\nmain personal a\nmessage n 16777217\nab",
     )
+}
+
+/// Octets that come at once: the commands that are whole are answered, and nothing else is.
+#[test]
+fn a_reader_that_fails_ends_the_session(rt: HostRuntime) -> Result<(), Fail> {
+    let rows: [(&[u8], u64, &[u8], &[u8]); 4] = [
+        (b"", 0, b"", REPORT),
+        (
+            b"message m 0\nmain personal main",
+            1,
+            b"ok\n",
+            b"main none\nenvelope \"\" \"\" mailbox \"INBOX\"\nmessage \"m\"\n  implicit \"INBOX\"\ntotal 1 messages 0 errors\n",
+        ),
+        (b"no-main\nscript personal main 9\ndisc", 1, b"ok\n", REPORT),
+        (b"frob", 1, b"", REPORT),
+    ];
+    for (octets, before, text, report) in rows {
+        let input = Faltering {
+            octets,
+            piece: usize::MAX,
+            failures: Failures { before, times: 1 },
+            kind: ErrorKind::ConnectionReset,
+        };
+        let wanted = Outcome {
+            end: SessionEnd::Read,
+            text,
+            report,
+            calls: before.saturating_add(1),
+            faults: 1,
+        };
+        check_read(&rt, input, TURNS, wanted)?;
+    }
+    Ok(())
 }

@@ -7,60 +7,33 @@ use std::fmt::Display;
 use std::process::Abort;
 use std::test::Fail;
 
-/// Compares numbers.
-fn check_numbers(rt: &impl Abort, rows: &[(u8, u8)]) {
-    for (number, wanted) in rows {
-        assert_eq!(rt; *number, *wanted);
+#[test]
+fn refusals_and_ends_have_their_numbers(rt: HostRuntime) {
+    for (number, wanted) in [
+        (EditFault::NoSuchScript as u8, 1),
+        (EditFault::NameTaken as u8, 2),
+        (EditFault::NoSuchMessage as u8, 3),
+        (EditFault::Full as u8, 4),
+        (EditFault::TooLarge as u8, 5),
+        (EditFault::NoMemory as u8, 6),
+        (ReportFault::NoMemory as u8, 1),
+        (ReportFault::Write as u8, 2),
+        (SessionEnd::Done as u8, 0),
+        (SessionEnd::Syntax as u8, 1),
+        (SessionEnd::Truncated as u8, 2),
+        (SessionEnd::Read as u8, 3),
+        (SessionEnd::Write as u8, 4),
+        (SessionEnd::NoMemory as u8, 5),
+        (SessionEnd::TurnLimit as u8, 6),
+        (TestEnd::Clean as u8, 0),
+        (TestEnd::Faulty as u8, 1),
+        (TestEnd::TooLarge as u8, 2),
+        (TestEnd::Full as u8, 3),
+        (TestEnd::Write as u8, 4),
+        (TestEnd::NoMemory as u8, 5),
+    ] {
+        assert_eq!(rt; number, wanted);
     }
-}
-
-#[test]
-fn refusals_have_their_numbers(rt: HostRuntime) {
-    check_numbers(
-        &rt,
-        &[
-            (EditFault::NoSuchScript as u8, 1),
-            (EditFault::NameTaken as u8, 2),
-            (EditFault::NoSuchMessage as u8, 3),
-            (EditFault::Full as u8, 4),
-            (EditFault::TooLarge as u8, 5),
-            (EditFault::NoMemory as u8, 6),
-        ],
-    );
-    check_numbers(
-        &rt,
-        &[
-            (ReportFault::NoMemory as u8, 1),
-            (ReportFault::Write as u8, 2),
-        ],
-    );
-}
-
-#[test]
-fn ends_have_their_numbers(rt: HostRuntime) {
-    check_numbers(
-        &rt,
-        &[
-            (SessionEnd::Done as u8, 0),
-            (SessionEnd::Syntax as u8, 1),
-            (SessionEnd::Truncated as u8, 2),
-            (SessionEnd::Read as u8, 3),
-            (SessionEnd::Write as u8, 4),
-            (SessionEnd::NoMemory as u8, 5),
-            (SessionEnd::TurnLimit as u8, 6),
-        ],
-    );
-    check_numbers(
-        &rt,
-        &[
-            (TestEnd::Clean as u8, 0),
-            (TestEnd::Faulty as u8, 1),
-            (TestEnd::TooLarge as u8, 2),
-            (TestEnd::Full as u8, 3),
-            (TestEnd::Write as u8, 4),
-            (TestEnd::NoMemory as u8, 5),
-        ],
-    );
 }
 
 /// Prints a refusal, and compares.
@@ -83,11 +56,7 @@ fn refusals_print_their_texts(rt: HostRuntime) -> Result<(), Fail> {
     check_printed(&rt, EditFault::TooLarge, "too large")?;
     check_printed(&rt, EditFault::NoMemory, "out of memory")?;
     check_printed(&rt, ReportFault::NoMemory, "out of memory")?;
-    check_printed(&rt, ReportFault::Write, "the writer failed")
-}
-
-#[test]
-fn a_mistake_in_the_words_prints_its_text(rt: HostRuntime) -> Result<(), Fail> {
+    check_printed(&rt, ReportFault::Write, "the writer failed")?;
     let text = String::from_str(rt.alloc(), "what is wrong\n")?;
     let mistake = UsageFault::Usage { help: false, text };
     check_printed(&rt, mistake, "what is wrong\n")?;

@@ -1,6 +1,6 @@
 //! The test of a message by a job: what is written, how it ends, and which edit is refused first.
 
-use super::personal;
+use super::{many, personal};
 use sievebench::{
     Counted, Faults, Meter, Octets, ScriptName, TestEnd, TestJob, TestScript, test_bench,
 };
@@ -67,7 +67,7 @@ fn check_texts(
 }
 
 #[test]
-fn a_message_is_tested(rt: HostRuntime) -> Result<(), Fail> {
+fn messages_are_tested(rt: HostRuntime) -> Result<(), Fail> {
     check_texts(
         &rt,
         &[(b"main", b"discard;\n")],
@@ -80,11 +80,7 @@ fn a_message_is_tested(rt: HostRuntime) -> Result<(), Fail> {
         &[(b"main", b"kep;"), (b"a", b""), (b"main", b"keep;")],
         TestEnd::Clean,
         b"main personal \"main\"\nenvelope \"a@b.example\" \"\" mailbox \"INBOX\"\nscript personal \"a\" ok\nscript personal \"main\" ok\nmessage \"mail.txt\"\n  store \"INBOX\"\n  read personal \"main\"\ntotal 1 messages 0 errors\n",
-    )
-}
-
-#[test]
-fn faults_and_errors_are_told(rt: HostRuntime) -> Result<(), Fail> {
+    )?;
     // A script that isn't run has a fault.
     check_texts(
         &rt,
@@ -105,11 +101,6 @@ fn faults_and_errors_are_told(rt: HostRuntime) -> Result<(), Fail> {
         TestEnd::Faulty,
         b"main personal \"main\"\nenvelope \"a@b.example\" \"\" mailbox \"INBOX\"\nmessage \"mail.txt\"\n  implicit \"INBOX\"\n  error personal \"main\" line 0 missing-script\n  read personal \"main\" missing\ntotal 1 messages 1 errors\n",
     )
-}
-
-/// So many octets.
-fn many(alloc: Global, count: usize) -> Result<Octets, AllocError> {
-    Ok(Octets::from_vec(vec![in alloc; b'n'; count]?))
 }
 
 /// A part of a job that has a limit.

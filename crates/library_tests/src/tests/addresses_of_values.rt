@@ -35,10 +35,11 @@ fn check_listed(rt: &(impl AllocGlobal + Abort), rows: &[(&[u8], &[u8])]) -> Res
 }
 
 #[test]
-fn reads_lists_and_groups(rt: HostRuntime) -> Result<(), Fail> {
+fn values_have_their_addresses(rt: HostRuntime) -> Result<(), Fail> {
     check_listed(
         &rt,
         &[
+            // Lists and groups.
             (
                 b"\"Doe, Jane\" <@a.example:Jane@B.example>, Team: x@c.example (c, d), y@c.example;",
                 b"Jane@B.example|Jane|B.example\nx@c.example|x|c.example\ny@c.example|y|c.example\n",
@@ -47,15 +48,7 @@ fn reads_lists_and_groups(rt: HostRuntime) -> Result<(), Fail> {
             (b",,;", b""),
             (b" \t\r\n", b""),
             (b"a: b: \"c:\"d@e, f:; [g:h]:i", b"c:d@e|c:d|e\ni|-|-\n"),
-        ],
-    )
-}
-
-#[test]
-fn what_is_not_closed_lasts_to_the_end(rt: HostRuntime) -> Result<(), Fail> {
-    check_listed(
-        &rt,
-        &[
+            // What is not closed lasts to the end.
             (b"\"a", b"a|-|-\n"),
             (b"\"a, b@c", b"a, b@c|-|-\n"),
             // A last backslash stands for itself, unless one before it protects it.
@@ -65,15 +58,7 @@ fn what_is_not_closed_lasts_to_the_end(rt: HostRuntime) -> Result<(), Fail> {
             (b"(((", b""),
             (b"a@b (c, d@e", b"a@b|a|b\n"),
             (b"a@[b, c@d", b"a@[b,c@d|a|[b,c@d\n"),
-        ],
-    )
-}
-
-#[test]
-fn only_the_last_sign_divides(rt: HostRuntime) -> Result<(), Fail> {
-    check_listed(
-        &rt,
-        &[
+            // Only the last sign divides.
             (b"a@b@", b"a@b@|-|-\n"),
             (b"@b", b"@b|-|-\n"),
             (b"@", b"@|-|-\n"),
@@ -84,15 +69,7 @@ fn only_the_last_sign_divides(rt: HostRuntime) -> Result<(), Fail> {
             (b"\"a@b\"", b"a@b|-|-\n"),
             (b"a@[b@c]", b"a@[b@c]|a|[b@c]\n"),
             (b"\"\"@c", b"@c|-|-\n"),
-        ],
-    )
-}
-
-#[test]
-fn reads_the_first_angle(rt: HostRuntime) -> Result<(), Fail> {
-    check_listed(
-        &rt,
-        &[
+            // The first angle is read.
             // The standard has none of the first three.
             (b"x <a<b@c> y", b"a<b@c|a<b|c\n"),
             (b"<a@b> <c@d>", b"a@b|a|b\n"),
@@ -105,15 +82,7 @@ fn reads_the_first_angle(rt: HostRuntime) -> Result<(), Fail> {
             (b"<@a,@b>", b"@a,@b|@a,|b\n"),
             (b"<@[a:b]:c@d>", b"c@d|c|d\n"),
             (b"<\"@\":c@d>", b"@:c@d|@:c|d\n"),
-        ],
-    )
-}
-
-#[test]
-fn drops_comments_and_white_space(rt: HostRuntime) -> Result<(), Fail> {
-    check_listed(
-        &rt,
-        &[
+            // Comments and white space go.
             (b"(a, (b) \\) <) c (\"; )@d", b"c@d|c|d\n"),
             (b"a)b@c", b"a)b@c|a)b|c\n"),
             (b" \t a \r\n b\" \t c\" @ d", b"ab \t c@d|ab \t c|d\n"),
@@ -127,16 +96,7 @@ fn drops_comments_and_white_space(rt: HostRuntime) -> Result<(), Fail> {
                 b"\xc3\xa4\x00@\xff",
                 b"\xc3\xa4\x00@\xff|\xc3\xa4\x00|\xff\n",
             ),
-        ],
-    )
-}
-
-// The examples of RFC 5322, appendices A.1.1 to A.1.3. The standard reads the same addresses in each.
-#[test]
-fn reads_simple_examples(rt: HostRuntime) -> Result<(), Fail> {
-    check_listed(
-        &rt,
-        &[
+            // The examples of RFC 5322, appendices A.1.1 to A.1.3. The standard reads the same addresses in each.
             (
                 b" John Doe <jdoe@machine.example>",
                 b"jdoe@machine.example|jdoe|machine.example\n",
@@ -170,16 +130,7 @@ fn reads_simple_examples(rt: HostRuntime) -> Result<(), Fail> {
                 b"c@a.test|c|a.test\njoe@where.test|joe|where.test\njdoe@one.test|jdoe|one.test\n",
             ),
             (b" Undisclosed recipients:;", b""),
-        ],
-    )
-}
-
-// The examples of RFC 5322, appendices A.5, A.6.1 and A.6.3. The standard reads the same addresses in each.
-#[test]
-fn reads_comments_folds_and_obsolete_forms(rt: HostRuntime) -> Result<(), Fail> {
-    check_listed(
-        &rt,
-        &[
+            // The examples of RFC 5322, appendices A.5, A.6.1 and A.6.3. The standard reads the same addresses in each.
             (
                 b" Pete(A nice \\) chap) <pete(his account)@silly.test(his host)>",
                 b"pete@silly.test|pete|silly.test\n",
@@ -212,19 +163,10 @@ fn reads_comments_folds_and_obsolete_forms(rt: HostRuntime) -> Result<(), Fail> 
     )
 }
 
-// So many of these octets.
-fn repeated(alloc: Global, octet: u8, count: usize) -> Result<Vec<u8>, AllocError> {
-    let mut value = Vec::new(alloc);
-    for _ in 0..count {
-        value.push(octet)?;
-    }
-    Ok(value)
-}
-
 /// Compares how many addresses a million of each octet are.
 fn check_million(rt: &(impl AllocGlobal + Abort), rows: &[(u8, usize)]) -> Result<(), Fail> {
     for (octet, wanted) in rows {
-        let value = repeated(rt.alloc(), *octet, 1_000_000)?;
+        let value = vec![in rt.alloc(); *octet; 1_000_000]?;
         let found = addresses(rt.alloc(), &value)?;
         assert_eq!(rt; found.len(), *wanted, "of {octet}");
     }

@@ -32,10 +32,11 @@ fn check_listed(rt: &(impl AllocGlobal + Abort), rows: &[(&[u8], &[u8])]) -> Res
 }
 
 #[test]
-fn joins_folded_values(rt: HostRuntime) -> Result<(), Fail> {
+fn messages_have_their_fields(rt: HostRuntime) -> Result<(), Fail> {
     check_listed(
         &rt,
         &[
+            // Folded values are joined.
             (
                 b"Subject: one\r\n two\r\n\tthree\r\n\r\n",
                 b"Subject:one two\tthree\n",
@@ -47,15 +48,7 @@ fn joins_folded_values(rt: HostRuntime) -> Result<(), Fail> {
             // Blanks at the seams stay, and outer ones go wherever they stand.
             (b"A: \t\r\n \r\n x \r\n\ty\t\r\n \t\r\n", b"A:x \ty\n"),
             (b"A:\n \n\t\n", b"A:\n"),
-        ],
-    )
-}
-
-#[test]
-fn skips_lines_that_are_no_fields(rt: HostRuntime) -> Result<(), Fail> {
-    check_listed(
-        &rt,
-        &[
+            // Lines that are no fields are skipped.
             (b" x\nA b: c\n d\n:e\nF : g\n h\n\nI: j", b"F:g h\n"),
             (b"", b""),
             (b"\nA: b\n", b""),
@@ -68,31 +61,14 @@ fn skips_lines_that_are_no_fields(rt: HostRuntime) -> Result<(), Fail> {
             (b"\xc3\xa4: b\nC:\xc3\xa4\n", b"C:\xc3\xa4\n"),
             (b"A:b:c\n::\n", b"A:b:c\n"),
             (b"A\x00: b\nC: \x00 \x00\n\x00: d\n", b"C:\x00 \x00\n"),
-        ],
-    )
-}
-
-#[test]
-fn takes_a_lone_return_as_an_octet(rt: HostRuntime) -> Result<(), Fail> {
-    check_listed(
-        &rt,
-        &[
+            // A lone return is an octet.
             (b"A: b\rc\r\n\r\n", b"A:b\rc\n"),
             (b"A: b\r", b"A:b\r\n"),
             (b"A: b\r\r\n c\r", b"A:b\r c\r\n"),
             (b"A: b\n\r", b"A:b\n"),
             (b"A: b\n\rC: d\nE: f\n", b"A:b\nE:f\n"),
             (b"A: b\n\r\nC: d\n", b"A:b\n"),
-        ],
-    )
-}
-
-// RFC 5322, appendices A.1.1, A.5 and A.6.3.
-#[test]
-fn reads_the_examples_of_the_standard(rt: HostRuntime) -> Result<(), Fail> {
-    check_listed(
-        &rt,
-        &[
+            // RFC 5322, appendices A.1.1, A.5 and A.6.3.
             (
                 b"From: John Doe <jdoe@machine.example>\r\nTo: Mary Smith <mary@example.net>\r\nSubject: Saying Hello\r\nDate: Fri, 21 Nov 1997 09:55:06 -0600\r\nMessage-ID: <1234@local.machine.example>\r\n\r\nThis is a message just to say hello.\r\nSo, \"Hello\".\r\n",
                 b"From:John Doe <jdoe@machine.example>\nTo:Mary Smith <mary@example.net>\nSubject:Saying Hello\nDate:Fri, 21 Nov 1997 09:55:06 -0600\nMessage-ID:<1234@local.machine.example>\n",

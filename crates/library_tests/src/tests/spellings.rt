@@ -1,6 +1,6 @@
-//! What tokens are spelled like, and what they stand for.
+//! What tokens are spelled like.
 
-use super::print::{check_outcomes, check_tokens};
+use super::print::check_tokens;
 use std::test::Fail;
 
 #[test]
@@ -70,50 +70,6 @@ fn spellings(rt: HostRuntime) -> Result<(), Fail> {
             (b"a\0;", "Identifier 0-1@1 Bad 1-3@1 "),
             (b"\n\xe9;", "Bad 1-3@2 "),
             (b"a\x0b;", "Identifier 0-1@1 Bad 1-3@1 "),
-        ],
-    )
-}
-
-#[test]
-fn values(rt: HostRuntime) -> Result<(), Fail> {
-    check_outcomes(
-        &rt,
-        &[
-            (b"a \"\";", "a@1 \"\"1;"),
-            (
-                b"a \"b\nc\r\nd\re\";",
-                "a@1 \"b\\x0d\\x0ac\\x0d\\x0ad\\x0de\"1;",
-            ),
-            (b"a \"\n\";", "a@1 \"\\x0d\\x0a\"1;"),
-            (b"a \"\r\\\n\";", "a@1 \"\\x0d\\x0d\\x0a\"1;"),
-            (b"a \"\\q\\\\\\\"\";", "a@1 \"q\\\"\"1;"),
-            (b"a \"\0\xff\";", "a@1 \"\\x00\\xff\"1;"),
-            (
-                b"a\ntext:\n..a\n.b\n.\n;",
-                "a@1 \".a\\x0d\\x0a.b\\x0d\\x0a\"2;",
-            ),
-            (
-                b"a text:\r\n...\r\n\r\n.\r\n;",
-                "a@1 \"..\\x0d\\x0a\\x0d\\x0a\"1;",
-            ),
-            (
-                b"a text: # c\nb\rc\\\"\n.\r\n;",
-                "a@1 \"b\\x0dc\\\"\\x0d\\x0a\"1;",
-            ),
-            (b"a text:\n.\n;", "a@1 \"\"1;"),
-            (b"a text:\n.\r\r\n.\n;", "a@1 \".\\x0d\\x0d\\x0a\"1;"),
-            (b"a 0 007 10;", "a@1 #0@1 #7@1 #10@1;"),
-            (
-                b"a 1k 1K 1m 1M 1g 1G;",
-                "a@1 #1024@1 #1024@1 #1048576@1 #1048576@1 #1073741824@1 #1073741824@1;",
-            ),
-            (b"a 18446744073709551615;", "a@1 #18446744073709551615@1;"),
-            (b"a 18446744073709551616;", "a@1 #none@1;"),
-            (b"a 17179869183G;", "a@1 #18446744072635809792@1;"),
-            (b"a 17179869184G;", "a@1 #none@1;"),
-            (b"a 99999999999999999999999999999999;", "a@1 #none@1;"),
-            (b"a 000000000000000000000000000000001K;", "a@1 #1024@1;"),
-            (b"a :Tag\n:_t9;", "a@1 :Tag@1 :_t9@2;"),
         ],
     )
 }

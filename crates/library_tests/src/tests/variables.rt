@@ -10,86 +10,19 @@ use std::alloc::{AllocError, Global};
 use std::process::Abort;
 use std::test::Fail;
 
-/// A part of a string, as rows write it.
-#[derive(Clone, Copy, Debug, PartialEq, Eq)]
-enum Wanted<'a> {
-    Literal(&'a [u8]),
-    Local(&'a [u8]),
-    Match(u8),
-}
-
-fn as_wanted(part: &Part) -> Wanted<'_> {
-    match part {
-        Part::Literal(octets) => Wanted::Literal(octets.as_slice()),
-        Part::Local(name) => Wanted::Local(name.as_slice()),
-        Part::Match(index) => Wanted::Match(*index),
-    }
-}
-
-/// Compares parts with a row's.
-fn check_shown(rt: &impl Abort, text: &[u8], parts: &[Part], wanted: &[Wanted<'_>]) {
-    assert_eq!(rt; parts.len(), wanted.len(), "in {text:?}");
-    for (i, part) in parts.iter().enumerate() {
-        assert_eq!(rt;
-            Some(as_wanted(part)),
-            wanted.get(i).copied(),
-            "in {text:?}"
-        );
-    }
-}
-
-/// Compares the parts of each text.
-fn check_parts(
-    rt: &(impl AllocGlobal + Abort),
-    rows: &[(&[u8], &[Wanted<'_>])],
-) -> Result<(), Fail> {
-    for (text, wanted) in rows {
-        let parts = parts_of(rt.alloc(), *text)?;
-        check_shown(rt, *text, parts.as_slice(), *wanted);
-    }
-    Ok(())
-}
-
+/// A string with a part of each kind. Further strings stand in `examples/rows`, as code prints them.
 #[test]
 fn strings_have_their_parts(rt: HostRuntime) -> Result<(), Fail> {
-    check_parts(
-        &rt,
-        &[
-            (b"", &[]),
-            (b"abc", &[Wanted::Literal(b"abc")]),
-            (b"&%${}!", &[Wanted::Literal(b"&%${}!")]),
-            (
-                b"${President, ${Company} Inc.}",
-                &[
-                    Wanted::Literal(b"${President, "),
-                    Wanted::Local(b"company"),
-                    Wanted::Literal(b" Inc.}"),
-                ],
-            ),
-            (
-                b"$${A_9}${1a}}",
-                &[
-                    Wanted::Literal(b"$"),
-                    Wanted::Local(b"a_9"),
-                    Wanted::Literal(b"${1a}}"),
-                ],
-            ),
-            (b"${a}${B}", &[Wanted::Local(b"a"), Wanted::Local(b"b")]),
-            (b"${ a}$ {a}${a }", &[Wanted::Literal(b"${ a}$ {a}${a }")]),
-        ],
-    )
-}
-
-/// Zeros in front of a number don't count.
-#[test]
-fn numbers_are_read_as_decimal(rt: HostRuntime) -> Result<(), Fail> {
-    check_parts(
-        &rt,
-        &[
-            (b"${10}${099}", &[Wanted::Match(10), Wanted::Match(99)]),
-            (b"${0000000000000000000000001}", &[Wanted::Match(1)]),
-        ],
-    )
+    let parts = parts_of(rt.alloc(), b"${Company}${099} Inc.}")?;
+    match parts.as_slice() {
+        [Part::Local(name), Part::Match(index), Part::Literal(octets)] => {
+            assert_eq!(rt; name.as_slice(), b"company".as_slice());
+            assert_eq!(rt; *index, 99);
+            assert_eq!(rt; octets.as_slice(), b" Inc.}".as_slice());
+        }
+        other => panic!(rt; "{other:?}"),
+    }
+    Ok(())
 }
 
 /// The answer for a text with such references.
@@ -101,185 +34,48 @@ fn found(any: bool, namespaced: bool, far: bool) -> References {
     }
 }
 
-/// Compares what references each text has.
-fn check_references(rt: &impl Abort, rows: &[(&[u8], References)]) {
-    for (text, wanted) in rows {
-        assert_eq!(rt; references_in(*text), *wanted, "in {text:?}");
-    }
-}
-
 #[test]
 fn references_are_found(rt: HostRuntime) {
-    check_references(
-        &rt,
-        &[
-            (b"", found(false, false, false)),
-            (b"${doh!}", found(false, false, false)),
-            (b"${7.a}${.a}${a.}${a..b}${.}", found(false, false, false)),
-            (b"${BAD${Company}", found(true, false, false)),
-            (b"${00099}", found(true, false, false)),
-            (b"${100}", found(true, false, true)),
-            (b"${a}${18446744073709551617}", found(true, false, true)),
-            (b"x${a.7.b_2}${y}", found(true, true, false)),
-            // A number in a namespace is none of a match variable.
-            (b"${a.100}", found(true, true, false)),
-            (b"${a.b}${256}", found(true, true, true)),
-        ],
-    );
-}
-
-/// A name, whether it is one of a variable of the script, and whether it is one of a variable that scripts share.
-fn check_names(rt: &impl Abort, rows: &[(&[u8], bool, bool)]) {
-    for (name, local, global) in rows {
-        let got = (is_identifier(*name), is_global_name(*name));
-        assert_eq!(rt; got, (*local, *global), "at {name:?}");
+    let rows: [(&[u8], References); 10] = [
+        (b"", found(false, false, false)),
+        (b"${doh!}", found(false, false, false)),
+        (b"${7.a}${.a}${a.}${a..b}${.}", found(false, false, false)),
+        (b"${BAD${Company}", found(true, false, false)),
+        (b"${00099}", found(true, false, false)),
+        (b"${100}", found(true, false, true)),
+        (b"${a}${18446744073709551617}", found(true, false, true)),
+        (b"x${a.7.b_2}${y}", found(true, true, false)),
+        // A number in a namespace is none of a match variable.
+        (b"${a.100}", found(true, true, false)),
+        (b"${a.b}${256}", found(true, true, true)),
+    ];
+    for (text, wanted) in rows {
+        assert_eq!(rt; references_in(text), wanted, "in {text:?}");
     }
 }
 
+/// Which names there are stands in `examples/rows`.
 #[test]
-fn names_are_told_apart(rt: HostRuntime) {
-    check_names(
-        &rt,
-        &[
-            (b"first_name", true, false),
-            (b"_", true, false),
-            (b"A9", true, false),
-            (b"global", true, false),
-            (b"gLobal.A_1", false, true),
-            (b"global.", false, false),
-            (b"global.1", false, false),
-            (b"global.a.b", false, false),
-            (b"globals.a", false, false),
-            (b"other.a", false, false),
-            (b"1", false, false),
-            (b"a-b", false, false),
-            (b"a\xc3\xa9", false, false),
-            (b"", false, false),
-        ],
-    );
-}
-
-#[test]
-fn names_are_kept_in_lower_case(rt: HostRuntime) -> Result<(), Fail> {
+fn names_are_told_apart_and_kept_in_lower_case(rt: HostRuntime) -> Result<(), Fail> {
+    assert!(rt; is_identifier(b"first_name") && !is_identifier(b"global.a"));
+    assert!(rt; is_global_name(b"gLobal.A_1") && !is_global_name(b"global"));
     let name = folded(rt.alloc(), b"First_NAME9")?;
     assert_eq!(&rt; name.as_slice(), b"first_name9".as_slice());
     Ok(())
 }
 
-/// No modifier.
-const NONE: Modifiers = Modifiers {
-    letter_case: None,
-    first_letter: None,
-    quote_wildcard: false,
-    length: false,
-};
-
-/// `:quotewildcard`.
-const QUOTED: Modifiers = Modifiers {
-    letter_case: None,
-    first_letter: None,
-    quote_wildcard: true,
-    length: false,
-};
-
-/// `:length`.
-const LENGTH: Modifiers = Modifiers {
-    letter_case: None,
-    first_letter: None,
-    quote_wildcard: false,
-    length: true,
-};
-
-/// A modifier of each precedence.
-const ALL: Modifiers = Modifiers {
-    letter_case: Some(LetterCase::Upper),
-    first_letter: Some(LetterCase::Lower),
-    quote_wildcard: true,
-    length: true,
-};
-
-/// These modifiers for letters.
-fn cases(letter_case: Option<LetterCase>, first_letter: Option<LetterCase>) -> Modifiers {
-    Modifiers {
-        letter_case,
-        first_letter,
-        quote_wildcard: false,
-        length: false,
-    }
-}
-
-/// Compares what becomes of each value.
-fn check_modified(
-    rt: &(impl AllocGlobal + Abort),
-    rows: &[(Modifiers, &[u8], &[u8])],
-) -> Result<(), Fail> {
-    for (modifiers, value, wanted) in rows {
-        let got = modifiers.modified(rt.alloc(), *value)?;
-        assert_eq!(rt; got.as_slice(), *wanted, "at {value:?}");
-    }
-    Ok(())
-}
-
+/// A modifier of each precedence. What others do stands in `examples/rows`.
 #[test]
 fn values_are_modified(rt: HostRuntime) -> Result<(), Fail> {
-    let lower = Some(LetterCase::Lower);
-    let upper = Some(LetterCase::Upper);
-    check_modified(
-        &rt,
-        &[
-            (cases(lower, upper), b"juMBlEd lETteRS", b"Jumbled letters"),
-            // What isn't a letter of ASCII stays as it is.
-            (cases(upper, None), b"@[`{az\xc3\xa9", b"@[`{AZ\xc3\xa9"),
-            (cases(lower, None), b"@[`{AZ\xc3\x89", b"@[`{az\xc3\x89"),
-            (cases(None, upper), b" a", b" a"),
-            (LENGTH, b"a\xe2\x82\xac\xf0\x9f\x98\x80", b"3"),
-            // All are done, and what is quoted is counted.
-            (ALL, b"?*\\", b"6"),
-            (ALL, b"\xc3\xa9*", b"3"),
-            (ALL, b"", b"0"),
-        ],
-    )
-}
-
-/// Modifies so many stars, and compares how many octets come of them.
-fn check_cut(
-    rt: &(impl AllocGlobal + Abort),
-    rows: &[(Modifiers, usize, usize)],
-) -> Result<(), Fail> {
-    for (modifiers, count, wanted) in rows {
-        let value = vec![in rt.alloc(); b'*'; *count]?;
-        let got = modifiers.modified(rt.alloc(), &value)?;
-        assert_eq!(rt; got.len(), *wanted, "of {count}");
-    }
+    let all = Modifiers {
+        letter_case: Some(LetterCase::Upper),
+        first_letter: Some(LetterCase::Lower),
+        quote_wildcard: true,
+        length: true,
+    };
+    let got = all.modified(rt.alloc(), b"?*\\")?;
+    assert_eq!(rt; got.as_slice(), b"6".as_slice());
     Ok(())
-}
-
-/// A value is cut behind 4,096 octets, after it is quoted.
-#[test]
-fn a_long_value_is_cut_last(rt: HostRuntime) -> Result<(), Fail> {
-    check_cut(
-        &rt,
-        &[
-            (NONE, 4_096, 4_096),
-            (NONE, 4_097, 4_096),
-            (QUOTED, 2_047, 4_094),
-            (QUOTED, 2_049, 4_096),
-            (QUOTED, 4_097, 4_096),
-        ],
-    )
-}
-
-/// `:length` counts a value whole, and what is quoted of it too.
-#[test]
-fn a_long_value_is_counted_whole(rt: HostRuntime) -> Result<(), Fail> {
-    let value = vec![in rt.alloc(); b'*'; 4_097]?;
-    check_modified(
-        &rt,
-        &[
-            (LENGTH, value.as_slice(), b"4097"),
-            (ALL, value.as_slice(), b"8194"),
-        ],
-    )
 }
 
 fn set(values: &mut Values, alloc: Global, name: &[u8], text: &[u8]) -> Result<(), AllocError> {

@@ -62,33 +62,26 @@ impl Read for Broken {
     }
 }
 
-/// Prints octets between quotes, and compares.
-fn check_quoted(rt: &(impl AllocGlobal + Abort), rows: &[(&[u8], &[u8])]) -> Result<(), Fail> {
-    for (octets, text) in rows {
-        let mut writer = Counted::new(Vec::new(rt.alloc()));
-        write_quoted(*octets, &mut writer)?;
-        assert_eq!(rt; writer.into_inner().as_slice(), *text);
-    }
-    Ok(())
-}
-
 #[test]
 fn prints_octets_between_quotes(rt: HostRuntime) -> Result<(), Fail> {
-    check_quoted(
-        &rt,
-        &[
-            (b"", b"\"\""),
-            (b"a", b"\"a\""),
-            (b"a\"b\\", b"\"a\\\"b\\\\\""),
-            (b"\x00", b"\"\\x00\""),
-            (b"\n", b"\"\\x0a\""),
-            (b"\x1f", b"\"\\x1f\""),
-            (b" ", b"\" \""),
-            (b"~", b"\"~\""),
-            (b"\x7f", b"\"\\x7f\""),
-            (b"ab\xffcd", b"\"ab\\xffcd\""),
-        ],
-    )
+    let rows: [(&[u8], &[u8]); 10] = [
+        (b"", b"\"\""),
+        (b"a", b"\"a\""),
+        (b"a\"b\\", b"\"a\\\"b\\\\\""),
+        (b"\x00", b"\"\\x00\""),
+        (b"\n", b"\"\\x0a\""),
+        (b"\x1f", b"\"\\x1f\""),
+        (b" ", b"\" \""),
+        (b"~", b"\"~\""),
+        (b"\x7f", b"\"\\x7f\""),
+        (b"ab\xffcd", b"\"ab\\xffcd\""),
+    ];
+    for (octets, text) in rows {
+        let mut writer = Counted::new(Vec::new(rt.alloc()));
+        write_quoted(octets, &mut writer)?;
+        assert_eq!(rt; writer.into_inner().as_slice(), text);
+    }
+    Ok(())
 }
 
 /// Prints pieces and an end.
@@ -136,51 +129,30 @@ fn check_row(rt: &(impl AllocGlobal + Abort), row: &Row<'_>) {
     assert_eq!(rt; writer.into_inner().taken.as_slice(), text);
 }
 
-fn check_rows(rt: &(impl AllocGlobal + Abort), rows: &[Row<'_>]) {
-    for row in rows {
-        check_row(rt, row);
+#[test]
+fn tries_an_interrupted_write_a_thousand_times(rt: HostRuntime) {
+    let rows: [Row<'_>; 6] = [
+        (9, Full::Zero, 0, true, b"\"abc\"", 0),
+        (3, Full::Zero, 0, false, b"\"ab", 1),
+        (4, Full::Broken, 0, false, b"\"abc", 1),
+        (0, Full::Broken, 0, false, b"", 1),
+        (9, Full::Broken, 1_000, true, b"\"abc\"", 5_000),
+        (9, Full::Broken, 1_001, false, b"", 1_001),
+    ];
+    for row in &rows {
+        check_row(&rt, row);
     }
 }
 
 #[test]
-fn tries_an_interrupted_write_a_thousand_times(rt: HostRuntime) {
-    check_rows(
-        &rt,
-        &[
-            (9, Full::Zero, 0, true, b"\"abc\"", 0),
-            (3, Full::Zero, 0, false, b"\"ab", 1),
-            (4, Full::Broken, 0, false, b"\"abc", 1),
-            (0, Full::Broken, 0, false, b"", 1),
-            (9, Full::Broken, 1_000, true, b"\"abc\"", 5_000),
-            (9, Full::Broken, 1_001, false, b"", 1_001),
-        ],
-    );
-}
-
-/// Reads three times into two octets, and compares how many are given.
-fn check_reads<R: Source>(
-    rt: &impl Abort,
-    reader: &mut R,
-    wanted: (Option<usize>, Option<usize>, Option<usize>),
-) {
+fn counts_reads_and_faults(rt: HostRuntime) {
     let mut buf = [0u8; 2];
-    let first = reader.read_some(&mut buf).ok();
-    let second = reader.read_some(&mut buf).ok();
-    let third = reader.read_some(&mut buf).ok();
-    assert_eq!(rt; (first, second, third), wanted);
-}
-
-#[test]
-fn counts_reads(rt: HostRuntime) {
     let mut reader = Counted::new(b"abc".as_slice());
-    check_reads(&rt, &mut reader, (Some(2), Some(1), Some(0)));
+    for wanted in [Some(2), Some(1), Some(0)] {
+        assert_eq!(rt; reader.read_some(&mut buf).ok(), wanted);
+    }
     assert_eq!(rt; (reader.calls(), reader.faults()), (3, 0));
     assert_eq!(rt; reader.into_inner(), b"".as_slice());
-}
-
-#[test]
-fn counts_faults(rt: HostRuntime) {
-    let mut buf = [0u8; 2];
     let mut broken = Counted::new(Broken);
     let first = broken.read_some(&mut buf).is_err();
     let second = broken.read_some(&mut buf).is_err();

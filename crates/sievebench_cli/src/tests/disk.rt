@@ -12,22 +12,14 @@ fn unsupported<T>() -> io::Result<T> {
     Err(io::Error::from(ErrorKind::Unsupported))
 }
 
-/// What is at a path.
+/// What is at a path: at the first place that the path begins with.
 fn given_at<'a>(paths: Paths<'a>, path: &str) -> Option<Given<'a>> {
     for (place, given) in paths {
-        if *place == path || is_under(place, path) {
+        if path.starts_with(*place) {
             return Some(*given);
         }
     }
     None
-}
-
-/// Whether a place that ends in `*` stands for a path.
-fn is_under(place: &str, path: &str) -> bool {
-    match place.strip_suffix('*') {
-        Some(front) => path.starts_with(front),
-        None => false,
-    }
 }
 
 /// An open file.

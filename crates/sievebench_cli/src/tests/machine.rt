@@ -82,7 +82,7 @@ impl Room {
     }
 }
 
-/// Files by their paths. A path that ends in `*` stands for all that go on from there.
+/// Files by the fronts of their paths.
 pub(crate) type Paths<'a> = &'a [(&'a str, Given<'a>)];
 
 /// A system with these words, this input, these files and folders, and an output of this room.

@@ -13,12 +13,9 @@ use std::test::Fail;
 /// The words that ask for a session.
 pub(crate) const SESSION_WORDS: &[&[u8]] = &[b"sievebench", b"session"];
 
-/// A session, and what it writes.
+/// A session with three replies and a report.
 const SESSION: &[u8] =
     b"script personal main 9\ndiscard;\nmessage m1 0\nmain personal main\nreport\n";
-
-const REPLIES: &[u8] =
-    b"ok\nok\nok\nmain personal \"main\"\nenvelope \"\" \"\" mailbox \"INBOX\"\nscript personal \"main\" ok\nmessage \"m1\"\n  discard\n  read personal \"main\"\ntotal 1 messages 0 errors\n";
 
 /// Octets that come at once, and then end.
 pub(crate) fn whole(octets: &[u8]) -> Given<'_> {
@@ -74,28 +71,6 @@ fn check_run(
     assert_eq!(rt; answer, status);
     check_kept(rt, &written.output, output)?;
     check_kept(rt, &written.errors, errors)
-}
-
-#[test]
-fn sessions_have_their_statuses(rt: HostRuntime) -> Result<(), Fail> {
-    let rows: [(&[u8], u8, &[u8]); 4] = [
-        (b"", 0, b""),
-        (SESSION, 0, REPLIES),
-        (
-            b"main personal main\nscript personal main 9\ndisc",
-            2,
-            b"ok\nno truncated\n",
-        ),
-        (
-            b"drop-message a\nfrobnicate\nreport\n",
-            2,
-            b"no no-such-message\nno syntax\n",
-        ),
-    ];
-    for (input, status, output) in rows {
-        check_run(&rt, whole(input), 1_000, status, output, b"")?;
-    }
-    Ok(())
 }
 
 #[test]
@@ -179,111 +154,6 @@ fn replies_are_written_before_the_next_read(rt: HostRuntime) -> Result<(), Fail>
     check_reads(&rt, 8, &[0, 3, 6, 9], &[3, 3, 3])?;
     check_reads(&rt, 16, &[0, 6, 9], &[6, 3])?;
     check_reads(&rt, 100, &[0, 9], &[9])
-}
-
-/// Looks for a part of what is kept in a cell.
-fn check_part(rt: &impl Abort, kept: &RefCell<Vec<u8>>, part: &[u8]) -> Result<(), Fail> {
-    let octets = kept.try_borrow()?;
-    assert!(rt; has_part(octets.as_slice(), part), "{part:?}");
-    Ok(())
-}
-
-/// Runs the program with these words, and looks for parts of what it writes.
-fn check_words(
-    rt: &(impl AllocGlobal + Abort),
-    words: &[&[u8]],
-    room: usize,
-    status: u8,
-    output: &[u8],
-    errors: &[u8],
-) -> Result<(), Fail> {
-    let written = Written::new(rt.alloc());
-    let answer = status_with(
-        rt.alloc(),
-        words,
-        whole(b"report\n"),
-        Room::of(room),
-        &written,
-    );
-    assert_eq!(rt; answer, status, "at {words:?}");
-    check_part(rt, &written.output, output)?;
-    check_part(rt, &written.errors, errors)
-}
-
-/// Whether the octets have this part, or, where it is empty, there are none.
-fn has_part(octets: &[u8], part: &[u8]) -> bool {
-    if part.is_empty() {
-        return octets.is_empty();
-    }
-    octets.windows(part.len()).any(|window| window == part)
-}
-
-#[test]
-fn help_is_printed_and_mistakes_are_complained_of(rt: HostRuntime) -> Result<(), Fail> {
-    let rows: [(&[&[u8]], usize, u8, &[u8], &[u8]); 10] = [
-        (
-            &[b"sievebench", b"--help"],
-            1_000,
-            0,
-            b"Usage: sievebench",
-            b"",
-        ),
-        (
-            &[b"x", b"help", b"session"],
-            1_000,
-            0,
-            b"Usage: sievebench session",
-            b"",
-        ),
-        (
-            &[b"sievebench", b"--help"],
-            0,
-            3,
-            b"",
-            b"sievebench: cannot write\n",
-        ),
-        (
-            &[b"sievebench"],
-            1_000,
-            2,
-            b"",
-            b"Usage: sievebench <COMMAND>",
-        ),
-        (
-            &[b"sievebench", b"frobnicate"],
-            1_000,
-            2,
-            b"",
-            b"'frobnicate'",
-        ),
-        (&[b"sievebench", b"\xff"], 1_000, 2, b"", b"not UTF-8 text"),
-        (&[b"sievebench", b"-h"], 1_000, 0, b"Exit status:", b""),
-        (
-            &[b"sievebench", b"-V"],
-            1_000,
-            0,
-            b"sievebench 0.1.0\n",
-            b"",
-        ),
-        (
-            &[b"sievebench", b"test", b"--help"],
-            1_000,
-            0,
-            b"Usage: sievebench test [OPTIONS] <SCRIPT> <MAIL>",
-            b"",
-        ),
-        (
-            &[b"sievebench", b"test", b"main.sieve"],
-            1_000,
-            2,
-            b"",
-            b"<MAIL>",
-        ),
-    ];
-    for (words, room, status, output, errors) in rows {
-        check_words(&rt, words, room, status, output, errors)?;
-    }
-    Ok(())
 }
 
 #[test]

@@ -1,0 +1,72 @@
+"""A run of the program, and the sessions and reports that the checks have in common."""
+import os
+import subprocess
+
+SECONDS = 60
+SETTINGS = 'envelope "" "" mailbox "INBOX"'
+
+
+class Run:
+    """A command, where it runs, and what must come of it: the octets of its outputs, or where these are lists, parts of them (none of
+    an output of which there must be nothing)."""
+
+    def __init__(self, title, folder, command, output=b"", error=b"", status=0):
+        self.title, self.folder, self.command, self.output, self.error, self.status = title, folder, command, output, error, status
+
+    def differences(self, path):
+        """What comes of it that must not."""
+        env = {**os.environ, "PATH": path}
+        try:
+            done = subprocess.run(["sh", "-c", self.command], cwd=self.folder, env=env, stdin=subprocess.DEVNULL, capture_output=True, timeout=SECONDS)
+        except subprocess.TimeoutExpired:
+            return [f"no end in {SECONDS} seconds"]
+        told = [("standard output", self.output, done.stdout), ("standard error", self.error, done.stderr), ("status", self.status, done.returncode)]
+        return [f"{what}: wanted {wanted!r:.2000}, got {got!r:.2000}" for what, wanted, got in told if not is_as(wanted, got)]
+
+
+def is_as(wanted, got):
+    """Whether what was got is what was wanted, or has each part of it."""
+    if isinstance(wanted, list):
+        return all(part in got for part in wanted) and (bool(wanted) or not got)
+    return wanted == got
+
+
+def lines(*texts):
+    """The octets of lines."""
+    return "".join(f"{text}\n" for text in texts).encode()
+
+
+def report(scripts, name, mail, verdict, errors=0, settings=SETTINGS):
+    """The report of one mail: the lines of the scripts, the name of the main one and the mail's id in quotes, and the lines of the verdict."""
+    told = [f'main personal "{name}"', settings, *(f"script {line}" for line in scripts), f'message "{mail}"']
+    return lines(*told, *(f"  {line}" for line in verdict), f'  read personal "{name}"', f"total 1 messages {errors} errors")
+
+
+def put(words, octets):
+    """A line of a session with the octets that it counts."""
+    return b"%s %d\n%s" % (words, len(octets), octets)
+
+
+def session(room, title, octets, replies, status=0):
+    """A session of its own file."""
+    path = room / f"{len(list(room.iterdir()))}.session"
+    path.write_bytes(octets)
+    return Run(title, room, f"sievebench session < {path.name}", replies, status=status)
+
+
+def reported(room, title, script, mails, verdicts, fault="ok", envelope='"" ""'):
+    """A session that reports what a script does with mails in an envelope: the lines of each mail's verdict, or the script's fault."""
+    puts = [put(b"script personal main", script)] + [put(b"message m%d" % number, mail) for number, mail in enumerate(mails, 1)]
+    octets = b"".join(puts) + b"main personal main\n" + lines(f"envelope {envelope}", "report")
+    if fault != "ok":
+        verdicts = [['implicit "INBOX"', 'error personal "main" line 0 invalid-script']] * len(mails)
+    told = ["ok"] * (len(mails) + 3) + ['main personal "main"', f'envelope {envelope} mailbox "INBOX"', f'script personal "main" {fault}']
+    for number, verdict in enumerate(verdicts, 1):
+        told += [f'message "m{number}"', *(f"  {line}" for line in verdict), '  read personal "main"']
+    errors = sum(any(line.startswith("error ") for line in verdict) for verdict in verdicts)
+    return session(room, title, octets, lines(*told, f"total {len(mails)} messages {errors} errors"))
+
+
+def dumped(room, title, script, code):
+    """A session that prints the code of a script: its lines."""
+    return session(room, title, put(b"script personal main", script) + b"dump personal main\n", lines("ok", *code, "ok"))
