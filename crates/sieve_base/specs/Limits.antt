@@ -53,11 +53,11 @@ mailbox_limit = 255
 abbrev pub action_limit : ℕ
 action_limit = 32
 
--- how many scripts may include one another below the main script (RFC 6609, section 3.2, leaves it open)
+-- how many scripts may include one another below the main script (RFC 6609, section 3.1: two at least)
 abbrev pub include_depth : ℕ
 include_depth = 10
 
--- the most includes that a run enters (RFC 6609, section 3.2, leaves it open)
+-- the most includes that a run enters (RFC 6609, section 3.1, leaves it open)
 abbrev pub include_limit : ℕ
 include_limit = 256
 
