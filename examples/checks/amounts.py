@@ -10,7 +10,7 @@ REPORT = lines('main personal "main"', runs.SETTINGS, 'script personal "main" ok
 
 def of_sessions(room):
     """All of them."""
-    for part in (of_cuts, of_lines, of_words, of_counts, of_mails, of_keys, of_texts, of_nesting, of_actions, of_variables, of_flags):
+    for part in (of_cuts, of_lines, of_words, of_counts, of_mails, of_keys, of_texts, of_nesting, of_actions, of_variables, of_flags, of_includes):
         folder = room / part.__name__
         folder.mkdir()
         yield from part(folder)
@@ -212,3 +212,51 @@ def of_flags(room):
     yield reported(room, "all 216,000 flags of three octets that differ", script, [b""], [["discard"]])
     held = require + b'keep; addflag "x";'
     yield reported(room, "a run begins with no flag", held, [b"", b"Subject: x\n\n"], [['store "INBOX"']] * 2)
+
+
+def of_includes(room):
+    """Names at their limit and past it, and which bound of a run is told where two are reached."""
+    require = b'require ["include", "variables", "imap4flags"];\n'
+    for size, told in [(NAME_LIMIT, "ok"), (NAME_LIMIT + 1, "no too-large")]:
+        name = b"n" * size
+        read = f'read personal "{name.decode()}"' + ("" if told == "ok" else " missing")
+        for words, verdict in [(b"", [KEPT + ['error personal "main" line 2 missing-script'], ["discard"]]), (b":optional ", [KEPT, ["discard"]])]:
+            scripts = [(b"main", require + b'include %s"%s";' % (words, name)), (name, b"discard;")]
+            listed = [b"main", name] if told == "ok" else [b"main"]
+            yield included(room, f"an include {words.decode()}of a name of {size} octets", scripts, ["ok", told], listed, verdict[told == "ok"] + ['read personal "main"', read])
+    deep = [(b"s%d" % i, require + b'include "s%d";' % (i + 1)) for i in range(10)]
+    down = [f'read personal "s{i}"' for i in range(11)]
+    failed = 'error personal "s10" line 2 '
+    for title, last, verdict in [
+        ("a script that runs, where no other may be included", b'include "s3";', KEPT + [failed + "recursive-include"]),
+        ("one that runs, under :once", b'include :once "s3"; discard;', ["discard"]),
+        ("one that may be missing, there", b'include :optional "none"; discard;', KEPT + [failed + "include-depth"]),
+    ]:
+        scripts = deep + [(b"s10", require + last)]
+        yield included(room, title, scripts, ["ok"] * 11, sorted(name for name, text in scripts), verdict + down)
+    many = require + b'include "a";\n' * 256
+    for title, last, verdict in [
+        ("one include too many of a script that isn't there", b'include :optional "none";', KEPT + ['error personal "main" line 258 include-count']),
+        ("of one that runs", b'include "main";', KEPT + ['error personal "main" line 258 recursive-include']),
+        ("of one that was entered, under :once", b'include :once "a"; discard;', ["discard"]),
+    ]:
+        scripts = [(b"main", many + last), (b"a", b"")]
+        yield included(room, title, scripts, ["ok"] * 2, [b"a", b"main"], verdict + ['read personal "main"', 'read personal "a"'])
+    shared = require + b"".join(b'set "global.g%d" "x";\n' % i for i in range(1, 129))
+    for title, last, verdict in [
+        ("one shared variable too many, to nothing, by a flag command", b'removeflag "global.g129" "x";', KEPT + ['error personal "main" line 130 too-many-globals']),
+        ("one that is only read", b'if string "${global.g129}" "" { discard; }', ["discard"]),
+    ]:
+        yield included(room, title, [(b"main", shared + last)], ["ok"], [b"main"], verdict + ['read personal "main"'])
+
+
+def included(room, title, scripts, told, listed, verdict):
+    """A session that reports what scripts do with an empty mail, the first of them being main: the replies to their puts, the names that
+    are listed, and the lines of the verdict."""
+    main = scripts[0][0]
+    octets = b"".join(put(b"script personal " + name, text) for name, text in scripts) + b"message m 0\nmain personal " + main + b"\nreport\n"
+    names = [f'script personal "{name.decode()}" ok' for name in listed]
+    errors = sum(line.startswith("error ") for line in verdict)
+    verdict = [f"  {line}" for line in verdict]
+    replies = lines(*told, "ok", "ok", f'main personal "{main.decode()}"', runs.SETTINGS, *names, 'message "m"', *verdict, f"total 1 messages {errors} errors")
+    return session(room, title, octets, replies)

@@ -9,7 +9,8 @@ use Rattle.sieve_run.specs.ErrorKind.{error_word}
 use Rattle.sieve_run.specs.declared.envelope.Envelope.{Envelope}
 use Rattle.sieve_run.specs.declared.name.ScriptName.{ScriptName}
 use Rattle.sieve_run.specs.declared.outcome.RunError.{RunError}
-use Rattle.bench.specs.Report.{place_word, name_text, judgement_text, envelope_line, script_line, error_line, flag_word, flag_words, total_line}
+use Rattle.sieve_code.specs.Dump.{place_word}
+use Rattle.bench.specs.Report.{name_text, judgement_text, envelope_line, script_line, error_line, flag_word, flag_words, total_line}
 
 -- the line of the envelope
 pub envelope_pieces : (envelope : Envelope) (from to mailbox : List ℕ) → from ≡ envelope.from → to ≡ envelope.to → mailbox ≡ envelope.mailbox

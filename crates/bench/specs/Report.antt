@@ -1,10 +1,9 @@
 -- The text of a report.
 use Rattle.std.specs.Prelude.{ℕ, Bool, true, false, List, [], ◌++◌, length, map, Option, None, Some, is_some, count_by, codes, decimal}
 use Rattle.std.specs.List.{flat_map}
-use Rattle.sieve_base.specs.declared.place.Place.{Place}
-use Rattle.sieve_base.specs.declared.place.Place.TheVariants.{Personal, Global}
 use Rattle.sieve_base.specs.Writers.{quoted}
 use Rattle.sieve_check.specs.Judgement.{Judgement, judgement_of, sound, faulty, fault_word}
+use Rattle.sieve_code.specs.Dump.{place_word}
 use Rattle.sieve_run.specs.declared.name.ScriptName.{ScriptName}
 use Rattle.sieve_run.specs.declared.envelope.Envelope.{Envelope}
 use Rattle.sieve_run.specs.declared.outcome.Action.{Action}
@@ -15,10 +14,6 @@ use Rattle.sieve_run.specs.Library.{lookup_of}
 use Rattle.sieve_run.specs.Run.{outcome_of}
 use Rattle.sieve_run.specs.Verdict.{Verdict}
 use Rattle.bench.specs.Content.{Content, text_at}
-
-abbrev pub place_word : Place → List ℕ
-place_word Personal = codes "personal"
-place_word Global = codes "global"
 
 -- a script's place and its quoted name
 abbrev pub name_text : ScriptName → List ℕ

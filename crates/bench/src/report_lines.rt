@@ -1,20 +1,11 @@
 ghost use Rattle.std.specs.Prelude.{◌≡◌, OnOk, OnErr};
 ghost use Rattle.std.specs.Option.{option_copied};
 ghost use Rattle.sieve_base.specs.Writers.{Wrote, WroteFront};
-ghost use Rattle.bench.specs.Report.{place_word, main_line, envelope_line, script_line, flag_word, flag_words, mailbox_words, mailbox_line, action_line, implicit_line, error_line, read_line, message_line, total_line};
+ghost use Rattle.bench.specs.Report.{main_line, envelope_line, script_line, flag_word, flag_words, mailbox_words, mailbox_line, action_line, implicit_line, error_line, read_line, message_line, total_line};
 
-use sieve_base::{Octets, Piece, Place, Sink, WriteFault, write_out, write_pieces};
+use sieve_base::{Octets, Piece, Sink, WriteFault, write_out, write_pieces};
+use sieve_code::place_word;
 use sieve_run::{Action, Envelope, FlagList, Outcome, Script, ScriptName};
-
-/// The word of a place.
-fn place_word(place: Place) -> &'static [u8]
-    ensures { result.now ≡ place_word place }
-{
-    match place {
-        Place::Personal => b"personal",
-        Place::Global => b"global",
-    }
-}
 
 /// Writes the line of the main script.
 #[tactic(auto, unfolding(crate::specs::Report::main_line))]

@@ -82,8 +82,8 @@ fn test_command<'a>(alloc: Global) -> Result<Command<'a>, AllocError>
     let from = "The sender's address in the envelope; empty where it is not given";
     let to = "The recipient's address in the envelope; empty where it is not given";
     let mailbox = "The mailbox that mail is kept in; INBOX where it is not given";
-    let personal = "A folder of personal scripts, which stand beside the main one";
-    let global = "A folder of global scripts";
+    let personal = "A folder of personal scripts, for include and include :personal";
+    let global = "A folder of global scripts, for include :global";
     let command = Command::new(alloc, "test")
         .about("Runs a script against a message in a file, and prints the report")
         .after_help(help::of_test());

@@ -76,8 +76,9 @@ pub(crate) fn of_test() -> &'static str {
     "\
 Each plain file NAME.sieve of a folder is the script NAME; other files are passed over. SCRIPT is
 a personal script, named by the last part of its path without a final .sieve; it takes the place
-of one of that name in the personal folder. Nothing is delivered, and no file is written. A value
-that begins with - is joined to its option, as in --to=-x or -f-x; a path that begins with - stands
+of one of that name in the personal folder. An include finds scripts of the two folders alone: give
+--personal for those beside SCRIPT. Nothing is delivered, and no file is written. A value that
+begins with - is joined to its option, as in --to=-x or -f-x; a path that begins with - stands
 behind --.
 
 Standard output is the report:
@@ -90,7 +91,8 @@ Standard output is the report:
     redirect \"ADDRESS\"                   sent on
     discard                              or dropped
     implicit \"BOX\" \"FLAG\"..             no action took the mail over: it is kept
-    error PLACE \"NAME\" line N KIND       the run failed there, and the mail is kept
+    error PLACE \"NAME\" line N KIND       the run failed there, and the mail is kept; on line 0 the
+                                         main script is missing or has a fault
     read PLACE \"NAME\"                    for each script that was looked up,
     read PLACE \"NAME\" missing            or was not there
   total 1 messages E errors
@@ -102,5 +104,6 @@ the mailbox; 1024 scripts.
 
 Exit status: 0 done, 1 a script has a fault or the verdict is an error, 2 a mistake in the command
 line, something too large or too many scripts, 3 something could not be read or written, 4 out of
-memory. docs/FORMATS.md of the project has the report in full, docs/LANGUAGE.md the words of rules."
+memory. docs/FORMATS.md of the project has the report in full, docs/LANGUAGE.md the words of
+rules and errors."
 }

@@ -53,6 +53,14 @@ mailbox_limit = 255
 abbrev pub action_limit : ℕ
 action_limit = 32
 
+-- how many scripts may include one another below the main script (RFC 6609, section 3.1: two at least)
+abbrev pub include_depth : ℕ
+include_depth = 10
+
+-- the most includes that a run enters (RFC 6609, section 3.1, leaves it open)
+abbrev pub include_limit : ℕ
+include_limit = 256
+
 -- VARIABLES
 
 -- the most octets of a variable's value; what is longer is cut (RFC 5229, section 6, asks for 4000 characters at least)
@@ -62,6 +70,10 @@ value_limit = 4096
 -- the most local variables that a script sets (RFC 5229, section 6, asks for 128 at least)
 abbrev pub local_limit : ℕ
 local_limit = 128
+
+-- the most variables that scripts share and a run sets (RFC 5229, section 6, asks for 128 at least)
+abbrev pub global_limit : ℕ
+global_limit = 128
 
 -- the greatest number of a match variable (RFC 5229, section 6, asks for 9 at least)
 abbrev pub match_limit : ℕ

@@ -1,7 +1,7 @@
 //! The limits of the project, each once, for code. Contracts name the limits of the definitions.
 
 ghost use Rattle.std.specs.Prelude.{◌≡◌};
-ghost use Rattle.sieve_base.specs.Limits.{action_limit, address_limit, block_room, id_limit, line_limit, local_limit, mailbox_limit, match_limit, message_count_limit, message_limit, name_limit, script_count_limit, test_depth, text_limit, value_limit};
+ghost use Rattle.sieve_base.specs.Limits.{action_limit, address_limit, block_room, global_limit, id_limit, include_depth, include_limit, line_limit, local_limit, mailbox_limit, match_limit, message_count_limit, message_limit, name_limit, script_count_limit, test_depth, text_limit, value_limit};
 
 /// The most octets of a script's text.
 pub const MAX_TEXT: usize = 1_048_576;
@@ -25,10 +25,16 @@ pub const MAX_ADDRESS: usize = 1_024;
 pub const MAX_MAILBOX: usize = 255;
 /// The most actions of a run.
 pub const MAX_ACTIONS: usize = 32;
+/// How many scripts may include one another below the main script.
+pub const MAX_INCLUDE_DEPTH: usize = 10;
+/// The most includes that a run enters.
+pub const MAX_INCLUDES: usize = 256;
 /// The most octets of a variable's value. What is longer is cut.
 pub const MAX_VALUE: usize = 4_096;
 /// The most local variables that a script sets.
 pub const MAX_LOCALS: usize = 128;
+/// The most variables that scripts share and a run sets.
+pub const MAX_GLOBALS: usize = 128;
 /// The greatest number of a match variable.
 pub const MAX_MATCH: u8 = 99;
 /// The most octets of a session's line, without the line end.
@@ -47,8 +53,11 @@ pub fn constants_are_limits()
     ensures address { MAX_ADDRESS ≡ address_limit }
     ensures mailbox { MAX_MAILBOX ≡ mailbox_limit }
     ensures actions { MAX_ACTIONS ≡ action_limit }
+    ensures depth { MAX_INCLUDE_DEPTH ≡ include_depth }
+    ensures includes { MAX_INCLUDES ≡ include_limit }
     ensures value { MAX_VALUE ≡ value_limit }
     ensures locals { MAX_LOCALS ≡ local_limit }
+    ensures globals { MAX_GLOBALS ≡ global_limit }
     ensures matched { MAX_MATCH ≡ match_limit }
     ensures line { MAX_LINE ≡ line_limit }
 {}

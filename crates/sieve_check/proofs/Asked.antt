@@ -1,5 +1,5 @@
 -- A test that breaks no rule is read as something.
-use Rattle.std.proofs.Common.{◌≡◌, ℕ, Bool, true, false, not, ◌&&◌, ◌||◌, nat_eq, List, [], ◌∷◌, map, Option, None, Some, is_some, refl, sym, ap, ◌∙◌}
+use Rattle.std.proofs.Common.{◌≡◌, ℕ, Bool, true, false, not, ◌||◌, nat_eq, List, [], ◌∷◌, map, Option, None, Some, is_some, refl, sym, ap, ◌∙◌}
 use Rattle.std.proofs.lemmas.Bool.{or_parts, and_parts}
 use Rattle.std.specs.List.{list_all, list_any}
 use Rattle.std.specs.Prelude.{if◌then◌else◌}
@@ -7,12 +7,12 @@ use Rattle.std.specs.Option.{option_map}
 use Rattle.match_text.specs.declared.comparators.Collation.{Collation}
 use Rattle.sieve_syntax.specs.Tree as syntax
 use Rattle.sieve_check.specs.Breach.{test_breaks, breaches_in}
-use Rattle.sieve_check.specs.Context.{Context, Required}
+use Rattle.sieve_check.specs.Context.{Context}
 use Rattle.sieve_check.specs.Element.{test_arguments}
 use Rattle.sieve_check.specs.Label.{expecting, fills, is_unfit, labels_from, no_slots, slots_left, slots_of, slots_with}
-use Rattle.sieve_check.specs.Parted.{parted_labelled, parted_test, parted_test_list, parted_tests, test_labels}
+use Rattle.sieve_check.specs.Parted.{Cutting, parted_labelled, parted_test, parted_test_list, parted_tests, test_labels}
 use Rattle.sieve_check.specs.Readable.{Joins, test_takes}
-use Rattle.sieve_check.specs.Reading.{Ask, Source, address_part_of, address_source, address_values, all_tags, collation_by, compares_by, compares_from, envelope_source, envelope_values, exists_ask, exists_by, flag_source, flag_values, given_local, given_texts, has_tag, header_source, header_values, in_role, is_tagged, labels_in, local_in, match_type_of, number_in, over_ask, part_shape, reads_ask, size_by, size_from, string_source, string_values, tag_number, test_reading_by, text_in, texts_in, under_ask}
+use Rattle.sieve_check.specs.Reading.{Ask, Source, address_part_of, address_source, address_values, all_tags, collation_by, compares_by, compares_from, envelope_source, envelope_values, exists_ask, exists_by, flag_source, flag_values, given_texts, given_variable, has_tag, header_source, header_values, in_role, is_tagged, labels_in, literal_in, match_type_of, number_in, over_ask, part_shape, reads_ask, size_by, size_from, string_source, string_values, tag_number, test_reading_by, text_in, texts_in, under_ask, variable_in}
 use Rattle.sieve_check.specs.Role.{same_role}
 use Rattle.sieve_table.specs.Table.{naming_slot, tag_row, test_row}
 use Rattle.sieve_variables.specs.Part.{Part}
@@ -35,8 +35,8 @@ use Rattle.sieve_table.specs.declared.table.Tag.{Tag}
 use Rattle.sieve_table.specs.declared.table.Tag.TheVariants as tag
 use Rattle.sieve_table.specs.declared.table.TestKind.{TestKind}
 use Rattle.sieve_table.specs.declared.table.TestKind.TheVariants as kind
-use Rattle.sieve_check.proofs.Filled.{AsRowSays, as_parted, collation_good, collation_read, given_local_read, given_texts_read, local_good, local_read, number_good, number_read, takes, text_good, text_good_alone, text_read, texts_read}
-use Rattle.sieve_check.proofs.Telling.{of_each_tag, one_kind, one_role, one_tag, own_kind}
+use Rattle.sieve_check.proofs.Filled.{AsRowSays, as_parted, collation_good, collation_read, given_texts_read, given_variable_read, literal_good, literal_read, number_good, number_read, takes, text_good, text_good_alone, text_read, texts_read, variable_good, variable_read}
+use Rattle.sieve_check.proofs.Telling.{of_each_tag, one_kind, one_tag, own_kind}
 use Rattle.sieve_check.proofs.Roles.{AllKeep, AllTake, MayTake, Takes, is_to_come, never_both, none_or, not_both, role_fits, role_found}
 
 -- A ROLE IN A ROW
@@ -115,9 +115,9 @@ module _ (tags : List Tag) (slots : List Slot) (args : List Argument) where
   texts_fit wanted own take keep =
       role_fits wanted form.List (tags_take wanted form.List own) tags (λ a. is_some (texts_in (Some a))) (λ r a same keeps fit. text_good tags r a keeps fit) args (expecting slots) tt (slots_take wanted form.List slots take) keep
 
-  local_fits : all_may_take role.NameToSet form.One slots ≡ true → AllKeep its_labels args → none_or (λ a. is_some (local_in (Some a))) (in_role role.NameToSet its_labels args) ≡ true
-  local_fits take keep =
-      role_fits role.NameToSet form.One (tags_take role.NameToSet form.One refl) tags (λ a. is_some (local_in (Some a))) (local_good tags) args (expecting slots) tt (slots_take role.NameToSet form.One slots take) keep
+  variable_fits : all_may_take role.NameToSet form.One slots ≡ true → AllKeep its_labels args → none_or (λ a. is_some (variable_in (Some a))) (in_role role.NameToSet its_labels args) ≡ true
+  variable_fits take keep =
+      role_fits role.NameToSet form.One (tags_take role.NameToSet form.One refl) tags (λ a. is_some (variable_in (Some a))) (variable_good tags) args (expecting slots) tt (slots_take role.NameToSet form.One slots take) keep
 
   pub texts_are_read : (wanted : Role) → tags_may_take wanted form.List ≡ true → all_may_take wanted form.List slots ≡ true → is_to_come wanted slots ≡ true → fills (expecting slots) (map (part_shape tags) args) ≡ true → AllKeep its_labels args
       → is_some (texts_in (in_role wanted its_labels args)) ≡ true
@@ -134,12 +134,19 @@ module _ (tags : List Tag) (slots : List Slot) (args : List Argument) where
       (role_fits wanted form.One (tags_take wanted form.One own) tags (λ a. is_some (text_in (Some a))) (λ r a same keeps fit. text_good_alone tags r a keeps fit) args (expecting slots) tt (slots_take wanted form.One slots take) keep)
       (is_there wanted comes filled)
 
-  pub local_is_read : all_may_take role.NameToSet form.One slots ≡ true → is_to_come role.NameToSet slots ≡ true → fills (expecting slots) (map (part_shape tags) args) ≡ true → AllKeep its_labels args
-      → is_some (local_in (in_role role.NameToSet its_labels args)) ≡ true
-  local_is_read take comes filled keep = local_read (in_role role.NameToSet its_labels args) (local_fits take keep) (is_there role.NameToSet comes filled)
+  pub variable_is_read : all_may_take role.NameToSet form.One slots ≡ true → is_to_come role.NameToSet slots ≡ true → fills (expecting slots) (map (part_shape tags) args) ≡ true → AllKeep its_labels args
+      → is_some (variable_in (in_role role.NameToSet its_labels args)) ≡ true
+  variable_is_read take comes filled keep = variable_read (in_role role.NameToSet its_labels args) (variable_fits take keep) (is_there role.NameToSet comes filled)
 
-  pub given_local_is_read : all_may_take role.NameToSet form.One slots ≡ true → AllKeep its_labels args → is_some (given_local (in_role role.NameToSet its_labels args)) ≡ true
-  given_local_is_read take keep = given_local_read (in_role role.NameToSet its_labels args) (local_fits take keep)
+  pub given_variable_is_read : all_may_take role.NameToSet form.One slots ≡ true → AllKeep its_labels args → is_some (given_variable (in_role role.NameToSet its_labels args)) ≡ true
+  given_variable_is_read take keep = given_variable_read (in_role role.NameToSet its_labels args) (variable_fits take keep)
+
+  pub literal_is_read : all_may_take role.ScriptName form.One slots ≡ true → is_to_come role.ScriptName slots ≡ true → fills (expecting slots) (map (part_shape tags) args) ≡ true → AllKeep its_labels args
+      → is_some (literal_in (in_role role.ScriptName its_labels args)) ≡ true
+  literal_is_read take comes filled keep =
+      literal_read (in_role role.ScriptName its_labels args)
+      (role_fits role.ScriptName form.One (tags_take role.ScriptName form.One refl) tags (λ a. is_some (literal_in (Some a))) (literal_good tags) args (expecting slots) tt (slots_take role.ScriptName form.One slots take) keep)
+      (is_there role.ScriptName comes filled)
 
   number_is_read : (wanted : Role) → tags_may_take wanted form.Number ≡ true → all_may_take wanted form.Number slots ≡ true → is_to_come wanted slots ≡ true → fills (expecting slots) (map (part_shape tags) args) ≡ true → AllKeep its_labels args
       → is_some (number_in (in_role wanted its_labels args)) ≡ true
@@ -317,44 +324,44 @@ size_reads args ts says =
 
 -- WHAT IS JOINED
 
-module _ (required : Required) where
-  pub none_fit : (ts : syntax.Tests) → tests_fit inner.None ts ≡ true → parted_tests required ts ≡ no_tests
+module _ (cutting : Cutting) where
+  pub none_fit : (ts : syntax.Tests) → tests_fit inner.None ts ≡ true → parted_tests cutting ts ≡ no_tests
   none_fit syntax.no_tests fit = refl
   none_fit (syntax.one_test t) fit = absurd (not_both fit)
   none_fit (syntax.test_list ts) fit = absurd (not_both fit)
 
-  pub one_fits : (ts : syntax.Tests) → tests_fit inner.One ts ≡ true → (t : Test) × (parted_tests required ts ≡ one_test t)
+  pub one_fits : (ts : syntax.Tests) → tests_fit inner.One ts ≡ true → (t : Test) × (parted_tests cutting ts ≡ one_test t)
   one_fits syntax.no_tests fit = absurd (not_both fit)
-  one_fits (syntax.one_test t) fit = (parted_test required t, refl)
+  one_fits (syntax.one_test t) fit = (parted_test cutting t, refl)
   one_fits (syntax.test_list ts) fit = absurd (not_both fit)
 
-  list_fits : (ts : syntax.Tests) → tests_fit inner.List ts ≡ true → (list : TestList) × (parted_tests required ts ≡ test_list list)
+  list_fits : (ts : syntax.Tests) → tests_fit inner.List ts ≡ true → (list : TestList) × (parted_tests cutting ts ≡ test_list list)
   list_fits syntax.no_tests fit = absurd (not_both fit)
   list_fits (syntax.one_test t) fit = absurd (not_both fit)
-  list_fits (syntax.test_list ts) fit = (parted_test_list required ts, refl)
+  list_fits (syntax.test_list ts) fit = (parted_test_list cutting ts, refl)
 
   joins_none : (o : Option Ask) (ts : Tests) → is_some o ≡ true → ts ≡ no_tests → Joins (option_map reads_ask o) ts
   joins_none None ts is none = absurd (not_both is)
   joins_none (Some ask) ts is none = none
 
-  joins : (k : TestKind) (args : List Argument) (ts : syntax.Tests) → Says k args ts → Joins (test_reading_by (Some k) args) (parted_tests required ts)
-  joins kind.Header args ts says = joins_none _ (parted_tests required ts) (header_reads args ts says) (none_fit ts says.tests)
-  joins kind.Address args ts says = joins_none _ (parted_tests required ts) (address_reads args ts says) (none_fit ts says.tests)
-  joins kind.Envelope args ts says = joins_none _ (parted_tests required ts) (envelope_reads args ts says) (none_fit ts says.tests)
-  joins kind.Exists args ts says = joins_none (exists_by (labels_in (test_row kind.Exists) args) args) (parted_tests required ts) (exists_reads args ts says) (none_fit ts says.tests)
-  joins kind.Size args ts says = joins_none (size_by (labels_in (test_row kind.Size) args) args) (parted_tests required ts) (size_reads args ts says) (none_fit ts says.tests)
+  joins : (k : TestKind) (args : List Argument) (ts : syntax.Tests) → Says k args ts → Joins (test_reading_by (Some k) args) (parted_tests cutting ts)
+  joins kind.Header args ts says = joins_none _ (parted_tests cutting ts) (header_reads args ts says) (none_fit ts says.tests)
+  joins kind.Address args ts says = joins_none _ (parted_tests cutting ts) (address_reads args ts says) (none_fit ts says.tests)
+  joins kind.Envelope args ts says = joins_none _ (parted_tests cutting ts) (envelope_reads args ts says) (none_fit ts says.tests)
+  joins kind.Exists args ts says = joins_none (exists_by (labels_in (test_row kind.Exists) args) args) (parted_tests cutting ts) (exists_reads args ts says) (none_fit ts says.tests)
+  joins kind.Size args ts says = joins_none (size_by (labels_in (test_row kind.Size) args) args) (parted_tests cutting ts) (size_reads args ts says) (none_fit ts says.tests)
   joins kind.AllOf args ts says = list_fits ts says.tests
   joins kind.AnyOf args ts says = list_fits ts says.tests
   joins kind.Not args ts says = one_fits ts says.tests
   joins kind.True args ts says = none_fit ts says.tests
   joins kind.False args ts says = none_fit ts says.tests
-  joins kind.String args ts says = joins_none _ (parted_tests required ts) (string_reads args ts says) (none_fit ts says.tests)
-  joins kind.HasFlag args ts says = joins_none _ (parted_tests required ts) (hasflag_reads args ts says) (none_fit ts says.tests)
+  joins kind.String args ts says = joins_none _ (parted_tests cutting ts) (string_reads args ts says) (none_fit ts says.tests)
+  joins kind.HasFlag args ts says = joins_none _ (parted_tests cutting ts) (hasflag_reads args ts says) (none_fit ts says.tests)
 
   -- a test of some kind or none that breaks no rule is of a kind, and is read
   pub test_is_read : (context : Context) (k : Option TestKind) (args : List syntax.Argument) (ts : syntax.Tests) → ((rule : Rule) → test_breaks context k args ts rule ≡ false) → breaches_in (test_arguments context k args ts) ≡ []
-      → let parted = parted_labelled required (test_labels k args) args in (test_takes k parted ≡ true) × Joins (test_reading_by k parted) (parted_tests required ts)
+      → let parted = parted_labelled cutting (test_labels k args) args in (test_takes k parted ≡ true) × Joins (test_reading_by k parted) (parted_tests cutting ts)
   test_is_read context None args ts keeps none = absurd (never_both (keeps UnknownCommand))
   test_is_read context (Some k) args ts keeps none =
-      let says = as_parted required context (test_row k) args ts false (keeps BadTag) (keeps BadArguments) none in
+      let says = as_parted cutting context (test_row k) args ts false (keeps BadTag) (keeps BadArguments) none in
       (takes (test_row k) _ ts false says, joins k _ ts says)

@@ -8,12 +8,12 @@ use lib.Pointwise.{pointwise}
 use Rattle.match_text.specs.declared.comparators.Collation.TheVariants.{Octet, Casemap}
 use Rattle.sieve_syntax.specs.Tree as syntax
 use Rattle.sieve_check.specs.Breach.{breaches_at, breaches_in, is_comparator_name}
-use Rattle.sieve_check.specs.Context.{Context, Required}
+use Rattle.sieve_check.specs.Context.{Context}
 use Rattle.sieve_check.specs.Element.{argument_elements, judged_labels, labelled_elements, row_elements, text_elements, the_text, the_number}
 use Rattle.sieve_check.specs.Label.{fits, is_filled, labels_of}
-use Rattle.sieve_check.specs.Parted.{parted_argument, parted_labelled, parted_text, parts_in}
+use Rattle.sieve_check.specs.Parted.{Cutting, parted_argument, parted_labelled, parted_text, parts_in}
 use Rattle.sieve_check.specs.Readable.{row_takes}
-use Rattle.sieve_check.specs.Reading.{collation_by, given_local, given_texts, local_in, local_in_parts, number_in, part_shape, plain_text, text_in, texts_in}
+use Rattle.sieve_check.specs.Reading.{collation_by, given_texts, given_variable, literal_in, literal_in_parts, number_in, part_shape, plain_text, text_in, texts_in, variable_in, variable_in_parts}
 use Rattle.sieve_check.specs.Role.{first_role, has_role}
 use Rattle.sieve_check.specs.Shape.{row_labels, shape_of, shapes_of, texts_shape}
 use Rattle.sieve_table.specs.Table.{Row}
@@ -37,47 +37,50 @@ length-map : {X Y : Type 0} (f : X → Y) (xs : List X) → length (map f xs) �
 length-map f [] = refl
 length-map f (x ∷ xs) = ap suc (length-map f xs)
 
-module _ (required : Required) where
+module _ (cutting : Cutting) where
   -- each has the shape that it had
-  same_shape : (tags : List Tag) (r : Option Role) (a : syntax.Argument) → part_shape tags (parted_argument required r a) ≡ shape_of tags a
-  same_shape tags r (syntax.strings items bracketed) = ap (λ n. texts_shape n bracketed) (length-map (parted_text required r) items)
+  same_shape : (tags : List Tag) (r : Option Role) (a : syntax.Argument) → part_shape tags (parted_argument cutting r a) ≡ shape_of tags a
+  same_shape tags r (syntax.strings items bracketed) = ap (λ n. texts_shape n bracketed) (length-map (parted_text cutting r) items)
   same_shape tags r (syntax.number value line) = refl
   same_shape tags r (syntax.tag name line) = refl
 
-  same_shapes : (tags : List Tag) (labels : List Label) (args : List syntax.Argument) → map (part_shape tags) (parted_labelled required labels args) ≡ shapes_of tags args
+  same_shapes : (tags : List Tag) (labels : List Label) (args : List syntax.Argument) → map (part_shape tags) (parted_labelled cutting labels args) ≡ shapes_of tags args
   same_shapes tags labels [] = refl
   same_shapes tags labels (a ∷ args) =
-      ap (λ s. s ∷ map (part_shape tags) (parted_labelled required (drop 1 labels) args)) (same_shape tags (first_role labels) a)
+      ap (λ s. s ∷ map (part_shape tags) (parted_labelled cutting (drop 1 labels) args)) (same_shape tags (first_role labels) a)
       ∙ ap (λ l. shape_of tags a ∷ l) (same_shapes tags (drop 1 labels) args)
 
-module _ (required : Required) (context : Context) where
+module _ (cutting : Cutting) (context : Context) where
   -- where none of their elements has a breach, their strings name comparators where they have to, and numbers have a value
-  names_well : (r : Option Role) (octets : List ℕ) → (has_role role.ComparatorName r && not (is_comparator_name octets)) ≡ false → (has_role role.ComparatorName r && not (is_comparator_name (plain_text (parts_in required r octets)))) ≡ false
+  names_well : (r : Option Role) (octets : List ℕ) → (has_role role.ComparatorName r && not (is_comparator_name octets)) ≡ false → (has_role role.ComparatorName r && not (is_comparator_name (plain_text (parts_in cutting r octets)))) ≡ false
   names_well r octets fine = by_role r (has_role role.ComparatorName r) refl fine
     where
-      by_role : (r : Option Role) (is : Bool) → has_role role.ComparatorName r ≡ is → (is && not (is_comparator_name octets)) ≡ false → (is && not (is_comparator_name (plain_text (parts_in required r octets)))) ≡ false
+      by_role : (r : Option Role) (is : Bool) → has_role role.ComparatorName r ≡ is → (is && not (is_comparator_name octets)) ≡ false → (is && not (is_comparator_name (plain_text (parts_in cutting r octets)))) ≡ false
       by_role r false e fine = refl
       by_role None true e fine = absurd (not_both e)
-      by_role (Some one) true e fine = ap (λ x. not (is_comparator_name (plain_text (parts_in required (Some x) octets)))) (sym (one_role role.ComparatorName one e)) ∙ ap (λ v. not (is_comparator_name v)) (append-nil octets) ∙ fine
+      by_role (Some one) true e fine = ap (λ x. not (is_comparator_name (plain_text (parts_in cutting (Some x) octets)))) (sym (one_role role.ComparatorName one e)) ∙ ap (λ v. not (is_comparator_name v)) (append-nil octets) ∙ fine
 
-  text_names : (r : Option Role) (t : syntax.Text) → breaches_at (the_text context r t) ≡ [] → (has_role role.ComparatorName r && not (is_comparator_name (plain_text (parts_in required r t.octets)))) ≡ false
+  text_names : (r : Option Role) (t : syntax.Text) → breaches_at (the_text context r t) ≡ [] → (has_role role.ComparatorName r && not (is_comparator_name (plain_text (parts_in cutting r t.octets)))) ≡ false
   text_names r t none = names_well r t.octets (keeps (the_text context r t) none UnknownComparator)
 
-  text_is_local : (r : Option Role) (octets : List ℕ) → (has_role role.NameToSet r && is_none (local_in_parts (parts_in required r octets))) ≡ false
-  text_is_local r octets = only_in_role role.NameToSet (λ x. is_none (local_in_parts (parts_in required x octets))) r refl
+  text_is_variable : (r : Option Role) (octets : List ℕ) → (has_role role.NameToSet r && is_none (variable_in_parts (parts_in cutting r octets))) ≡ false
+  text_is_variable r octets = only_in_role role.NameToSet (λ x. is_none (variable_in_parts (parts_in cutting x octets))) r refl
 
-  texts_name : (r : Option Role) (items : List syntax.Text) → breaches_in (text_elements context r items) ≡ [] → NamesWell r (map (parted_text required r) items)
+  text_is_literal : (r : Option Role) (octets : List ℕ) → (has_role role.ScriptName r && is_none (literal_in_parts (parts_in cutting r octets))) ≡ false
+  text_is_literal r octets = only_in_role role.ScriptName (λ x. is_none (literal_in_parts (parts_in cutting x octets))) r refl
+
+  texts_name : (r : Option Role) (items : List syntax.Text) → breaches_in (text_elements context r items) ≡ [] → NamesWell r (map (parted_text cutting r) items)
   texts_name r [] none = tt
   texts_name r (t ∷ ts) none =
       let parts = none_in_front (the_text context r t) (text_elements context r ts) none in
-      (text_names r t parts.0, text_is_local r t.octets, texts_name r ts parts.1)
+      (text_names r t parts.0, text_is_variable r t.octets, text_is_literal r t.octets, texts_name r ts parts.1)
 
-  argument_keeps : (r : Option Role) (a : syntax.Argument) → breaches_in (argument_elements context r a) ≡ [] → Keeps r (parted_argument required r a)
+  argument_keeps : (r : Option Role) (a : syntax.Argument) → breaches_in (argument_elements context r a) ≡ [] → Keeps r (parted_argument cutting r a)
   argument_keeps r (syntax.strings items bracketed) none = texts_name r items none
   argument_keeps r (syntax.number value line) none = keeps (the_number value line) (none_in_front (the_number value line) [] none).0 NumberTooLarge
   argument_keeps r (syntax.tag name line) none = tt
 
-  arguments_keep : (labels : List Label) (args : List syntax.Argument) → breaches_in (labelled_elements context labels args) ≡ [] → AllKeep labels (parted_labelled required labels args)
+  arguments_keep : (labels : List Label) (args : List syntax.Argument) → breaches_in (labelled_elements context labels args) ≡ [] → AllKeep labels (parted_labelled cutting labels args)
   arguments_keep labels [] none = tt
   arguments_keep labels (a ∷ args) none =
       let parts = none_in_both (argument_elements context (first_role labels) a) (labelled_elements context (drop 1 labels) args) none in
@@ -102,9 +105,9 @@ not_false false e = absurd (never_both e)
 well_used : (bad_tag arguments : Bool) → bad_tag ≡ false → arguments ≡ false → (not bad_tag && not arguments) ≡ true
 well_used bad_tag arguments fine well = ap (λ b. not b && not arguments) fine ∙ ap not well
 
-module _ (required : Required) (context : Context) (row : Row) (args : List syntax.Argument) (ts : syntax.Tests) (b : Bool) where
+module _ (cutting : Cutting) (context : Context) (row : Row) (args : List syntax.Argument) (ts : syntax.Tests) (b : Bool) where
   abbrev parted_args : List Argument
-  parted_args = parted_labelled required (row_labels row args) args
+  parted_args = parted_labelled cutting (row_labels row args) args
 
   as_judged : has_bad_tag (row_labels row args) ≡ false → has_bad_arguments row (shapes_of row.tags args) ts b ≡ false → breaches_in (row_elements context row args ts b) ≡ [] → AsRowSays row (shapes_of row.tags args) parted_args ts b
   as_judged fine well none =
@@ -121,12 +124,12 @@ module _ (required : Required) (context : Context) (row : Row) (args : List synt
         block = not_false (block_fits row.has_block b) second.1;
         own = third.0;
         kind = third.1;
-        keep = arguments_keep required context labels args (sym (ap (λ w. breaches_in (labelled_elements context (judged_labels w row args) args)) (well_used (has_bad_tag labels) (has_bad_arguments row shapes ts b) fine well)) ∙ none);
+        keep = arguments_keep cutting context labels args (sym (ap (λ w. breaches_in (labelled_elements context (judged_labels w row args) args)) (well_used (has_bad_tag labels) (has_bad_arguments row shapes ts b) fine well)) ∙ none);
       }
 
   -- and so are they when their strings are cut
   pub as_parted : has_bad_tag (row_labels row args) ≡ false → has_bad_arguments row (shapes_of row.tags args) ts b ≡ false → breaches_in (row_elements context row args ts b) ≡ [] → AsRowSays row (map (part_shape row.tags) parted_args) parted_args ts b
-  as_parted fine well none = subst (λ shapes. AsRowSays row shapes parted_args ts b) (sym (same_shapes required row.tags (row_labels row args) args)) (as_judged fine well none)
+  as_parted fine well none = subst (λ shapes. AsRowSays row shapes parted_args ts b) (sym (same_shapes cutting row.tags (row_labels row args) args)) (as_judged fine well none)
 
 all_true : (bad_tag filled own kind : Bool) → bad_tag ≡ false → filled ≡ true → own ≡ false → kind ≡ false → (not bad_tag && (filled && (not own && not kind))) ≡ true
 all_true bad_tag filled own kind t f o k = ap (λ b. not b && (filled && (not own && not kind))) t ∙ ap (λ b. b && (not own && not kind)) f ∙ ap (λ b. not b && not kind) o ∙ ap not k
@@ -194,12 +197,19 @@ is_some_of : {X : Type 0} (c : Bool) (o : Option X) → c ≡ true → (c && is_
 is_some_of c None is e = absurd (never_both (sym (ap (λ b. b && true) is) ∙ e))
 is_some_of c (Some x) is e = refl
 
-pub local_good : (tags : List Tag) (r : Option Role) (a : Argument) → has_role role.NameToSet r ≡ true → Keeps r a → fits form.One (part_shape tags a) ≡ true → is_some (local_in (Some a)) ≡ true
-local_good tags r (strings [] bracketed) is keeps fit = absurd (no_list (nat_eq 0 1 && not bracketed) refl fit)
-local_good tags r (strings (t ∷ []) bracketed) is keeps fit = is_some_of (has_role role.NameToSet r) (local_in_parts t.parts) is keeps.1
-local_good tags r (strings (t ∷ s ∷ ts) bracketed) is keeps fit = absurd (two_are_no_text (length ts) bracketed fit)
-local_good tags r (number value line) is keeps fit = absurd (not_both fit)
-local_good tags r (tag name line) is keeps fit = absurd (not_both fit)
+pub variable_good : (tags : List Tag) (r : Option Role) (a : Argument) → has_role role.NameToSet r ≡ true → Keeps r a → fits form.One (part_shape tags a) ≡ true → is_some (variable_in (Some a)) ≡ true
+variable_good tags r (strings [] bracketed) is keeps fit = absurd (no_list (nat_eq 0 1 && not bracketed) refl fit)
+variable_good tags r (strings (t ∷ []) bracketed) is keeps fit = is_some_of (has_role role.NameToSet r) (variable_in_parts t.parts) is keeps.1
+variable_good tags r (strings (t ∷ s ∷ ts) bracketed) is keeps fit = absurd (two_are_no_text (length ts) bracketed fit)
+variable_good tags r (number value line) is keeps fit = absurd (not_both fit)
+variable_good tags r (tag name line) is keeps fit = absurd (not_both fit)
+
+pub literal_good : (tags : List Tag) (r : Option Role) (a : Argument) → has_role role.ScriptName r ≡ true → Keeps r a → fits form.One (part_shape tags a) ≡ true → is_some (literal_in (Some a)) ≡ true
+literal_good tags r (strings [] bracketed) is keeps fit = absurd (no_list (nat_eq 0 1 && not bracketed) refl fit)
+literal_good tags r (strings (t ∷ []) bracketed) is keeps fit = is_some_of (has_role role.ScriptName r) (literal_in_parts t.parts) is keeps.2
+literal_good tags r (strings (t ∷ s ∷ ts) bracketed) is keeps fit = absurd (two_are_no_text (length ts) bracketed fit)
+literal_good tags r (number value line) is keeps fit = absurd (not_both fit)
+literal_good tags r (tag name line) is keeps fit = absurd (not_both fit)
 
 given_some : {X : Type 0} (o : Option X) → is_some o ≡ true → is_some (option_map Some o) ≡ true
 given_some None is = absurd (not_both is)
@@ -218,13 +228,17 @@ pub text_read : (o : Option Argument) → none_or (λ a. is_some (text_in (Some 
 text_read None good there = absurd (not_both there)
 text_read (Some a) good there = good
 
-pub local_read : (o : Option Argument) → none_or (λ a. is_some (local_in (Some a))) o ≡ true → is_some o ≡ true → is_some (local_in o) ≡ true
-local_read None good there = absurd (not_both there)
-local_read (Some a) good there = good
+pub variable_read : (o : Option Argument) → none_or (λ a. is_some (variable_in (Some a))) o ≡ true → is_some o ≡ true → is_some (variable_in o) ≡ true
+variable_read None good there = absurd (not_both there)
+variable_read (Some a) good there = good
 
-pub given_local_read : (o : Option Argument) → none_or (λ a. is_some (local_in (Some a))) o ≡ true → is_some (given_local o) ≡ true
-given_local_read None good = refl
-given_local_read (Some a) good = given_some (local_in (Some a)) good
+pub given_variable_read : (o : Option Argument) → none_or (λ a. is_some (variable_in (Some a))) o ≡ true → is_some (given_variable o) ≡ true
+given_variable_read None good = refl
+given_variable_read (Some a) good = given_some (variable_in (Some a)) good
+
+pub literal_read : (o : Option Argument) → none_or (λ a. is_some (literal_in (Some a))) o ≡ true → is_some o ≡ true → is_some (literal_in o) ≡ true
+literal_read None good there = absurd (not_both there)
+literal_read (Some a) good there = good
 
 pub number_read : (o : Option Argument) → none_or (λ a. is_some (number_in (Some a))) o ≡ true → is_some o ≡ true → is_some (number_in o) ≡ true
 number_read None good there = absurd (not_both there)

@@ -10,7 +10,7 @@ use Rattle.sieve_syntax.specs.declared.tree.Command as commands
 use Rattle.sieve_syntax.specs.declared.tree.Test as one_tests
 use Rattle.sieve_check.specs.Breach.{Breach, all_rules, breach_if, breaches_at, breaches_by, breaches_in, command_breaks, test_breaks}
 use Rattle.sieve_check.specs.CheckFault.{IsFirst}
-use Rattle.sieve_check.specs.Assigned.{assigning_arguments}
+use Rattle.sieve_check.specs.Scope.{Scope, naming_arguments}
 use Rattle.sieve_check.specs.Context.{Context, behind, behind_block, behind_kind, behind_nodes, inside, is_require, continues_if}
 use Rattle.sieve_check.specs.Element.{the_command, the_test, test_arguments, command_arguments, test_elements, tests_elements, test_list_elements, node_elements, nodes_elements, block_elements}
 use Rattle.sieve_table.specs.Table as table
@@ -188,15 +188,15 @@ tests_stop c context fault none h = subst (λ bs. IsFirst bs fault) (sym (front_
 pub front_ends : (c : commands.Command) (context : Context) → breaches_in (command_head context c) ≡ [] → breaches_in (tests_elements context (tests_of (commands.out-Command c).tests)) ≡ [] → breaches_in (command_front context c) ≡ []
 front_ends c context none fine = front_passes (command_head context c) (tests_elements context (tests_of (commands.out-Command c).tests)) none ∙ fine
 
-pub front_moves : (c : commands.Command) (spot next : Spot) (before after : List (List ℕ)) (kind : CommandKind) (labels : List Label) (xs : List arguments.Argument) → let o = commands.out-Command c in
-    table.command_named o.name.items ≡ Some kind → labels ≡ row_labels (command_row kind) (map argument_of o.args.items) → xs ≡ o.args.items → after ≡ assigning_arguments before labels (map argument_of xs)
-    → ((assigned : List (List ℕ)) → at_spot next (assigning_arguments assigned (row_labels (command_row kind) (map argument_of xs)) (map argument_of xs)) ≡ behind_kind (at_spot spot assigned) (Some kind) (map argument_of xs))
+pub front_moves : (c : commands.Command) (spot next : Spot) (before after : Scope) (kind : CommandKind) (labels : List Label) (xs : List arguments.Argument) → let o = commands.out-Command c in
+    table.command_named o.name.items ≡ Some kind → labels ≡ row_labels (command_row kind) (map argument_of o.args.items) → xs ≡ o.args.items → after ≡ naming_arguments before labels (map argument_of xs)
+    → ((scope : Scope) → at_spot next (naming_arguments scope (row_labels (command_row kind) (map argument_of xs)) (map argument_of xs)) ≡ behind_kind (at_spot spot scope) (Some kind) (map argument_of xs))
     → at_spot next after ≡ behind_front (at_spot spot before) c
 front_moves c spot next before after kind labels xs is l a goes moves =
     let o = commands.out-Command c in
     let args = map argument_of o.args.items in
-    ap (at_spot next) (goes ∙ ap (λ z. assigning_arguments before z (map argument_of xs)) l ∙ ap (λ z. assigning_arguments before (row_labels (command_row kind) args) (map argument_of z)) a)
-    ∙ sym (ap (λ z. at_spot next (assigning_arguments before (row_labels (command_row kind) (map argument_of z)) (map argument_of z))) a)
+    ap (at_spot next) (goes ∙ ap (λ z. naming_arguments before z (map argument_of xs)) l ∙ ap (λ z. naming_arguments before (row_labels (command_row kind) args) (map argument_of z)) a)
+    ∙ sym (ap (λ z. at_spot next (naming_arguments before (row_labels (command_row kind) (map argument_of z)) (map argument_of z))) a)
     ∙ moves before
     ∙ ap (λ z. behind_kind (at_spot spot before) (Some kind) (map argument_of z)) a
     ∙ ap (λ k. behind_kind (at_spot spot before) k args) (sym is)
@@ -220,11 +220,11 @@ pub command_moves : (c : commands.Command) (context next : Context) → next ≡
 unfolding behind
 command_moves c context next goes is = goes ∙ sym (behind_at c context ∙ ap (λ b. behind_block (behind_front context c) (block_as b)) is)
 
-within_block : (c : commands.Command) (context : Context) (next within : Spot) (names : List (List ℕ)) → at_spot next names ≡ behind_front context c → ((assigned : List (List ℕ)) → at_spot within assigned ≡ inside (at_spot next assigned)) → at_spot within names ≡ inside (behind_front context c)
+within_block : (c : commands.Command) (context : Context) (next within : Spot) (names : Scope) → at_spot next names ≡ behind_front context c → ((scope : Scope) → at_spot within scope ≡ inside (at_spot next scope)) → at_spot within names ≡ inside (behind_front context c)
 within_block c context next within names goes start = start names ∙ ap inside goes
 
-module _ (c : commands.Command) (context : Context) (next within : Spot) (names : List (List ℕ)) (inner : Vec commands.Command Global) (xs : List commands.Command) where
-  block_found : breaches_in (command_front context c) ≡ [] → at_spot next names ≡ behind_front context c → (commands.out-Command c).block ≡ Some inner → ((assigned : List (List ℕ)) → at_spot within assigned ≡ inside (at_spot next assigned)) → xs ≡ inner.items
+module _ (c : commands.Command) (context : Context) (next within : Spot) (names : Scope) (inner : Vec commands.Command Global) (xs : List commands.Command) where
+  block_found : breaches_in (command_front context c) ≡ [] → at_spot next names ≡ behind_front context c → (commands.out-Command c).block ≡ Some inner → ((scope : Scope) → at_spot within scope ≡ inside (at_spot next scope)) → xs ≡ inner.items
       → breaches_in (node_elements context (node_of c)) ≡ breaches_in (nodes_elements (at_spot within names) (nodes (map node_of xs)))
   unfolding block_elements
   block_found none goes is start same =
@@ -232,19 +232,19 @@ module _ (c : commands.Command) (context : Context) (next within : Spot) (names 
       ∙ sym (ap (λ w. breaches_in (nodes_elements w (nodes (map node_of inner.items)))) (within_block c context next within names goes start))
       ∙ sym (ap (λ l. breaches_in (nodes_elements (at_spot within names) (nodes (map node_of l)))) same)
 
-  pub block_stops : (fault : CheckFault) → breaches_in (command_front context c) ≡ [] → at_spot next names ≡ behind_front context c → (commands.out-Command c).block ≡ Some inner → ((assigned : List (List ℕ)) → at_spot within assigned ≡ inside (at_spot next assigned)) → xs ≡ inner.items
+  pub block_stops : (fault : CheckFault) → breaches_in (command_front context c) ≡ [] → at_spot next names ≡ behind_front context c → (commands.out-Command c).block ≡ Some inner → ((scope : Scope) → at_spot within scope ≡ inside (at_spot next scope)) → xs ≡ inner.items
       → IsFirst (breaches_in (nodes_elements (at_spot within names) (nodes (map node_of xs)))) fault → IsFirst (breaches_in (node_elements context (node_of c))) fault
   block_stops fault none goes is start same h = subst (λ bs. IsFirst bs fault) (sym (block_found none goes is start same)) h
 
-  pub block_ends : breaches_in (command_front context c) ≡ [] → at_spot next names ≡ behind_front context c → (commands.out-Command c).block ≡ Some inner → ((assigned : List (List ℕ)) → at_spot within assigned ≡ inside (at_spot next assigned)) → xs ≡ inner.items
+  pub block_ends : breaches_in (command_front context c) ≡ [] → at_spot next names ≡ behind_front context c → (commands.out-Command c).block ≡ Some inner → ((scope : Scope) → at_spot within scope ≡ inside (at_spot next scope)) → xs ≡ inner.items
       → breaches_in (nodes_elements (at_spot within names) (nodes (map node_of xs))) ≡ [] → breaches_in (node_elements context (node_of c)) ≡ []
   block_ends none goes is start same h = block_found none goes is start same ∙ h
 
-  pub block_moves : (after : List (List ℕ)) → at_spot next names ≡ behind_front context c → (commands.out-Command c).block ≡ Some inner → ((assigned : List (List ℕ)) → at_spot within assigned ≡ inside (at_spot next assigned)) → xs ≡ inner.items
-      → after ≡ (behind_nodes (at_spot within names) (nodes (map node_of xs))).assigned → at_spot next after ≡ behind context (node_of c)
+  pub block_moves : (after : Scope) → at_spot next names ≡ behind_front context c → (commands.out-Command c).block ≡ Some inner → ((scope : Scope) → at_spot within scope ≡ inside (at_spot next scope)) → xs ≡ inner.items
+      → after ≡ (behind_nodes (at_spot within names) (nodes (map node_of xs))).scope → at_spot next after ≡ behind context (node_of c)
   unfolding behind
   block_moves after goes is start same ends =
-      ap (at_spot next) (ends ∙ ap (λ w. (behind_nodes w (nodes (map node_of xs))).assigned) (start names) ∙ ap (λ l. (behind_nodes (inside (at_spot next names)) (nodes (map node_of l))).assigned) same)
+      ap (at_spot next) (ends ∙ ap (λ w. (behind_nodes w (nodes (map node_of xs))).scope) (start names) ∙ ap (λ l. (behind_nodes (inside (at_spot next names)) (nodes (map node_of l))).scope) same)
       ∙ ap (λ w. behind_block w (block (nodes (map node_of inner.items)))) goes
       ∙ sym (behind_at c context ∙ ap (λ b. behind_block (behind_front context c) (block_as b)) is)
 

@@ -7,7 +7,7 @@ use Rattle.sieve_check.specs.Context.{behind}
 use Rattle.sieve_check.specs.Element.{block_elements, elements_of, node_elements, nodes_elements, test_elements, tests_elements}
 use Rattle.sieve_check.specs.Order.{written_by}
 use Rattle.sieve_check.specs.Parted.{parted}
-use Rattle.sieve_check.specs.Readable.{IsReadable, ReadsBlock, ReadsNode, ReadsNodes, act_mark, block_marks, choice_mark, marks, node_marks, nodes_marks, stop_mark}
+use Rattle.sieve_check.specs.Readable.{IsReadable, ReadsBlock, ReadsNode, ReadsNodes, act_mark, block_marks, choice_mark, marks, node_marks, nodes_marks, return_mark, stop_mark}
 use Rattle.sieve_check.specs.Reading.{discard_leaf, keep_leaf}
 use Rattle.sieve_check.specs.Script.{always, block_commands, chain_of, condition_of, conditions_in, never, node_before, script_of}
 use Rattle.sieve_table.specs.Table.{command_named, test_named}
@@ -37,7 +37,12 @@ tree_marks_row : nodes_marks (nodes (parted branches)) ≡ choice_mark always �
 unfolding nodes_marks node_marks block_marks condition_of conditions_in command_named test_named
 tree_marks_row = refl
 
--- it breaks no rule, so it is readable
+-- return; keep;
+return_marks_row : marks (script_of (parted (plain (codes "return") 1 ∷ plain (codes "keep") 2 ∷ []))) ≡ return_mark ∷ act_mark (keep_leaf None) 2 ∷ []
+unfolding marks chain_of node_before block_commands condition_of conditions_in command_named test_named
+return_marks_row = refl
+
+-- the branches break no rule, so they are readable
 faultless_row : breaches_of branches ≡ []
 unfolding breaches_in breaches_at nodes_elements node_elements block_elements tests_elements test_elements command_named test_named behind
 faultless_row = refl

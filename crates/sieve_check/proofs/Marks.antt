@@ -1,7 +1,7 @@
 -- The abstract script of a readable tree does what the tree's commands say, each once and in the order of the text.
 use Rattle.std.proofs.Common.{◌≡◌, ℕ, Bool, true, false, List, [], ◌∷◌, ◌++◌, Option, Some, None, refl, sym, ap, ◌∙◌}
 use Rattle.std.proofs.lemmas.List.{append-nil, append_assoc}
-use Rattle.sieve_check.specs.Readable.{Mark, marks, own_marks, node_marks, block_marks, nodes_marks, choice_mark, stop_mark, act_mark, may_go_on, Stands, ReadsNode, ReadsBlock, ReadsNodes, IsReadable, DoesAll}
+use Rattle.sieve_check.specs.Readable.{Mark, marks, own_marks, node_marks, block_marks, nodes_marks, choice_mark, stop_mark, return_mark, act_mark, may_go_on, Stands, ReadsNode, ReadsBlock, ReadsNodes, IsReadable, DoesAll}
 use Rattle.sieve_check.specs.Reading as reading
 use Rattle.sieve_check.specs.Reading.{CommandReading, command_reading}
 use Rattle.sieve_check.specs.Script.{no_commands, Chain, Condition, branch_condition, command_before, node_before, block_commands, chain_of, conditions_in}
@@ -65,6 +65,13 @@ module _ (line : ℕ) (condition : Condition) (ending : Block) (chain : Chain) (
     no_branch = λ not. refl;
   }
 
+  at_return : (follows_if : Bool) → ending ≡ no_block → Agrees false chain all → Agrees follows_if (before reading.returns) (with_own reading.returns)
+  unfolding marks
+  at_return follows_if is so = record {
+    same = ap (λ l. return_mark ∷ l) (rest_alone chain all so) ∙ ap (λ l. return_mark ∷ (l ++ all)) (sym (block_empty ending is));
+    no_branch = λ not. refl;
+  }
+
   at_nothing : (follows_if : Bool) → ending ≡ no_block → Agrees false chain all → Agrees follows_if (before reading.nothing) (with_own reading.nothing)
   unfolding marks
   at_nothing follows_if is so = record {
@@ -87,6 +94,7 @@ module _ (line : ℕ) (condition : Condition) (ending : Block) (chain : Chain) (
   at_command (Some reading.continues) follows_if ts stands inner so = at_continuing follows_if stands.0 inner so
   at_command (Some reading.otherwise) follows_if ts stands inner so = at_last follows_if stands.0 inner so
   at_command (Some reading.stops) follows_if ts stands inner so = at_stop follows_if stands.1 so
+  at_command (Some reading.returns) follows_if ts stands inner so = at_return follows_if stands.1 so
   at_command (Some reading.nothing) follows_if ts stands inner so = at_nothing follows_if stands.1 so
   at_command (Some (reading.acts leaf)) follows_if ts stands inner so = at_act leaf follows_if stands.1 so
 

@@ -21,6 +21,9 @@ command_found command.Set = refl
 command_found command.SetFlag = refl
 command_found command.AddFlag = refl
 command_found command.RemoveFlag = refl
+command_found command.Include = refl
+command_found command.Return = refl
+command_found command.Global = refl
 
 pub test_found : (kind : TestKind) → test_named (test_row kind).name ≡ Some kind
 unfolding test_named

@@ -80,5 +80,9 @@ tag_at tag.UpperFirst = refl
 tag_at tag.QuoteWildcard = refl
 tag_at tag.Length = refl
 tag_at tag.Flags = refl
+tag_at tag.Personal = refl
+tag_at tag.Global = refl
+tag_at tag.Once = refl
+tag_at tag.Optional = refl
 
 pub ruleset numbered = (role_at, tag_at, kind_at)

@@ -3,12 +3,12 @@ use Rattle.std.proofs.Common.{◌≡◌, ℕ, Bool, true, false, not, ◌&&◌, 
 use Rattle.std.specs.Option.{option_map}
 use Rattle.sieve_syntax.specs.Tree as syntax
 use Rattle.sieve_check.specs.Breach.{breaches_in, breaches_of, command_breaks}
-use Rattle.sieve_check.specs.Context.{Context, Required, behind, behind_block, behind_kind, continues_if, inside, nothing_required, required_from, script_start}
+use Rattle.sieve_check.specs.Context.{Context, behind, behind_block, behind_kind, continues_if, inside, script_start}
 use Rattle.sieve_check.specs.Element.{block_elements, command_arguments, node_elements, nodes_elements, test_arguments, test_elements, test_list_elements, tests_elements, the_command, the_test}
-use Rattle.sieve_check.specs.Parted.{command_labels, parted, parted_block, parted_labelled, parted_node, parted_nodes, parted_test, parted_test_list, parted_tests}
+use Rattle.sieve_check.specs.Parted.{Cutting, command_labels, cutting_at_start, declared_behind, declaring_command, parted, parted_block, parted_labelled, parted_node, parted_nodes, parted_test, parted_test_list, parted_tests}
 use Rattle.sieve_check.specs.Readable.{IsReadable, ReadsBlock, ReadsNode, ReadsNodes, ReadsTest, ReadsTestList, ReadsTests, Stands, command_takes, may_go_on}
 use Rattle.sieve_check.specs.Reading as reading
-use Rattle.sieve_check.specs.Reading.{Leaf, command_reading, command_reading_by, fileinto_from, flags_by, flags_from, keep_leaf, labels_in, part_shape, redirect_leaf, set_from}
+use Rattle.sieve_check.specs.Reading.{Leaf, command_reading, command_reading_by, fileinto_from, flags_by, flags_from, has_tag, include_leaf, keep_leaf, labels_in, part_shape, place_of, redirect_leaf, set_from}
 use Rattle.sieve_check.specs.Label.{slots_of}
 use Rattle.sieve_table.specs.Table.{command_named, command_row, flag_command, naming_slot, test_named}
 use Rattle.sieve_check.specs.Tree.{Argument, Block, Tests, no_tests, Nodes, end_nodes, more_nodes, no_block, block, items, nodes}
@@ -21,21 +21,24 @@ use Rattle.sieve_table.specs.declared.rule.Rule.{Rule}
 use Rattle.sieve_table.specs.declared.rule.Rule.TheVariants.{BadArguments, BadTag, ElsePlace, UnknownCommand}
 use Rattle.sieve_table.specs.declared.table.CommandKind.{CommandKind}
 use Rattle.sieve_table.specs.declared.table.CommandKind.TheVariants as command
+use Rattle.sieve_table.specs.declared.table.Tag.TheVariants as tag
 use Rattle.sieve_variables.specs.Part.{Part}
+use Rattle.sieve_variables.specs.Variable.{Variable}
 use Rattle.sieve_variables.specs.declared.modifier.Modifiers.{Modifiers}
-use Rattle.sieve_check.proofs.Asked.{all_may_take, either_slots, given_local_is_read, given_texts_are_read, local_is_read, maps_some, none_fit, one_fits, test_is_read, text_is_read, texts_are_read}
+use Rattle.sieve_check.proofs.Asked.{all_may_take, either_slots, given_texts_are_read, given_variable_is_read, literal_is_read, maps_some, none_fit, one_fits, test_is_read, text_is_read, texts_are_read, variable_is_read}
 use Rattle.sieve_check.proofs.Filled.{AsRowSays, as_parted, takes}
 use Rattle.sieve_check.proofs.Roles.{is_to_come, never_both, not_both}
 use Rattle.sieve_check.proofs.Unbroken.{keeps, none_in_both, none_in_front}
 
 -- WHERE A COMMAND STANDS
 
-module _ (required : Required) (context : Context) where
-  block_there : (ending : syntax.Block) → block_fits true (has_block ending) ≡ true → (ns : Nodes) × (parted_block required ending ≡ block ns)
+-- a command whose strings are cut by the one, and those of its block by the other
+module _ (cutting within : Cutting) (context : Context) where
+  block_there : (ending : syntax.Block) → block_fits true (has_block ending) ≡ true → (ns : Nodes) × (parted_block within ending ≡ block ns)
   block_there syntax.no_block fit = absurd (not_both fit)
-  block_there (syntax.block ns) fit = (parted_nodes required ns, refl)
+  block_there (syntax.block ns) fit = (parted_nodes within ns, refl)
 
-  none_there : (ending : syntax.Block) → block_fits false (has_block ending) ≡ true → parted_block required ending ≡ no_block
+  none_there : (ending : syntax.Block) → block_fits false (has_block ending) ≡ true → parted_block within ending ≡ no_block
   none_there syntax.no_block fit = refl
   none_there (syntax.block ns) fit = absurd (not_both fit)
 
@@ -47,17 +50,17 @@ module _ (required : Required) (context : Context) where
   abbrev Says : CommandKind → List Argument → syntax.Tests → (ends_by_block : Bool) → Type 0
   Says k args ts ends_by_block = AsRowSays (command_row k) (map (part_shape (command_row k).tags) args) args ts ends_by_block
 
-  sets_all : (name : Option (List ℕ)) (modifiers : Modifiers) (value : Option (List Part)) → is_some name ≡ true → is_some value ≡ true → is_some (set_from name modifiers value) ≡ true
+  sets_all : (variable : Option Variable) (modifiers : Modifiers) (value : Option (List Part)) → is_some variable ≡ true → is_some value ≡ true → is_some (set_from variable modifiers value) ≡ true
   sets_all None modifiers value n v = absurd (not_both n)
-  sets_all (Some name) modifiers None n v = absurd (not_both v)
-  sets_all (Some name) modifiers (Some value) n v = refl
+  sets_all (Some variable) modifiers None n v = absurd (not_both v)
+  sets_all (Some variable) modifiers (Some value) n v = refl
 
   files_all : (mailbox : Option (List Part)) (flags : Option (Option (List (List Part)))) → is_some mailbox ≡ true → is_some flags ≡ true → is_some (fileinto_from mailbox flags) ≡ true
   files_all None flags m f = absurd (not_both m)
   files_all (Some mailbox) None m f = absurd (not_both f)
   files_all (Some mailbox) (Some flags) m f = refl
 
-  changes_all : (how : FlagChange) (variable : Option (Option (List ℕ))) (flags : Option (List (List Part))) → is_some variable ≡ true → is_some flags ≡ true → is_some (flags_from how variable flags) ≡ true
+  changes_all : (how : FlagChange) (variable : Option (Option Variable)) (flags : Option (List (List Part))) → is_some variable ≡ true → is_some flags ≡ true → is_some (flags_from how variable flags) ≡ true
   changes_all how None flags v f = absurd (not_both v)
   changes_all how (Some variable) None v f = absurd (not_both f)
   changes_all how (Some variable) (Some flags) v f = refl
@@ -68,69 +71,77 @@ module _ (required : Required) (context : Context) where
 
   -- a command that changes flags, whatever its name
   flags_stand : (how : FlagChange) (name : List ℕ) (args : List Argument) (ts : syntax.Tests) (ending : syntax.Block) → let row = flag_command name in
-      AsRowSays row (map (part_shape row.tags) args) args ts (has_block ending) → Stands context.follows_if (option_map reading.acts (flags_by how (labels_in row args) args)) (parted_tests required ts) (parted_block required ending)
+      AsRowSays row (map (part_shape row.tags) args) args ts (has_block ending) → Stands context.follows_if (option_map reading.acts (flags_by how (labels_in row args) args)) (parted_tests cutting ts) (parted_block within ending)
   flags_stand how name args ts ending says =
       let row = flag_command name in
       let shapes = map (part_shape row.tags) args in
       let slots = slots_of row shapes in
       let front = naming_slot form.One role.NameToSet in
-      stands_acting _ (parted_tests required ts) (parted_block required ending)
+      stands_acting _ (parted_tests cutting ts) (parted_block within ending)
       (maps_some reading.acts _ (changes_all how _ _
-      (given_local_is_read row.tags slots args (either_slots (all_may_take role.NameToSet form.One) front row.slots shapes refl refl) says.keep)
+      (given_variable_is_read row.tags slots args (either_slots (all_may_take role.NameToSet form.One) front row.slots shapes refl refl) says.keep)
       (texts_are_read row.tags slots args role.Flags refl (either_slots (all_may_take role.Flags form.List) front row.slots shapes refl refl) (either_slots (is_to_come role.Flags) front row.slots shapes refl refl) says.filled says.keep)))
-      (none_fit required ts says.tests) (none_there ending says.block)
+      (none_fit cutting ts says.tests) (none_there ending says.block)
 
   -- with the tests and the block that its row says, and behind an `if` where it goes on with one
   stands : (k : CommandKind) (args : List Argument) (ts : syntax.Tests) (ending : syntax.Block) → Says k args ts (has_block ending) → (continues_if k && not context.follows_if) ≡ false
-      → Stands context.follows_if (command_reading_by (Some k) args) (parted_tests required ts) (parted_block required ending)
-  stands command.Require args ts ending says place = (none_fit required ts says.tests, none_there ending says.block)
+      → Stands context.follows_if (command_reading_by (Some k) args) (parted_tests cutting ts) (parted_block within ending)
+  stands command.Require args ts ending says place = (none_fit cutting ts says.tests, none_there ending says.block)
   stands command.If args ts ending says place =
-      let t = one_fits required ts says.tests in
+      let t = one_fits cutting ts says.tests in
       let b = block_there ending says.block in
       (t.0, b.0, t.1, b.1)
   stands command.Elsif args ts ending says place =
-      let t = one_fits required ts says.tests in
+      let t = one_fits cutting ts says.tests in
       let b = block_there ending says.block in
       (not_false context.follows_if place, t.0, b.0, t.1, b.1)
   stands command.Else args ts ending says place =
       let b = block_there ending says.block in
-      (not_false context.follows_if place, b.0, none_fit required ts says.tests, b.1)
+      (not_false context.follows_if place, b.0, none_fit cutting ts says.tests, b.1)
   stands command.Keep args ts ending says place =
       let row = command_row command.Keep in
-      stands_acting _ (parted_tests required ts) (parted_block required ending)
+      stands_acting _ (parted_tests cutting ts) (parted_block within ending)
       (maps_some reading.acts _ (maps_some keep_leaf _ (given_texts_are_read row.tags row.slots args role.Flags refl refl says.keep)))
-      (none_fit required ts says.tests) (none_there ending says.block)
+      (none_fit cutting ts says.tests) (none_there ending says.block)
   stands command.Fileinto args ts ending says place =
       let row = command_row command.Fileinto in
-      stands_acting _ (parted_tests required ts) (parted_block required ending)
+      stands_acting _ (parted_tests cutting ts) (parted_block within ending)
       (maps_some reading.acts _ (files_all _ _
       (text_is_read row.tags row.slots args role.Mailbox refl refl refl says.filled says.keep)
       (given_texts_are_read row.tags row.slots args role.Flags refl refl says.keep)))
-      (none_fit required ts says.tests) (none_there ending says.block)
+      (none_fit cutting ts says.tests) (none_there ending says.block)
   stands command.Redirect args ts ending says place =
       let row = command_row command.Redirect in
-      stands_acting _ (parted_tests required ts) (parted_block required ending)
+      stands_acting _ (parted_tests cutting ts) (parted_block within ending)
       (maps_some reading.acts _ (maps_some redirect_leaf _ (text_is_read row.tags row.slots args role.Address refl refl refl says.filled says.keep)))
-      (none_fit required ts says.tests) (none_there ending says.block)
-  stands command.Discard args ts ending says place = (none_fit required ts says.tests, none_there ending says.block)
-  stands command.Stop args ts ending says place = (none_fit required ts says.tests, none_there ending says.block)
+      (none_fit cutting ts says.tests) (none_there ending says.block)
+  stands command.Discard args ts ending says place = (none_fit cutting ts says.tests, none_there ending says.block)
+  stands command.Stop args ts ending says place = (none_fit cutting ts says.tests, none_there ending says.block)
   stands command.Set args ts ending says place =
       let row = command_row command.Set in
-      stands_acting _ (parted_tests required ts) (parted_block required ending)
+      stands_acting _ (parted_tests cutting ts) (parted_block within ending)
       (maps_some reading.acts _ (sets_all _ _ _
-      (local_is_read row.tags row.slots args refl refl says.filled says.keep)
+      (variable_is_read row.tags row.slots args refl refl says.filled says.keep)
       (text_is_read row.tags row.slots args role.Text refl refl refl says.filled says.keep)))
-      (none_fit required ts says.tests) (none_there ending says.block)
+      (none_fit cutting ts says.tests) (none_there ending says.block)
   stands command.SetFlag args ts ending says place = flags_stand change.Set _ args ts ending says
   stands command.AddFlag args ts ending says place = flags_stand change.Add _ args ts ending says
   stands command.RemoveFlag args ts ending says place = flags_stand change.Remove _ args ts ending says
+  stands command.Include args ts ending says place =
+      let row = command_row command.Include in
+      let labels = labels_in row args in
+      stands_acting _ (parted_tests cutting ts) (parted_block within ending)
+      (maps_some reading.acts _ (maps_some (include_leaf (place_of labels) (has_tag tag.Once labels) (has_tag tag.Optional labels)) _ (literal_is_read row.tags row.slots args refl refl says.filled says.keep)))
+      (none_fit cutting ts says.tests) (none_there ending says.block)
+  stands command.Return args ts ending says place = (none_fit cutting ts says.tests, none_there ending says.block)
+  stands command.Global args ts ending says place = (none_fit cutting ts says.tests, none_there ending says.block)
 
   -- a command of some kind or none that breaks no rule is of a kind, takes its arguments, and stands where it may
   command_is_read : (k : Option CommandKind) (args : List syntax.Argument) (ts : syntax.Tests) (ending : syntax.Block) → ((rule : Rule) → command_breaks context k args ts ending rule ≡ false) → breaches_in (command_arguments context k args ts ending) ≡ []
-      → (command_takes k (parted_labelled required (command_labels k args) args) ≡ true) × Stands context.follows_if (command_reading_by k (parted_labelled required (command_labels k args) args)) (parted_tests required ts) (parted_block required ending)
+      → (command_takes k (parted_labelled cutting (command_labels k args) args) ≡ true) × Stands context.follows_if (command_reading_by k (parted_labelled cutting (command_labels k args) args)) (parted_tests cutting ts) (parted_block within ending)
   command_is_read None args ts ending keeps none = absurd (never_both (keeps UnknownCommand))
   command_is_read (Some k) args ts ending keeps none =
-      let says = as_parted required context (command_row k) args ts (has_block ending) (keeps BadTag) (keeps BadArguments) none in
+      let says = as_parted cutting context (command_row k) args ts (has_block ending) (keeps BadTag) (keeps BadArguments) none in
       (takes (command_row k) _ ts (has_block ending) says, stands k _ ts ending says (keeps ElsePlace))
 
   acting_ends : (leaf : Option Leaf) → false ≡ may_go_on (option_map reading.acts leaf)
@@ -153,13 +164,16 @@ module _ (required : Required) (context : Context) where
   kind_goes_on (Some command.SetFlag) written args = acting_ends _
   kind_goes_on (Some command.AddFlag) written args = acting_ends _
   kind_goes_on (Some command.RemoveFlag) written args = acting_ends _
+  kind_goes_on (Some command.Include) written args = acting_ends _
+  kind_goes_on (Some command.Return) written args = refl
+  kind_goes_on (Some command.Global) written args = refl
 
   block_keeps : (before : Context) (ending : syntax.Block) → (behind_block before ending).follows_if ≡ before.follows_if
   unfolding behind_block
   block_keeps before syntax.no_block = refl
   block_keeps before (syntax.block ns) = refl
 
-  goes_on : (n : syntax.Node) → (behind context n).follows_if ≡ may_go_on (command_reading (parted_node required n))
+  goes_on : (n : syntax.Node) → (behind context n).follows_if ≡ may_go_on (command_reading (parted_node cutting n))
   unfolding behind
   goes_on (syntax.node name line args ts ending) = block_keeps (behind_kind context (command_named name) args) ending ∙ kind_goes_on (command_named name) args _
 
@@ -168,47 +182,49 @@ module _ (required : Required) (context : Context) where
 mutual
   unfolding ReadsTest ReadsTests ReadsTestList test_elements tests_elements test_list_elements
 
-  test_reads : (required : Required) (t : syntax.Test) (context : Context) → breaches_in (test_elements context t) ≡ [] → ReadsTest (parted_test required t)
-  test_reads required (syntax.test name line args ts) context none =
+  test_reads : (cutting : Cutting) (t : syntax.Test) (context : Context) → breaches_in (test_elements context t) ≡ [] → ReadsTest (parted_test cutting t)
+  test_reads cutting (syntax.test name line args ts) context none =
       let parts = none_in_front (the_test context name line args ts) (test_arguments context (test_named name) args ts ++ tests_elements context ts) none in
       let rest = none_in_both (test_arguments context (test_named name) args ts) (tests_elements context ts) parts.1 in
-      let read = test_is_read required context (test_named name) args ts (keeps (the_test context name line args ts) parts.0) rest.0 in
-      (read.0, read.1, tests_read required ts context rest.1)
+      let read = test_is_read cutting context (test_named name) args ts (keeps (the_test context name line args ts) parts.0) rest.0 in
+      (read.0, read.1, tests_read cutting ts context rest.1)
 
-  tests_read : (required : Required) (ts : syntax.Tests) (context : Context) → breaches_in (tests_elements context ts) ≡ [] → ReadsTests (parted_tests required ts)
-  tests_read required syntax.no_tests context none = tt
-  tests_read required (syntax.one_test t) context none = test_reads required t context none
-  tests_read required (syntax.test_list ts) context none = test_list_reads required ts context none
+  tests_read : (cutting : Cutting) (ts : syntax.Tests) (context : Context) → breaches_in (tests_elements context ts) ≡ [] → ReadsTests (parted_tests cutting ts)
+  tests_read cutting syntax.no_tests context none = tt
+  tests_read cutting (syntax.one_test t) context none = test_reads cutting t context none
+  tests_read cutting (syntax.test_list ts) context none = test_list_reads cutting ts context none
 
-  test_list_reads : (required : Required) (ts : syntax.TestList) (context : Context) → breaches_in (test_list_elements context ts) ≡ [] → ReadsTestList (parted_test_list required ts)
-  test_list_reads required syntax.end_tests context none = tt
-  test_list_reads required (syntax.more_tests t ts) context none =
+  test_list_reads : (cutting : Cutting) (ts : syntax.TestList) (context : Context) → breaches_in (test_list_elements context ts) ≡ [] → ReadsTestList (parted_test_list cutting ts)
+  test_list_reads cutting syntax.end_tests context none = tt
+  test_list_reads cutting (syntax.more_tests t ts) context none =
       let parts = none_in_both (test_elements context t) (test_list_elements context ts) none in
-      (test_reads required t context parts.0, test_list_reads required ts context parts.1)
+      (test_reads cutting t context parts.0, test_list_reads cutting ts context parts.1)
 
 -- COMMANDS
 
 mutual
   unfolding ReadsNode ReadsBlock ReadsNodes node_elements block_elements nodes_elements
 
-  node_reads : (required : Required) (n : syntax.Node) (context : Context) → breaches_in (node_elements context n) ≡ [] → ReadsNode context.follows_if (parted_node required n)
-  node_reads required (syntax.node name line args ts ending) context none =
+  node_reads : (n : syntax.Node) (cutting : Cutting) (context : Context) → breaches_in (node_elements context n) ≡ [] → ReadsNode context.follows_if (parted_node cutting n)
+  node_reads (syntax.node name line args ts ending) cutting context none =
       let inside_it = tests_elements context ts ++ block_elements (behind_kind context (command_named name) args) ending in
       let parts = none_in_front (the_command context name line args ts ending) (command_arguments context (command_named name) args ts ending ++ inside_it) none in
       let rest = none_in_both (command_arguments context (command_named name) args ts ending) inside_it parts.1 in
       let inner = none_in_both (tests_elements context ts) (block_elements (behind_kind context (command_named name) args) ending) rest.1 in
-      let read = command_is_read required context (command_named name) args ts ending (keeps (the_command context name line args ts ending) parts.0) rest.0 in
-      (read.0, read.1, tests_read required ts context inner.0, block_reads required ending (behind_kind context (command_named name) args) inner.1)
+      let within = record cutting { declared = declaring_command cutting.declared name args } in
+      let read = command_is_read cutting within context (command_named name) args ts ending (keeps (the_command context name line args ts ending) parts.0) rest.0 in
+      (read.0, read.1, tests_read cutting ts context inner.0, block_reads ending within (behind_kind context (command_named name) args) inner.1)
 
-  block_reads : (required : Required) (b : syntax.Block) (context : Context) → breaches_in (block_elements context b) ≡ [] → ReadsBlock (parted_block required b)
-  block_reads required syntax.no_block context none = tt
-  block_reads required (syntax.block ns) context none = nodes_read required ns (inside context) none
+  block_reads : (b : syntax.Block) (cutting : Cutting) (context : Context) → breaches_in (block_elements context b) ≡ [] → ReadsBlock (parted_block cutting b)
+  block_reads syntax.no_block cutting context none = tt
+  block_reads (syntax.block ns) cutting context none = nodes_read ns cutting (inside context) none
 
-  nodes_read : (required : Required) (ns : syntax.Nodes) (context : Context) → breaches_in (nodes_elements context ns) ≡ [] → ReadsNodes context.follows_if (parted_nodes required ns)
-  nodes_read required syntax.end_nodes context none = tt
-  nodes_read required (syntax.more_nodes n ns) context none =
+  nodes_read : (ns : syntax.Nodes) (cutting : Cutting) (context : Context) → breaches_in (nodes_elements context ns) ≡ [] → ReadsNodes context.follows_if (parted_nodes cutting ns)
+  nodes_read syntax.end_nodes cutting context none = tt
+  nodes_read (syntax.more_nodes n ns) cutting context none =
       let parts = none_in_both (node_elements context n) (nodes_elements (behind context n) ns) none in
-      (node_reads required n context parts.0, subst (λ b. ReadsNodes b (parted_nodes required ns)) (goes_on required context n) (nodes_read required ns (behind context n) parts.1))
+      let next = record cutting { declared = declared_behind cutting.declared n } in
+      (node_reads n cutting context parts.0, subst (λ b. ReadsNodes b (parted_nodes next ns)) (goes_on cutting cutting context n) (nodes_read ns next (behind context n) parts.1))
 
 -- THE TREE
 
@@ -218,7 +234,7 @@ as_items (more_nodes n ns) = ap (λ l. more_nodes n l) (as_items ns)
 
 pub is_readable : (tree : List syntax.Node) → breaches_of tree ≡ [] → IsReadable (parted tree)
 is_readable tree none =
-    let required = required_from nothing_required (syntax.nodes tree) in
-    subst (λ ns. ReadsNodes false ns) (sym (as_items (parted_nodes required (syntax.nodes tree)))) (nodes_read required (syntax.nodes tree) script_start none)
+    let cutting = cutting_at_start tree in
+    subst (λ ns. ReadsNodes false ns) (sym (as_items (parted_nodes cutting (syntax.nodes tree)))) (nodes_read (syntax.nodes tree) cutting script_start none)
 
 pub ruleset readable = (is_readable)

@@ -5,7 +5,7 @@ use Rattle.std.specs.List.{list_any}
 use Rattle.std.specs.Prelude.{if◌then◌else◌, is_none}
 use Rattle.sieve_check.specs.Breach.{is_comparator_name}
 use Rattle.sieve_check.specs.Label.{Expected, expected_behind, fits, is_unfit, label_at, labels_from, no_slots, slot_label, slots_left, value_label, value_slots}
-use Rattle.sieve_check.specs.Reading.{in_role, local_in_parts, part_shape, plain_text}
+use Rattle.sieve_check.specs.Reading.{in_role, literal_in_parts, part_shape, plain_text, variable_in_parts}
 use Rattle.sieve_check.specs.Role.{first_role, has_role, role_of, same_role}
 use Rattle.sieve_table.specs.Table.{tag_row}
 use Rattle.sieve_check.specs.Tree.{Text, Argument, strings, number, tag}
@@ -27,10 +27,11 @@ never_both e = cc
 
 -- WHAT IS KNOWN OF ARGUMENTS THAT BREAK NO RULE
 
--- strings in the role of a comparator name one, and those in the role of a variable that is set are one
+-- strings in the role of a comparator name one, those in the role of a variable that is set are one, and those in the role of a
+-- script's name stand for themselves
 abbrev pub NamesWell : Option Role → List Text → Type 0
 NamesWell r [] = Unit {0}
-NamesWell r (t ∷ ts) = ((has_role role.ComparatorName r && not (is_comparator_name (plain_text t.parts))) ≡ false) × ((has_role role.NameToSet r && is_none (local_in_parts t.parts)) ≡ false) × NamesWell r ts
+NamesWell r (t ∷ ts) = ((has_role role.ComparatorName r && not (is_comparator_name (plain_text t.parts))) ≡ false) × ((has_role role.NameToSet r && is_none (variable_in_parts t.parts)) ≡ false) × ((has_role role.ScriptName r && is_none (literal_in_parts t.parts)) ≡ false) × NamesWell r ts
 
 -- and a number has a value
 abbrev pub Keeps : Option Role → Argument → Type 0

@@ -1,15 +1,16 @@
 -- Worked rows of the definitions.
 use Rattle.std.proofs.Common.{◌≡◌, ℕ, true, false, List, [], ◌∷◌, Some, None, refl, codes}
 use Rattle.match_text.specs.declared.comparators.Collation.TheVariants.{Octet, Casemap}
+use Rattle.sieve_base.specs.declared.place.Place.TheVariants.{Personal, Global}
 use Rattle.sieve_syntax.specs.Tree as syntax
-use Rattle.sieve_check.specs.Assigned.{assigning}
 use Rattle.sieve_check.specs.Breach.{breaches_of, breaches_in, breaches_at}
 use Rattle.sieve_check.specs.Context.{behind}
 use Rattle.sieve_check.specs.Element.{nodes_elements, node_elements, block_elements, tests_elements, test_elements}
 use Rattle.sieve_check.specs.Label.{labels_of}
 use Rattle.sieve_check.specs.Parted.{parted}
-use Rattle.sieve_check.specs.Reading.{keep_leaf, discard_leaf, flag_leaf, flag_values, header_values, compares}
-use Rattle.sieve_check.specs.Script.{no_commands, stops, acts, chooses, always, asks, script_of, chain_of, node_before, block_commands, condition_of, conditions_in}
+use Rattle.sieve_check.specs.Reading.{keep_leaf, redirect_leaf, discard_leaf, set_leaf, flag_leaf, include_leaf, flag_values, header_values, compares}
+use Rattle.sieve_check.specs.Scope.{assigning}
+use Rattle.sieve_check.specs.Script.{no_commands, stops, returns, acts, chooses, always, asks, script_of, chain_of, node_before, block_commands, condition_of, conditions_in}
 use Rattle.sieve_table.specs.Table.{Row, naming_slot, slot, command_named, test_named, test_row}
 use Rattle.sieve_check.specs.declared.label.Label.TheVariants as label
 use Rattle.sieve_check.specs.declared.label.Shape.TheVariants as shape
@@ -19,9 +20,11 @@ use Rattle.sieve_table.specs.declared.table.Tag.TheVariants as tag
 use Rattle.sieve_table.specs.declared.table.TestKind.TheVariants as test
 use Rattle.sieve_check.specs.declared.reading.FlagChange.TheVariants.{Add}
 use Rattle.sieve_check.specs.declared.reading.MatchType.TheVariants.{Is, Contains}
-use Rattle.sieve_variables.specs.Part.{literal}
-use Rattle.sieve_variables.specs.Scan.{pieces_from, inside_at}
-use Rattle.sieve_table.specs.declared.rule.Rule.TheVariants.{RequirePlace, UnknownCapability, UnknownCommand, ElsePlace, BadTag, BadArguments, UnknownComparator, BadVariableName, NumberTooLarge, NotRequired}
+use Rattle.sieve_variables.specs.Part.{literal, local_part, global_part}
+use Rattle.sieve_variables.specs.Scan.{before_brace, pieces_from, inside_at}
+use Rattle.sieve_variables.specs.Variable.{local_variable, global_variable}
+use Rattle.sieve_variables.specs.declared.modifier.Modifiers.{Modifiers}
+use Rattle.sieve_table.specs.declared.rule.Rule.TheVariants.{RequirePlace, UnknownCapability, UnknownCommand, ElsePlace, BadTag, BadArguments, UnknownComparator, BadVariableName, GlobalAfterSet, BadNamespace, NumberTooLarge, NotRequired}
 
 -- a string on line 1, a string without brackets as an argument, and a tag
 abbrev text : List ℕ → syntax.Text
@@ -163,8 +166,116 @@ octet_row = refl
 -- require "imap4flags"; addflag "V" ["x"]; keep :flags "y"; if hasflag :comparator "i;octet" "a" {}
 flags_row : script_of (parted (plain (codes "require") 1 (one (codes "imap4flags") ∷ []) ∷ plain (codes "addflag") 2 (one (codes "V") ∷ syntax.strings (text (codes "x") ∷ []) true ∷ []) ∷ plain (codes "keep") 3 (tagged (codes "flags") ∷ one (codes "y") ∷ [])
     ∷ branch (codes "if") 4 (syntax.test (codes "hasflag") 4 (tagged (codes "comparator") ∷ one (codes "i;octet") ∷ one (codes "a") ∷ []) syntax.no_tests) [] ∷ []))
-    ≡ acts (flag_leaf Add (Some (codes "v")) ((literal (codes "x") ∷ []) ∷ [])) 2
+    ≡ acts (flag_leaf Add (Some (local_variable (codes "v"))) ((literal (codes "x") ∷ []) ∷ [])) 2
     (acts (keep_leaf (Some ((literal (codes "y") ∷ []) ∷ []))) 3
     (chooses (asks (compares (flag_values None) Is Octet ((literal (codes "a") ∷ []) ∷ []))) no_commands no_commands no_commands))
 unfolding chain_of node_before block_commands condition_of conditions_in command_named test_named
 flags_row = refl
+
+-- VARIABLES THAT SCRIPTS SHARE, AND SCRIPTS THAT ARE INCLUDED (RFC 6609)
+
+-- a string on a line
+abbrev one_at : ℕ → List ℕ → syntax.Argument
+one_at line octets = syntax.strings (record { octets = octets; line = line } ∷ []) false
+
+-- a command of that name with one string, and one that sets a variable
+abbrev naming : List ℕ → ℕ → List ℕ → syntax.Node
+naming name line octets = plain name line (one_at line octets ∷ [])
+
+abbrev global : ℕ → List ℕ → syntax.Node
+global line name = naming (codes "global") line name
+
+abbrev set : ℕ → (name value : List ℕ) → syntax.Node
+set line name value = plain (codes "set") line (one_at line name ∷ one_at line value ∷ [])
+
+-- require ["variables", "include"]; and require "variables";
+abbrev both : syntax.Node
+both = plain (codes "require") 1 (syntax.strings (text (codes "variables") ∷ text (codes "include") ∷ []) true ∷ [])
+
+abbrev variables_alone : syntax.Node
+variables_alone = plain (codes "require") 1 (one (codes "variables") ∷ [])
+
+abbrev no_modifiers : Modifiers
+no_modifiers = record { letter_case = None; first_letter = None; quote_wildcard = false; length = false }
+
+-- set "a" "x"; global "A";
+global_after_set_row : breaches_of (both ∷ set 2 (codes "a") (codes "x") ∷ global 3 (codes "A") ∷ []) ≡ record { line = 3; rule = GlobalAfterSet } ∷ []
+unfolding breaches_in breaches_at nodes_elements node_elements block_elements tests_elements command_named behind assigning pieces_from inside_at
+global_after_set_row = refl
+
+-- if true { set "a" "x"; } global "a";
+global_after_inner_set_row : breaches_of (both ∷ branch (codes "if") 2 truth (set 2 (codes "a") (codes "x") ∷ []) ∷ global 3 (codes "a") ∷ []) ≡ record { line = 3; rule = GlobalAfterSet } ∷ []
+unfolding breaches_in breaches_at nodes_elements node_elements block_elements tests_elements test_elements command_named test_named behind assigning pieces_from inside_at
+global_after_inner_set_row = refl
+
+-- set "b" "x"; global "A"; set "a" "${A}${b}";
+abbrev declared_first : List syntax.Node
+declared_first = both ∷ set 2 (codes "b") (codes "x") ∷ global 3 (codes "A") ∷ set 4 (codes "a") (codes "${A}${b}") ∷ []
+
+global_before_set_row : breaches_of declared_first ≡ []
+unfolding breaches_in breaches_at nodes_elements node_elements block_elements tests_elements command_named behind assigning pieces_from inside_at before_brace
+global_before_set_row = refl
+
+shared_row : script_of (parted declared_first) ≡ acts (set_leaf (local_variable (codes "b")) no_modifiers (literal (codes "x") ∷ [])) 2 (acts (set_leaf (global_variable (codes "a")) no_modifiers (global_part (codes "a") ∷ local_part (codes "b") ∷ [])) 4 no_commands)
+unfolding chain_of node_before block_commands condition_of conditions_in command_named test_named pieces_from inside_at before_brace
+shared_row = refl
+
+-- if true { global "a"; } set "a" "x";
+inner_declaration_row : script_of (parted (both ∷ branch (codes "if") 2 truth (global 2 (codes "a") ∷ []) ∷ set 3 (codes "a") (codes "x") ∷ [])) ≡ chooses always no_commands no_commands (acts (set_leaf (global_variable (codes "a")) no_modifiers (literal (codes "x") ∷ [])) 3 no_commands)
+unfolding chain_of node_before block_commands condition_of conditions_in command_named test_named pieces_from inside_at
+inner_declaration_row = refl
+
+-- set "a" "x"; if true { global "a"; }
+later_declaration_row : script_of (parted (both ∷ set 2 (codes "a") (codes "x") ∷ branch (codes "if") 3 truth (global 3 (codes "a") ∷ []) ∷ [])) ≡ acts (set_leaf (local_variable (codes "a")) no_modifiers (literal (codes "x") ∷ [])) 2 (chooses always no_commands no_commands no_commands)
+unfolding chain_of node_before block_commands condition_of conditions_in command_named test_named pieces_from inside_at
+later_declaration_row = refl
+
+-- global "global.a";
+prefixed_declaration_row : breaches_of (both ∷ global 2 (codes "global.a") ∷ []) ≡ record { line = 2; rule = BadVariableName } ∷ []
+unfolding breaches_in breaches_at nodes_elements node_elements block_elements tests_elements command_named behind assigning pieces_from inside_at
+prefixed_declaration_row = refl
+
+-- redirect "${foo.x}";
+unknown_namespace_row : breaches_of (both ∷ naming (codes "redirect") 2 (codes "${foo.x}") ∷ []) ≡ record { line = 2; rule = BadNamespace } ∷ []
+unfolding breaches_in breaches_at nodes_elements node_elements block_elements tests_elements command_named behind assigning pieces_from inside_at before_brace
+unknown_namespace_row = refl
+
+-- redirect "${Global.x}"; where scripts can be included, and where they can't
+shared_namespace_row : breaches_of (both ∷ naming (codes "redirect") 2 (codes "${Global.x}") ∷ []) ≡ []
+unfolding breaches_in breaches_at nodes_elements node_elements block_elements tests_elements command_named behind assigning pieces_from inside_at before_brace
+shared_namespace_row = refl
+
+without_include_row : breaches_of (variables_alone ∷ naming (codes "redirect") 2 (codes "${Global.x}") ∷ []) ≡ record { line = 2; rule = BadNamespace } ∷ []
+unfolding breaches_in breaches_at nodes_elements node_elements block_elements tests_elements command_named behind assigning pieces_from inside_at before_brace
+without_include_row = refl
+
+-- set "global.X" "y"; as these
+set_shared_row : breaches_of (both ∷ set 2 (codes "global.X") (codes "y") ∷ []) ≡ []
+unfolding breaches_in breaches_at nodes_elements node_elements block_elements tests_elements command_named behind assigning pieces_from inside_at
+set_shared_row = refl
+
+set_without_include_row : breaches_of (variables_alone ∷ set 2 (codes "global.X") (codes "y") ∷ []) ≡ record { line = 2; rule = BadNamespace } ∷ []
+unfolding breaches_in breaches_at nodes_elements node_elements block_elements tests_elements command_named behind assigning pieces_from inside_at
+set_without_include_row = refl
+
+-- the variable is the one that a declared `x` is: global "x"; set "global.X" "y"; redirect "${x}${GLOBAL.x}";
+one_variable_row : script_of (parted (both ∷ global 2 (codes "x") ∷ set 3 (codes "global.X") (codes "y") ∷ naming (codes "redirect") 4 (codes "${x}${GLOBAL.x}") ∷ []))
+    ≡ acts (set_leaf (global_variable (codes "x")) no_modifiers (literal (codes "y") ∷ [])) 3 (acts (redirect_leaf (global_part (codes "x") ∷ global_part (codes "x") ∷ [])) 4 no_commands)
+unfolding chain_of node_before block_commands condition_of conditions_in command_named test_named pieces_from inside_at before_brace
+one_variable_row = refl
+
+-- include :global :once "a"; include :optional "${b}"; return; keep;
+include_row : script_of (parted (both ∷ plain (codes "include") 2 (tagged (codes "global") ∷ tagged (codes "once") ∷ one (codes "a") ∷ []) ∷ plain (codes "include") 3 (tagged (codes "optional") ∷ one (codes "${b}") ∷ []) ∷ plain (codes "return") 4 [] ∷ plain (codes "keep") 5 [] ∷ []))
+    ≡ acts (include_leaf Global true false (codes "a")) 2 (acts (include_leaf Personal false true (codes "${b}")) 3 (returns (acts (keep_leaf None) 5 no_commands)))
+unfolding chain_of node_before block_commands condition_of conditions_in command_named test_named pieces_from inside_at before_brace
+include_row = refl
+
+-- include :personal :global "a";
+places_row : breaches_of (both ∷ plain (codes "include") 2 (tagged (codes "personal") ∷ tagged (codes "global") ∷ one (codes "a") ∷ []) ∷ []) ≡ record { line = 2; rule = BadTag } ∷ []
+unfolding breaches_in breaches_at nodes_elements node_elements block_elements tests_elements command_named behind assigning
+places_row = refl
+
+-- return; global "a"; where scripts can't be included
+include_not_required_row : breaches_of (variables_alone ∷ plain (codes "return") 2 [] ∷ global 3 (codes "a") ∷ []) ≡ record { line = 2; rule = NotRequired } ∷ record { line = 3; rule = NotRequired } ∷ []
+unfolding breaches_in breaches_at nodes_elements node_elements block_elements tests_elements command_named behind assigning pieces_from inside_at
+include_not_required_row = refl

@@ -6,17 +6,17 @@ use Rattle.sieve_syntax.specs.Tree.{Node, Block, Tests, Argument}
 use Rattle.sieve_base.specs.Limits.{local_limit}
 use Rattle.sieve_table.specs.Address.{is_address_field, is_envelope_part}
 use Rattle.sieve_variables.specs.Name.{is_global_name, is_identifier}
-use Rattle.sieve_variables.specs.Scan.{has_reference, has_namespace, has_far_index}
-use Rattle.sieve_check.specs.Assigned.{is_new_local}
+use Rattle.sieve_variables.specs.Scan.{has_reference, has_namespace, has_foreign_namespace, has_far_index}
 use Rattle.sieve_table.specs.Capability.{is_capability}
 use Rattle.sieve_check.specs.Context.{Context, Required, takes_references, is_require, continues_if}
 use Rattle.sieve_check.specs.Element.{Element, the_command, the_test, the_text, the_number, elements_of}
 use Rattle.sieve_check.specs.Role.{has_role, names_variable}
+use Rattle.sieve_check.specs.Scope.{Scope, is_assigned, is_new_local}
 use Rattle.sieve_check.specs.Shape.{row_labels, shapes_of}
 use Rattle.sieve_table.specs.Table.{Row, command_named, test_named, command_row, test_row}
 use Rattle.sieve_check.specs.Use.{has_bad_tag, has_bad_arguments, has_block, lacks_required}
 use Rattle.sieve_table.specs.declared.row.Role.{Role}
-use Rattle.sieve_table.specs.declared.row.Role.TheVariants.{Capabilities, ComparatorName, AddressFields, EnvelopeParts, NameToSet}
+use Rattle.sieve_table.specs.declared.row.Role.TheVariants.{Capabilities, ComparatorName, AddressFields, EnvelopeParts, NameToSet, NamesToDeclare}
 use Rattle.sieve_table.specs.declared.rule.Rule.{Rule}
 use Rattle.sieve_table.specs.declared.rule.Rule.TheVariants.{RequirePlace, UnknownCapability, UnknownCommand, NotRequired, ElsePlace, BadTag, BadArguments, UnknownComparator, BadVariableName, GlobalAfterSet, BadNamespace, MatchIndex, NumberTooLarge, BadEnvelopePart, NotAddressHeader, TooManyVariables}
 use Rattle.sieve_table.specs.declared.table.CommandKind.{CommandKind}
@@ -67,27 +67,36 @@ is_known required role octets = not (takes_references required role && has_refer
 abbrev pub is_bad_name : List ℕ → Bool
 is_bad_name octets = not (is_identifier octets) && not (is_global_name octets)
 
--- a variable in a namespace, of which there is none: one that is named (RFC 5229, section 4), or one that is referred to (section
--- 3)
+-- what can't be declared: only a name without a namespace can (RFC 6609, section 3.4.1)
+abbrev pub is_no_declaration : Option Role → List ℕ → Bool
+is_no_declaration role octets = has_role NamesToDeclare role && not (is_identifier octets)
+
+-- a reference in a namespace that there isn't; that of the variables that scripts share is there where scripts can be included
+-- (RFC 6609, section 3.4.2)
+abbrev pub has_unknown_namespace : Required → List ℕ → Bool
+has_unknown_namespace required octets = if required.include then has_foreign_namespace octets else has_namespace octets
+
+-- a variable in a namespace that there isn't: one that is named (RFC 5229, section 4), or one that is referred to (section 3)
 abbrev pub names_namespace : Required → Option Role → List ℕ → Bool
-names_namespace required role octets = (names_variable role && is_global_name octets) || (takes_references required role && has_namespace octets)
+names_namespace required role octets = (names_variable role && (is_global_name octets && not required.include)) || (takes_references required role && has_unknown_namespace required octets)
 
 -- the name of one local variable too many (RFC 5229, section 6)
-abbrev pub is_past_locals : List ℕ → List (List ℕ) → Bool
-is_past_locals octets assigned = is_new_local octets assigned && not (nat_lt (length assigned) local_limit)
+abbrev pub is_past_locals : List ℕ → Scope → Bool
+is_past_locals octets scope = is_new_local octets scope && not (nat_lt (length scope.assigned) local_limit)
 
 -- a string: that of a leading `require` (RFC 5228, section 3.2), of a comparator (section 2.7.3), a part of an envelope (section
--- 5.4), a field that holds addresses (section 5.1), the name of a variable (RFC 5229, section 4; RFC 5232, sections 3 and 4), or
--- one with references to variables (RFC 5229, sections 3 and 6)
+-- 5.4), a field that holds addresses (section 5.1), the name of a variable (RFC 5229, section 4; RFC 5232, sections 3 and 4; RFC
+-- 6609, section 3.4.1), or one with references to variables (RFC 5229, sections 3 and 6)
 abbrev pub text_breaks : Context → Option Role → List ℕ → Rule → Bool
 text_breaks context role octets UnknownCapability = has_role Capabilities role && (context.leads && not (is_capability octets))
 text_breaks context role octets UnknownComparator = has_role ComparatorName role && not (is_comparator_name octets)
-text_breaks context role octets BadVariableName = names_variable role && is_bad_name octets
+text_breaks context role octets BadVariableName = (names_variable role && is_bad_name octets) || is_no_declaration role octets
+text_breaks context role octets GlobalAfterSet = has_role NamesToDeclare role && is_assigned octets context.scope
 text_breaks context role octets BadNamespace = names_namespace context.required role octets
 text_breaks context role octets MatchIndex = takes_references context.required role && has_far_index octets
 text_breaks context role octets BadEnvelopePart = has_role EnvelopeParts role && (not (is_envelope_part octets) && is_known context.required role octets)
 text_breaks context role octets NotAddressHeader = has_role AddressFields role && (not (is_address_field octets) && is_known context.required role octets)
-text_breaks context role octets TooManyVariables = has_role NameToSet role && is_past_locals octets context.assigned
+text_breaks context role octets TooManyVariables = has_role NameToSet role && is_past_locals octets context.scope
 text_breaks context role octets rule = false
 
 -- a number past 64 bits (RFC 5228, section 2.4.1)

@@ -1,8 +1,8 @@
 -- What stands before a command in its text, as far as rules ask.
 use Rattle.std.specs.Prelude.{ℕ, Bool, true, false, ◌&&◌, ◌||◌, List, [], ◌∷◌, Option, Some, None, if◌then◌else◌}
 use Rattle.sieve_syntax.specs.Tree.{Node, node, Nodes, end_nodes, more_nodes, Block, no_block, block, Text, Argument, strings, number, tag}
-use Rattle.sieve_check.specs.Assigned.{assigning_arguments}
 use Rattle.sieve_check.specs.Role.{is_expanded}
+use Rattle.sieve_check.specs.Scope.{Scope, naming_arguments, no_names}
 use Rattle.sieve_check.specs.Shape.{row_labels}
 use Rattle.sieve_table.specs.Capability.{is_name_of}
 use Rattle.sieve_table.specs.Table.{command_named, command_row}
@@ -10,7 +10,7 @@ use Rattle.sieve_table.specs.declared.capability.Capability.{Capability}
 use Rattle.sieve_table.specs.declared.capability.Capability.TheVariants as capability
 use Rattle.sieve_table.specs.declared.row.Role.{Role}
 use Rattle.sieve_table.specs.declared.table.CommandKind.{CommandKind}
-use Rattle.sieve_table.specs.declared.table.CommandKind.TheVariants.{Require, If, Elsif, Else, Keep, Fileinto, Redirect, Discard, Stop, Set, SetFlag, AddFlag, RemoveFlag}
+use Rattle.sieve_table.specs.declared.table.CommandKind.TheVariants.{Require, If, Elsif, Else, Keep, Fileinto, Redirect, Discard, Stop, Set, SetFlag, AddFlag, RemoveFlag, Include, Return, Global}
 
 -- what is required, of what commands, tests, tags and arguments may need (RFC 5228, section 2.10.5)
 pub record Required : Type 0 where
@@ -70,12 +70,12 @@ pub record Context : Type 0 where
   -- what the requires at the top of the script name that stand before it; behind them that is all that is required (RFC 5228,
   -- section 3.2)
   pub required : Required
-  -- the local variables that the text before it sets, each once (RFC 5229, section 4)
-  pub assigned : List (List ℕ)
+  -- the names of variables in the text before it (RFC 5229, section 4; RFC 6609, section 3.4.1)
+  pub scope : Scope
 
 -- at the start of a script
 abbrev pub script_start : Context
-script_start = record { leads = true; follows_if = false; required = nothing_required; assigned = [] }
+script_start = record { leads = true; follows_if = false; required = nothing_required; scope = no_names }
 
 abbrev pub is_require : CommandKind → Bool
 is_require Require = true
@@ -91,6 +91,9 @@ is_require Set = false
 is_require SetFlag = false
 is_require AddFlag = false
 is_require RemoveFlag = false
+is_require Include = false
+is_require Return = false
+is_require Global = false
 
 -- an elsif or else may follow if and elsif
 abbrev pub allows_else : CommandKind → Bool
@@ -107,6 +110,9 @@ allows_else Set = false
 allows_else SetFlag = false
 allows_else AddFlag = false
 allows_else RemoveFlag = false
+allows_else Include = false
+allows_else Return = false
+allows_else Global = false
 
 -- elsif and else go on with what an if began
 abbrev pub continues_if : CommandKind → Bool
@@ -123,6 +129,9 @@ continues_if Set = false
 continues_if SetFlag = false
 continues_if AddFlag = false
 continues_if RemoveFlag = false
+continues_if Include = false
+continues_if Return = false
+continues_if Global = false
 
 -- what is required behind a command with such arguments: a `require` at the top adds what it names
 abbrev pub required_behind : Context → CommandKind → List Argument → Required
@@ -135,7 +144,7 @@ behind_kind context (Some kind) args = record {
   leads = context.leads && is_require kind;
   follows_if = allows_else kind;
   required = required_behind context kind args;
-  assigned = assigning_arguments context.assigned (row_labels (command_row kind) args) args;
+  scope = naming_arguments context.scope (row_labels (command_row kind) args) args;
 }
 
 -- at the start of a block
@@ -147,10 +156,10 @@ unfoldable mutual
   pub behind : Context → Node → Context
   behind context (node name line args ts ending) = behind_block (behind_kind context (command_named name) args) ending
 
-  -- behind its block, in which variables may be set
+  -- behind its block, in which variables may be set and declared
   pub behind_block : Context → Block → Context
   behind_block context no_block = context
-  behind_block context (block ns) = record context { assigned = (behind_nodes (inside context) ns).assigned }
+  behind_block context (block ns) = record context { scope = (behind_nodes (inside context) ns).scope }
 
   -- behind commands in turn
   pub behind_nodes : Context → Nodes → Context

@@ -1,4 +1,3 @@
-pub mod Assigned
 pub mod Breach
 pub mod CheckFault
 pub mod Context
@@ -11,6 +10,7 @@ pub mod Parted
 pub mod Readable
 pub mod Reading
 pub mod Role
+pub mod Scope
 pub mod Script
 pub mod Shape
 pub mod Tree

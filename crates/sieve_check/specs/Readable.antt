@@ -4,7 +4,7 @@ use Rattle.std.specs.Prelude.{◌≡◌, ℕ, Bool, true, false, not, ◌&&◌, 
 use Rattle.sieve_check.specs.Label.{labels_of, is_filled}
 use Rattle.sieve_check.specs.Reading as reading
 use Rattle.sieve_check.specs.Reading.{TestReading, reads_always, reads_never, reads_ask, reads_all, reads_any, reads_not, CommandReading, Leaf, part_shape, test_reading, command_reading}
-use Rattle.sieve_check.specs.Script.{Commands, no_commands, stops, acts, chooses, Condition, branch_condition, conditions_in, script_of}
+use Rattle.sieve_check.specs.Script.{Commands, no_commands, stops, returns, acts, chooses, Condition, branch_condition, conditions_in, script_of}
 use Rattle.sieve_table.specs.Table.{Row, command_named, test_named, command_row, test_row}
 use Rattle.sieve_check.specs.Tree.{Argument, Test, test, Tests, no_tests, one_test, test_list, TestList, end_tests, more_tests, Node, node, Block, no_block, block, Nodes, end_nodes, more_nodes, nodes}
 use Rattle.sieve_check.specs.Use.{has_bad_tag, lacks_own, lacks_kind}
@@ -61,6 +61,7 @@ Stands follows_if (Some reading.opens) ts ending = (t : Test) × (ns : Nodes) ×
 Stands follows_if (Some reading.continues) ts ending = (follows_if ≡ true) × (t : Test) × (ns : Nodes) × (ts ≡ one_test t) × (ending ≡ block ns)
 Stands follows_if (Some reading.otherwise) ts ending = (follows_if ≡ true) × (ns : Nodes) × (ts ≡ no_tests) × (ending ≡ block ns)
 Stands follows_if (Some reading.stops) ts ending = (ts ≡ no_tests) × (ending ≡ no_block)
+Stands follows_if (Some reading.returns) ts ending = (ts ≡ no_tests) × (ending ≡ no_block)
 Stands follows_if (Some reading.nothing) ts ending = (ts ≡ no_tests) × (ending ≡ no_block)
 Stands follows_if (Some (reading.acts leaf)) ts ending = (ts ≡ no_tests) × (ending ≡ no_block)
 
@@ -71,6 +72,7 @@ may_go_on (Some reading.opens) = true
 may_go_on (Some reading.continues) = true
 may_go_on (Some reading.otherwise) = false
 may_go_on (Some reading.stops) = false
+may_go_on (Some reading.returns) = false
 may_go_on (Some reading.nothing) = false
 may_go_on (Some (reading.acts leaf)) = false
 
@@ -92,9 +94,10 @@ IsReadable tree = ReadsNodes false (nodes tree)
 
 -- WHAT A SCRIPT DOES, IN THE ORDER OF ITS TEXT
 
--- a command that stops, one that acts, with its line, or a choice by a condition
+-- a command that stops, one that returns, one that acts, with its line, or a choice by a condition
 pub data Mark : Type 0 where
   stop_mark : Mark
+  return_mark : Mark
   act_mark : (leaf : Leaf) (line : ℕ) → Mark
   choice_mark : (condition : Condition) → Mark
 
@@ -102,6 +105,7 @@ pub data Mark : Type 0 where
 unfoldable pub marks : Commands → List Mark
 marks no_commands = []
 marks (stops rest) = stop_mark ∷ marks rest
+marks (returns rest) = return_mark ∷ marks rest
 marks (acts leaf line rest) = act_mark leaf line ∷ marks rest
 marks (chooses condition then_block otherwise rest) = choice_mark condition ∷ marks then_block ++ (marks otherwise ++ marks rest)
 
@@ -112,6 +116,7 @@ own_marks (Some reading.opens) line condition = choice_mark condition ∷ []
 own_marks (Some reading.continues) line condition = choice_mark condition ∷ []
 own_marks (Some reading.otherwise) line condition = []
 own_marks (Some reading.stops) line condition = stop_mark ∷ []
+own_marks (Some reading.returns) line condition = return_mark ∷ []
 own_marks (Some reading.nothing) line condition = []
 own_marks (Some (reading.acts leaf)) line condition = act_mark leaf line ∷ []
 

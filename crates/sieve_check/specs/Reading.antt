@@ -8,6 +8,8 @@ use Rattle.match_text.specs.declared.comparators.Collation.{Collation}
 use Rattle.match_text.specs.declared.comparators.Collation.TheVariants.{Octet, Casemap}
 use Rattle.message_text.specs.declared.addressing.AddressPart.{AddressPart}
 use Rattle.message_text.specs.declared.addressing.AddressPart.TheVariants as part
+use Rattle.sieve_base.specs.declared.place.Place.{Place}
+use Rattle.sieve_base.specs.declared.place.Place.TheVariants.{Personal, Global}
 use Rattle.sieve_check.specs.Label.{labels_of}
 use Rattle.sieve_check.specs.Role.{has_role, first_role}
 use Rattle.sieve_check.specs.Shape.{texts_shape}
@@ -29,7 +31,8 @@ use Rattle.sieve_table.specs.declared.table.Tag.{Tag}
 use Rattle.sieve_table.specs.declared.table.Tag.TheVariants as tag
 use Rattle.sieve_table.specs.declared.table.TestKind.{TestKind}
 use Rattle.sieve_table.specs.declared.table.TestKind.TheVariants as kind
-use Rattle.sieve_variables.specs.Part.{Part, literal, local_part, match_part}
+use Rattle.sieve_variables.specs.Part.{Part, literal, variable_part, match_part}
+use Rattle.sieve_variables.specs.Variable.{Variable}
 use Rattle.sieve_variables.specs.declared.modifier.LetterCase.{LetterCase}
 use Rattle.sieve_variables.specs.declared.modifier.LetterCase.TheVariants as letter_case
 use Rattle.sieve_variables.specs.declared.modifier.Modifiers.{Modifiers}
@@ -52,14 +55,16 @@ pub data Ask : Type 0 where
   under_ask : (limit : ℕ) → Ask
 
 -- A command that acts. One that stores may name the flags of what it stores (RFC 5232, section 5). One that changes flags changes
--- those that a variable of the script holds, or else the internal ones (section 3).
+-- those that a variable holds, or else the internal ones (section 3). One that includes a script names its place and its name,
+-- and says whether the script runs once at most, and whether it may be missing (RFC 6609, section 3.2).
 pub data Leaf : Type 0 where
   keep_leaf : (flags : Option (List (List Part))) → Leaf
   fileinto_leaf : (mailbox : List Part) (flags : Option (List (List Part))) → Leaf
   redirect_leaf : (address : List Part) → Leaf
   discard_leaf : Leaf
-  set_leaf : (name : List ℕ) (modifiers : Modifiers) (value : List Part) → Leaf
-  flag_leaf : (change : FlagChange) (variable : Option (List ℕ)) (flags : List (List Part)) → Leaf
+  set_leaf : (variable : Variable) (modifiers : Modifiers) (value : List Part) → Leaf
+  flag_leaf : (change : FlagChange) (variable : Option Variable) (flags : List (List Part)) → Leaf
+  include_leaf : (place : Place) (once optional : Bool) (name : List ℕ) → Leaf
 
 -- ARGUMENTS
 
@@ -98,27 +103,43 @@ text_in (Some (strings (t ∷ s ∷ ts) bracketed)) = None
 text_in (Some (number value line)) = None
 text_in (Some (tag name line)) = None
 
--- The variable of the script that an argument names, by its name in lower case. What is set is such a variable, and no match
--- variable or one in a namespace (RFC 5229, section 4; RFC 5232, section 3).
-abbrev pub local_in_parts : List Part → Option (List ℕ)
-local_in_parts [] = None
-local_in_parts (literal octets ∷ parts) = None
-local_in_parts (local_part name ∷ []) = Some name
-local_in_parts (local_part name ∷ part ∷ parts) = None
-local_in_parts (match_part index ∷ parts) = None
+-- The variable that an argument names. What is set is such a variable, and no match variable (RFC 5229, section 4; RFC 5232,
+-- section 3).
+abbrev pub variable_in_parts : List Part → Option Variable
+variable_in_parts [] = None
+variable_in_parts (literal octets ∷ parts) = None
+variable_in_parts (variable_part variable ∷ []) = Some variable
+variable_in_parts (variable_part variable ∷ part ∷ parts) = None
+variable_in_parts (match_part index ∷ parts) = None
 
-abbrev pub local_in : Option Argument → Option (List ℕ)
-local_in None = None
-local_in (Some (strings [] bracketed)) = None
-local_in (Some (strings (t ∷ []) bracketed)) = local_in_parts t.parts
-local_in (Some (strings (t ∷ s ∷ ts) bracketed)) = None
-local_in (Some (number value line)) = None
-local_in (Some (tag name line)) = None
+abbrev pub variable_in : Option Argument → Option Variable
+variable_in None = None
+variable_in (Some (strings [] bracketed)) = None
+variable_in (Some (strings (t ∷ []) bracketed)) = variable_in_parts t.parts
+variable_in (Some (strings (t ∷ s ∷ ts) bracketed)) = None
+variable_in (Some (number value line)) = None
+variable_in (Some (tag name line)) = None
 
 -- the variable that an argument names that may be left out
-abbrev pub given_local : Option Argument → Option (Option (List ℕ))
-given_local None = Some None
-given_local (Some a) = option_map Some (local_in (Some a))
+abbrev pub given_variable : Option Argument → Option (Option Variable)
+given_variable None = Some None
+given_variable (Some a) = option_map Some (variable_in (Some a))
+
+-- the octets of an argument that is one string, which stands for itself
+abbrev pub literal_in_parts : List Part → Option (List ℕ)
+literal_in_parts [] = None
+literal_in_parts (literal octets ∷ []) = Some octets
+literal_in_parts (literal octets ∷ part ∷ parts) = None
+literal_in_parts (variable_part variable ∷ parts) = None
+literal_in_parts (match_part index ∷ parts) = None
+
+abbrev pub literal_in : Option Argument → Option (List ℕ)
+literal_in None = None
+literal_in (Some (strings [] bracketed)) = None
+literal_in (Some (strings (t ∷ []) bracketed)) = literal_in_parts t.parts
+literal_in (Some (strings (t ∷ s ∷ ts) bracketed)) = None
+literal_in (Some (number value line)) = None
+literal_in (Some (tag name line)) = None
 
 -- the number that an argument is
 abbrev pub number_in : Option Argument → Option ℕ
@@ -145,10 +166,14 @@ tag_number tag.UpperFirst = 12
 tag_number tag.QuoteWildcard = 13
 tag_number tag.Length = 14
 tag_number tag.Flags = 15
+tag_number tag.Personal = 16
+tag_number tag.Global = 17
+tag_number tag.Once = 18
+tag_number tag.Optional = 19
 
 -- the tags in the order of their numbers
 abbrev pub all_tags : List Tag
-all_tags = tag.Comparator ∷ tag.Is ∷ tag.Contains ∷ tag.Matches ∷ tag.All ∷ tag.LocalPart ∷ tag.Domain ∷ tag.Over ∷ tag.Under ∷ tag.Lower ∷ tag.Upper ∷ tag.LowerFirst ∷ tag.UpperFirst ∷ tag.QuoteWildcard ∷ tag.Length ∷ tag.Flags ∷ []
+all_tags = tag.Comparator ∷ tag.Is ∷ tag.Contains ∷ tag.Matches ∷ tag.All ∷ tag.LocalPart ∷ tag.Domain ∷ tag.Over ∷ tag.Under ∷ tag.Lower ∷ tag.Upper ∷ tag.LowerFirst ∷ tag.UpperFirst ∷ tag.QuoteWildcard ∷ tag.Length ∷ tag.Flags ∷ tag.Personal ∷ tag.Global ∷ tag.Once ∷ tag.Optional ∷ []
 
 abbrev pub is_tagged : Tag → Label → Bool
 is_tagged wanted (Tagged taken) = nat_eq (tag_number wanted) (tag_number taken)
@@ -163,7 +188,7 @@ has_tag wanted labels = list_any (is_tagged wanted) labels
 -- the octets of a part that stand for themselves, and those of a string
 abbrev pub plain_part : Part → List ℕ
 plain_part (literal octets) = octets
-plain_part (local_part name) = []
+plain_part (variable_part variable) = []
 plain_part (match_part index) = []
 
 abbrev pub plain_text : List Part → List ℕ
@@ -299,30 +324,39 @@ modifiers_of labels = record {
 }
 
 -- what a `set` does (RFC 5229, section 4)
-abbrev pub set_from : Option (List ℕ) → Modifiers → Option (List Part) → Option Leaf
-set_from (Some name) modifiers (Some value) = Some (set_leaf name modifiers value)
-set_from (Some name) modifiers None = None
+abbrev pub set_from : Option Variable → Modifiers → Option (List Part) → Option Leaf
+set_from (Some variable) modifiers (Some value) = Some (set_leaf variable modifiers value)
+set_from (Some variable) modifiers None = None
 set_from None modifiers value = None
 
 abbrev pub set_by : List Label → List Argument → Option Leaf
-set_by labels args = set_from (local_in (in_role role.NameToSet labels args)) (modifiers_of labels) (text_in (in_role role.Text labels args))
+set_by labels args = set_from (variable_in (in_role role.NameToSet labels args)) (modifiers_of labels) (text_in (in_role role.Text labels args))
 
 -- what `setflag`, `addflag` and `removeflag` do (RFC 5232, section 3)
-abbrev pub flags_from : FlagChange → Option (Option (List ℕ)) → Option (List (List Part)) → Option Leaf
+abbrev pub flags_from : FlagChange → Option (Option Variable) → Option (List (List Part)) → Option Leaf
 flags_from how (Some variable) (Some flags) = Some (flag_leaf how variable flags)
 flags_from how (Some variable) None = None
 flags_from how None flags = None
 
 abbrev pub flags_by : FlagChange → List Label → List Argument → Option Leaf
-flags_by how labels args = flags_from how (given_local (in_role role.NameToSet labels args)) (texts_in (in_role role.Flags labels args))
+flags_by how labels args = flags_from how (given_variable (in_role role.NameToSet labels args)) (texts_in (in_role role.Flags labels args))
+
+-- the place of a script that is included, which is the personal one where none is named (RFC 6609, section 3.2)
+abbrev pub place_of : List Label → Place
+place_of labels = if has_tag tag.Global labels then Global else Personal
+
+-- what an `include` does (RFC 6609, section 3.2)
+abbrev pub include_by : List Label → List Argument → Option Leaf
+include_by labels args = option_map (include_leaf (place_of labels) (has_tag tag.Once labels) (has_tag tag.Optional labels)) (literal_in (in_role role.ScriptName labels args))
 
 -- a command apart from its test and its block: it opens a chain of branches, goes on with one, or ends it (RFC 5228, section
--- 3.1), stops (section 3.3), does nothing, or acts
+-- 3.1), ends the run (section 3.3) or its script (RFC 6609, section 3.3), does nothing, or acts
 pub data CommandReading : Type 0 where
   opens : CommandReading
   continues : CommandReading
   otherwise : CommandReading
   stops : CommandReading
+  returns : CommandReading
   nothing : CommandReading
   acts : (leaf : Leaf) → CommandReading
 
@@ -341,6 +375,9 @@ command_reading_by (Some command.Set) args = option_map acts (set_by (labels_in 
 command_reading_by (Some command.SetFlag) args = option_map acts (flags_by change.Set (labels_in (command_row command.SetFlag) args) args)
 command_reading_by (Some command.AddFlag) args = option_map acts (flags_by change.Add (labels_in (command_row command.AddFlag) args) args)
 command_reading_by (Some command.RemoveFlag) args = option_map acts (flags_by change.Remove (labels_in (command_row command.RemoveFlag) args) args)
+command_reading_by (Some command.Include) args = option_map acts (include_by (labels_in (command_row command.Include) args) args)
+command_reading_by (Some command.Return) args = Some returns
+command_reading_by (Some command.Global) args = Some nothing
 
 -- the kind of a command
 abbrev pub kind_of : Node → Option CommandKind

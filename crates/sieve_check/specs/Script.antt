@@ -14,10 +14,12 @@ pub data Condition : Type 0 where
   both : (first second : Condition) → Condition
   either : (first second : Condition) → Condition
 
--- commands in order: none, one that ends the run, one that acts, with its line, or a choice between two blocks
+-- commands in order: none, one that ends the run, one that ends its script, one that acts, with its line, or a choice between two
+-- blocks
 pub data Commands : Type 0 where
   no_commands : Commands
   stops : (rest : Commands) → Commands
+  returns : (rest : Commands) → Commands
   acts : (leaf : Leaf) (line : ℕ) (rest : Commands) → Commands
   chooses : (condition : Condition) (block otherwise rest : Commands) → Commands
 
@@ -79,6 +81,7 @@ command_before (Some reading.opens) line condition inner chain = record { otherw
 command_before (Some reading.continues) line condition inner chain = record { otherwise = chooses condition inner chain.otherwise no_commands; rest = chain.rest }
 command_before (Some reading.otherwise) line condition inner chain = record { otherwise = inner; rest = chain.rest }
 command_before (Some reading.stops) line condition inner chain = record { otherwise = no_commands; rest = stops chain.rest }
+command_before (Some reading.returns) line condition inner chain = record { otherwise = no_commands; rest = returns chain.rest }
 command_before (Some reading.nothing) line condition inner chain = record { otherwise = no_commands; rest = chain.rest }
 command_before (Some (reading.acts leaf)) line condition inner chain = record { otherwise = no_commands; rest = acts leaf line chain.rest }
 

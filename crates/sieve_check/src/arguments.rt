@@ -2,7 +2,7 @@
 //! and numbers that are too large.
 ghost use Rattle.std.specs.Prelude.{◌≡◌, false, find, map, IfOk};
 ghost use Rattle.sieve_syntax.specs.view.Tree.{argument_of, tests_of, text_of};
-ghost use Rattle.sieve_check.specs.Breach.{breaches_at, is_bad_name, is_comparator_name, is_known, names_namespace, text_breaks};
+ghost use Rattle.sieve_check.specs.Breach.{breaches_at, has_unknown_namespace, is_bad_name, is_comparator_name, is_known, is_no_declaration, names_namespace, text_breaks};
 ghost use Rattle.sieve_check.specs.Context.{takes_references};
 ghost use Rattle.sieve_check.specs.Element.{argument_elements, labelled_elements, text_elements, the_number, the_text};
 ghost use Rattle.sieve_check.specs.Role.{has_role, names_variable};
@@ -11,9 +11,9 @@ ghost use Rattle.sieve_check.specs.view.Context.{context_as, required_as};
 ghost use Rattle.sieve_check.specs.view.Finds.{Finds, FindsIn};
 ghost use Rattle.sieve_table.specs.view.Row.{row_as};
 ghost use Rattle.sieve_check.specs.view.Use.{row_found};
-ghost use Rattle.sieve_table.specs.declared.row.Role.TheVariants.{NameToSet};
+ghost use Rattle.sieve_table.specs.declared.row.Role.TheVariants.{NameToSet, NamesToDeclare};
 ghost use Rattle.sieve_variables.specs.Name.{is_global_name, is_identifier};
-ghost use Rattle.sieve_variables.specs.Scan.{has_far_index, has_namespace, has_reference};
+ghost use Rattle.sieve_variables.specs.Scan.{has_far_index, has_foreign_namespace, has_namespace, has_reference};
 
 use crate::context::{Context, Required, takes_references};
 use crate::label::Label;
@@ -22,9 +22,9 @@ use crate::shape::row_labels;
 use crate::usage::{has_bad_arguments, has_bad_tag, lacks_required};
 use crate::validator::CheckFault;
 use sieve_syntax::{Argument, Tests, Text};
-use sieve_table::{Role, Row, Rule, is_address_field, is_capability, is_envelope_part};
+use sieve_table::{Capability, Role, Row, Rule, is_address_field, is_capability, is_envelope_part};
 use sieve_variables::{is_global_name, is_identifier, references_in};
-use std::alloc::Global;
+use std::alloc::{AllocError, Global};
 
 /// Whether there is such a comparator (RFC 4790).
 fn is_comparator_name(name: &[u8]) -> bool
@@ -48,27 +48,57 @@ fn is_bad_name(octets: &[u8]) -> bool
     !is_identifier(octets) && !is_global_name(octets)
 }
 
-/// Whether a string names a variable in a namespace, or refers to one (RFC 5229, sections 4 and 3).
+/// Whether a string names what can't be declared (RFC 6609, section 3.4.1).
+fn is_no_declaration(role: Option<Role>, octets: &[u8]) -> bool
+    ensures { result ≡ is_no_declaration role octets.now }
+{
+    has_role(Role::NamesToDeclare, role) && !is_identifier(octets)
+}
+
+/// Whether a string has a reference in a namespace that there isn't (RFC 6609, section 3.4.2).
+fn has_unknown_namespace(required: Required, octets: &[u8]) -> bool
+    ensures { result ≡ has_unknown_namespace (required_as required) octets.now }
+{
+    let references = references_in(octets);
+    if required.has(Capability::Include) {
+        references.foreign
+    } else {
+        references.namespaced
+    }
+}
+
+/// Whether a string names a variable in a namespace that there isn't, or refers to one (RFC 5229, sections 4 and 3).
 fn names_namespace(required: Required, role: Option<Role>, octets: &[u8]) -> bool
     ensures { result ≡ names_namespace (required_as required) role octets.now }
 {
-    (names_variable(role) && is_global_name(octets))
-        || (takes_references(required, role) && references_in(octets).namespaced)
+    (names_variable(role) && (is_global_name(octets) && !required.has(Capability::Include)))
+        || (takes_references(required, role) && has_unknown_namespace(required, octets))
 }
 
 /// Whether a string in its role breaks a rule.
-fn text_breaks(context: Context<'_>, role: Option<Role>, octets: &[u8], rule: Rule) -> bool
-    ensures { result ≡ text_breaks (context_as context.entry) role octets.now rule }
+fn text_breaks(
+    alloc: Global,
+    context: Context<'_>,
+    role: Option<Role>,
+    octets: &[u8],
+    rule: Rule,
+) -> Result<bool, AllocError>
+    ensures { IfOk result (λ broken. broken ≡ text_breaks (context_as context.entry) role octets.now rule) }
 {
     let required = context.spot.required;
-    match rule {
+    let broken = match rule {
         Rule::UnknownCapability => {
             has_role(Role::Capabilities, role) && (context.spot.leads && !is_capability(octets))
         }
         Rule::UnknownComparator => {
             has_role(Role::ComparatorName, role) && !is_comparator_name(octets)
         }
-        Rule::BadVariableName => names_variable(role) && is_bad_name(octets),
+        Rule::BadVariableName => {
+            (names_variable(role) && is_bad_name(octets)) || is_no_declaration(role, octets)
+        }
+        Rule::GlobalAfterSet => {
+            has_role(Role::NamesToDeclare, role) && context.scope.is_assigned(octets)
+        }
         Rule::BadNamespace => names_namespace(required, role, octets),
         Rule::MatchIndex => takes_references(required, role) && references_in(octets).far,
         Rule::BadEnvelopePart => {
@@ -80,7 +110,7 @@ fn text_breaks(context: Context<'_>, role: Option<Role>, octets: &[u8], rule: Ru
                 && (!is_address_field(octets) && is_known(required, role, octets))
         }
         Rule::TooManyVariables => {
-            has_role(Role::NameToSet, role) && context.assigned.is_full_for(octets)
+            has_role(Role::NameToSet, role) && context.scope.is_full_for(alloc, octets)?
         }
         Rule::RequirePlace => false,
         Rule::UnknownCommand => false,
@@ -88,9 +118,9 @@ fn text_breaks(context: Context<'_>, role: Option<Role>, octets: &[u8], rule: Ru
         Rule::ElsePlace => false,
         Rule::BadTag => false,
         Rule::BadArguments => false,
-        Rule::GlobalAfterSet => false,
         Rule::NumberTooLarge => false,
-    }
+    };
+    Ok(broken)
 }
 
 /// The rules in the order of their numbers.
@@ -115,27 +145,33 @@ const RULES: [Rule; 16] = [
 
 /// The first of some rules that a string in its role breaks.
 fn first_broken(
+    alloc: Global,
     rules: &[Rule],
     context: Context<'_>,
     role: Option<Role>,
     octets: &[u8],
-) -> Option<Rule>
-    ensures { result ≡ find (text_breaks (context_as context.entry) role octets.now) rules.now }
+) -> Result<Option<Rule>, AllocError>
+    ensures { IfOk result (λ first. first ≡ find (text_breaks (context_as context.entry) role octets.now) rules.now) }
 {
     for rule in rules {
-        if text_breaks(context, role, octets, *rule) {
-            return Some(*rule);
+        if text_breaks(alloc, context, role, octets, *rule)? {
+            return Ok(Some(*rule));
         }
     }
-    None
+    Ok(None)
 }
 
 /// Checks a string in its role, if it has one.
 #[tactic(auto, using(crate::proofs::Searches::text_rule_steps))]
-fn check_text(context: Context<'_>, role: Option<Role>, text: &Text) -> Result<(), CheckFault>
+fn check_text(
+    alloc: Global,
+    context: Context<'_>,
+    role: Option<Role>,
+    text: &Text,
+) -> Result<(), CheckFault>
     ensures { Finds (breaches_at (the_text (context_as context.entry) role (text_of text.now))) result }
 {
-    match first_broken(&RULES, context, role, &text.octets) {
+    match first_broken(alloc, &RULES, context, role, &text.octets)? {
         Some(rule) => Err(CheckFault::Breach {
             line: text.line,
             rule,
@@ -146,11 +182,16 @@ fn check_text(context: Context<'_>, role: Option<Role>, text: &Text) -> Result<(
 
 /// Checks strings in their role.
 #[tactic(auto, using(crate::proofs::Searches::text_steps))]
-fn check_texts(context: Context<'_>, role: Option<Role>, texts: &[Text]) -> Result<(), CheckFault>
+fn check_texts(
+    alloc: Global,
+    context: Context<'_>,
+    role: Option<Role>,
+    texts: &[Text],
+) -> Result<(), CheckFault>
     ensures { FindsIn (text_elements (context_as context.entry) role (map text_of texts.now)) result }
 {
     for text in texts {
-        check_text(context, role, text)?;
+        check_text(alloc, context, role, text)?;
     }
     Ok(())
 }
@@ -172,6 +213,7 @@ fn check_number(value: Option<u64>, line: u64) -> Result<(), CheckFault>
 /// Checks an argument in its role.
 #[tactic(auto, using(crate::proofs::Searches::element_steps))]
 fn check_argument(
+    alloc: Global,
     context: Context<'_>,
     role: Option<Role>,
     argument: &Argument,
@@ -179,7 +221,7 @@ fn check_argument(
     ensures { FindsIn (argument_elements (context_as context.entry) role (argument_of argument.now)) result }
 {
     match argument {
-        Argument::Strings { items, .. } => check_texts(context, role, items),
+        Argument::Strings { items, .. } => check_texts(alloc, context, role, items),
         Argument::Number { value, line } => check_number(*value, *line),
         Argument::Tag { .. } => Ok(()),
     }
@@ -188,6 +230,7 @@ fn check_argument(
 /// Checks arguments by their labels.
 #[tactic(auto, using(crate::proofs::Searches::argument_steps))]
 pub(crate) fn check_arguments(
+    alloc: Global,
     context: Context<'_>,
     labels: &[Label],
     args: &[Argument],
@@ -196,7 +239,7 @@ pub(crate) fn check_arguments(
 {
     let mut labels_left = labels;
     for argument in args {
-        check_argument(context, first_role(labels_left), argument)?;
+        check_argument(alloc, context, first_role(labels_left), argument)?;
         labels_left = behind_first(labels_left);
     }
     Ok(())
@@ -235,7 +278,7 @@ pub(crate) fn check_use(
         let rule = Rule::BadArguments;
         return Err(CheckFault::Breach { line, rule });
     }
-    check_arguments(context, &labels, args)?;
+    check_arguments(alloc, context, &labels, args)?;
     Ok(labels)
 }
 

@@ -12,9 +12,9 @@ ghost use Rattle.sieve_check.specs.view.Finds.{Finds, FindsIn};
 ghost use Rattle.sieve_check.specs.view.Head.{behind_front, command_front, command_head, kind_found};
 
 use crate::arguments::check_use;
-use crate::assigned::Assigned;
 use crate::context::{Context, Spot, continues_if, is_require};
 use crate::label::Label;
+use crate::scope::Scope;
 use crate::test_rules::check_tests;
 use crate::validator::CheckFault;
 use sieve_syntax::Command;
@@ -92,19 +92,19 @@ fn check_command_head(
 fn check_front(
     alloc: Global,
     spot: Spot,
-    assigned: &mut Assigned,
+    scope: &mut Scope,
     command: &Command,
 ) -> Result<Spot, CheckFault>
-    ensures found { FindsIn (command_front (at_spot spot assigned.old) command.now) result }
-    ensures goes { IfOk result (λ next. at_spot next assigned.new ≡ behind_front (at_spot spot assigned.old) command.now) }
+    ensures found { FindsIn (command_front (at_spot spot scope.old) command.now) result }
+    ensures goes { IfOk result (λ next. at_spot next scope.new ≡ behind_front (at_spot spot scope.old) command.now) }
 {
     let context = Context {
         spot,
-        assigned: &*assigned,
+        scope: &*scope,
     };
     let (kind, labels) = check_command_head(alloc, context, command)?;
     check_tests(alloc, context, &command.tests)?;
-    assigned.assign_arguments(alloc, &labels, &command.args)?;
+    scope.name_arguments(alloc, &labels, &command.args)?;
     Ok(spot.behind_kind(kind, &command.args))
 }
 
@@ -114,17 +114,17 @@ fn check_front(
 fn check_command(
     alloc: Global,
     spot: Spot,
-    assigned: &mut Assigned,
+    scope: &mut Scope,
     command: &Command,
 ) -> Result<Spot, CheckFault>
-    ensures found { FindsIn (node_elements (at_spot spot assigned.old) (node_of command.now)) result }
-    ensures goes { IfOk result (λ next. at_spot next assigned.new ≡ behind (at_spot spot assigned.old) (node_of command.now)) }
+    ensures found { FindsIn (node_elements (at_spot spot scope.old) (node_of command.now)) result }
+    ensures goes { IfOk result (λ next. at_spot next scope.new ≡ behind (at_spot spot scope.old) (node_of command.now)) }
 {
-    let next = check_front(alloc, spot, &mut *assigned, command)?;
+    let next = check_front(alloc, spot, &mut *scope, command)?;
     match &command.block {
         None => Ok(next),
         Some(commands) => {
-            match check_commands(alloc, next.inside(), &mut *assigned, commands) {
+            match check_commands(alloc, next.inside(), &mut *scope, commands) {
                 Ok(()) => Ok(next),
                 Err(fault) => Err(fault),
             }
@@ -138,15 +138,15 @@ fn check_command(
 pub(crate) fn check_commands(
     alloc: Global,
     start: Spot,
-    assigned: &mut Assigned,
+    scope: &mut Scope,
     commands: &[Command],
 ) -> Result<(), CheckFault>
-    ensures found { FindsIn (nodes_elements (at_spot start assigned.old) (nodes (map node_of commands.now))) result }
-    ensures goes { IfOk result (λ done. assigned.new ≡ (behind_nodes (at_spot start assigned.old) (nodes (map node_of commands.now))).assigned) }
+    ensures found { FindsIn (nodes_elements (at_spot start scope.old) (nodes (map node_of commands.now))) result }
+    ensures goes { IfOk result (λ done. scope.new ≡ (behind_nodes (at_spot start scope.old) (nodes (map node_of commands.now))).scope) }
 {
     let mut spot = start;
     for command in commands {
-        spot = check_command(alloc, spot, &mut *assigned, command)?;
+        spot = check_command(alloc, spot, &mut *scope, command)?;
     }
     Ok(())
 }

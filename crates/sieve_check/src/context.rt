@@ -1,15 +1,16 @@
 //! What stands before a command in its text, as far as rules ask.
-ghost use Rattle.std.specs.Prelude.{◌≡◌, ◌&&◌, ℕ, List, [], Some, map};
+ghost use Rattle.std.specs.Prelude.{◌≡◌, ◌&&◌, Some, map};
 ghost use Rattle.sieve_syntax.specs.Tree.{nodes};
 ghost use Rattle.sieve_syntax.specs.view.Tree.{argument_of, node_of, text_of};
-ghost use Rattle.sieve_check.specs.Assigned.{assigning_arguments};
 ghost use Rattle.sieve_check.specs.Context.{allows_else, behind_kind, continues_if, inside, is_require, is_required, nothing_required, required_behind, required_from, requiring, requiring_argument, requiring_arguments, requiring_texts, script_start, takes_references};
+ghost use Rattle.sieve_check.specs.Scope.{naming_arguments, no_names};
 ghost use Rattle.sieve_check.specs.Shape.{row_labels};
 ghost use Rattle.sieve_check.specs.view.Context.{at_spot, required_as};
+ghost use Rattle.sieve_check.specs.view.Scope.{ScopeState};
 ghost use Rattle.sieve_table.specs.Table.{command_row};
 
-use crate::assigned::Assigned;
 use crate::role::is_expanded;
+use crate::scope::Scope;
 use sieve_syntax::{Argument, Command, Text};
 use sieve_table::{Capability, CommandKind, Role, command_named, is_name_of};
 
@@ -109,7 +110,7 @@ pub(crate) fn takes_references(required: Required, role: Option<Role>) -> bool
     }
 }
 
-/// What stands before a command in its text, apart from the variables that are set.
+/// What stands before a command in its text, apart from the names of variables.
 #[derive(Clone, Copy)]
 pub(crate) struct Spot {
     /// Only requires stand before it in the script (RFC 5228, section 3.2).
@@ -124,8 +125,8 @@ pub(crate) struct Spot {
 #[derive(Clone, Copy)]
 pub(crate) struct Context<'a> {
     pub(crate) spot: Spot,
-    /// The local variables that the text before it sets.
-    pub(crate) assigned: &'a Assigned,
+    /// The names of variables in the text before it.
+    pub(crate) scope: &'a Scope,
 }
 
 /// Whether it is `require`.
@@ -159,7 +160,7 @@ fn leads_behind(leads: bool, kind: CommandKind) -> bool
 impl Spot {
     /// At the start of a script.
     pub(crate) fn script_start() -> Spot
-        ensures { at_spot result [] ≡ script_start }
+        ensures { at_spot result no_names ≡ script_start }
     {
         Spot {
             leads: true,
@@ -170,7 +171,7 @@ impl Spot {
 
     /// At the start of a block behind this.
     pub(crate) fn inside(self) -> Spot
-        ensures { (assigned : List (List ℕ)) → at_spot result assigned ≡ inside (at_spot self assigned) }
+        ensures { (scope : ScopeState) → at_spot result scope ≡ inside (at_spot self scope) }
     {
         Spot {
             leads: false,
@@ -181,7 +182,7 @@ impl Spot {
 
     /// What is required behind a command of this kind with these arguments.
     fn required_behind(self, kind: CommandKind, args: &[Argument]) -> Required
-        ensures { (assigned : List (List ℕ)) → required_as result ≡ required_behind (at_spot self assigned) kind (map argument_of args.now) }
+        ensures { (scope : ScopeState) → required_as result ≡ required_behind (at_spot self scope) kind (map argument_of args.now) }
     {
         if self.leads && is_require(kind) {
             self.required.with_arguments(args)
@@ -192,7 +193,7 @@ impl Spot {
 
     /// Behind a command of this kind with these arguments.
     pub(crate) fn behind_kind(self, kind: CommandKind, args: &[Argument]) -> Spot
-        ensures { (assigned : List (List ℕ)) → at_spot result (assigning_arguments assigned (row_labels (command_row kind) (map argument_of args.now)) (map argument_of args.now)) ≡ behind_kind (at_spot self assigned) (Some kind) (map argument_of args.now) }
+        ensures { (scope : ScopeState) → at_spot result (naming_arguments scope (row_labels (command_row kind) (map argument_of args.now)) (map argument_of args.now)) ≡ behind_kind (at_spot self scope) (Some kind) (map argument_of args.now) }
     {
         Spot {
             leads: leads_behind(self.leads, kind),

@@ -1,17 +1,17 @@
 //! Laws over the definitions. Each of these functions does nothing: its contract is the law.
-ghost use Rattle.std.specs.Prelude.{◌≡◌, ◌-◌, ◌||◌, ◌∷◌, ℕ, true, false, length, slice_get, All, List, [], Option, None, Some};
+ghost use Rattle.std.specs.Prelude.{◌≡◌, ◌-◌, ◌||◌, ◌∷◌, ℕ, true, false, length, map, slice_get, All, List, [], Option, None, Some};
 ghost use Rattle.std.specs.List.{flat_map};
 ghost use Rattle.sieve_base.specs.Limits.{test_depth, block_room};
 ghost use Rattle.sieve_syntax.specs.Grammar.{Writes};
 ghost use Rattle.sieve_syntax.specs.Token.{Spells};
-ghost use Rattle.sieve_syntax.specs.Tree.{Node};
+ghost use Rattle.sieve_syntax.specs.Tree.{Node, Nodes};
 ghost use Rattle.sieve_syntax.specs.Word.{words_of};
 ghost use Rattle.sieve_syntax.specs.declared.token.Token.{Token};
 ghost use Rattle.sieve_check.specs.Breach.{Breach, all_rules, breaches_at, breaches_of, breaks, first_breach, IsLeastBreach};
-ghost use Rattle.sieve_check.specs.Context.{Required, is_required, requiring, takes_references};
+ghost use Rattle.sieve_check.specs.Context.{Context, Required, behind_nodes, is_required, requiring, takes_references};
 ghost use Rattle.sieve_check.specs.Element.{elements_of};
 ghost use Rattle.sieve_check.specs.Order.{IsInTextOrder};
-ghost use Rattle.sieve_check.specs.Parted.{parted, parts_in};
+ghost use Rattle.sieve_check.specs.Parted.{Cutting, declared_behind_nodes, parted, parts_in};
 ghost use Rattle.sieve_check.specs.Readable.{IsReadable, DoesAll};
 ghost use Rattle.sieve_check.specs.Reading.{all_tags, tag_number};
 ghost use Rattle.sieve_check.specs.Role.{all_roles, names_variable, role_number};
@@ -27,8 +27,9 @@ ghost use Rattle.sieve_table.specs.declared.rule.Rule.{Rule};
 ghost use Rattle.sieve_table.specs.declared.table.CommandKind.{CommandKind};
 ghost use Rattle.sieve_table.specs.declared.table.Tag.{Tag};
 ghost use Rattle.sieve_table.specs.declared.table.TestKind.{TestKind};
-ghost use Rattle.sieve_variables.specs.Name.{folded_name};
-ghost use Rattle.sieve_variables.specs.Part.{AreWritten, literal, local_part};
+ghost use Rattle.sieve_variables.specs.Part.{grouped, literal, scoped_part, variable_part};
+ghost use Rattle.sieve_variables.specs.Reference.{Cuts, Piece};
+ghost use Rattle.sieve_variables.specs.Variable.{scoped, variable_named};
 
 /// The breaches of a script are those of its elements (its commands, tests, strings and numbers in the order of the text),
 /// each with the rules that it breaks in the order of their numbers. So the first breach is the least.
@@ -59,13 +60,19 @@ pub fn what_is_named_is_required()
     ensures { (required : Required) (name : List ℕ) (capability : Capability) → is_required (requiring required name) capability ≡ (is_required required capability || is_name_of name capability) }
 {}
 
-/// How a string is cut into parts goes by its role. One whose references stand for values is a text that can be written for its
-/// parts (RFC 5229, section 3), the name of a variable is that variable alone (section 4; RFC 5232, sections 3 and 4), and any
-/// other stands for itself.
+/// How a string is cut into parts goes by its role. One whose references stand for values has the parts that its one cut makes (RFC
+/// 5229, section 3), in which names that are declared become those of variables that scripts share (RFC 6609, section 3.4.1); the
+/// name of a variable is that variable alone (RFC 5229, section 4; RFC 5232, sections 3 and 4); and any other stands for
+/// itself.
 pub fn parts_go_by_the_role()
-    ensures expanded { (required : Required) (role : Option Role) (octets : List ℕ) → takes_references required role ≡ true → AreWritten (parts_in required role octets) octets }
-    ensures name { (required : Required) (role : Option Role) (octets : List ℕ) → names_variable role ≡ true → parts_in required role octets ≡ local_part (folded_name octets) ∷ [] }
-    ensures plain { (required : Required) (role : Option Role) (octets : List ℕ) → names_variable role ≡ false → takes_references required role ≡ false → parts_in required role octets ≡ literal octets ∷ [] }
+    ensures expanded { (cutting : Cutting) (role : Option Role) (octets : List ℕ) → takes_references cutting.required role ≡ true → (pieces : List Piece) × Cuts pieces octets × (parts_in cutting role octets ≡ map (scoped_part cutting.declared) (grouped pieces)) }
+    ensures name { (cutting : Cutting) (role : Option Role) (octets : List ℕ) → names_variable role ≡ true → parts_in cutting role octets ≡ variable_part (scoped cutting.declared (variable_named octets)) ∷ [] }
+    ensures plain { (cutting : Cutting) (role : Option Role) (octets : List ℕ) → names_variable role ≡ false → takes_references cutting.required role ≡ false → parts_in cutting role octets ≡ literal octets ∷ [] }
+{}
+
+/// The names by which strings are cut are those by which rules judge.
+pub fn declared_names_are_one()
+    ensures { (context : Context) (commands : Nodes) → declared_behind_nodes context.scope.declared commands ≡ (behind_nodes context commands).scope.declared }
 {}
 
 /// Each command and each test is found by the name of its row.
@@ -75,7 +82,7 @@ pub fn names_are_found()
     ensures tests { (kind : TestKind) → test_named (test_row kind).name ≡ Some kind }
 {}
 
-/// The abstract script of a readable tree has each command's choice, stop or act once, in the order of the text. So nothing of
+/// The abstract script of a readable tree has each command's choice, stop, return or act once, in the order of the text. So nothing of
 /// such a tree vanishes from what a run goes by.
 #[tactic(auto, using(crate::proofs::Marks::marks_kept))]
 pub fn a_readable_script_does_all()

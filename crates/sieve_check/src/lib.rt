@@ -2,7 +2,6 @@
 #![tactic(auto)]
 
 mod arguments;
-mod assigned;
 mod checked;
 mod command_rules;
 mod context;
@@ -13,6 +12,7 @@ mod labelled;
 pub mod laws;
 mod reading;
 mod role;
+mod scope;
 mod shape;
 mod test_rules;
 mod tree;
@@ -22,7 +22,8 @@ mod validator;
 pub use checked::Checked;
 pub use judged::{FaultKind, JudgeFault, Judged, judge};
 pub use reading::{Ask, CommandReading, FlagChange, Leaf, MatchType, Source, TestReading};
+pub use sieve_base::Place;
 pub use sieve_table::{CommandKind, Rule, TestKind};
-pub use sieve_variables::{LetterCase, Modifiers, Part, Parts, SmallOctets};
+pub use sieve_variables::{LetterCase, Modifiers, Part, Parts, SmallOctets, Variable};
 pub use tree::{Argument, Command, Test, Tests, Text};
 pub use validator::{CheckFault, check};

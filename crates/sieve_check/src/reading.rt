@@ -3,18 +3,19 @@ ghost use Rattle.std.specs.Prelude.{◌≡◌, true, false, length, drop, Some, 
 ghost use Rattle.std.specs.Option.{option_map};
 ghost use Rattle.std.specs.List.{flat_map, starts_with};
 ghost use lib.Pointwise.{pointwise};
-ghost use Rattle.sieve_check.specs.Reading.{acts, address_part_of, address_source, case_of, collation_by, collation_named, command_reading, command_reading_by, compares_by, envelope_source, exists_by, fileinto_by, flag_source, flags_by, given_local, given_texts, has_tag, header_source, keep_by, kind_of, labels_in, local_in, local_in_parts, match_type_of, modifiers_of, number_in, plain_part, plain_text, reads_ask, redirect_by, set_by, size_by, string_source, test_reading, test_reading_by, text_in, texts_in};
+ghost use Rattle.sieve_check.specs.Reading.{acts, address_part_of, address_source, case_of, collation_by, collation_named, command_reading, command_reading_by, compares_by, envelope_source, exists_by, fileinto_by, flag_source, flags_by, given_texts, given_variable, has_tag, header_source, include_by, keep_by, kind_of, labels_in, literal_in, literal_in_parts, match_type_of, modifiers_of, number_in, place_of, plain_part, plain_text, reads_ask, redirect_by, set_by, size_by, string_source, test_reading, test_reading_by, text_in, texts_in, variable_in, variable_in_parts};
 ghost use Rattle.sieve_check.specs.view.Reading.{ask_as, command_reading_as, source_as, test_reading_as, texts_as};
 ghost use Rattle.sieve_table.specs.view.Row.{row_as};
 ghost use Rattle.sieve_check.specs.view.Tree.{argument_of, node_of, test_of, text_of};
-ghost use Rattle.sieve_variables.specs.view.Part.{part_of};
+ghost use Rattle.sieve_variables.specs.view.Part.{part_of, variable_of};
 
 use crate::labelled::{argument_in, has_tag};
 use crate::tree::{Argument, Command, Test, Text};
 use match_text::Collation;
 use message_text::AddressPart;
+use sieve_base::Place;
 use sieve_table::{CommandKind, Role, Row, Tag, TestKind, command_named, test_named};
-use sieve_variables::{LetterCase, Modifiers, Part};
+use sieve_variables::{LetterCase, Modifiers, Part, Variable};
 
 /// How a test compares values with keys (RFC 5228, section 2.7.1).
 #[derive(Clone, Copy, Debug, PartialEq, Eq)]
@@ -142,10 +143,10 @@ pub enum Leaf<'a> {
     },
     /// It discards the message (RFC 5228, section 4.4).
     Discard,
-    /// It gives a variable of the script a value (RFC 5229, section 4).
+    /// It gives a variable a value (RFC 5229, section 4).
     Set {
-        /// The variable's name, in lower case.
-        name: &'a [u8],
+        /// The variable.
+        variable: &'a Variable,
         /// What is done to the value.
         modifiers: Modifiers,
         /// The value, as its parts.
@@ -155,10 +156,21 @@ pub enum Leaf<'a> {
     Flags {
         /// How it changes them.
         change: FlagChange,
-        /// The variable that holds them, by its name in lower case; the internal flags where none is named.
-        variable: Option<&'a [u8]>,
+        /// The variable that holds them; the internal flags where none is named.
+        variable: Option<&'a Variable>,
         /// The flags that it names.
         flags: &'a [Text],
+    },
+    /// It runs another script (RFC 6609, section 3.2).
+    Include {
+        /// Where the script is kept.
+        place: Place,
+        /// Whether it runs only where it hasn't run yet.
+        once: bool,
+        /// Whether it may be missing.
+        optional: bool,
+        /// The script's name.
+        name: &'a [u8],
     },
 }
 
@@ -173,7 +185,9 @@ pub enum CommandReading<'a> {
     Otherwise,
     /// It ends the run (RFC 5228, section 3.3).
     Stops,
-    /// It does nothing when it runs (RFC 5228, section 3.2).
+    /// It ends its script (RFC 6609, section 3.3).
+    Returns,
+    /// It does nothing when it runs (RFC 5228, section 3.2; RFC 6609, section 3.4.1).
     Nothing,
     /// It acts.
     Acts(Leaf<'a>),
@@ -216,23 +230,23 @@ fn text_in(argument: Option<&Argument>) -> Option<&[Part]>
     }
 }
 
-/// The variable of the script that parts name.
-fn local_in_parts(parts: &[Part]) -> Option<&[u8]>
-    ensures { option_map (λ name. name.now) result ≡ local_in_parts (map part_of parts.now) }
+/// The variable that parts name.
+fn variable_in_parts(parts: &[Part]) -> Option<&Variable>
+    ensures { option_map (λ variable. variable_of variable.now) result ≡ variable_in_parts (map part_of parts.now) }
 {
     match parts {
-        [Part::Local(name)] => Some(name.as_slice()),
+        [Part::Variable(variable)] => Some(variable),
         _ => None,
     }
 }
 
-/// The variable of the script that an argument names (RFC 5229, section 4).
-fn local_in(argument: Option<&Argument>) -> Option<&[u8]>
-    ensures { option_map (λ name. name.now) result ≡ local_in (option_map (λ a. argument_of a.now) argument.entry) }
+/// The variable that an argument names (RFC 5229, section 4).
+fn variable_in(argument: Option<&Argument>) -> Option<&Variable>
+    ensures { option_map (λ variable. variable_of variable.now) result ≡ variable_in (option_map (λ a. argument_of a.now) argument.entry) }
 {
     match argument {
         Some(Argument::Strings { items, .. }) => match items.as_slice() {
-            [text] => local_in_parts(&text.parts),
+            [text] => variable_in_parts(&text.parts),
             _ => None,
         },
         Some(Argument::Number { .. }) => None,
@@ -242,12 +256,37 @@ fn local_in(argument: Option<&Argument>) -> Option<&[u8]>
 }
 
 /// The variable that an argument names that may be left out.
-fn given_local(argument: Option<&Argument>) -> Option<Option<&[u8]>>
-    ensures { option_map (option_map (λ name. name.now)) result ≡ given_local (option_map (λ a. argument_of a.now) argument.entry) }
+fn given_variable(argument: Option<&Argument>) -> Option<Option<&Variable>>
+    ensures { option_map (option_map (λ variable. variable_of variable.now)) result ≡ given_variable (option_map (λ a. argument_of a.now) argument.entry) }
 {
     match argument {
-        Some(argument) => Some(Some(local_in(Some(argument))?)),
+        Some(argument) => Some(Some(variable_in(Some(argument))?)),
         None => Some(None),
+    }
+}
+
+/// The octets of parts that are one literal.
+fn literal_in_parts(parts: &[Part]) -> Option<&[u8]>
+    ensures { option_map (λ octets. octets.now) result ≡ literal_in_parts (map part_of parts.now) }
+{
+    match parts {
+        [Part::Literal(octets)] => Some(octets.as_slice()),
+        _ => None,
+    }
+}
+
+/// The octets of an argument that is one string, which stands for itself.
+fn literal_in(argument: Option<&Argument>) -> Option<&[u8]>
+    ensures { option_map (λ octets. octets.now) result ≡ literal_in (option_map (λ a. argument_of a.now) argument.entry) }
+{
+    match argument {
+        Some(Argument::Strings { items, .. }) => match items.as_slice() {
+            [text] => literal_in_parts(&text.parts),
+            _ => None,
+        },
+        Some(Argument::Number { .. }) => None,
+        Some(Argument::Tag { .. }) => None,
+        None => None,
     }
 }
 
@@ -269,7 +308,7 @@ fn plain_part(part: &Part) -> &[u8]
 {
     match part {
         Part::Literal(octets) => octets.as_slice(),
-        Part::Local(_) => b"",
+        Part::Variable(_) => b"",
         Part::Match(_) => b"",
     }
 }
@@ -571,10 +610,10 @@ fn set_leaf<'a>(row: &Row, args: &'a [Argument]) -> Option<CommandReading<'a>>
     ensures { option_map command_reading_as result ≡ option_map acts (set_by (labels_in (row_as row.now) (map argument_of args.now)) (map argument_of args.now)) }
 {
     let modifiers = modifiers_of(row, args);
-    let name = local_in(argument_in(row, Role::NameToSet, args))?;
+    let variable = variable_in(argument_in(row, Role::NameToSet, args))?;
     let value = text_in(argument_in(row, Role::Text, args))?;
     Some(CommandReading::Acts(Leaf::Set {
-        name,
+        variable,
         modifiers,
         value,
     }))
@@ -584,12 +623,39 @@ fn set_leaf<'a>(row: &Row, args: &'a [Argument]) -> Option<CommandReading<'a>>
 fn flag_leaf<'a>(change: FlagChange, row: &Row, args: &'a [Argument]) -> Option<CommandReading<'a>>
     ensures { option_map command_reading_as result ≡ option_map acts (flags_by change (labels_in (row_as row.now) (map argument_of args.now)) (map argument_of args.now)) }
 {
-    let variable = given_local(argument_in(row, Role::NameToSet, args))?;
+    let variable = given_variable(argument_in(row, Role::NameToSet, args))?;
     let flags = texts_in(argument_in(row, Role::Flags, args))?;
     Some(CommandReading::Acts(Leaf::Flags {
         change,
         variable,
         flags,
+    }))
+}
+
+/// The place of a script that is included, which is the personal one where none is named.
+fn place_of(row: &Row, args: &[Argument]) -> Place
+    ensures { result ≡ place_of (labels_in (row_as row.now) (map argument_of args.now)) }
+{
+    if has_tag(row, Tag::Global, args) {
+        Place::Global
+    } else {
+        Place::Personal
+    }
+}
+
+/// What an `include` does.
+fn include_leaf<'a>(row: &Row, args: &'a [Argument]) -> Option<CommandReading<'a>>
+    ensures { option_map command_reading_as result ≡ option_map acts (include_by (labels_in (row_as row.now) (map argument_of args.now)) (map argument_of args.now)) }
+{
+    let place = place_of(row, args);
+    let once = has_tag(row, Tag::Once, args);
+    let optional = has_tag(row, Tag::Optional, args);
+    let name = literal_in(argument_in(row, Role::ScriptName, args))?;
+    Some(CommandReading::Acts(Leaf::Include {
+        place,
+        once,
+        optional,
+        name,
     }))
 }
 
@@ -611,6 +677,9 @@ fn command_reading_by(kind: CommandKind, args: &[Argument]) -> Option<CommandRea
         CommandKind::SetFlag => flag_leaf(FlagChange::Set, &kind.row(), args),
         CommandKind::AddFlag => flag_leaf(FlagChange::Add, &kind.row(), args),
         CommandKind::RemoveFlag => flag_leaf(FlagChange::Remove, &kind.row(), args),
+        CommandKind::Include => include_leaf(&kind.row(), args),
+        CommandKind::Return => Some(CommandReading::Returns),
+        CommandKind::Global => Some(CommandReading::Nothing),
     }
 }
 

@@ -7,11 +7,11 @@ ghost use Rattle.sieve_check.specs.CheckFault.{IsFirst};
 ghost use Rattle.sieve_check.specs.Parted.{parted};
 ghost use Rattle.sieve_check.specs.declared.validator.CheckFault.TheVariants.{NoMemory};
 
-use crate::assigned::Assigned;
 use crate::checked::Checked;
 use crate::command_rules::check_commands;
 use crate::context::Spot;
 use crate::copying::parted;
+use crate::scope::Scope;
 use sieve_syntax::Script;
 use sieve_table::Rule;
 use std::alloc::{AllocError, Global};
@@ -43,8 +43,8 @@ pub fn check(alloc: Global, script: &Script) -> Result<Checked, CheckFault>
         (λ checked. (breaches_of (nodes_of script.now) ≡ []) × (tree_of checked ≡ parted (nodes_of script.now)))
         (IsFirst (breaches_of (nodes_of script.now))) }
 {
-    let mut assigned = Assigned::new(alloc);
-    check_commands(alloc, Spot::script_start(), &mut assigned, &script.commands)?;
+    let mut scope = Scope::new(alloc);
+    check_commands(alloc, Spot::script_start(), &mut scope, &script.commands)?;
     let commands = parted(alloc, script)?;
     Ok(Checked { commands })
 }

@@ -6,9 +6,9 @@ use Rattle.sieve_check.specs.Script as script
 use Rattle.sieve_check.specs.Script.{Condition, Commands, no_commands, chooses, Chain, branch_condition, conditions_in, block_commands, chain_of}
 use Rattle.sieve_check.specs.Tree.{Node, node, Block, no_block, block, Nodes, end_nodes, more_nodes}
 use Rattle.sieve_code.specs.Choice.{Tail, Branches, no_branch, past_branches, branch_before, command_before, node_before, block_before, nodes_before, first_before}
-use Rattle.sieve_code.specs.Operation.{jumps, jumps_if, acts, stops}
-use Rattle.sieve_code.specs.Walk.{Walk, by_stop, acted, condition_walk, commands_walk}
-use Rattle.sieve_code.proofs.Tails.{Walks, Ends, Forward, ends_self, ends_more, ends_trans, walks_acts, walks_stops, walks_jumps, walks_jumps_if, forward_plain, forward_jumps, forward_jumps_if, landed}
+use Rattle.sieve_code.specs.Operation.{jumps, jumps_if, acts, stops, returns}
+use Rattle.sieve_code.specs.Walk.{Walk, by_stop, by_return, acted, condition_walk, commands_walk}
+use Rattle.sieve_code.proofs.Tails.{Walks, Ends, Forward, ends_self, ends_more, ends_trans, walks_acts, walks_stops, walks_returns, walks_jumps, walks_jumps_if, forward_plain, forward_jumps, forward_jumps_if, landed}
 use Rattle.sieve_code.proofs.Conditions.{IsCode, first_code}
 
 -- a tail goes this walk, whatever is in the register, and its jumps go forward
@@ -56,6 +56,12 @@ stops_before : (tail behind : Tail) (walk : Walk) → GoesBefore tail behind wal
 stops_before tail behind walk g = record {
   ends = ends_more stops tail behind g.ends;
   goes = record { forward = forward_plain stops tail refl g.goes.forward; walks = walks_stops tail };
+}
+
+returns_before : (tail behind : Tail) (walk : Walk) → GoesBefore tail behind walk → GoesBefore (returns ∷ tail) behind by_return
+returns_before tail behind walk g = record {
+  ends = ends_more returns tail behind g.ends;
+  goes = record { forward = forward_plain returns tail refl g.goes.forward; walks = walks_returns tail };
 }
 
 acts_before : (leaf : reading.Leaf) (line : ℕ) (tail behind : Tail) (walk : Walk) → GoesBefore tail behind walk → GoesBefore (acts leaf line ∷ tail) behind (acted leaf line walk)
@@ -111,6 +117,7 @@ module _ (first inner : Tail → Tail) (condition : Condition) (cs : Commands) (
   command_chain (Some reading.otherwise) line =
       branch_chain (inner b.behind_branches) cs b chain behind next c (i.at b.behind_branches (commands_walk chain.rest next) c.rest.goes)
   command_chain (Some reading.stops) line = plain_chain (stops ∷ b.behind_branches) (script.stops chain.rest) behind next (stops_before _ _ _ c.rest)
+  command_chain (Some reading.returns) line = plain_chain (returns ∷ b.behind_branches) (script.returns chain.rest) behind next (returns_before _ _ _ c.rest)
   command_chain (Some reading.nothing) line = plain_chain b.behind_branches chain.rest behind next c.rest
   command_chain (Some (reading.acts leaf)) line = plain_chain (acts leaf line ∷ b.behind_branches) (script.acts leaf line chain.rest) behind next (acts_before leaf line _ _ _ c.rest)
 

@@ -7,7 +7,8 @@ use Rattle.smallvec.specs.SmallVec.{SmallVec}
 use Rattle.sieve_variables.specs.Part as part
 use Rattle.sieve_variables.specs.view.Part.{part_of}
 use Rattle.sieve_variables.specs.declared.part.Part.{Part}
-use Rattle.sieve_code.specs.Dump.{list_text, part_text, separated, string_text}
+use Rattle.sieve_code.specs.Dump.{case_word, first_word, given_word, list_text, modifier_words, part_text, separated, string_text}
+use Rattle.sieve_variables.specs.declared.modifier.Modifiers.{Modifiers}
 use Rattle.sieve_code.specs.view.Marked.{marked_part, marked_string}
 use Rattle.sieve_code.specs.view.Op.{parts_of}
 use Rattle.sieve_variables.specs.view.Part.{strings_of}
@@ -86,3 +87,9 @@ opened strings = codes "[" ++ separated (codes ", ") string_text strings
 pub list_whole : (front : List ℕ) (strings : List (List part.Part)) → (front ++ opened strings) ++ codes "]" ≡ front ++ list_text strings
 unfolding list_text
 list_whole front strings = append_assoc front (opened strings) (codes "]")
+
+-- the words of modifiers, one by one
+pub modifiers_text : (m : Modifiers) (case first quotes length : List ℕ) → case ≡ case_word m.letter_case → first ≡ first_word m.first_letter → quotes ≡ given_word m.quote_wildcard (codes " quotewildcard") → length ≡ given_word m.length (codes " length")
+    → modifier_words m ≡ case ++ (first ++ (quotes ++ (length ++ (codes " " ++ []))))
+unfolding modifier_words
+modifiers_text m case first quotes length c f q l = rw (c, f, q, l) (simp append_assoc)

@@ -4,7 +4,7 @@ use Rattle.std.proofs.lemmas.List.{length-map}
 use Rattle.std.specs.Prelude.{slice_get}
 use Rattle.sieve_check.specs.Tree.{Node, nodes}
 use Rattle.sieve_code.specs.Choice.{Tail, AllGoForward, code_of, placed, tail_of}
-use Rattle.sieve_code.specs.Operation.{Operation, sets, inverts, asks, jumps, jumps_if, acts, stops, target_of, targeting}
+use Rattle.sieve_code.specs.Operation.{Operation, sets, inverts, asks, jumps, jumps_if, acts, stops, returns, target_of, targeting}
 use Rattle.sieve_code.specs.Walk.{at_end, asked, acted, at_limit, step, walk_from, code_walk, tree_walk}
 use Rattle.sieve_code.specs.view.Branches.{last}
 use Rattle.sieve_code.proofs.Tails.{Forward, tail_step, tail_walk, walks_none}
@@ -70,6 +70,7 @@ same_step n same front (jumps_if false left) rest true f = same_next n same fron
 same_step n same front (jumps_if false left) rest false f = same_target n same front (jumps_if false left) rest false left (f.0 left refl) f.1
 same_step n same front (acts leaf line) rest r f = ap (acted leaf line) (same_next n same front (acts leaf line) rest r f.1)
 same_step n same front stops rest r f = refl
+same_step n same front returns rest r f = refl
 
 same_walk : (n : ℕ) → Same n
 unfolding walk_from placed
@@ -106,6 +107,7 @@ jump_at count (jumps left) rest f target is = (left, cc, omega (arith, f.0 left 
 jump_at count (jumps_if truth left) rest f target is = (left, cc, omega (arith, f.0 left refl))
 jump_at count (acts leaf line) rest f target is = absurd cc
 jump_at count stops rest f target is = absurd cc
+jump_at count returns rest f target is = absurd cc
 
 same_op : (op other : Operation) (target : ℕ) → Some other ≡ Some op → target_of op ≡ Some target → target_of other ≡ Some target
 same_op op other target is has = let e : other ≡ op = cc in ap target_of e ∙ has

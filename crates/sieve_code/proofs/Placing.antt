@@ -5,7 +5,7 @@ use Rattle.sieve_check.specs.Tree.{Node}
 use Rattle.sieve_code.specs.Choice.{Tail, code_of, placed, tail_of}
 use Rattle.sieve_code.specs.Operation.{targeting}
 use Rattle.sieve_code.specs.declared.op.Op.{Op}
-use Rattle.sieve_code.specs.declared.op.Op.TheVariants.{True, False, Not, Header, Address, Envelope, String, HasFlag, Exists, SizeOver, SizeUnder, Jump, JumpIfFalse, JumpIfTrue, Keep, Fileinto, Redirect, Discard, Set, Flags, Stop}
+use Rattle.sieve_code.specs.declared.op.Op.TheVariants.{True, False, Not, Header, Address, Envelope, String, HasFlag, Exists, SizeOver, SizeUnder, Jump, JumpIfFalse, JumpIfTrue, Keep, Fileinto, Redirect, Discard, Set, Flags, Include, Stop, Return}
 use Rattle.sieve_code.specs.view.Op.{op_as, with_place_of}
 
 place_seen : (count : ℕ) (op : Op) → op_as (with_place_of count op) ≡ targeting (λ left. count - left) (op_as op)
@@ -27,9 +27,11 @@ place_seen count (Keep flags line) = refl
 place_seen count (Fileinto mailbox flags line) = refl
 place_seen count (Redirect address line) = refl
 place_seen count (Discard line) = refl
-place_seen count (Set name modifiers value line) = refl
+place_seen count (Set variable modifiers value line) = refl
 place_seen count (Flags change variable flags line) = refl
+place_seen count (Include place once optional name line) = refl
 place_seen count Stop = refl
+place_seen count Return = refl
 
 places_seen : (count : ℕ) (ops : List Op) → map op_as (map (with_place_of count) ops) ≡ map (targeting (λ left. count - left)) (map op_as ops)
 places_seen count [] = refl

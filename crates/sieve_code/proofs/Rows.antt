@@ -4,19 +4,21 @@ use Rattle.match_text.specs.declared.comparators.Collation.TheVariants.{Casemap,
 use Rattle.std.specs.Fmt.{digits}
 use Rattle.sieve_base.specs.Writers.{quoted}
 use Rattle.message_text.specs.declared.addressing.AddressPart.TheVariants as part
-use Rattle.sieve_check.specs.Reading.{Ask, header_values, address_values, envelope_values, string_values, flag_values, compares, over_ask, keep_leaf, fileinto_leaf, redirect_leaf, discard_leaf, set_leaf, flag_leaf}
+use Rattle.sieve_check.specs.Reading.{Ask, header_values, address_values, envelope_values, string_values, flag_values, compares, over_ask, keep_leaf, fileinto_leaf, redirect_leaf, discard_leaf, set_leaf, flag_leaf, include_leaf}
 use Rattle.sieve_check.specs.Script as script
 use Rattle.sieve_check.specs.Script.{chain_of, condition_of, conditions_in, conditions, block_commands}
 use Rattle.sieve_table.specs.Table.{command_named, test_named}
-use Rattle.sieve_variables.specs.Part.{Part, literal, local_part, match_part}
+use Rattle.sieve_variables.specs.Part.{Part, literal, global_part, local_part, match_part}
+use Rattle.sieve_variables.specs.Variable.{local_variable, global_variable}
 use Rattle.sieve_variables.specs.declared.modifier.LetterCase.TheVariants as letter_case
 use Rattle.sieve_check.specs.Tree.{Argument, strings, number, tag, Test, test, no_tests, one_test, test_list, tests, Node, node, Block, no_block, block, nodes}
 use Rattle.sieve_check.specs.declared.reading.FlagChange.TheVariants.{Set, Add}
 use Rattle.sieve_check.specs.declared.reading.MatchType.TheVariants.{Contains, Is, Matches}
 use Rattle.sieve_code.specs.Choice.{code_of, placed, test_before, tests_before, list_before, first_before, node_before, block_before, nodes_before}
-use Rattle.sieve_code.specs.Dump.{address_words, ask_text, changing_words, comparing_words, flag_lists, further_list, internal_list, line_text, list_text, operation_text, set_words, stored_flags, string_text, two_lists, worded_flags, worded_text}
-use Rattle.sieve_code.specs.Operation.{Operation, sets, inverts, asks, jumps, jumps_if, acts, stops}
-use Rattle.sieve_code.specs.Walk.{Walk, at_end, by_stop, cut_off, asked, acted, code_walk, walk_from, tree_walk, commands_walk, condition_walk, gone, met_ask, met_leaf, ended, unanswered}
+use Rattle.sieve_code.specs.Dump.{address_words, ask_text, changing_words, comparing_words, flag_lists, further_list, include_words, internal_list, line_text, list_text, modifier_words, operation_text, set_words, stored_flags, string_text, two_lists, worded_flags, worded_text, worded_variable}
+use Rattle.sieve_code.specs.Operation.{Operation, sets, inverts, asks, jumps, jumps_if, acts, stops, returns}
+use Rattle.sieve_base.specs.declared.place.Place.TheVariants.{Personal, Global}
+use Rattle.sieve_code.specs.Walk.{Walk, at_end, by_stop, by_return, cut_off, asked, acted, code_walk, walk_from, tree_walk, commands_walk, condition_walk, gone, met_ask, met_leaf, ended, unanswered}
 
 -- TREES
 
@@ -173,9 +175,9 @@ unfolding line_text operation_text digits
 discard_line_row = refl
 
 -- set :length :lower "N" "${007}a${Box}";
-set_line_row : line_text 0 (acts (set_leaf (codes "n") (record { letter_case = Some letter_case.Lower; first_letter = None; quote_wildcard = false; length = true }) (match_part 7 ∷ literal (codes "a") ∷ local_part (codes "box") ∷ [])) 2)
+set_line_row : line_text 0 (acts (set_leaf (local_variable (codes "n")) (record { letter_case = Some letter_case.Lower; first_letter = None; quote_wildcard = false; length = true }) (match_part 7 ∷ literal (codes "a") ∷ local_part (codes "box") ∷ [])) 2)
     ≡ codes "0: set local(n) lower length match(7)+\"a\"+local(box) @2\n"
-unfolding line_text operation_text digits worded_text set_words string_text quoted
+unfolding line_text operation_text digits worded_text set_words modifier_words worded_variable string_text quoted
 set_line_row = refl
 
 string_line_row : line_text 0 (asks (compares (string_values ((local_part (codes "a") ∷ []) ∷ [])) Matches Octet ((literal (codes "x*") ∷ []) ∷ []))) ≡ codes "0: string matches octet [local(a)] [\"x*\"]\n"
@@ -215,7 +217,7 @@ unfolding line_text operation_text digits worded_text stored_flags list_text str
 fileinto_flags_line_row = refl
 
 -- setflag "F" ["a", "b"];
-setflag_line_row : line_text 0 (acts (flag_leaf Set (Some (codes "f")) (one_text (codes "a") ∷ one_text (codes "b") ∷ [])) 2) ≡ codes "0: setflag local(f) [\"a\", \"b\"] @2\n"
+setflag_line_row : line_text 0 (acts (flag_leaf Set (Some (local_variable (codes "f"))) (one_text (codes "a") ∷ one_text (codes "b") ∷ [])) 2) ≡ codes "0: setflag local(f) [\"a\", \"b\"] @2\n"
 unfolding line_text operation_text digits changing_words list_text string_text quoted
 setflag_line_row = refl
 
@@ -231,3 +233,33 @@ variables_line_row = refl
 internal_line_row : line_text 0 (asks (compares (flag_values None) Is Casemap (one_text (codes "a") ∷ []))) ≡ codes "0: hasflag is casemap internal [\"a\"]\n"
 unfolding line_text operation_text digits ask_text comparing_words flag_lists internal_list further_list list_text string_text quoted
 internal_line_row = refl
+
+-- VARIABLES THAT SCRIPTS SHARE, AND SCRIPTS THAT ARE INCLUDED
+
+set_global_line_row : line_text 0 (acts (set_leaf (global_variable (codes "g")) (record { letter_case = None; first_letter = None; quote_wildcard = false; length = false }) (one_text (codes "x"))) 2) ≡ codes "0: set global(g) \"x\" @2\n"
+unfolding line_text operation_text digits set_words modifier_words worded_variable worded_text string_text quoted
+set_global_line_row = refl
+
+addflag_global_line_row : line_text 1 (acts (flag_leaf Add (Some (global_variable (codes "h"))) (one_text (codes "y") ∷ [])) 2) ≡ codes "1: addflag global(h) [\"y\"] @2\n"
+unfolding line_text operation_text digits changing_words list_text string_text quoted
+addflag_global_line_row = refl
+
+include_line_row : line_text 2 (acts (include_leaf Global true false (codes "k")) 3) ≡ codes "2: include global once \"k\" @3\n"
+unfolding line_text operation_text digits include_words quoted
+include_line_row = refl
+
+optional_line_row : line_text 6 (acts (include_leaf Personal false true (codes "x")) 5) ≡ codes "6: include personal optional \"x\" @5\n"
+unfolding line_text operation_text digits include_words quoted
+optional_line_row = refl
+
+return_line_row : line_text 3 returns ≡ codes "3: return\n"
+unfolding line_text operation_text digits
+return_line_row = refl
+
+global_parts_row : string_text (literal (codes "a") ∷ global_part (codes "box") ∷ []) ≡ codes "\"a\"+global(box)"
+unfolding string_text quoted
+global_parts_row = refl
+
+return_row : code_walk (returns ∷ acts (keep_leaf None) 2 ∷ []) 2 ≡ by_return
+unfolding walk_from
+return_row = refl

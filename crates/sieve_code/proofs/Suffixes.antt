@@ -4,7 +4,7 @@ use Rattle.sieve_check.specs.Reading as reading
 use Rattle.sieve_check.specs.Reading.{CommandReading, command_reading}
 use Rattle.sieve_check.specs.Tree.{Node, node, Block, no_block, block, Nodes, end_nodes, more_nodes}
 use Rattle.sieve_code.specs.Choice.{Tail, Branches, no_branch, past_branches, branch_before, command_before, node_before, block_before, nodes_before, first_before}
-use Rattle.sieve_code.specs.Operation.{jumps, jumps_if, acts, stops}
+use Rattle.sieve_code.specs.Operation.{jumps, jumps_if, acts, stops, returns}
 use Rattle.sieve_code.proofs.Tails.{Ends, ends_self, ends_more, ends_trans}
 use Rattle.sieve_code.proofs.Conditions.{first_code}
 
@@ -34,6 +34,7 @@ command_apart (Some reading.opens) line first inner b behind f i a = apart_alone
 command_apart (Some reading.continues) line first inner b behind f i a = record { rest = a.rest; branch = ends_trans _ _ _ (branch_ends first inner b f i) a.branch }
 command_apart (Some reading.otherwise) line first inner b behind f i a = record { rest = a.rest; branch = i b.behind_branches }
 command_apart (Some reading.stops) line first inner b behind f i a = apart_alone (stops ∷ b.behind_branches) behind (ends_more _ _ _ a.rest)
+command_apart (Some reading.returns) line first inner b behind f i a = apart_alone (returns ∷ b.behind_branches) behind (ends_more _ _ _ a.rest)
 command_apart (Some reading.nothing) line first inner b behind f i a = apart_alone b.behind_branches behind a.rest
 command_apart (Some (reading.acts leaf)) line first inner b behind f i a = apart_alone (acts leaf line ∷ b.behind_branches) behind (ends_more _ _ _ a.rest)
 

@@ -2,8 +2,8 @@
 use Rattle.std.proofs.Common.{◌≡◌, ℕ, zero, suc, ◌-◌, ◌≤◌, Bool, true, false, not, if◌then◌else◌, [], ◌∷◌, ◌++◌, length, drop, Some, None, refl, sym, ap, ◌∙◌, arith, append_assoc, length-append}
 use Rattle.sieve_check.specs.Reading.{Ask, Leaf}
 use Rattle.sieve_code.specs.Choice.{Tail}
-use Rattle.sieve_code.specs.Operation.{Operation, sets, inverts, asks, jumps, jumps_if, acts, stops, target_of}
-use Rattle.sieve_code.specs.Walk.{Walk, at_end, by_stop, cut_off, asked, acted}
+use Rattle.sieve_code.specs.Operation.{Operation, sets, inverts, asks, jumps, jumps_if, acts, stops, returns, target_of}
+use Rattle.sieve_code.specs.Walk.{Walk, at_end, by_stop, by_return, cut_off, asked, acted}
 use Rattle.sieve_code.specs.view.Branches.{last}
 
 -- one operation of a tail
@@ -17,6 +17,7 @@ tail_step go (jumps_if true left ∷ rest) r = if r then go (last left rest) r e
 tail_step go (jumps_if false left ∷ rest) r = if r then go rest r else go (last left rest) r
 tail_step go (acts leaf line ∷ rest) r = acted leaf line (go rest r)
 tail_step go (stops ∷ rest) r = by_stop
+tail_step go (returns ∷ rest) r = by_return
 
 -- a tail in at most so many operations
 abbrev pub tail_walk : ℕ → Tail → Bool → Walk
@@ -92,6 +93,9 @@ module _ (rest : Tail) (does : Bool → Walk) (walks : Walks rest does) where
 
 pub walks_stops : (rest : Tail) → Walks (stops ∷ rest) (λ r. by_stop)
 walks_stops rest = walks_more stops rest _ (λ n le r. refl)
+
+pub walks_returns : (rest : Tail) → Walks (returns ∷ rest) (λ r. by_return)
+walks_returns rest = walks_more returns rest _ (λ n le r. refl)
 
 -- where a jump with that truth leads: there, or on
 abbrev pub landed : (truth r : Bool) → (there on : Walk) → Walk

@@ -18,6 +18,7 @@ commands_whole : (c : Commands) (next : Walk) → IsWhole next → IsWhole (comm
 unfolding commands_walk IsWhole
 commands_whole no_commands next n = n
 commands_whole (script.stops rest) next n = tt
+commands_whole (script.returns rest) next n = tt
 commands_whole (script.acts leaf line rest) next n = commands_whole rest next n
 commands_whole (chooses condition block otherwise rest) next n =
     let behind = commands_whole rest next n in

@@ -4,7 +4,7 @@ use Rattle.std.specs.Prelude.{ℕ, ◌-◌, ◌<◌, ◌≤◌, ◌≡◌, Bool,
 use Rattle.sieve_check.specs.Reading as reading
 use Rattle.sieve_check.specs.Reading.{TestReading, reads_always, reads_never, reads_ask, reads_all, reads_any, reads_not, CommandReading, test_reading, command_reading}
 use Rattle.sieve_check.specs.Tree.{Test, test, Tests, no_tests, one_test, test_list, TestList, end_tests, more_tests, Node, node, Block, no_block, block, Nodes, end_nodes, more_nodes, nodes}
-use Rattle.sieve_code.specs.Operation.{Operation, sets, inverts, asks, jumps, jumps_if, acts, stops, target_of, targeting}
+use Rattle.sieve_code.specs.Operation.{Operation, sets, inverts, asks, jumps, jumps_if, acts, stops, returns, target_of, targeting}
 
 -- Operations up to the end of the code. Here a jump has for its target how many operations there are from the target to the
 -- end, so that what stands in front doesn't matter.
@@ -83,6 +83,7 @@ command_before (Some reading.opens) line first inner branches = no_branch (branc
 command_before (Some reading.continues) line first inner branches = record { has_branch = true; with_branch = branch_before first inner branches; behind_branches = branches.behind_branches }
 command_before (Some reading.otherwise) line first inner branches = record { has_branch = true; with_branch = inner branches.behind_branches; behind_branches = branches.behind_branches }
 command_before (Some reading.stops) line first inner branches = no_branch (stops ∷ branches.behind_branches)
+command_before (Some reading.returns) line first inner branches = no_branch (returns ∷ branches.behind_branches)
 command_before (Some reading.nothing) line first inner branches = no_branch branches.behind_branches
 command_before (Some (reading.acts leaf)) line first inner branches = no_branch (acts leaf line ∷ branches.behind_branches)
 

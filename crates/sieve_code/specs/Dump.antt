@@ -4,27 +4,39 @@ use Rattle.std.specs.List.{flat_map}
 use Rattle.match_text.specs.declared.comparators.Collation.{Collation}
 use Rattle.match_text.specs.declared.comparators.Collation.TheVariants.{Octet, Casemap}
 use Rattle.sieve_base.specs.Writers.{quoted}
+use Rattle.sieve_base.specs.declared.place.Place.{Place}
+use Rattle.sieve_base.specs.declared.place.Place.TheVariants.{Personal, Global}
 use Rattle.message_text.specs.declared.addressing.AddressPart.{AddressPart}
 use Rattle.message_text.specs.declared.addressing.AddressPart.TheVariants as address_part
-use Rattle.sieve_check.specs.Reading.{header_values, address_values, envelope_values, string_values, flag_values, Ask, compares, exists_ask, over_ask, under_ask, Leaf, keep_leaf, fileinto_leaf, redirect_leaf, discard_leaf, set_leaf, flag_leaf}
+use Rattle.sieve_check.specs.Reading.{header_values, address_values, envelope_values, string_values, flag_values, Ask, compares, exists_ask, over_ask, under_ask, Leaf, keep_leaf, fileinto_leaf, redirect_leaf, discard_leaf, set_leaf, flag_leaf, include_leaf}
 use Rattle.sieve_check.specs.declared.reading.FlagChange.{FlagChange}
 use Rattle.sieve_check.specs.declared.reading.FlagChange.TheVariants as change
 use Rattle.sieve_check.specs.declared.reading.MatchType.{MatchType}
 use Rattle.sieve_check.specs.declared.reading.MatchType.TheVariants.{Is, Contains, Matches}
-use Rattle.sieve_variables.specs.Part.{Part, literal, local_part, match_part}
+use Rattle.sieve_variables.specs.Part.{Part, literal, variable_part, match_part}
+use Rattle.sieve_variables.specs.Variable.{Variable, local_variable, global_variable}
 use Rattle.sieve_variables.specs.declared.modifier.LetterCase.{LetterCase}
 use Rattle.sieve_variables.specs.declared.modifier.LetterCase.TheVariants as letter_case
 use Rattle.sieve_variables.specs.declared.modifier.Modifiers.{Modifiers}
-use Rattle.sieve_code.specs.Operation.{Operation, sets, inverts, asks, jumps, jumps_if, acts, stops}
+use Rattle.sieve_code.specs.Operation.{Operation, sets, inverts, asks, jumps, jumps_if, acts, stops, returns}
 
 -- the texts of items in order, each but the first behind a mark
 abbrev pub separated : {X : Type 0} → List ℕ → (X → List ℕ) → List X → List ℕ
 separated mark text [] = []
 separated mark text (x ∷ xs) = text x ++ flat_map (λ y. mark ++ text y) xs
 
+-- whose a variable is, and its name
+abbrev pub scope_word : Variable → List ℕ
+scope_word (local_variable name) = codes "local("
+scope_word (global_variable name) = codes "global("
+
+abbrev pub name_of : Variable → List ℕ
+name_of (local_variable name) = name
+name_of (global_variable name) = name
+
 abbrev pub part_text : Part → List ℕ
 part_text (literal octets) = quoted octets
-part_text (local_part name) = codes "local(" ++ name ++ codes ")"
+part_text (variable_part variable) = scope_word variable ++ name_of variable ++ codes ")"
 part_text (match_part index) = codes "match(" ++ decimal index ++ codes ")"
 
 -- a string: its parts, joined by `+`; one without parts is empty
@@ -113,9 +125,17 @@ abbrev pub given_word : Bool → List ℕ → List ℕ
 given_word false word = []
 given_word true word = word
 
+-- modifiers behind the variable
+unfoldable pub modifier_words : Modifiers → List ℕ
+modifier_words modifiers = case_word modifiers.letter_case ++ first_word modifiers.first_letter ++ given_word modifiers.quote_wildcard (codes " quotewildcard") ++ given_word modifiers.length (codes " length") ++ codes " "
+
+-- a variable behind a word
+unfoldable pub worded_variable : List ℕ → Variable → List ℕ
+worded_variable word variable = word ++ scope_word variable ++ name_of variable ++ codes ")"
+
 -- what a `set` does, apart from the value
-unfoldable pub set_words : List ℕ → Modifiers → List ℕ
-set_words name modifiers = codes "set local(" ++ name ++ codes ")" ++ case_word modifiers.letter_case ++ first_word modifiers.first_letter ++ given_word modifiers.quote_wildcard (codes " quotewildcard") ++ given_word modifiers.length (codes " length") ++ codes " "
+unfoldable pub set_words : Variable → Modifiers → List ℕ
+set_words variable modifiers = worded_variable (codes "set ") variable ++ modifier_words modifiers
 
 abbrev pub change_word : FlagChange → List ℕ
 change_word change.Set = codes "setflag"
@@ -123,17 +143,27 @@ change_word change.Add = codes "addflag"
 change_word change.Remove = codes "removeflag"
 
 -- what changes flags: those of a variable, or the internal ones
-unfoldable pub changing_words : FlagChange → Option (List ℕ) → List ℕ
+unfoldable pub changing_words : FlagChange → Option Variable → List ℕ
 changing_words how None = change_word how ++ codes " internal "
-changing_words how (Some name) = change_word how ++ codes " local(" ++ name ++ codes ") "
+changing_words how (Some variable) = change_word how ++ codes " " ++ scope_word variable ++ name_of variable ++ codes ") "
+
+-- a place of scripts
+abbrev pub place_word : Place → List ℕ
+place_word Personal = codes "personal"
+place_word Global = codes "global"
+
+-- what is included
+unfoldable pub include_words : Place → (once optional : Bool) → List ℕ → List ℕ
+include_words place once optional name = codes "include " ++ place_word place ++ given_word once (codes " once") ++ given_word optional (codes " optional") ++ codes " " ++ quoted name
 
 abbrev pub leaf_text : Leaf → List ℕ
 leaf_text (keep_leaf flags) = worded_flags (codes "keep") flags
 leaf_text (fileinto_leaf mailbox flags) = worded_text (codes "fileinto ") mailbox ++ stored_flags flags
 leaf_text (redirect_leaf address) = worded_text (codes "redirect ") address
 leaf_text discard_leaf = codes "discard"
-leaf_text (set_leaf name modifiers value) = worded_text (set_words name modifiers) value
+leaf_text (set_leaf variable modifiers value) = worded_text (set_words variable modifiers) value
 leaf_text (flag_leaf how variable flags) = changing_words how variable ++ list_text flags
+leaf_text (include_leaf place once optional name) = include_words place once optional name
 
 unfoldable pub operation_text : Operation → List ℕ
 operation_text (sets true) = codes "true"
@@ -145,6 +175,7 @@ operation_text (jumps_if false target) = codes "jump-if-false " ++ decimal targe
 operation_text (jumps_if true target) = codes "jump-if-true " ++ decimal target
 operation_text (acts leaf line) = leaf_text leaf ++ (codes " @" ++ decimal line)
 operation_text stops = codes "stop"
+operation_text returns = codes "return"
 
 -- the line of an operation: its place and what it is
 unfoldable pub line_text : ℕ → Operation → List ℕ

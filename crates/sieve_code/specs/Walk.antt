@@ -4,13 +4,14 @@ use Rattle.sieve_check.specs.Reading.{Ask, Leaf}
 use Rattle.sieve_check.specs.Script as script
 use Rattle.sieve_check.specs.Script.{Condition, always, never, negated, both, either, Commands, no_commands, chooses, script_of}
 use Rattle.sieve_check.specs.Tree.{Node}
-use Rattle.sieve_code.specs.Operation.{Operation, sets, inverts, asks, jumps, jumps_if, acts, stops}
+use Rattle.sieve_code.specs.Operation.{Operation, sets, inverts, asks, jumps, jumps_if, acts, stops, returns}
 
--- A walk: it has come to the end, it was ended by `stop` (RFC 5228, section 3.3), or its operations were used up; it asks
--- something of the delivery, and goes on by the answer; or it does what a command does, with the command's line, and goes on.
+-- A walk: it has come to the end, it was ended by `stop` (RFC 5228, section 3.3) or by `return` (RFC 6609, section 3.3), or its
+-- operations were used up; it asks something of the delivery, and goes on by the answer; or it does what a command does, with the command's line, and goes on.
 pub data Walk : Type 0 where
   at_end : Walk
   by_stop : Walk
+  by_return : Walk
   cut_off : Walk
   asked : (ask : Ask) (held failed : Walk) → Walk
   acted : (leaf : Leaf) (line : ℕ) (next : Walk) → Walk
@@ -31,6 +32,7 @@ condition_walk (either c d) held failed = condition_walk c held (condition_walk 
 unfoldable pub commands_walk : Commands → Walk → Walk
 commands_walk no_commands next = next
 commands_walk (script.stops rest) next = by_stop
+commands_walk (script.returns rest) next = by_return
 commands_walk (script.acts leaf line rest) next = acted leaf line (commands_walk rest next)
 commands_walk (chooses condition block otherwise rest) next = condition_walk condition (commands_walk block (commands_walk rest next)) (commands_walk otherwise (commands_walk rest next))
 
@@ -51,6 +53,7 @@ step go (Some (jumps_if true target)) place register = if register then go targe
 step go (Some (jumps_if false target)) place register = if register then go (place + 1) register else go target register
 step go (Some (acts leaf line)) place register = acted leaf line (go (place + 1) register)
 step go (Some stops) place register = by_stop
+step go (Some returns) place register = by_return
 
 -- without a further operation: the end, where the code ends there
 abbrev pub at_limit : Option Operation → Walk
@@ -70,6 +73,7 @@ code_walk ops n = walk_from ops n 0 false
 unfoldable pub IsWhole : Walk → Type 0
 IsWhole at_end = Unit {0}
 IsWhole by_stop = Unit {0}
+IsWhole by_return = Unit {0}
 IsWhole cut_off = ⊥
 IsWhole (asked ask held failed) = IsWhole held × IsWhole failed
 IsWhole (acted leaf line next) = IsWhole next
@@ -81,10 +85,11 @@ pub data Met : Type 0 where
   met_ask : (ask : Ask) → Met
   met_leaf : (leaf : Leaf) (line : ℕ) → Met
 
--- how a walk ends: at the end, by `stop`, for want of an answer, or with its operations used up
+-- how a walk ends: at the end, by `stop`, by `return`, for want of an answer, or with its operations used up
 pub data End : Type 0 where
   ended : End
   stopped : End
+  returned : End
   unanswered : End
   unfinished : End
 
@@ -100,6 +105,7 @@ met_before m gone = record { met = m ∷ gone.met; ending = gone.ending }
 unfoldable pub gone : Walk → List Bool → Gone
 gone at_end answers = record { met = []; ending = ended }
 gone by_stop answers = record { met = []; ending = stopped }
+gone by_return answers = record { met = []; ending = returned }
 gone cut_off answers = record { met = []; ending = unfinished }
 gone (asked ask held failed) [] = met_before (met_ask ask) (record { met = []; ending = unanswered })
 gone (asked ask held failed) (true ∷ answers) = met_before (met_ask ask) (gone held answers)

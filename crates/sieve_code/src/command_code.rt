@@ -105,6 +105,11 @@ fn put_command(
             tail.put(Op::Stop)?;
             Ok(without_branch(tail))
         }
+        Some(CommandReading::Returns) => {
+            tail.keep_last(front.behind);
+            tail.put(Op::Return)?;
+            Ok(without_branch(tail))
+        }
         Some(CommandReading::Nothing) => {
             tail.keep_last(front.behind);
             Ok(without_branch(tail))

@@ -3,17 +3,17 @@ ghost use Rattle.std.specs.Prelude.{◌≡◌, ◌++◌, codes, decimal, map, On
 ghost use Rattle.std.specs.List.{flat_map};
 ghost use Rattle.std.specs.Option.{option_map};
 ghost use Rattle.sieve_base.specs.Writers.{Wrote, WroteFront};
-ghost use Rattle.sieve_code.specs.Dump.{address_part_word, address_words, case_word, change_word, changing_words, collation_word, comparing_words, first_word, flag_lists, further_list, given_word, internal_list, line_text, list_text, match_word, operation_text, part_text, separated, set_words, stored_flags, string_text, two_lists, worded_flags, worded_text};
+ghost use Rattle.sieve_code.specs.Dump.{address_part_word, address_words, case_word, change_word, changing_words, collation_word, comparing_words, first_word, flag_lists, further_list, given_word, include_words, internal_list, line_text, list_text, match_word, modifier_words, name_of, operation_text, part_text, place_word, scope_word, separated, set_words, stored_flags, string_text, two_lists, worded_flags, worded_text, worded_variable};
 ghost use Rattle.sieve_code.specs.view.Marked.{marked_part, marked_string};
 ghost use Rattle.sieve_code.specs.view.Op.{given_strings, op_as};
-ghost use Rattle.sieve_variables.specs.view.Part.{part_of, strings_of};
+ghost use Rattle.sieve_variables.specs.view.Part.{part_of, strings_of, variable_of};
 
 use crate::op::Op;
 use match_text::Collation;
 use message_text::AddressPart;
-use sieve_base::{Piece, Sink, WriteFault, write_out, write_pieces};
+use sieve_base::{Piece, Place, Sink, WriteFault, write_out, write_pieces};
 use sieve_check::{FlagChange, MatchType};
-use sieve_variables::{LetterCase, Modifiers, Part, Parts, SmallOctets};
+use sieve_variables::{LetterCase, Modifiers, Part, Parts, Variable};
 
 /// The word of a match type.
 fn match_word(match_type: MatchType) -> &'static [u8]
@@ -47,6 +47,26 @@ fn address_part_word(part: AddressPart) -> &'static [u8]
     }
 }
 
+/// The word that says whose a variable is.
+fn scope_word(variable: &Variable) -> &'static [u8]
+    ensures { result.now ≡ scope_word (variable_of variable.now) }
+{
+    match variable {
+        Variable::Local(_) => b"local(",
+        Variable::Global(_) => b"global(",
+    }
+}
+
+/// The name of a variable.
+fn name_of(variable: &Variable) -> &[u8]
+    ensures { result.now ≡ name_of (variable_of variable.now) }
+{
+    match variable {
+        Variable::Local(name) => name.as_slice(),
+        Variable::Global(name) => name.as_slice(),
+    }
+}
+
 /// Writes these octets and then a part of a string.
 fn write_part<'x, W: Sink>(
     front: &'x [u8],
@@ -58,11 +78,11 @@ fn write_part<'x, W: Sink>(
 {
     match part {
         Part::Literal(octets) => write_pieces(&[Piece::Raw(front), Piece::Quoted(octets)], writer),
-        Part::Local(name) => write_pieces(
+        Part::Variable(variable) => write_pieces(
             &[
                 Piece::Raw(front),
-                Piece::Raw(b"local("),
-                Piece::Raw(name),
+                Piece::Raw(scope_word(variable)),
+                Piece::Raw(name_of(variable)),
                 Piece::Raw(b")"),
             ],
             writer,
@@ -389,21 +409,35 @@ fn given_word<'a>(is_given: bool, word: &'a [u8]) -> &'a [u8]
     if is_given { word } else { b"" }
 }
 
-/// Writes what a `set` does, apart from the value.
-#[tactic(auto, unfolding(crate::specs::Dump::set_words))]
-fn write_set_words<W: Sink>(
-    name: &[u8],
-    modifiers: Modifiers,
+/// Writes a word and then a variable.
+#[tactic(auto, unfolding(crate::specs::Dump::worded_variable))]
+fn write_variable<'x, W: Sink>(
+    word: &'x [u8],
+    variable: &'x Variable,
     writer: &mut W,
 ) -> Result<(), WriteFault>
-    ensures ok { OnOk result (Wrote W.contents W.fault_count writer.old writer.new (set_words name.now modifiers)) }
-    ensures err { OnErr result (WroteFront W.contents W.fault_count writer.old writer.new (set_words name.now modifiers)) }
+    ensures ok { OnOk result (Wrote W.contents W.fault_count writer.old writer.new (worded_variable word.now (variable_of variable.now))) }
+    ensures err { OnErr result (WroteFront W.contents W.fault_count writer.old writer.new (worded_variable word.now (variable_of variable.now))) }
 {
     write_pieces(
         &[
-            Piece::Raw(b"set local("),
-            Piece::Raw(name),
+            Piece::Raw(word),
+            Piece::Raw(scope_word(variable)),
+            Piece::Raw(name_of(variable)),
             Piece::Raw(b")"),
+        ],
+        writer,
+    )
+}
+
+/// Writes the modifiers of a `set`.
+#[tactic(auto, unfolding(crate::specs::Dump::modifier_words))]
+fn write_modifiers<W: Sink>(modifiers: Modifiers, writer: &mut W) -> Result<(), WriteFault>
+    ensures ok { OnOk result (Wrote W.contents W.fault_count writer.old writer.new (modifier_words modifiers)) }
+    ensures err { OnErr result (WroteFront W.contents W.fault_count writer.old writer.new (modifier_words modifiers)) }
+{
+    write_pieces(
+        &[
             Piece::Raw(case_word(modifiers.letter_case)),
             Piece::Raw(first_word(modifiers.first_letter)),
             Piece::Raw(given_word(modifiers.quote_wildcard, b" quotewildcard")),
@@ -414,19 +448,33 @@ fn write_set_words<W: Sink>(
     )
 }
 
+/// Writes what a `set` does, apart from the value.
+#[tactic(auto, using(sieve_base::proofs::Writing::writing), unfolding(crate::specs::Dump::set_words))]
+fn write_set_words<W: Sink>(
+    variable: &Variable,
+    modifiers: Modifiers,
+    writer: &mut W,
+) -> Result<(), WriteFault>
+    ensures ok { OnOk result (Wrote W.contents W.fault_count writer.old writer.new (set_words (variable_of variable.now) modifiers)) }
+    ensures err { OnErr result (WroteFront W.contents W.fault_count writer.old writer.new (set_words (variable_of variable.now) modifiers)) }
+{
+    write_variable(b"set ", variable, writer)?;
+    write_modifiers(modifiers, writer)
+}
+
 /// Writes a `set`.
 #[tactic(auto, using(sieve_base::proofs::Writing::writing), unfolding(crate::specs::Dump::worded_text))]
 fn write_set<W: Sink>(
-    name: &[u8],
+    variable: &Variable,
     modifiers: Modifiers,
     value: &[Part],
     line: u64,
     writer: &mut W,
 ) -> Result<(), WriteFault>
-    ensures ok { OnOk result (Wrote W.contents W.fault_count writer.old writer.new (worded_text (set_words name.now modifiers) (map part_of value.now) ++ (codes " @" ++ decimal line))) }
-    ensures err { OnErr result (WroteFront W.contents W.fault_count writer.old writer.new (worded_text (set_words name.now modifiers) (map part_of value.now) ++ (codes " @" ++ decimal line))) }
+    ensures ok { OnOk result (Wrote W.contents W.fault_count writer.old writer.new (worded_text (set_words (variable_of variable.now) modifiers) (map part_of value.now) ++ (codes " @" ++ decimal line))) }
+    ensures err { OnErr result (WroteFront W.contents W.fault_count writer.old writer.new (worded_text (set_words (variable_of variable.now) modifiers) (map part_of value.now) ++ (codes " @" ++ decimal line))) }
 {
-    write_set_words(name, modifiers, writer)?;
+    write_set_words(variable, modifiers, writer)?;
     write_string(b"", value, writer)?;
     write_number(b" @", line, writer)
 }
@@ -446,19 +494,20 @@ fn change_word(change: FlagChange) -> &'static [u8]
 #[tactic(auto, unfolding(crate::specs::Dump::changing_words))]
 fn write_changing_words<W: Sink>(
     change: FlagChange,
-    variable: &Option<SmallOctets>,
+    variable: &Option<Variable>,
     writer: &mut W,
 ) -> Result<(), WriteFault>
-    ensures ok { OnOk result (Wrote W.contents W.fault_count writer.old writer.new (changing_words change (option_map (λ name. name.items) variable.now))) }
-    ensures err { OnErr result (WroteFront W.contents W.fault_count writer.old writer.new (changing_words change (option_map (λ name. name.items) variable.now))) }
+    ensures ok { OnOk result (Wrote W.contents W.fault_count writer.old writer.new (changing_words change (option_map variable_of variable.now))) }
+    ensures err { OnErr result (WroteFront W.contents W.fault_count writer.old writer.new (changing_words change (option_map variable_of variable.now))) }
 {
     let word = change_word(change);
     match variable {
-        Some(name) => write_pieces(
+        Some(variable) => write_pieces(
             &[
                 Piece::Raw(word),
-                Piece::Raw(b" local("),
-                Piece::Raw(name),
+                Piece::Raw(b" "),
+                Piece::Raw(scope_word(variable)),
+                Piece::Raw(name_of(variable)),
                 Piece::Raw(b") "),
             ],
             writer,
@@ -471,16 +520,68 @@ fn write_changing_words<W: Sink>(
 #[tactic(auto, using(sieve_base::proofs::Writing::writing))]
 fn write_flags<W: Sink>(
     change: FlagChange,
-    variable: &Option<SmallOctets>,
+    variable: &Option<Variable>,
     flags: &[Parts],
     line: u64,
     writer: &mut W,
 ) -> Result<(), WriteFault>
-    ensures ok { OnOk result (Wrote W.contents W.fault_count writer.old writer.new (changing_words change (option_map (λ name. name.items) variable.now) ++ list_text (strings_of flags.now) ++ (codes " @" ++ decimal line))) }
-    ensures err { OnErr result (WroteFront W.contents W.fault_count writer.old writer.new (changing_words change (option_map (λ name. name.items) variable.now) ++ list_text (strings_of flags.now) ++ (codes " @" ++ decimal line))) }
+    ensures ok { OnOk result (Wrote W.contents W.fault_count writer.old writer.new (changing_words change (option_map variable_of variable.now) ++ list_text (strings_of flags.now) ++ (codes " @" ++ decimal line))) }
+    ensures err { OnErr result (WroteFront W.contents W.fault_count writer.old writer.new (changing_words change (option_map variable_of variable.now) ++ list_text (strings_of flags.now) ++ (codes " @" ++ decimal line))) }
 {
     write_changing_words(change, variable, writer)?;
     write_list(b"", flags, writer)?;
+    write_number(b" @", line, writer)
+}
+
+/// The word of a place of scripts.
+pub fn place_word(place: Place) -> &'static [u8]
+    ensures { result.now ≡ place_word place }
+{
+    match place {
+        Place::Personal => b"personal",
+        Place::Global => b"global",
+    }
+}
+
+/// Writes what is included.
+#[tactic(auto, unfolding(crate::specs::Dump::include_words))]
+fn write_include_words<W: Sink>(
+    place: Place,
+    once: bool,
+    optional: bool,
+    name: &[u8],
+    writer: &mut W,
+) -> Result<(), WriteFault>
+    ensures ok { OnOk result (Wrote W.contents W.fault_count writer.old writer.new (include_words place once optional name.now)) }
+    ensures err { OnErr result (WroteFront W.contents W.fault_count writer.old writer.new (include_words place once optional name.now)) }
+{
+    write_pieces(
+        &[
+            Piece::Raw(b"include "),
+            Piece::Raw(place_word(place)),
+            Piece::Raw(given_word(once, b" once")),
+            Piece::Raw(given_word(optional, b" optional")),
+            Piece::Raw(b" "),
+            Piece::Quoted(name),
+        ],
+        writer,
+    )
+}
+
+/// Writes an `include`.
+#[tactic(auto, using(sieve_base::proofs::Writing::writing))]
+fn write_include<W: Sink>(
+    place: Place,
+    once: bool,
+    optional: bool,
+    name: &[u8],
+    line: u64,
+    writer: &mut W,
+) -> Result<(), WriteFault>
+    ensures ok { OnOk result (Wrote W.contents W.fault_count writer.old writer.new (include_words place once optional name.now ++ (codes " @" ++ decimal line))) }
+    ensures err { OnErr result (WroteFront W.contents W.fault_count writer.old writer.new (include_words place once optional name.now ++ (codes " @" ++ decimal line))) }
+{
+    write_include_words(place, once, optional, name, writer)?;
     write_number(b" @", line, writer)
 }
 
@@ -557,18 +658,26 @@ fn write_op<W: Sink>(op: &Op, writer: &mut W) -> Result<(), WriteFault>
         Op::Redirect { address, line } => write_redirect(address, *line, writer),
         Op::Discard(line) => write_number(b"discard @", *line, writer),
         Op::Set {
-            name,
+            variable,
             modifiers,
             value,
             line,
-        } => write_set(name, *modifiers, value, *line, writer),
+        } => write_set(variable, *modifiers, value, *line, writer),
         Op::Flags {
             change,
             variable,
             flags,
             line,
         } => write_flags(*change, variable, flags, *line, writer),
+        Op::Include {
+            place,
+            once,
+            optional,
+            name,
+            line,
+        } => write_include(*place, *once, *optional, name, *line, writer),
         Op::Stop => write_out(b"stop", writer),
+        Op::Return => write_out(b"return", writer),
     }
 }
 

@@ -2,8 +2,9 @@
 
 use match_text::Collation;
 use message_text::AddressPart;
+use sieve_base::Place;
 use sieve_check::{FlagChange, MatchType};
-use sieve_variables::{Modifiers, Parts, SmallOctets};
+use sieve_variables::{Modifiers, Parts, SmallOctets, Variable};
 
 /// An operation. Code has one truth register, which tests set. A string is its parts in order.
 #[derive(Debug, Drop)]
@@ -113,10 +114,10 @@ pub enum Op {
     },
     /// Discards the message (RFC 5228, section 4.4), with the command's line.
     Discard(u64),
-    /// Gives a variable of the script a value (RFC 5229, section 4).
+    /// Gives a variable a value (RFC 5229, section 4).
     Set {
-        /// The variable's name, in lower case.
-        name: SmallOctets,
+        /// The variable.
+        variable: Variable,
         /// What is done to the value.
         modifiers: Modifiers,
         /// The value.
@@ -128,13 +129,28 @@ pub enum Op {
     Flags {
         /// How it changes them.
         change: FlagChange,
-        /// The variable that holds them, by its name in lower case; the internal flags where none is named.
-        variable: Option<SmallOctets>,
+        /// The variable that holds them; the internal flags where none is named.
+        variable: Option<Variable>,
         /// The flags that are named.
         flags: Vec<Parts>,
         /// The command's line.
         line: u64,
     },
+    /// Runs another script (RFC 6609, section 3.2).
+    Include {
+        /// Where the script is kept.
+        place: Place,
+        /// Whether it runs only where it hasn't run yet.
+        once: bool,
+        /// Whether it may be missing.
+        optional: bool,
+        /// The script's name.
+        name: SmallOctets,
+        /// The command's line.
+        line: u64,
+    },
     /// Ends the run (RFC 5228, section 3.3).
     Stop,
+    /// Ends its script (RFC 6609, section 3.3).
+    Return,
 }

@@ -6,12 +6,12 @@ ghost use Rattle.sieve_check.specs.view.Reading.{ask_as, leaf_as, source_as, tex
 ghost use Rattle.sieve_check.specs.view.Tree.{text_of};
 ghost use Rattle.sieve_code.specs.Operation.{asks, acts};
 ghost use Rattle.sieve_code.specs.view.Op.{given_strings, op_as, parts_of};
-ghost use Rattle.sieve_variables.specs.view.Part.{part_of, strings_of};
+ghost use Rattle.sieve_variables.specs.view.Part.{part_of, strings_of, variable_of};
 
 use crate::op::Op;
 use match_text::Collation;
 use sieve_check::{Ask, Leaf, MatchType, Source, Text};
-use sieve_variables::{Part, Parts, SmallOctets};
+use sieve_variables::{Part, Parts, SmallOctets, Variable};
 use std::alloc::{AllocError, Global};
 
 /// A copy of a part.
@@ -20,7 +20,7 @@ fn copied_part(alloc: Global, part: &Part) -> Result<Part, AllocError>
 {
     match part {
         Part::Literal(octets) => Ok(Part::Literal(SmallOctets::from_slice(alloc, octets)?)),
-        Part::Local(name) => Ok(Part::Local(SmallOctets::from_slice(alloc, name)?)),
+        Part::Variable(variable) => Ok(Part::Variable(variable.copied(alloc)?)),
         Part::Match(index) => Ok(Part::Match(*index)),
     }
 }
@@ -57,12 +57,15 @@ fn given_strings(alloc: Global, texts: Option<&[Text]>) -> Result<Option<Vec<Par
     }
 }
 
-/// A copy of the name of a variable that may be left out.
-fn given_name(alloc: Global, name: Option<&[u8]>) -> Result<Option<SmallOctets>, AllocError>
-    ensures { IfOk result (λ copy. option_map (λ octets. octets.items) copy ≡ option_map (λ octets. octets.now) name.entry) }
+/// A copy of a variable that may be left out.
+fn given_variable(
+    alloc: Global,
+    variable: Option<&Variable>,
+) -> Result<Option<Variable>, AllocError>
+    ensures { IfOk result (λ copy. option_map variable_of copy ≡ option_map (λ one. variable_of one.now) variable.entry) }
 {
-    match name {
-        Some(name) => Ok(Some(SmallOctets::from_slice(alloc, name)?)),
+    match variable {
+        Some(variable) => Ok(Some(variable.copied(alloc)?)),
         None => Ok(None),
     }
 }
@@ -155,11 +158,11 @@ pub(crate) fn leaf_op(alloc: Global, leaf: Leaf<'_>, line: u64) -> Result<Op, Al
         }
         Leaf::Discard => Ok(Op::Discard(line)),
         Leaf::Set {
-            name,
+            variable,
             modifiers,
             value,
         } => Ok(Op::Set {
-            name: SmallOctets::from_slice(alloc, name)?,
+            variable: variable.copied(alloc)?,
             modifiers,
             value: copied_parts(alloc, value)?,
             line,
@@ -170,8 +173,20 @@ pub(crate) fn leaf_op(alloc: Global, leaf: Leaf<'_>, line: u64) -> Result<Op, Al
             flags,
         } => Ok(Op::Flags {
             change,
-            variable: given_name(alloc, variable)?,
+            variable: given_variable(alloc, variable)?,
             flags: copied_strings(alloc, flags)?,
+            line,
+        }),
+        Leaf::Include {
+            place,
+            once,
+            optional,
+            name,
+        } => Ok(Op::Include {
+            place,
+            once,
+            optional,
+            name: SmallOctets::from_slice(alloc, name)?,
             line,
         }),
     }

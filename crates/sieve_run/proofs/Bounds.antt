@@ -1,20 +1,21 @@
--- A run performs no more actions than it may.
-use Rattle.std.proofs.Common.{◌≡◌, ℕ, ◌≤◌, Bool, true, false, Option, None, Some, List, [], ◌∷◌, ◌++◌, length, map, nat_lt, refl, subst, sym, ap, ◌∙◌, arith}
+-- What holds of the state of a run from its start to its end: it has no more actions than it may, and enters no more scripts.
+use Rattle.std.proofs.Common.{◌≡◌, ℕ, zero, suc, ◌≤◌, Bool, true, false, ◌&&◌, Option, None, Some, List, [], ◌∷◌, ◌++◌, length, map, nat_lt, refl, subst, sym, arith}
 use Rattle.std.proofs.lemmas.Bool.Decides.{nat_tests}
 use Rattle.std.proofs.lemmas.List.{length_push, length-map}
 use Rattle.std.specs.Prelude.{if◌then◌else◌}
 use Rattle.std.specs.List.{list_any}
 use Rattle.message_text.specs.Addresses.{addresses_of}
-use Rattle.sieve_base.specs.Limits.{action_limit}
-use Rattle.sieve_check.specs.Reading.{Leaf, keep_leaf, fileinto_leaf, redirect_leaf, discard_leaf, set_leaf, flag_leaf}
+use Rattle.sieve_base.specs.Limits.{action_limit, include_depth, include_limit}
+use Rattle.sieve_check.specs.Reading.{Leaf, keep_leaf, fileinto_leaf, redirect_leaf, discard_leaf, set_leaf, flag_leaf, include_leaf}
 use Rattle.sieve_check.specs.declared.reading.FlagChange.{FlagChange}
 use Rattle.sieve_check.specs.Script.{script_of}
-use Rattle.sieve_code.specs.Walk.{Walk, at_end, by_stop, cut_off, asked, acted, tree_walk}
-use Rattle.sieve_run.specs.Delivery.{Delivery}
+use Rattle.sieve_check.specs.Tree.{Node}
+use Rattle.sieve_code.specs.Walk.{Walk, at_end, by_stop, by_return, cut_off, asked, acted, tree_walk}
+use Rattle.sieve_run.specs.Delivery.{Delivery, inside}
 use Rattle.sieve_run.specs.Library.{Lookup, missing, invalid, present, found_at}
 use Rattle.sieve_run.specs.Matching.{truth_of}
 use Rattle.sieve_run.specs.Perform.{perform}
-use Rattle.sieve_run.specs.Run.{Ending, goes_on, stopped, failed, performed, one_too_many, same_action, joined_with, stored_flags, with_flags, ends_with, performs, fails_at, is_mailbox, only_address, redirects, act_of, and_then, answer_of, begun, behind_test, chosen, exec, verdict_at, verdict_of, outcome_of}
+use Rattle.sieve_run.specs.Run.{Ending, goes_on, returned, stopped, failed, performed, one_too_many, same_action, joined_with, stored_flags, changes, ends_with, entering, gives, included, include_of, includes, is_running, is_script, is_there, looked_up, performs, fails_at, is_mailbox, only_address, redirects, act_of, and_then, answer_of, begun, behind_test, chosen, delivery_to, exec, held_flags, changed_flags, flags_named, resumed, run_of, running, state_behind, verdict_at, verdict_of, outcome_of, with_found_script, with_read}
 use Rattle.sieve_run.specs.State.{RunState}
 use Rattle.sieve_run.specs.declared.envelope.Envelope.{Envelope}
 use Rattle.sieve_run.specs.declared.flow.Flow.{Flow}
@@ -22,117 +23,221 @@ use Rattle.sieve_run.specs.declared.flow.Flow.TheVariants as flow
 use Rattle.sieve_run.specs.declared.name.ScriptName.{ScriptName}
 use Rattle.sieve_run.specs.declared.outcome.Action.{Action}
 use Rattle.sieve_run.specs.declared.outcome.Action.TheVariants.{Store, Redirect, Discard}
-use Rattle.sieve_run.specs.declared.outcome.ErrorKind.TheVariants.{BadMailbox}
-use Rattle.sieve_run.specs.view.Flow.{ending_by, verdict_by}
-use Rattle.sieve_run.specs.view.Step.{doing}
+use Rattle.sieve_run.specs.declared.outcome.ErrorKind.TheVariants.{BadMailbox, TooManyGlobals, IncludeCount}
+use Rattle.sieve_run.specs.view.Flow.{ending_by}
+use Rattle.sieve_run.specs.view.Step.{Acts, doing}
+use Rattle.sieve_variables.specs.Modifier.{modified}
 use Rattle.sieve_variables.specs.Part.{Part}
-use Rattle.sieve_variables.specs.Value.{Values, no_values, text_value}
+use Rattle.sieve_variables.specs.Value.{Values, has_room_for, resumed_values, text_value, variable_value, with_variable}
+use Rattle.sieve_variables.specs.Variable.{Variable}
+use Rattle.match_text.specs.Flags.{flag_list}
 use Rattle.sieve_run.proofs.Performing.{does_walk}
 
--- a state, and that in which commands ended, has no more actions than it may
+-- What the parts of a run have to keep for a fact on its state to hold throughout: performing an action, and entering a script; all
+-- else changes neither actions nor the list of scripts that were entered.
+pub record IsKept (Holds : RunState → Type 0) : Type 0 where
+  pub values : (s : RunState) (values : Values) → Holds s → Holds (record s { values = values })
+  pub flags : (s : RunState) (flags : List (List ℕ)) → Holds s → Holds (record s { flags = flags })
+  pub reads : (s : RunState) (reads : List (ScriptName × Bool)) → Holds s → Holds (record s { reads = reads })
+  pub acts : (delivery : Delivery) (line : ℕ) (action : Action) (s : RunState) → Holds s → Holds (state_behind (performs delivery line action s))
+  pub enters : (name : ScriptName) (s : RunState) → nat_lt include_limit (length s.entered) ≡ false → Holds s → Holds (entering name s)
+
+module _ (Holds : RunState → Type 0) (kept : IsKept Holds) where
+  -- it holds where commands ended
+  abbrev Ends : Ending → Type 0
+  Ends e = Holds (state_behind e)
+
+  filed : (delivery : Delivery) (line : ℕ) (name : List ℕ) (flags : List (List ℕ)) (s : RunState) → Holds s → (named : Bool) → Ends (if named then performs delivery line (Store name flags) s else fails_at delivery line BadMailbox s)
+  filed delivery line name flags s h true = kept.acts delivery line (Store name flags) s h
+  filed delivery line name flags s h false = h
+
+  redirected : (delivery : Delivery) (line : ℕ) (address : Option (List ℕ)) (s : RunState) → Holds s → Ends (redirects delivery line address s)
+  redirected delivery line None s h = h
+  redirected delivery line (Some address) s h = kept.acts delivery line (Redirect address) s h
+
+  given_by : (delivery : Delivery) (line : ℕ) (variable : Variable) (value : List ℕ) (s : RunState) → Holds s → (room : Bool) → Ends (if room then goes_on (record s { values = with_variable variable value s.values }) else fails_at delivery line TooManyGlobals s)
+  given_by delivery line variable value s h true = kept.values s (with_variable variable value s.values) h
+  given_by delivery line variable value s h false = h
+
+  given : (delivery : Delivery) (line : ℕ) (variable : Variable) (value : List ℕ) (s : RunState) → Holds s → Ends (gives delivery line variable value s)
+  given delivery line variable value s h = given_by delivery line variable value s h (has_room_for variable s.values)
+
+  changed : (delivery : Delivery) (line : ℕ) (how : FlagChange) (variable : Option Variable) (texts : List (List Part)) (s : RunState) → Holds s → Ends (changes delivery line how variable texts s)
+  changed delivery line how None texts s h = kept.flags s (changed_flags how s.flags (flags_named s texts)) h
+  changed delivery line how (Some variable) texts s h =
+      given delivery line variable (held_flags (changed_flags how (flag_list (variable_value s.values variable)) (flags_named s texts))) s h
+
+  -- INCLUDES
+
+  resumed_holds : (before : Values) (e : Ending) → Ends e → Ends (resumed before e)
+  resumed_holds before (goes_on s) h = kept.values s (resumed_values before s.values) h
+  resumed_holds before (returned s) h = kept.values s (resumed_values before s.values) h
+  resumed_holds before (stopped s) h = kept.values s (resumed_values before s.values) h
+  resumed_holds before (failed error s) h = kept.values s (resumed_values before s.values) h
+
+  optional_holds : (delivery : Delivery) (line : ℕ) (enter : List Node → RunState → Ending) (name : ScriptName) (s : RunState) → Holds s → (optional : Bool) → Ends (with_found_script delivery optional line enter name missing s)
+  optional_holds delivery line enter name s h true = h
+  optional_holds delivery line enter name s h false = h
+
+  found_holds : (delivery : Delivery) (optional : Bool) (line : ℕ) (enter : List Node → RunState → Ending) (name : ScriptName) (lookup : Lookup) (s : RunState) → nat_lt include_limit (length s.entered) ≡ false → ((tree : List Node) (t : RunState) → Holds t → Ends (enter tree t)) → Holds s → Ends (with_found_script delivery optional line enter name lookup s)
+  found_holds delivery optional line enter name missing s few runs h = optional_holds delivery line enter name s h optional
+  found_holds delivery optional line enter name invalid s few runs h = h
+  found_holds delivery optional line enter name (present tree) s few runs h = resumed_holds s.values (enter tree (entering name s)) (runs tree (entering name s) (kept.enters name s few h))
+
+  counted_holds : (find : ScriptName → Lookup) (delivery : Delivery) (enter : ScriptName → List Node → RunState → Ending) (name : ScriptName) (optional : Bool) (line : ℕ) (s : RunState) → ((tree : List Node) (t : RunState) → Holds t → Ends (enter name tree t)) → Holds s
+      → (many : Bool) → nat_lt include_limit (length s.entered) ≡ many → Ends (if many then fails_at delivery line IncludeCount s else with_found_script delivery optional line (enter name) name (found_at find name) (looked_up name (found_at find name) s))
+  counted_holds find delivery enter name optional line s runs h true is = h
+  counted_holds find delivery enter name optional line s runs h false is =
+      found_holds delivery optional line (enter name) name (found_at find name) (looked_up name (found_at find name) s) is runs (kept.reads s (with_read name (is_there (found_at find name)) s.reads) h)
+
+  includes_holds : (find : ScriptName → Lookup) (delivery : Delivery) (enter : Option (ScriptName → List Node → RunState → Ending)) (name : ScriptName) (optional : Bool) (line : ℕ) (s : RunState)
+      → ((one : ScriptName → List Node → RunState → Ending) → enter ≡ Some one → (tree : List Node) (t : RunState) → Holds t → Ends (one name tree t)) → Holds s → Ends (includes find delivery enter name optional line s)
+  includes_holds find delivery None name optional line s runs h = h
+  includes_holds find delivery (Some enter) name optional line s runs h =
+      counted_holds find delivery enter name optional line s (runs enter refl) h (nat_lt include_limit (length s.entered)) refl
+
+  by_checks : (skips runs_already : Bool) (fails others : Ending) (s : RunState) → Holds s → Ends fails → Ends others → Ends (if skips then goes_on s else if runs_already then fails else others)
+  by_checks true runs_already fails others s h f o = h
+  by_checks false true fails others s h f o = f
+  by_checks false false fails others s h f o = o
+
+  include_holds : (find : ScriptName → Lookup) (delivery : Delivery) (enter : Option (ScriptName → List Node → RunState → Ending)) (name : ScriptName) (once optional : Bool) (line : ℕ) (s : RunState)
+      → ((one : ScriptName → List Node → RunState → Ending) → enter ≡ Some one → (tree : List Node) (t : RunState) → Holds t → Ends (one name tree t)) → Holds s → Ends (include_of find delivery enter name once optional line s)
+  include_holds find delivery enter name once optional line s runs h =
+      by_checks (once && is_script name s.entered) (is_running name delivery) _ (includes find delivery enter name optional line s) s h h (includes_holds find delivery enter name optional line s runs h)
+
+  -- WALKS
+
+  chosen_holds : (truth : Bool) (f g : RunState → Ending) (s : RunState) → Ends (f s) → Ends (g s) → Ends (chosen truth f g s)
+  chosen_holds true f g s so otherwise = so
+  chosen_holds false f g s so otherwise = otherwise
+
+  behind_holds : (e : Ending) (next : RunState → Ending) → Ends e → ((s : RunState) → Holds s → Ends (next s)) → Ends (and_then e next)
+  behind_holds (goes_on s) next h goes = goes s h
+  behind_holds (returned s) next h goes = h
+  behind_holds (stopped s) next h goes = h
+  behind_holds (failed error s) next h goes = h
+
+  -- doing a walk, where commands that act keep it
+  walk_holds : (act : Acts) → ((leaf : Leaf) (line : ℕ) (s : RunState) → Holds s → Ends (act leaf line s)) → (delivery : Delivery) (w : Walk) (s : RunState) → Holds s → Ends (doing act delivery w s)
+  unfolding perform
+  walk_holds act acts delivery at_end s h = h
+  walk_holds act acts delivery by_stop s h = h
+  walk_holds act acts delivery by_return s h = h
+  walk_holds act acts delivery cut_off s h = h
+  walk_holds act acts delivery (asked ask so otherwise) s h =
+      let behind = behind_test delivery ask s in
+      let holds : Holds behind = kept.values s behind.values h in
+      chosen_holds (truth_of delivery s ask) (doing act delivery so) (doing act delivery otherwise) behind (walk_holds act acts delivery so behind holds) (walk_holds act acts delivery otherwise behind holds)
+  walk_holds act acts delivery (acted leaf line next) s h =
+      behind_holds (act leaf line s) (doing act delivery next) (acts leaf line s h) (λ t b. walk_holds act acts delivery next t b)
+
+  module _ (find : ScriptName → Lookup) where
+    acts_hold : (depth : ℕ) (delivery : Delivery) → ((name : ScriptName) (once optional : Bool) (line : ℕ) (s : RunState) → Holds s → Ends (included find depth delivery name once optional line s))
+        → (leaf : Leaf) (line : ℕ) (s : RunState) → Holds s → Ends (act_of find depth delivery leaf line s)
+    acts_hold depth delivery inner (keep_leaf flags) line s h = kept.acts delivery line (Store delivery.envelope.mailbox (stored_flags s flags)) s h
+    acts_hold depth delivery inner (fileinto_leaf mailbox flags) line s h = filed delivery line (text_value s.values mailbox) (stored_flags s flags) s h (is_mailbox (text_value s.values mailbox))
+    acts_hold depth delivery inner (redirect_leaf address) line s h = redirected delivery line (only_address (addresses_of (text_value s.values address))) s h
+    acts_hold depth delivery inner discard_leaf line s h = kept.acts delivery line Discard s h
+    acts_hold depth delivery inner (set_leaf variable modifiers value) line s h = given delivery line variable (modified modifiers (text_value s.values value)) s h
+    acts_hold depth delivery inner (flag_leaf how variable flags) line s h = changed delivery line how variable flags s h
+    acts_hold depth delivery inner (include_leaf place once optional name) line s h = inner (record { place = place; name = name }) once optional line s h
+
+    included_holds : (depth : ℕ) (delivery : Delivery) (name : ScriptName) (once optional : Bool) (line : ℕ) (s : RunState) → Holds s → Ends (included find depth delivery name once optional line s)
+    unfolding included
+    included_holds zero delivery name once optional line s h = include_holds find delivery None name once optional line s (λ one is. absurd cc) h
+    included_holds (suc depth) delivery name once optional line s h =
+        include_holds find delivery (Some (λ script tree. exec (answer_of (inside script delivery)) (act_of find depth (inside script delivery)) (script_of tree))) name once optional line s
+        (λ one is tree t held.
+        let d = inside name delivery in
+        subst (λ (f : ScriptName → List Node → RunState → Ending). Ends (f name tree t)) (one_of _ _ is)
+        (subst Ends (sym (does_walk (answer_of d) (act_of find depth d) tree t)) (walk_holds (act_of find depth d) (acts_hold depth d (included_holds depth d)) d (tree_walk tree) t held)))
+        h
+      where
+        one_of : (a b : ScriptName → List Node → RunState → Ending) → Some a ≡ Some b → a ≡ b
+        one_of a b e = cc
+
+    pub running_walk_holds : (depth : ℕ) (delivery : Delivery) (w : Walk) (s : RunState) → Holds s → Ends (doing (act_of find depth delivery) delivery w s)
+    running_walk_holds depth delivery w s h = walk_holds (act_of find depth delivery) (acts_hold depth delivery (included_holds depth delivery)) delivery w s h
+
+    pub running_holds : (depth : ℕ) (delivery : Delivery) (tree : List Node) (s : RunState) → Holds s → Ends (running find depth delivery tree s)
+    running_holds depth delivery tree s h =
+        subst Ends (sym (does_walk (answer_of delivery) (act_of find depth delivery) tree s)) (running_walk_holds depth delivery (tree_walk tree) s h)
+
+-- ACTIONS
+
+-- a state has no more actions than it may
 abbrev pub IsBounded : RunState → Type 0
 IsBounded state = length state.actions ≤ action_limit
 
-abbrev pub EndsBounded : Ending → Type 0
-EndsBounded (goes_on state) = IsBounded state
-EndsBounded (stopped state) = IsBounded state
-EndsBounded (failed error state) = IsBounded state
+with_room : (delivery : Delivery) (action : Action) (line : ℕ) (s : RunState) → IsBounded s → (there room : Bool) → nat_lt (length s.actions) action_limit ≡ room
+    → IsBounded (state_behind (ends_with delivery line (if there then performed (map (joined_with action) s.actions) else if room then performed (s.actions ++ action ∷ []) else one_too_many) s))
+with_room delivery action line s bound true room is = subst (λ n. n ≤ action_limit) (sym (length-map s.actions (joined_with action))) bound
+with_room delivery action line s bound false true is = grind (arith, nat_tests, length_push s.actions action)
+with_room delivery action line s bound false false is = bound
 
-module _ (delivery : Delivery) where
-  with_room : (action : Action) (line : ℕ) (s : RunState) → IsBounded s → (there room : Bool) → nat_lt (length s.actions) action_limit ≡ room
-      → EndsBounded (ends_with delivery line (if there then performed (map (joined_with action) s.actions) else if room then performed (s.actions ++ action ∷ []) else one_too_many) s)
-  with_room action line s bound true room is = subst (λ n. n ≤ action_limit) (sym (length-map s.actions (joined_with action))) bound
-  with_room action line s bound false true is = grind (arith, nat_tests, length_push s.actions action)
-  with_room action line s bound false false is = bound
+bounded : IsKept IsBounded
+bounded = record {
+  values = λ s values h. h;
+  flags = λ s flags h. h;
+  reads = λ s reads h. h;
+  acts = λ delivery line action s h. with_room delivery action line s h (list_any (same_action action) s.actions) (nat_lt (length s.actions) action_limit) refl;
+  enters = λ name s few h. h;
+}
 
-  performs_bounded : (action : Action) (line : ℕ) (s : RunState) → IsBounded s → EndsBounded (performs delivery line action s)
-  performs_bounded action line s bound = with_room action line s bound (list_any (same_action action) s.actions) (nat_lt (length s.actions) action_limit) refl
+ending_state : (f : Flow) (s : RunState) → state_behind (ending_by f s) ≡ s
+ending_state flow.GoesOn s = refl
+ending_state flow.Returned s = refl
+ending_state flow.Stopped s = refl
+ending_state (flow.Failed error) s = refl
 
-  filed_bounded : (name : List ℕ) (flags : List (List ℕ)) (line : ℕ) (s : RunState) → IsBounded s → (named : Bool) → EndsBounded (if named then performs delivery line (Store name flags) s else fails_at delivery line BadMailbox s)
-  filed_bounded name flags line s bound true = performs_bounded (Store name flags) line s bound
-  filed_bounded name flags line s bound false = bound
+-- the state in which the interpreter ends a walk that it begins without an action
+pub run_bounded : (find : ScriptName → Lookup) (depth : ℕ) (delivery : Delivery) (w : Walk) (f : Flow) (old new : RunState) → old.actions ≡ [] → doing (act_of find depth delivery) delivery w old ≡ ending_by f new → length new.actions ≤ action_limit
+run_bounded find depth delivery w f old new none does =
+    subst IsBounded (ending_state f new)
+    (subst (λ e. IsBounded (state_behind e)) does
+    (running_walk_holds IsBounded bounded find depth delivery w old (subst (λ actions. length actions ≤ action_limit) (sym none) (omega arith))))
 
-  flags_bounded : (how : FlagChange) (variable : Option (List ℕ)) (texts : List (List Part)) (s : RunState) → IsBounded s → IsBounded (with_flags how variable texts s)
-  flags_bounded how None texts s bound = bound
-  flags_bounded how (Some name) texts s bound = bound
-
-  redirects_bounded : (address : Option (List ℕ)) (line : ℕ) (s : RunState) → IsBounded s → EndsBounded (redirects delivery line address s)
-  redirects_bounded None line s bound = bound
-  redirects_bounded (Some address) line s bound = performs_bounded (Redirect address) line s bound
-
-  acts_bounded : (leaf : Leaf) (line : ℕ) (s : RunState) → IsBounded s → EndsBounded (act_of delivery leaf line s)
-  acts_bounded (keep_leaf flags) line s bound = performs_bounded (Store delivery.envelope.mailbox (stored_flags s flags)) line s bound
-  acts_bounded (fileinto_leaf mailbox flags) line s bound = filed_bounded (text_value s.values mailbox) (stored_flags s flags) line s bound (is_mailbox (text_value s.values mailbox))
-  acts_bounded (redirect_leaf address) line s bound = redirects_bounded (only_address (addresses_of (text_value s.values address))) line s bound
-  acts_bounded discard_leaf line s bound = performs_bounded Discard line s bound
-  acts_bounded (set_leaf name modifiers value) line s bound = bound
-  acts_bounded (flag_leaf how variable flags) line s bound = flags_bounded how variable flags s bound
-
-  chosen_bounded : (truth : Bool) (f g : RunState → Ending) (s : RunState) → EndsBounded (f s) → EndsBounded (g s) → EndsBounded (chosen truth f g s)
-  chosen_bounded true f g s held otherwise = held
-  chosen_bounded false f g s held otherwise = otherwise
-
-  behind_bounded : (e : Ending) (next : RunState → Ending) → EndsBounded e → ((s : RunState) → IsBounded s → EndsBounded (next s)) → EndsBounded (and_then e next)
-  behind_bounded (goes_on s) next bound goes = goes s bound
-  behind_bounded (stopped s) next bound goes = bound
-  behind_bounded (failed error s) next bound goes = bound
-
-  -- doing a walk
-  pub walk_bounded : (w : Walk) (s : RunState) → IsBounded s → EndsBounded (doing delivery w s)
-  unfolding perform
-  walk_bounded at_end s bound = bound
-  walk_bounded by_stop s bound = bound
-  walk_bounded cut_off s bound = bound
-  walk_bounded (asked ask held otherwise) s bound =
-      let behind = behind_test delivery ask s in
-      chosen_bounded (truth_of delivery s ask) (doing delivery held) (doing delivery otherwise) behind (walk_bounded held behind bound) (walk_bounded otherwise behind bound)
-  walk_bounded (acted leaf line next) s bound =
-      behind_bounded (act_of delivery leaf line s) (doing delivery next) (acts_bounded leaf line s bound) (λ t b. walk_bounded next t b)
-
-  flow_bounded : (f : Flow) (s : RunState) → EndsBounded (ending_by delivery f s) → IsBounded s
-  flow_bounded flow.GoesOn s bound = bound
-  flow_bounded flow.Stopped s bound = bound
-  flow_bounded (flow.Failed line kind) s bound = bound
-
-  -- the state in which the interpreter ends a walk that it begins without an action
-  pub run_bounded : (w : Walk) (f : Flow) (old new : RunState) → old.actions ≡ [] → doing delivery w old ≡ ending_by delivery f new → length new.actions ≤ action_limit
-  run_bounded w f old new none does =
-      flow_bounded f new (subst EndsBounded does (walk_bounded w old (subst (λ actions. length actions ≤ action_limit) (sym none) (omega arith))))
-
-verdict_bounded : (e : Ending) → EndsBounded e → length (verdict_of e).actions ≤ action_limit
+verdict_bounded : (e : Ending) → IsBounded (state_behind e) → length (verdict_of e).actions ≤ action_limit
 verdict_bounded (goes_on s) bound = bound
+verdict_bounded (returned s) bound = bound
 verdict_bounded (stopped s) bound = bound
 verdict_bounded (failed error s) bound = omega arith
 
-found_bounded : (envelope : Envelope) (message : List ℕ) (main : ScriptName) (lookup : Lookup) → length (verdict_at envelope message main lookup).actions ≤ action_limit
-found_bounded envelope message main missing = omega arith
-found_bounded envelope message main invalid = omega arith
-found_bounded envelope message main (present tree) =
-    let delivery : Delivery = record { message = message; envelope = envelope; script = main } in
-    verdict_bounded (exec (answer_of delivery) (act_of delivery) (script_of tree) (begun main))
-    (subst EndsBounded (sym (does_walk (answer_of delivery) (act_of delivery) tree (begun main))) (walk_bounded delivery (tree_walk tree) (begun main) (omega arith)))
+found_bounded : (find : ScriptName → Lookup) (envelope : Envelope) (message : List ℕ) (main : ScriptName) (lookup : Lookup) → length (verdict_at find envelope message main lookup).actions ≤ action_limit
+found_bounded find envelope message main missing = omega arith
+found_bounded find envelope message main invalid = omega arith
+found_bounded find envelope message main (present tree) =
+    verdict_bounded (run_of find envelope message main tree) (running_holds IsBounded bounded find include_depth (delivery_to envelope message main) tree (begun main) (omega arith))
 
 pub outcome_bounded : (find : ScriptName → Lookup) (main : Option ScriptName) (envelope : Envelope) (message : List ℕ) → length (outcome_of find main envelope message).actions ≤ action_limit
 unfolding outcome_of
 outcome_bounded find None envelope message = omega arith
-outcome_bounded find (Some main) envelope message = found_bounded envelope message main (found_at find main)
+outcome_bounded find (Some main) envelope message = found_bounded find envelope message main (found_at find main)
 
--- THE MAIN SCRIPT
+-- INCLUDES
 
-by_flow : (delivery : Delivery) (f : Flow) (state : RunState) → verdict_by delivery.script f state ≡ verdict_of (ending_by delivery f state)
-by_flow delivery flow.GoesOn state = refl
-by_flow delivery flow.Stopped state = refl
-by_flow delivery (flow.Failed line kind) state = refl
+-- no more scripts were entered than the main one and so many others
+abbrev pub IsShort : RunState → Type 0
+IsShort state = length state.entered ≤ suc include_limit
 
-abbrev starting : List Action → List (ScriptName × Bool) → Values → List (List ℕ) → RunState
-starting actions reads values flags = record { actions = actions; cancelled = false; reads = reads; values = values; flags = flags }
+one_more : (name : ScriptName) (s : RunState) → nat_lt include_limit (length s.entered) ≡ false → length (s.entered ++ name ∷ []) ≤ suc include_limit
+one_more name s few = grind (arith, nat_tests, length_push s.entered name)
 
-begins : (main : ScriptName) (actions : List Action) (reads : List (ScriptName × Bool)) (values : Values) (flags : List (List ℕ)) (old : RunState) → old ≡ starting actions reads values flags → actions ≡ [] → reads ≡ (main, true) ∷ [] → values ≡ no_values → flags ≡ [] → old ≡ begun main
-begins main actions reads values flags old is none one unset unflagged =
-    is ∙ ap (λ a. starting a reads values flags) none ∙ ap (λ r. starting [] r values flags) one ∙ ap (λ v. starting [] ((main, true) ∷ []) v flags) unset ∙ ap (starting [] ((main, true) ∷ []) no_values) unflagged
+performs_enters : (delivery : Delivery) (line : ℕ) (s : RunState) (there room : Bool) (action : Action) → (state_behind (ends_with delivery line (if there then performed (map (joined_with action) s.actions) else if room then performed (s.actions ++ action ∷ []) else one_too_many) s)).entered ≡ s.entered
+performs_enters delivery line s true room action = refl
+performs_enters delivery line s false true action = refl
+performs_enters delivery line s false false action = refl
 
--- the verdict where the main script's code begins without an action and ends so
-pub main_verdict : (delivery : Delivery) (w : Walk) (actions : List Action) (reads : List (ScriptName × Bool)) (values : Values) (flags : List (List ℕ)) (f : Flow) (old new : RunState) → old ≡ record { actions = actions; cancelled = false; reads = reads; values = values; flags = flags } → actions ≡ [] → reads ≡ (delivery.script, true) ∷ [] → values ≡ no_values → flags ≡ []
-    → doing delivery w old ≡ ending_by delivery f new → verdict_by delivery.script f new ≡ verdict_of (doing delivery w (begun delivery.script))
-main_verdict delivery w actions reads values flags f old new is none one unset unflagged does =
-    by_flow delivery f new ∙ sym (ap verdict_of does) ∙ ap (λ s. verdict_of (doing delivery w s)) (begins delivery.script actions reads values flags old is none one unset unflagged)
+short : IsKept IsShort
+short = record {
+  values = λ s values h. h;
+  flags = λ s flags h. h;
+  reads = λ s reads h. h;
+  acts = λ delivery line action s h. subst (λ entered. length entered ≤ suc include_limit) (sym (performs_enters delivery line s (list_any (same_action action) s.actions) (nat_lt (length s.actions) action_limit) action)) h;
+  enters = λ name s few h. one_more name s few;
+}
+
+-- a run enters so many scripts at most
+pub run_short : (find : ScriptName → Lookup) (envelope : Envelope) (message : List ℕ) (main : ScriptName) (tree : List Node) → length (state_behind (run_of find envelope message main tree)).entered ≤ suc include_limit
+run_short find envelope message main tree = running_holds IsShort short find include_depth (delivery_to envelope message main) tree (begun main) (omega arith)

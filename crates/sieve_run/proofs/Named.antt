@@ -1,10 +1,9 @@
 -- What commands do whose strings name something or nothing.
-use Rattle.std.proofs.Common.{◌≡◌, ℕ, Bool, true, false, List, Option, Some, None, refl, sym, ap, ◌∙◌}
+use Rattle.std.proofs.Common.{◌≡◌, ℕ, Bool, true, false, List, Option, Some, None, refl, ap, ◌∙◌}
 use Rattle.std.specs.Prelude.{if◌then◌else◌}
 use Rattle.message_text.specs.Addresses.{addresses_of}
-use Rattle.sieve_check.specs.Reading.{fileinto_leaf, redirect_leaf}
 use Rattle.sieve_run.specs.Delivery.{Delivery}
-use Rattle.sieve_run.specs.Run.{Ending, act_of, fails_at, is_mailbox, only_address, performs, redirects, stored_flags}
+use Rattle.sieve_run.specs.Run.{Ending, fails_at, files_into, is_mailbox, only_address, performs, redirects, sends, stored_flags}
 use Rattle.sieve_run.specs.State.{RunState}
 use Rattle.sieve_run.specs.declared.outcome.Action.TheVariants.{Store, Redirect}
 use Rattle.sieve_run.specs.declared.outcome.ErrorKind.TheVariants.{BadAddress, BadMailbox}
@@ -24,19 +23,19 @@ module _ (delivery : Delivery) (line : ℕ) (state : RunState) where
   by_none flags true name is = cc
   by_none flags false name is = refl
 
-  pub files_into : (mailbox : List Part) (texts : Option (List (List Part))) (name : List ℕ) (flags : List (List ℕ)) (ending : Ending) → Some name ≡ mailbox_named state.values mailbox → flags ≡ stored_flags state texts → ending ≡ performs delivery line (Store name flags) state → ending ≡ act_of delivery (fileinto_leaf mailbox texts) line state
-  files_into mailbox texts name flags ending is has does =
+  pub files_there : (mailbox : List Part) (texts : Option (List (List Part))) (name : List ℕ) (flags : List (List ℕ)) (ending : Ending) → Some name ≡ mailbox_named state.values mailbox → flags ≡ stored_flags state texts → ending ≡ performs delivery line (Store name flags) state → ending ≡ files_into delivery mailbox texts line state
+  files_there mailbox texts name flags ending is has does =
       does ∙ ap (λ f. performs delivery line (Store name f) state) has ∙ by_name (stored_flags state texts) (is_mailbox (text_value state.values mailbox)) (text_value state.values mailbox) name is
 
-  pub files_nowhere : (mailbox : List Part) (texts : Option (List (List Part))) → None ≡ mailbox_named state.values mailbox → fails_at delivery line BadMailbox state ≡ act_of delivery (fileinto_leaf mailbox texts) line state
+  pub files_nowhere : (mailbox : List Part) (texts : Option (List (List Part))) → None ≡ mailbox_named state.values mailbox → fails_at delivery line BadMailbox state ≡ files_into delivery mailbox texts line state
   files_nowhere mailbox texts is = by_none (stored_flags state texts) (is_mailbox (text_value state.values mailbox)) (text_value state.values mailbox) is
 
-  pub sends_to : (address : List Part) (octets : List ℕ) (ending : Ending) → Some octets ≡ only_address (addresses_of (text_value state.values address)) → ending ≡ performs delivery line (Redirect octets) state → ending ≡ act_of delivery (redirect_leaf address) line state
+  pub sends_to : (address : List Part) (octets : List ℕ) (ending : Ending) → Some octets ≡ only_address (addresses_of (text_value state.values address)) → ending ≡ performs delivery line (Redirect octets) state → ending ≡ sends delivery address line state
   sends_to address octets ending is does = does ∙ ap (λ o. redirects delivery line o state) is
 
-  pub sends_nowhere : (address : List Part) → None ≡ only_address (addresses_of (text_value state.values address)) → fails_at delivery line BadAddress state ≡ act_of delivery (redirect_leaf address) line state
+  pub sends_nowhere : (address : List Part) → None ≡ only_address (addresses_of (text_value state.values address)) → fails_at delivery line BadAddress state ≡ sends delivery address line state
   sends_nowhere address is = ap (λ o. redirects delivery line o state) is
 
-pub ruleset files = (files_into, files_nowhere)
+pub ruleset filing = (files_there, files_nowhere)
 
-pub ruleset sends = (sends_to, sends_nowhere)
+pub ruleset sending = (sends_to, sends_nowhere)

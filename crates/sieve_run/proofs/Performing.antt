@@ -1,17 +1,20 @@
 -- Doing the leaves of a script's walk is what running the script is.
 use Rattle.std.proofs.Common.{◌≡◌, ℕ, Bool, true, false, not, List, ◌∷◌, length, refl, ap, sym, ◌∙◌}
 use Rattle.sieve_check.specs.Reading.{Ask, Leaf}
-use Rattle.sieve_check.specs.Script.{Condition, always, never, asks, negated, both, either, Commands, no_commands, stops, acts, chooses, script_of}
+use Rattle.sieve_check.specs.Script.{Condition, always, never, asks, negated, both, either, Commands, no_commands, stops, returns, acts, chooses, script_of}
 use Rattle.sieve_check.specs.Tree.{Node}
-use Rattle.sieve_code.specs.Walk.{Walk, at_end, by_stop, cut_off, asked, acted, code_walk, condition_walk, gone, commands_walk, tree_walk}
+use Rattle.sieve_code.specs.Walk.{Walk, at_end, by_stop, by_return, cut_off, asked, acted, code_walk, condition_walk, gone, commands_walk, tree_walk}
 use Rattle.sieve_code.specs.Operation.{Operation}
-use Rattle.sieve_run.specs.Delivery.{Delivery}
+use Rattle.sieve_base.specs.Limits.{include_depth}
+use Rattle.sieve_code.specs.Compiles.{Compiles}
+use Rattle.sieve_run.specs.Delivery.{Delivery, inside}
 use Rattle.sieve_run.specs.Library.{HasCode, Lookup, missing, invalid, present}
 use Rattle.sieve_run.specs.Perform.{answers_after, answers_of, chosen_answers, do_gone, do_met, end_of, perform}
 use Rattle.sieve_run.specs.declared.envelope.Envelope.{Envelope}
 use Rattle.sieve_run.specs.declared.name.ScriptName.{ScriptName}
+use Rattle.sieve_run.specs.view.Include.{enters}
 use Rattle.sieve_run.specs.view.Step.{doing}
-use Rattle.sieve_run.specs.Run.{Ending, Answer, goes_on, stopped, failed, also, or_else, act_of, and_then, answer_of, begun, chosen, decide, exec, verdict_at, verdict_of}
+use Rattle.sieve_run.specs.Run.{Ending, Answer, goes_on, returned, stopped, failed, also, or_else, act_of, and_then, answer_of, begun, chosen, decide, delivery_to, entering, exec, resumed, running, verdict_at, verdict_of, with_found_script}
 use Rattle.sieve_run.specs.State.{RunState}
 
 module _ (ask : Ask → RunState → Answer) (act : Leaf → ℕ → RunState → Ending) where
@@ -48,6 +51,7 @@ module _ (ask : Ask → RunState → Answer) (act : Leaf → ℕ → RunState �
 
   in_turn : (e : Ending) (f g h : RunState → Ending) → ((s : RunState) → h s ≡ and_then (f s) g) → and_then e h ≡ and_then (and_then e f) g
   in_turn (goes_on s) f g h is = is s
+  in_turn (returned s) f g h is = refl
   in_turn (stopped s) f g h is = refl
   in_turn (failed error s) f g h is = refl
 
@@ -59,6 +63,7 @@ module _ (ask : Ask → RunState → Answer) (act : Leaf → ℕ → RunState �
   unfolding perform commands_walk exec
   by_commands no_commands next s = refl
   by_commands (stops rest) next s = refl
+  by_commands (returns rest) next s = refl
   by_commands (acts leaf line rest) next s =
       in_turn (act leaf line s) (exec ask act rest) (perform ask act next) (perform ask act (commands_walk rest next)) (by_commands rest next)
   by_commands (chooses condition block otherwise rest) next s =
@@ -72,6 +77,7 @@ module _ (ask : Ask → RunState → Answer) (act : Leaf → ℕ → RunState �
   nothing_behind : (e : Ending) → and_then e (perform ask act at_end) ≡ e
   unfolding perform
   nothing_behind (goes_on s) = refl
+  nothing_behind (returned s) = refl
   nothing_behind (stopped s) = refl
   nothing_behind (failed error s) = refl
 
@@ -85,6 +91,7 @@ module _ (ask : Ask → RunState → Answer) (act : Leaf → ℕ → RunState �
   by_leaf : (leaf : Leaf) (line : ℕ) (next : Walk) (s : RunState) → ((t : RunState) → perform ask act next t ≡ do_gone ask act (gone next (answers_of ask act next t)) t) → (e : Ending) →
       and_then e (perform ask act next) ≡ and_then (and_then e (do_met ask act (gone next (answers_after e (answers_of ask act next))).met)) (end_of (gone next (answers_after e (answers_of ask act next))).ending)
   by_leaf leaf line next s behind (goes_on t) = behind t
+  by_leaf leaf line next s behind (returned t) = refl
   by_leaf leaf line next s behind (stopped t) = refl
   by_leaf leaf line next s behind (failed error t) = refl
 
@@ -93,6 +100,7 @@ module _ (ask : Ask → RunState → Answer) (act : Leaf → ℕ → RunState �
   unfolding perform gone answers_of do_met
   does_gone at_end s = refl
   does_gone by_stop s = refl
+  does_gone by_return s = refl
   does_gone cut_off s = refl
   does_gone (asked a so otherwise) s = by_truth a so otherwise s (does_gone so) (does_gone otherwise) (ask a s).truth
   does_gone (acted leaf line next) s = by_leaf leaf line next s (does_gone next) (act leaf line s)
@@ -105,10 +113,21 @@ module _ (ask : Ask → RunState → Answer) (act : Leaf → ℕ → RunState �
 
 pub ruleset walking = (does_walk, does_met)
 
+-- what the script does that runs, by its code
+pub by_running_code : (find : ScriptName → Lookup) (depth : ℕ) (delivery : Delivery) (tree : List Node) (ops : List Operation) (s : RunState) → Compiles tree ops → doing (act_of find depth delivery) delivery (code_walk ops (length ops)) s ≡ running find depth delivery tree s
+by_running_code find depth delivery tree ops s has =
+    ap (λ w. doing (act_of find depth delivery) delivery w s) has.does ∙ sym (does_walk (answer_of delivery) (act_of find depth delivery) tree s)
+
 -- the verdict by the code of what is found
-pub by_code : (message : List ℕ) (envelope : Envelope) (main : ScriptName) (lookup : Lookup) (ops : List Operation) → HasCode lookup ops → verdict_of (doing (record { message = message; envelope = envelope; script = main }) (code_walk ops (length ops)) (begun main)) ≡ verdict_at envelope message main lookup
-by_code message envelope main missing ops has = absurd has
-by_code message envelope main invalid ops has = absurd has
-by_code message envelope main (present tree) ops has =
-    let delivery : Delivery = record { message = message; envelope = envelope; script = main } in
-    ap verdict_of (ap (λ w. doing delivery w (begun main)) has.does ∙ sym (does_walk (answer_of delivery) (act_of delivery) tree (begun main)))
+pub by_code : (find : ScriptName → Lookup) (message : List ℕ) (envelope : Envelope) (main : ScriptName) (lookup : Lookup) (ops : List Operation) → HasCode lookup ops
+    → verdict_of (doing (act_of find include_depth (delivery_to envelope message main)) (delivery_to envelope message main) (code_walk ops (length ops)) (begun main)) ≡ verdict_at find envelope message main lookup
+by_code find message envelope main missing ops has = absurd has
+by_code find message envelope main invalid ops has = absurd has
+by_code find message envelope main (present tree) ops has = ap verdict_of (by_running_code find include_depth (delivery_to envelope message main) tree ops (begun main) has)
+
+-- what an include does with what is found, by its code
+pub by_found_code : (find : ScriptName → Lookup) (depth : ℕ) (delivery : Delivery) (name : ScriptName) (optional : Bool) (line : ℕ) (lookup : Lookup) (ops : List Operation) (s : RunState) → HasCode lookup ops
+    → enters find depth delivery name ops s ≡ with_found_script delivery optional line (λ tree. running find depth (inside name delivery) tree) name lookup s
+by_found_code find depth delivery name optional line missing ops s has = absurd has
+by_found_code find depth delivery name optional line invalid ops s has = absurd has
+by_found_code find depth delivery name optional line (present tree) ops s has = ap (resumed s.values) (by_running_code find depth (inside name delivery) tree ops (entering name s) has)

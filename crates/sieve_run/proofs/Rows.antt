@@ -3,35 +3,37 @@ use Rattle.std.proofs.Common.{◌≡◌, ℕ, Bool, true, false, List, [], ◌�
 use Rattle.match_text.specs.declared.comparators.Collation.{Collation}
 use Rattle.match_text.specs.declared.comparators.Collation.TheVariants.{Octet, Casemap}
 use Rattle.message_text.specs.Fields.{fields_of, field_groups}
-use Rattle.sieve_check.specs.Reading.{Ask, header_values, address_values, envelope_values, string_values, flag_values, compares, exists_ask, over_ask, under_ask, keep_leaf, fileinto_leaf, redirect_leaf, discard_leaf, set_leaf, flag_leaf}
+use Rattle.sieve_check.specs.Reading.{Ask, header_values, address_values, envelope_values, string_values, flag_values, compares, exists_ask, over_ask, under_ask, keep_leaf, fileinto_leaf, redirect_leaf, discard_leaf, set_leaf, flag_leaf, include_leaf}
 use Rattle.sieve_check.specs.Script.{Condition, always, never, asks, negated, both, either, Commands, no_commands, stops, acts, chooses, chain_of, node_before, block_commands, conditions_in}
 use Rattle.sieve_table.specs.Table.{command_named}
 use Rattle.sieve_variables.specs.Part.{Part, literal, local_part, match_part}
 use Rattle.sieve_variables.specs.Modifier.{modified}
-use Rattle.sieve_variables.specs.Value.{Values, no_values, with_local, with_matched}
+use Rattle.sieve_variables.specs.Value.{Values, begun_values, no_values, resumed_values, variable_value, with_matched, with_variable}
+use Rattle.sieve_variables.specs.Variable.{global_variable, local_variable}
 use Rattle.sieve_variables.specs.declared.modifier.Modifiers.{Modifiers}
-use Rattle.sieve_check.specs.Tree.{node, no_tests, no_block}
+use Rattle.sieve_check.specs.Tree.{Node, node, no_tests, no_block, strings}
 use Rattle.sieve_check.specs.declared.reading.FlagChange.TheVariants.{Set, Add, Remove}
 use Rattle.sieve_check.specs.declared.reading.MatchType.{MatchType}
 use Rattle.sieve_check.specs.declared.reading.MatchType.TheVariants.{Is, Contains, Matches}
 use Rattle.sieve_base.specs.declared.place.Place.TheVariants.{Personal}
-use Rattle.sieve_base.specs.Limits.{name_limit}
+use Rattle.sieve_base.specs.Limits.{include_depth, include_limit, name_limit}
 use Rattle.message_text.specs.Addresses.{addresses_of, envelope_address_of, marks_from}
 use Rattle.message_text.specs.declared.addressing.AddressPart.TheVariants as part
 use Rattle.sieve_table.specs.Address.{is_address_field}
 use Rattle.sieve_run.specs.Delivery.{Delivery}
-use Rattle.sieve_run.specs.Library.{Lookup, missing, invalid, present}
+use Rattle.sieve_run.specs.Library.{Lookup, missing, invalid, present, found_at}
+use Rattle.sieve_run.specs.Name.{name_eq}
 use Rattle.match_text.specs.Flags.{distinct, flag_keys, flag_keys_of_texts, flag_list, flag_text, flag_union, flags_of_texts, flags_without}
 use Rattle.match_text.specs.Wildcard.{least_fit, matched}
 use Rattle.sieve_run.specs.Matching.{keys_of, match_found, truth_of, values_behind, values_named, values_of, pairs_of}
-use Rattle.sieve_run.specs.Run.{Ending, goes_on, stopped, failed, Answer, answer_of, act_of, decide, exec, begun, verdict_at, verdict_of, outcome_of}
+use Rattle.sieve_run.specs.Run.{Ending, goes_on, stopped, failed, Answer, answer_of, act_of, decide, exec, begun, included, includes, looked_up, with_found_script, verdict_at, verdict_of, outcome_of}
 use Rattle.sieve_run.specs.State.{RunState}
 use Rattle.sieve_run.specs.declared.envelope.Envelope.{Envelope}
 use Rattle.sieve_run.specs.declared.name.ScriptName.{ScriptName}
 use Rattle.sieve_run.specs.declared.outcome.Action.{Action}
 use Rattle.sieve_run.specs.declared.outcome.Action.TheVariants.{Store, Redirect, Discard}
 use Rattle.sieve_run.specs.declared.outcome.RunError.{RunError}
-use Rattle.sieve_run.specs.declared.outcome.ErrorKind.TheVariants.{MissingScript, InvalidScript, BadAddress, BadMailbox}
+use Rattle.sieve_run.specs.declared.outcome.ErrorKind.TheVariants.{MissingScript, InvalidScript, RecursiveInclude, IncludeDepth, IncludeCount, BadAddress, BadMailbox}
 
 -- DELIVERIES
 
@@ -43,10 +45,10 @@ envelope = record { from = []; to = []; mailbox = codes "INBOX" }
 
 -- a message in that envelope, and one from a sender
 abbrev delivered : List ℕ → Delivery
-delivered message = record { message = message; envelope = envelope; script = main }
+delivered message = record { message = message; envelope = envelope; script = main; including = [] }
 
 abbrev sent_by : List ℕ → Delivery
-sent_by from = record { message = []; envelope = record { from = from; to = codes "x@y.example"; mailbox = codes "INBOX" }; script = main }
+sent_by from = record { message = []; envelope = record { from = from; to = codes "x@y.example"; mailbox = codes "INBOX" }; script = main; including = [] }
 
 -- FIELDS
 
@@ -211,11 +213,11 @@ inbox = Store (codes "INBOX") []
 
 -- the state of a run of the main script after some actions
 abbrev after : List Action → Bool → RunState
-after actions cancelled = record { actions = actions; cancelled = cancelled; reads = (main, true) ∷ []; values = no_values; flags = [] }
+after actions cancelled = record { actions = actions; cancelled = cancelled; reads = (main, true) ∷ []; entered = main ∷ []; values = no_values; flags = [] }
 
 -- what commands do to a message of such octets
 abbrev done : List ℕ → Commands → Ending
-done message commands = exec (answer_of (delivered message)) (act_of (delivered message)) commands (begun main)
+done message commands = exec (answer_of (delivered message)) (act_of (λ name. missing) include_depth (delivered message)) commands (begun main)
 
 -- no command: nothing is done
 no_commands_row : done [] no_commands ≡ goes_on (after [] false)
@@ -281,7 +283,7 @@ else_row = refl
 
 -- the state of a run that has done nothing but set variables
 abbrev holding : Values → RunState
-holding values = record { actions = []; cancelled = false; reads = (main, true) ∷ []; values = values; flags = [] }
+holding values = record { actions = []; cancelled = false; reads = (main, true) ∷ []; entered = main ∷ []; values = values; flags = [] }
 
 -- string :matches ["ab", "b"] ["b*", "?b"]
 abbrev matches_second : Ask
@@ -307,8 +309,8 @@ abbrev plainly : Modifiers
 plainly = record { letter_case = None; first_letter = None; quote_wildcard = false; length = false }
 
 -- set "a" "x"; fileinto "${a}y${b}${1}";
-set_row : done [] (acts (set_leaf (codes "a") plainly (text (codes "x"))) 1 (acts (fileinto_leaf (local_part (codes "a") ∷ literal (codes "y") ∷ local_part (codes "b") ∷ match_part 1 ∷ []) None) 2 no_commands))
-    ≡ goes_on (record { actions = Store (codes "xy") [] ∷ []; cancelled = true; reads = (main, true) ∷ []; values = with_local (codes "a") (codes "x") no_values; flags = [] })
+set_row : done [] (acts (set_leaf (local_variable (codes "a")) plainly (text (codes "x"))) 1 (acts (fileinto_leaf (local_part (codes "a") ∷ literal (codes "y") ∷ local_part (codes "b") ∷ match_part 1 ∷ []) None) 2 no_commands))
+    ≡ goes_on (record { actions = Store (codes "xy") [] ∷ []; cancelled = true; reads = (main, true) ∷ []; entered = main ∷ []; values = with_variable (local_variable (codes "a")) (codes "x") no_values; flags = [] })
 unfolding exec modified
 set_row = refl
 
@@ -316,11 +318,11 @@ set_row = refl
 
 -- the state of a run that has done nothing but change flags
 abbrev flagged : List (List ℕ) → RunState
-flagged flags = record { actions = []; cancelled = false; reads = (main, true) ∷ []; values = no_values; flags = flags }
+flagged flags = record { actions = []; cancelled = false; reads = (main, true) ∷ []; entered = main ∷ []; values = no_values; flags = flags }
 
 -- fileinto :flags "\\Seen" "A"; addflag "$X"; fileinto "A";
 joined_row : done [] (acts (fileinto_leaf (text (codes "A")) (Some (text (codes "\\Seen") ∷ []))) 1 (acts (flag_leaf Add None (text (codes "$X") ∷ [])) 2 (acts (fileinto_leaf (text (codes "A")) None) 3 no_commands)))
-    ≡ goes_on (record { actions = Store (codes "A") (codes "\\Seen" ∷ codes "$X" ∷ []) ∷ []; cancelled = true; reads = (main, true) ∷ []; values = no_values; flags = codes "$X" ∷ [] })
+    ≡ goes_on (record { actions = Store (codes "A") (codes "\\Seen" ∷ codes "$X" ∷ []) ∷ []; cancelled = true; reads = (main, true) ∷ []; entered = main ∷ []; values = no_values; flags = codes "$X" ∷ [] })
 unfolding exec flags_of_texts flag_union distinct flags_without
 joined_row = refl
 
@@ -335,7 +337,7 @@ unfolding exec flags_of_texts flag_union distinct flags_without
 added_row = refl
 
 -- addflag "v" ["a", "b"]; addflag "v" "A c";
-variable_row : done [] (acts (flag_leaf Add (Some (codes "v")) (text (codes "a") ∷ text (codes "b") ∷ [])) 1 (acts (flag_leaf Add (Some (codes "v")) (text (codes "A c") ∷ [])) 2 no_commands)) ≡ goes_on (holding (with_local (codes "v") (codes "a b c") no_values))
+variable_row : done [] (acts (flag_leaf Add (Some (local_variable (codes "v"))) (text (codes "a") ∷ text (codes "b") ∷ [])) 1 (acts (flag_leaf Add (Some (local_variable (codes "v"))) (text (codes "A c") ∷ [])) 2 no_commands)) ≡ goes_on (holding (with_variable (local_variable (codes "v")) (codes "a b c") no_values))
 unfolding exec flags_of_texts flag_list flag_text flag_union distinct flags_without
 variable_row = refl
 
@@ -365,6 +367,98 @@ flagged_verdict_row = refl
 failed_verdict_row : (error : RunError) → verdict_of (failed error (flagged (codes "a" ∷ []))) ≡ record { actions = []; implicit = Some []; error = Some error; reads = (main, true) ∷ [] }
 failed_verdict_row error = refl
 
+-- INCLUDED SCRIPTS
+
+-- the personal script "a", and a tree of one command
+abbrev script_a : ScriptName
+script_a = record { place = Personal; name = codes "a" }
+
+abbrev plain : List ℕ → Node
+plain name = node name 1 [] no_tests no_block
+
+-- a library that has one script
+abbrev having : ScriptName → List Node → ScriptName → Lookup
+having name tree asked = if name_eq name asked then present tree else missing
+
+-- what commands do over a library
+abbrev done_over : (ScriptName → Lookup) → Commands → Ending
+done_over find commands = exec (answer_of (delivered [])) (act_of find include_depth (delivered [])) commands (begun main)
+
+-- the state of a run that has entered "a" too
+abbrev entered_a : List Action → Bool → RunState
+entered_a actions cancelled = record { actions = actions; cancelled = cancelled; reads = (main, true) ∷ (script_a, true) ∷ []; entered = main ∷ script_a ∷ []; values = no_values; flags = [] }
+
+-- include "a"; keep; where "a" is missing
+missing_include_row : done_over (λ name. missing) (acts (include_leaf Personal false false (codes "a")) 2 (acts (keep_leaf None) 3 no_commands))
+    ≡ failed (record { script = main; line = 2; kind = MissingScript }) (record (begun main) { reads = (main, true) ∷ (script_a, false) ∷ [] })
+unfolding exec included
+missing_include_row = refl
+
+-- include :optional "a"; where "a" is missing, and where it has a fault
+optional_row : done_over (λ name. missing) (acts (include_leaf Personal false true (codes "a")) 2 no_commands) ≡ goes_on (record (begun main) { reads = (main, true) ∷ (script_a, false) ∷ [] })
+unfolding exec included
+optional_row = refl
+
+faulty_row : done_over (λ name. invalid) (acts (include_leaf Personal false true (codes "a")) 2 no_commands)
+    ≡ failed (record { script = main; line = 2; kind = InvalidScript }) (record (begun main) { reads = (main, true) ∷ (script_a, true) ∷ [] })
+unfolding exec included
+faulty_row = refl
+
+-- include "main"; and include :once "main"; in the main script: neither looks it up again
+recursive_row : (find : ScriptName → Lookup) → done_over find (acts (include_leaf Personal false true (codes "main")) 2 no_commands) ≡ failed (record { script = main; line = 2; kind = RecursiveInclude }) (begun main)
+unfolding exec included
+recursive_row find = refl
+
+once_row : (find : ScriptName → Lookup) → done_over find (acts (include_leaf Personal true false (codes "main")) 2 no_commands) ≡ goes_on (begun main)
+unfolding exec included
+once_row find = refl
+
+-- include "a"; discard; where "a" is `return; keep;`: the including script goes on
+return_row : done_over (having script_a (plain (codes "return") ∷ plain (codes "keep") ∷ [])) (acts (include_leaf Personal false false (codes "a")) 2 (acts discard_leaf 3 no_commands)) ≡ goes_on (entered_a (Discard ∷ []) true)
+unfolding exec included chain_of node_before block_commands conditions_in command_named
+return_row = refl
+
+-- and where it is `stop;`: the run ends
+stop_inside_row : done_over (having script_a (plain (codes "stop") ∷ [])) (acts (include_leaf Personal false false (codes "a")) 2 (acts discard_leaf 3 no_commands)) ≡ stopped (entered_a [] false)
+unfolding exec included chain_of node_before block_commands conditions_in command_named
+stop_inside_row = refl
+
+-- an error tells the script that it came in: "a" is `include "main";`
+error_inside_row : done_over (having script_a (node (codes "include") 7 (strings (record { parts = text (codes "main"); line = 7 } ∷ []) false ∷ []) no_tests no_block ∷ [])) (acts (include_leaf Personal false false (codes "a")) 2 (acts discard_leaf 3 no_commands))
+    ≡ failed (record { script = script_a; line = 7; kind = RecursiveInclude }) (entered_a [] false)
+unfolding exec included chain_of node_before block_commands conditions_in command_named
+error_inside_row = refl
+
+-- what an included script sets as its own leaves all as it was in the including one, whose own it doesn't see
+own_variables_row : (values : Values) → resumed_values values (with_variable (local_variable (codes "x")) (codes "z") (begun_values values)) ≡ values
+own_variables_row values = refl
+
+unseen_variables_row : (values : Values) → variable_value (begun_values values) (local_variable (codes "x")) ≡ []
+unseen_variables_row values = refl
+
+shared_variables_row : (values : Values) (value : List ℕ) → variable_value (resumed_values values (with_variable (global_variable (codes "x")) value (begun_values no_values))) (global_variable (codes "x")) ≡ value
+shared_variables_row values value = refl
+
+-- where no depth is left a script that isn't there is an error of depth, also where it may be missing; one that was entered isn't, under :once
+deep_row : included (λ name. missing) 0 (delivered []) script_a false true 2 (begun main) ≡ failed (record { script = main; line = 2; kind = IncludeDepth }) (begun main)
+unfolding included
+deep_row = refl
+
+deep_once_row : included (λ name. missing) 0 (delivered []) main true false 2 (begun main) ≡ goes_on (begun main)
+unfolding included
+deep_once_row = refl
+
+-- where the main script and 256 others were entered the next is one too many, be it there or not, and isn't looked up
+count_row : (find : ScriptName → Lookup) (enter : ScriptName → List Node → RunState → Ending) (entered : List ScriptName) → length entered ≡ 257
+    → includes find (delivered []) (Some enter) script_a true 2 (record (begun main) { entered = entered }) ≡ failed (record { script = main; line = 2; kind = IncludeCount }) (record (begun main) { entered = entered })
+count_row find enter entered is =
+    let state = record (begun main) { entered = entered } in
+    ap (λ n. if nat_lt include_limit n then failed (record { script = main; line = 2; kind = IncludeCount }) state else with_found_script (delivered []) true 2 (enter script_a) script_a (found_at find script_a) (looked_up script_a (found_at find script_a) state)) is
+
+-- a name of 1,025 octets is missing, whatever the library has there
+long_include_row : (find : ScriptName → Lookup) (name : ScriptName) → length name.name ≡ 1025 → found_at find name ≡ missing
+long_include_row find name is = ap (λ n. if nat_lt name_limit n then missing else find name) is
+
 -- OUTCOMES
 
 -- no main script: the implicit keep stands, and nothing was looked up
@@ -386,12 +480,12 @@ invalid_row message = refl
 long_name_row : (find : ScriptName → Lookup) (name : ScriptName) (message : List ℕ) → length name.name ≡ 1025 → outcome_of find (Some name) envelope message
     ≡ record { actions = []; implicit = Some []; error = Some (record { script = name; line = 0; kind = MissingScript }); reads = (name, false) ∷ [] }
 unfolding outcome_of
-long_name_row find name message is = ap (λ n. verdict_at envelope message name (if nat_lt name_limit n then missing else find name)) is
+long_name_row find name message is = ap (λ n. verdict_at find envelope message name (if nat_lt name_limit n then missing else find name)) is
 
 -- and one of 1,024 octets is looked up
-limit_name_row : (find : ScriptName → Lookup) (name : ScriptName) (message : List ℕ) → length name.name ≡ 1024 → outcome_of find (Some name) envelope message ≡ verdict_at envelope message name (find name)
+limit_name_row : (find : ScriptName → Lookup) (name : ScriptName) (message : List ℕ) → length name.name ≡ 1024 → outcome_of find (Some name) envelope message ≡ verdict_at find envelope message name (find name)
 unfolding outcome_of
-limit_name_row find name message is = ap (λ n. verdict_at envelope message name (if nat_lt name_limit n then missing else find name)) is
+limit_name_row find name message is = ap (λ n. verdict_at find envelope message name (if nat_lt name_limit n then missing else find name)) is
 
 -- an empty script: the implicit keep stands
 empty_script_row : (message : List ℕ) → outcome_of (λ name. present []) (Some main) envelope message ≡ record { actions = []; implicit = Some []; error = None; reads = (main, true) ∷ [] }

@@ -16,7 +16,7 @@ use Rattle.sieve_table.specs.Address.{is_address_field}
 use Rattle.sieve_run.specs.Delivery.{Delivery}
 use Rattle.match_text.specs.Flags.{flag_keys_of_texts, flag_list}
 use Rattle.sieve_run.specs.State.{RunState}
-use Rattle.sieve_run.specs.Matching.{envelope_named, envelope_text, first_match, first_some, fold_of, is_field_named, match_found, match_of, pairs_with, parts_in, parts_named, parts_of_envelope, parts_of_value, values_named, values_of, keys_from, keys_of, pairs_of}
+use Rattle.sieve_run.specs.Matching.{envelope_named, envelope_text, first_match, first_some, fold_of, is_field_named, match_found, match_of, pairs_with, parts_in, parts_named, parts_of_envelope, parts_of_value, values_named, values_of, keys_from, keys_of}
 use Rattle.sieve_run.specs.view.FieldTests.{field_source, name_found, part_found, path_found, path_name_found, value_found}
 
 -- a function of an element that is known at a place
@@ -80,13 +80,6 @@ module _ {X Y : Type 0} (f : X → Option Y) where
   -- one that gives nothing leaves it to those behind it
   pub first_after : (xs : List X) (i : ℕ) (o : Option Y) → first_some f (drop i xs) ≡ o → slice_get (map f xs) i ≡ Some None → first_some f (drop (i + 1) xs) ≡ o
   first_after xs i o so at = ap (λ n. first_some f (drop n xs)) (add-one i) ∙ first_past xs i at ∙ so
-
-  pub first_of_none : (xs : List X) (n : ℕ) (o : Option Y) → first_some f (drop n xs) ≡ o → n ≡ length xs → None ≡ o
-  first_of_none xs n o so all = sym (nothing xs) ∙ sym (ap (λ k. first_some f (drop k xs)) all) ∙ so
-    where
-      nothing : (ys : List X) → first_some f (drop (length ys) ys) ≡ None
-      nothing [] = refl
-      nothing (y ∷ ys) = nothing ys
 
 -- an answer by another equation
 pub answers_so : {A E : Type 0} (answer : Result A E) (x y : A) → x ≡ y → IfOk answer (λ found. found ≡ x) → IfOk answer (λ found. found ≡ y)

@@ -1,24 +1,24 @@
 -- What single operations do of what is left to do.
-use Rattle.std.proofs.Common.{◌≡◌, ℕ, ◌+◌, ◌<◌, ◌≤◌, ◌-◌, zero, suc, Bool, true, false, not, Option, Some, None, List, length, refl, ap, sym, ◌∙◌, arith}
+use Rattle.std.proofs.Common.{◌≡◌, ℕ, ◌+◌, ◌<◌, ◌≤◌, ◌-◌, zero, suc, Bool, true, false, Option, Some, None, List, length, refl, ap, sym, ◌∙◌, arith}
 use Rattle.std.proofs.lemmas.Option.{slice_get_past}
-use Rattle.std.specs.Prelude.{nat_lt, slice_get, if◌then◌else◌}
+use Rattle.std.specs.Prelude.{nat_lt, slice_get}
 use Rattle.sieve_check.specs.Reading.{Ask, Leaf, exists_ask, over_ask, under_ask}
-use Rattle.sieve_code.specs.Operation.{Operation, sets, inverts, asks, jumps, jumps_if, acts, stops}
+use Rattle.sieve_code.specs.Operation.{Operation, asks, acts, stops, returns}
 use Rattle.sieve_code.specs.Walk as walk
 use Rattle.sieve_code.specs.Walk.{Walk, at_limit, code_walk, walk_from}
 use Rattle.sieve_run.specs.Delivery.{Delivery}
 use Rattle.sieve_run.specs.Matching.{truth_of, values_behind}
 use Rattle.sieve_run.specs.Perform.{perform}
-use Rattle.sieve_run.specs.Run.{goes_on, act_of, and_then, behind_test, chosen}
+use Rattle.sieve_run.specs.Run.{goes_on, and_then, behind_test, chosen}
 use Rattle.sieve_run.specs.State.{RunState}
 use Rattle.sieve_variables.specs.Part.{Part}
 use Rattle.sieve_run.specs.declared.flow.Flow.{Flow}
 use Rattle.sieve_run.specs.declared.flow.Flow.TheVariants as flow
 use Rattle.sieve_run.specs.declared.flow.Flow.TheVariants.{GoesOn}
 use Rattle.sieve_run.specs.declared.steps.Step.{Step}
-use Rattle.sieve_run.specs.declared.steps.Step.TheVariants.{Next, Stopped}
+use Rattle.sieve_run.specs.declared.steps.Step.TheVariants.{Next, Ended}
 use Rattle.sieve_run.specs.view.Flow.{ending_by, step_after}
-use Rattle.sieve_run.specs.view.Step.{StepsTo, doing, doing_after}
+use Rattle.sieve_run.specs.view.Step.{Acts, StepsTo, doing, doing_after}
 
 left_over : {n turn : ℕ} → n ≤ turn → n - turn ≡ 0
 left_over all = omega arith
@@ -26,111 +26,99 @@ left_over all = omega arith
 one_more : {n turn : ℕ} → turn < n → n - turn ≡ suc (n - (turn + 1))
 one_more below = omega arith
 
-module _ (delivery : Delivery) where
+module _ (act : Acts) (delivery : Delivery) where
   -- on at the place behind, with that truth in the register
-  on_behind : (go : ℕ → Bool → Walk) (truth : Bool) (behind place : ℕ) (s : RunState) → behind ≡ place + 1 → doing delivery (go (place + 1) truth) s ≡ doing delivery (go behind truth) s
-  on_behind go truth behind place s is = ap (λ b. doing delivery (go b truth) s) (sym is)
+  on_behind : (go : ℕ → Bool → Walk) (truth : Bool) (behind place : ℕ) (s : RunState) → behind ≡ place + 1 → doing act delivery (go (place + 1) truth) s ≡ doing act delivery (go behind truth) s
+  on_behind go truth behind place s is = ap (λ b. doing act delivery (go b truth) s) (sym is)
 
-  pub sets_steps : (truth : Bool) (behind : ℕ) (register : Bool) (s : RunState) → StepsTo delivery (sets truth) behind register s (Next behind truth) s
-  sets_steps truth behind register s = record { before = λ place go is. on_behind go truth behind place s is }
-
-  pub inverts_steps : (behind : ℕ) (register : Bool) (s : RunState) → StepsTo delivery inverts behind register s (Next behind (not register)) s
-  inverts_steps behind register s = record { before = λ place go is. on_behind go (not register) behind place s is }
-
-  by_answer : (truth : Bool) (f : Bool → Walk) (s : RunState) → chosen truth (doing delivery (f true)) (doing delivery (f false)) s ≡ doing delivery (f truth) s
+  by_answer : (truth : Bool) (f : Bool → Walk) (s : RunState) → chosen truth (doing act delivery (f true)) (doing act delivery (f false)) s ≡ doing act delivery (f truth) s
   by_answer true f s = refl
   by_answer false f s = refl
 
   -- a test that comes to a truth, and leaves a state
-  pub asks_steps : (ask : Ask) (truth : Bool) (behind : ℕ) (register : Bool) (old new : RunState) → truth ≡ truth_of delivery old ask → new ≡ behind_test delivery ask old → StepsTo delivery (asks ask) behind register old (Next behind truth) new
+  pub asks_steps : (ask : Ask) (truth : Bool) (behind : ℕ) (register : Bool) (old new : RunState) → truth ≡ truth_of delivery old ask → new ≡ behind_test delivery ask old → StepsTo act delivery (asks ask) behind register old (Next behind truth) new
   unfolding perform
   asks_steps ask truth behind register old new is moves = record {
     before = λ place go at.
         by_answer (truth_of delivery old ask) (go (place + 1)) (behind_test delivery ask old)
-        ∙ sym (ap (λ t. doing delivery (go (place + 1) t) (behind_test delivery ask old)) is)
-        ∙ sym (ap (λ s. doing delivery (go (place + 1) truth) s) moves)
+        ∙ sym (ap (λ t. doing act delivery (go (place + 1) t) (behind_test delivery ask old)) is)
+        ∙ sym (ap (λ s. doing act delivery (go (place + 1) truth) s) moves)
         ∙ on_behind go truth behind place new at;
   }
 
   -- one that looks at the message alone
-  pub exists_steps : (names : List (List Part)) (truth : Bool) (behind : ℕ) (register : Bool) (s : RunState) → truth ≡ truth_of delivery s (exists_ask names) → StepsTo delivery (asks (exists_ask names)) behind register s (Next behind truth) s
+  pub exists_steps : (names : List (List Part)) (truth : Bool) (behind : ℕ) (register : Bool) (s : RunState) → truth ≡ truth_of delivery s (exists_ask names) → StepsTo act delivery (asks (exists_ask names)) behind register s (Next behind truth) s
   unfolding values_behind
   exists_steps names truth behind register s is = asks_steps (exists_ask names) truth behind register s s is refl
 
-  pub over_steps : (limit : ℕ) (truth : Bool) (behind : ℕ) (register : Bool) (s : RunState) → truth ≡ nat_lt limit (length delivery.message) → StepsTo delivery (asks (over_ask limit)) behind register s (Next behind truth) s
+  pub over_steps : (limit : ℕ) (truth : Bool) (behind : ℕ) (register : Bool) (s : RunState) → truth ≡ nat_lt limit (length delivery.message) → StepsTo act delivery (asks (over_ask limit)) behind register s (Next behind truth) s
   unfolding values_behind truth_of
   over_steps limit truth behind register s is = asks_steps (over_ask limit) truth behind register s s is refl
 
-  pub under_steps : (limit : ℕ) (truth : Bool) (behind : ℕ) (register : Bool) (s : RunState) → truth ≡ nat_lt (length delivery.message) limit → StepsTo delivery (asks (under_ask limit)) behind register s (Next behind truth) s
+  pub under_steps : (limit : ℕ) (truth : Bool) (behind : ℕ) (register : Bool) (s : RunState) → truth ≡ nat_lt (length delivery.message) limit → StepsTo act delivery (asks (under_ask limit)) behind register s (Next behind truth) s
   unfolding values_behind truth_of
   under_steps limit truth behind register s is = asks_steps (under_ask limit) truth behind register s s is refl
 
-  pub jumps_steps : (target behind : ℕ) (register : Bool) (s : RunState) → StepsTo delivery (jumps target) behind register s (Next target register) s
-  jumps_steps target behind register s = record { before = λ place go is. refl }
-
-  pub jumps_true_steps : (target behind : ℕ) (register : Bool) (s : RunState) → StepsTo delivery (jumps_if true target) behind register s (Next (if register then target else behind) register) s
-  jumps_true_steps target behind true s = record { before = λ place go is. refl }
-  jumps_true_steps target behind false s = record { before = λ place go is. on_behind go false behind place s is }
-
-  pub jumps_false_steps : (target behind : ℕ) (register : Bool) (s : RunState) → StepsTo delivery (jumps_if false target) behind register s (Next (if register then behind else target) register) s
-  jumps_false_steps target behind true s = record { before = λ place go is. on_behind go true behind place s is }
-  jumps_false_steps target behind false s = record { before = λ place go is. refl }
-
   -- what follows a command that ended so
-  by_flow : (flow : Flow) (go : ℕ → Bool → Walk) (behind place : ℕ) (register : Bool) (new : RunState) → behind ≡ place + 1 → and_then (ending_by delivery flow new) (doing delivery (go (place + 1) register)) ≡ doing_after delivery go (step_after flow behind register) new
+  by_flow : (flow : Flow) (go : ℕ → Bool → Walk) (behind place : ℕ) (register : Bool) (new : RunState) → behind ≡ place + 1 → and_then (ending_by flow new) (doing act delivery (go (place + 1) register)) ≡ doing_after act delivery go (step_after flow behind register) new
   by_flow GoesOn go behind place register new at = on_behind go register behind place new at
+  by_flow flow.Returned go behind place register new at = refl
   by_flow flow.Stopped go behind place register new at = refl
-  by_flow (flow.Failed line kind) go behind place register new at = refl
+  by_flow (flow.Failed error) go behind place register new at = refl
 
-  pub acts_steps : (leaf : Leaf) (line behind : ℕ) (register : Bool) (flow : Flow) (step : Step) (old new : RunState) → step ≡ step_after flow behind register → ending_by delivery flow new ≡ act_of delivery leaf line old → StepsTo delivery (acts leaf line) behind register old step new
+  pub acts_steps : (leaf : Leaf) (line behind : ℕ) (register : Bool) (flow : Flow) (step : Step) (old new : RunState) → step ≡ step_after flow behind register → ending_by flow new ≡ act leaf line old → StepsTo act delivery (acts leaf line) behind register old step new
   unfolding perform
   acts_steps leaf line behind register flow step old new to does = record {
     before = λ place go at.
-        sym (ap (λ e. and_then e (doing delivery (go (place + 1) register))) does)
+        sym (ap (λ e. and_then e (doing act delivery (go (place + 1) register))) does)
         ∙ by_flow flow go behind place register new at
-        ∙ sym (ap (λ s. doing_after delivery go s new) to);
+        ∙ sym (ap (λ s. doing_after act delivery go s new) to);
   }
 
-  pub stop_steps : (behind : ℕ) (register : Bool) (s : RunState) → StepsTo delivery stops behind register s Stopped s
+  pub stop_steps : (behind : ℕ) (register : Bool) (s : RunState) → StepsTo act delivery stops behind register s (Ended flow.Stopped) s
   unfolding perform
   stop_steps behind register s = record { before = λ place go is. refl }
+
+  pub return_steps : (behind : ℕ) (register : Bool) (s : RunState) → StepsTo act delivery returns behind register s (Ended flow.Returned) s
+  unfolding perform
+  return_steps behind register s = record { before = λ place go is. refl }
 
   -- CODE FROM A PLACE ON
 
   module _ (ops : List Operation) where
-    pub begins : (s : RunState) → doing delivery (walk_from ops (length ops - 0) 0 false) s ≡ doing delivery (code_walk ops (length ops)) s
-    begins s = ap (λ n. doing delivery (walk_from ops n 0 false) s) (omega arith)
+    pub begins : (s : RunState) → doing act delivery (walk_from ops (length ops - 0) 0 false) s ≡ doing act delivery (code_walk ops (length ops)) s
+    begins s = ap (λ n. doing act delivery (walk_from ops n 0 false) s) (omega arith)
 
-    at_none : (n place : ℕ) (register : Bool) (s : RunState) → slice_get ops place ≡ None → doing delivery (walk_from ops n place register) s ≡ goes_on s
+    at_none : (n place : ℕ) (register : Bool) (s : RunState) → slice_get ops place ≡ None → doing act delivery (walk_from ops n place register) s ≡ goes_on s
     unfolding walk_from perform
-    at_none zero place register s is = ap (λ o. doing delivery (at_limit o) s) is
-    at_none (suc n) place register s is = ap (λ o. doing delivery (walk.step (walk_from ops n) o place register) s) is
+    at_none zero place register s is = ap (λ o. doing act delivery (at_limit o) s) is
+    at_none (suc n) place register s is = ap (λ o. doing act delivery (walk.step (walk_from ops n) o place register) s) is
 
     -- behind the last operation
-    pub past_end : (n place : ℕ) (register : Bool) (s : RunState) → length ops ≤ place → doing delivery (walk_from ops n place register) s ≡ goes_on s
+    pub past_end : (n place : ℕ) (register : Bool) (s : RunState) → length ops ≤ place → doing act delivery (walk_from ops n place register) s ≡ goes_on s
     past_end n place register s past = at_none n place register s (slice_get_past ops place past)
 
-    by_limit : (o : Option Operation) (s : RunState) → doing delivery (at_limit o) s ≡ goes_on s
+    by_limit : (o : Option Operation) (s : RunState) → doing act delivery (at_limit o) s ≡ goes_on s
     unfolding perform
     by_limit None s = refl
     by_limit (Some op) s = refl
 
-    at_zero : (place : ℕ) (register : Bool) (s : RunState) → doing delivery (walk_from ops 0 place register) s ≡ goes_on s
+    at_zero : (place : ℕ) (register : Bool) (s : RunState) → doing act delivery (walk_from ops 0 place register) s ≡ goes_on s
     unfolding walk_from
     at_zero place register s = by_limit (slice_get ops place) s
 
     -- without a further turn
-    pub runs_out : (turn place : ℕ) (register : Bool) (s : RunState) → length ops ≤ turn → doing delivery (walk_from ops (length ops - turn) place register) s ≡ goes_on s
-    runs_out turn place register s all = ap (λ n. doing delivery (walk_from ops n place register) s) (left_over all) ∙ at_zero place register s
+    pub runs_out : (turn place : ℕ) (register : Bool) (s : RunState) → length ops ≤ turn → doing act delivery (walk_from ops (length ops - turn) place register) s ≡ goes_on s
+    runs_out turn place register s all = ap (λ n. doing act delivery (walk_from ops n place register) s) (left_over all) ∙ at_zero place register s
 
-    more : (n : ℕ) (place : ℕ) (register : Bool) (op : Operation) (old : RunState) → slice_get ops place ≡ Some op → doing delivery (walk_from ops (suc n) place register) old ≡ doing delivery (walk.step (walk_from ops n) (Some op) place register) old
+    more : (n : ℕ) (place : ℕ) (register : Bool) (op : Operation) (old : RunState) → slice_get ops place ≡ Some op → doing act delivery (walk_from ops (suc n) place register) old ≡ doing act delivery (walk.step (walk_from ops n) (Some op) place register) old
     unfolding walk_from
-    more n place register op old is = ap (λ o. doing delivery (walk.step (walk_from ops n) o place register) old) is
+    more n place register op old is = ap (λ o. doing act delivery (walk.step (walk_from ops n) o place register) old) is
 
     -- one turn
-    pub turns : (turn place : ℕ) (register : Bool) (op : Operation) (old : RunState) (step : Step) (new : RunState) → turn < length ops → slice_get ops place ≡ Some op → StepsTo delivery op (place + 1) register old step new →
-        doing delivery (walk_from ops (length ops - turn) place register) old ≡ doing_after delivery (walk_from ops (length ops - (turn + 1))) step new
+    pub turns : (turn place : ℕ) (register : Bool) (op : Operation) (old : RunState) (step : Step) (new : RunState) → turn < length ops → slice_get ops place ≡ Some op → StepsTo act delivery op (place + 1) register old step new →
+        doing act delivery (walk_from ops (length ops - turn) place register) old ≡ doing_after act delivery (walk_from ops (length ops - (turn + 1))) step new
     turns turn place register op old step new below is does =
-        ap (λ n. doing delivery (walk_from ops n place register) old) (one_more below)
+        ap (λ n. doing act delivery (walk_from ops n place register) old) (one_more below)
         ∙ more (length ops - (turn + 1)) place register op old is
         ∙ does.before place (walk_from ops (length ops - (turn + 1))) refl

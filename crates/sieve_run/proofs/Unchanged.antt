@@ -3,7 +3,7 @@ use Rattle.std.proofs.Common.{◌≡◌, ℕ, Bool, true, false, List, Option, N
 use Rattle.sieve_check.specs.Reading.{Ask, Leaf, compares, exists_ask, over_ask, under_ask}
 use Rattle.sieve_check.specs.declared.reading.MatchType.{MatchType}
 use Rattle.sieve_check.specs.declared.reading.MatchType.TheVariants.{Is, Contains, Matches}
-use Rattle.sieve_check.specs.Script.{Condition, always, never, asks, negated, both, either, Commands, stops}
+use Rattle.sieve_check.specs.Script.{Condition, always, never, asks, negated, both, either, Commands, stops, returns}
 use Rattle.sieve_run.specs.Delivery.{Delivery}
 use Rattle.sieve_run.specs.Matching.{match_found, values_behind, with_found}
 use Rattle.sieve_run.specs.Run.{SetsMatched, Ending, Answer, answer_of, also, behind_test, or_else, decide, exec}
@@ -54,3 +54,8 @@ decide_keeps delivery (either c d) state =
 pub stop_ends : (ask : Ask → RunState → Answer) (act : Leaf → ℕ → RunState → Ending) (rest other : Commands) (state : RunState) → exec ask act (stops rest) state ≡ exec ask act (stops other) state
 unfolding exec
 stop_ends ask act rest other state = refl
+
+-- nor behind a return
+pub return_ends : (ask : Ask → RunState → Answer) (act : Leaf → ℕ → RunState → Ending) (rest other : Commands) (state : RunState) → exec ask act (returns rest) state ≡ exec ask act (returns other) state
+unfolding exec
+return_ends ask act rest other state = refl

@@ -1,5 +1,5 @@
 -- What tests and commands know of a delivery.
-use Rattle.std.specs.Prelude.{ℕ, List}
+use Rattle.std.specs.Prelude.{ℕ, List, [], ◌∷◌, ◌++◌}
 use Rattle.sieve_run.specs.declared.envelope.Envelope.{Envelope}
 use Rattle.sieve_run.specs.declared.name.ScriptName.{ScriptName}
 
@@ -10,3 +10,9 @@ pub record Delivery : Type 0 where
   pub envelope : Envelope
   -- the script that runs
   pub script : ScriptName
+  -- the scripts that include it, each by the one before, from the main script on (RFC 6609, section 3.2)
+  pub including : List ScriptName
+
+-- in a script that the running one includes
+abbrev pub inside : ScriptName → Delivery → Delivery
+inside name delivery = record delivery { script = name; including = delivery.including ++ delivery.script ∷ [] }

@@ -1,5 +1,7 @@
 pub mod Delivery
+pub mod Depth
 pub mod ErrorKind
+pub mod Frame
 pub mod Library
 pub mod Matching
 pub mod Meter

@@ -9,14 +9,14 @@ use Rattle.sieve_base.specs.declared.place.Place.{Place}
 use Rattle.sieve_base.specs.declared.place.Place.TheVariants.{Personal, Global}
 use Rattle.sieve_run.specs.declared.name.ScriptName.{ScriptName}
 
--- the personal store comes first (the two of RFC 6609, section 3)
+-- the personal place comes first (the two of RFC 6609, section 3.2)
 abbrev pub place_cmp : Place → Place → Ordering
 place_cmp Personal Personal = Equal
 place_cmp Personal Global = Less
 place_cmp Global Personal = Greater
 place_cmp Global Global = Equal
 
--- by store, and then by octets
+-- by place, and then by octets
 abbrev pub name_cmp : ScriptName → ScriptName → Ordering
 name_cmp a b = ordering_then (place_cmp a.place b.place) (slice_cmp nat_cmp a.name b.name)
 
@@ -26,6 +26,6 @@ place_eq Personal Global = false
 place_eq Global Personal = false
 place_eq Global Global = true
 
--- the same store and the same octets
+-- the same place and the same octets
 abbrev pub name_eq : ScriptName → ScriptName → Bool
 name_eq a b = place_eq a.place b.place && pointwise nat_eq a.name b.name

@@ -1,9 +1,9 @@
 -- What doing the leaves of a walk in turn gives, up to the first that ends the run.
 use Rattle.std.specs.Prelude.{ℕ, Bool, true, false, List, [], ◌∷◌}
 use Rattle.sieve_check.specs.Reading.{Ask, Leaf}
-use Rattle.sieve_code.specs.Walk.{Walk, at_end, by_stop, cut_off, asked, acted, Met, met_ask, met_leaf, End, ended, unanswered, unfinished, Gone, gone}
+use Rattle.sieve_code.specs.Walk.{Walk, at_end, by_stop, by_return, cut_off, asked, acted, Met, met_ask, met_leaf, End, ended, unanswered, unfinished, Gone, gone}
 use Rattle.sieve_code.specs.Walk as walk
-use Rattle.sieve_run.specs.Run.{Ending, Answer, goes_on, stopped, failed, and_then, chosen}
+use Rattle.sieve_run.specs.Run.{Ending, Answer, goes_on, returned, stopped, failed, and_then, chosen}
 use Rattle.sieve_run.specs.State.{RunState}
 
 -- `ask` says what tests ask, whose truth is the walk's next answer, and `act` what commands do that act; no walk of a tree is
@@ -11,6 +11,7 @@ use Rattle.sieve_run.specs.State.{RunState}
 unfoldable pub perform : (Ask → RunState → Answer) → (Leaf → ℕ → RunState → Ending) → Walk → RunState → Ending
 perform ask act at_end state = goes_on state
 perform ask act by_stop state = stopped state
+perform ask act by_return state = returned state
 perform ask act cut_off state = goes_on state
 perform ask act (asked a so otherwise) state = chosen (ask a state).truth (perform ask act so) (perform ask act otherwise) (ask a state).state
 perform ask act (acted leaf line next) state = and_then (act leaf line state) (perform ask act next)
@@ -24,6 +25,7 @@ chosen_answers false held otherwise state = otherwise state
 
 abbrev pub answers_after : Ending → (RunState → List Bool) → List Bool
 answers_after (goes_on state) next = next state
+answers_after (returned state) next = []
 answers_after (stopped state) next = []
 answers_after (failed error state) next = []
 
@@ -31,6 +33,7 @@ answers_after (failed error state) next = []
 unfoldable pub answers_of : (Ask → RunState → Answer) → (Leaf → ℕ → RunState → Ending) → Walk → RunState → List Bool
 answers_of ask act at_end state = []
 answers_of ask act by_stop state = []
+answers_of ask act by_return state = []
 answers_of ask act cut_off state = []
 answers_of ask act (asked a so otherwise) state = (ask a state).truth ∷ chosen_answers (ask a state).truth (answers_of ask act so) (answers_of ask act otherwise) (ask a state).state
 answers_of ask act (acted leaf line next) state = answers_after (act leaf line state) (answers_of ask act next)
@@ -45,6 +48,7 @@ do_met ask act (met_leaf leaf line ∷ met) state = and_then (act leaf line stat
 abbrev pub end_of : End → RunState → Ending
 end_of ended state = goes_on state
 end_of walk.stopped state = stopped state
+end_of walk.returned state = returned state
 end_of unanswered state = goes_on state
 end_of unfinished state = goes_on state
 

@@ -11,7 +11,9 @@ pub record RunState : Type 0 where
   pub cancelled : Bool
   -- the names looked up so far, each present or missing
   pub reads : List (ScriptName × Bool)
-  -- the variables of the script that runs
+  -- the scripts that were entered, in turn, the main script first (RFC 6609, section 3.2)
+  pub entered : List ScriptName
+  -- the variables of the script that runs, and those that scripts share
   pub values : Values
   -- the internal flags (RFC 5232, section 2)
   pub flags : List (List ℕ)

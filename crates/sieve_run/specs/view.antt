@@ -6,5 +6,6 @@ pub mod Entry
 pub mod FieldTests
 pub mod Flow
 pub mod Found
+pub mod Include
 pub mod State
 pub mod Step

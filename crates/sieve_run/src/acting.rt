@@ -3,26 +3,25 @@ ghost use Rattle.std.specs.Prelude.{◌≡◌, IfOk, map};
 ghost use Rattle.std.specs.List.{list_all};
 ghost use Rattle.std.specs.Option.{option_map};
 ghost use Rattle.message_text.specs.Addresses.{addresses_of};
-ghost use Rattle.sieve_check.specs.Reading.{discard_leaf, fileinto_leaf, keep_leaf, redirect_leaf, set_leaf};
 ghost use Rattle.sieve_code.specs.view.Op.{given_strings};
-ghost use Rattle.sieve_run.specs.Run.{act_of, is_mailbox, is_no_control, only_address, performs, whole_address};
+ghost use Rattle.sieve_run.specs.Run.{discards, files_into, gives, is_mailbox, is_no_control, keeps, only_address, performs, sends, sets, whole_address};
 ghost use Rattle.sieve_run.specs.view.Delivery.{delivery_as};
 ghost use Rattle.sieve_run.specs.view.Flow.{ending_by};
 ghost use Rattle.sieve_run.specs.view.Acting.{mailbox_named};
 ghost use Rattle.sieve_run.specs.view.State.{state_of};
 ghost use Rattle.sieve_variables.specs.Modifier.{modified};
 ghost use Rattle.sieve_variables.specs.Value.{text_value};
-ghost use Rattle.sieve_variables.specs.view.Part.{part_of};
+ghost use Rattle.sieve_variables.specs.view.Part.{part_of, variable_of};
 
 use crate::delivery::Delivery;
 use crate::flagging::stored_flags;
-use crate::flow::Flow;
+use crate::flow::{Flow, fail};
 use crate::outcome::{Action, ErrorKind};
 use crate::state::{State, add_action};
 use message_text::{Address, AddressPart, addresses};
 use sieve_base::Octets;
 use sieve_base::limits::MAX_MAILBOX;
-use sieve_variables::{Modifiers, Part, Parts, Values};
+use sieve_variables::{Modifiers, Part, Parts, Values, Variable};
 use std::alloc::AllocError;
 
 /// Performs an action, which takes the place of the implicit keep (RFC 5228, section 2.10.2).
@@ -32,14 +31,13 @@ fn perform(
     line: u64,
     state: &mut State,
 ) -> Result<Flow, AllocError>
-    ensures { IfOk result (λ flow. ending_by (delivery_as delivery.now) flow (state_of state.new) ≡ performs (delivery_as delivery.now) line action (state_of state.old)) }
+    ensures { IfOk result (λ flow. ending_by flow (state_of state.new) ≡ performs (delivery_as delivery.now) line action (state_of state.old)) }
 {
     if add_action(delivery.alloc, &mut state.actions, action)? {
         state.cancelled = true;
         Ok(Flow::GoesOn)
     } else {
-        let kind = ErrorKind::TooManyActions;
-        Ok(Flow::Failed { line, kind })
+        fail(delivery, line, ErrorKind::TooManyActions)
     }
 }
 
@@ -50,7 +48,7 @@ pub(crate) fn keep(
     line: u64,
     state: &mut State,
 ) -> Result<Flow, AllocError>
-    ensures { IfOk result (λ flow. ending_by (delivery_as delivery.now) flow (state_of state.new) ≡ act_of (delivery_as delivery.now) (keep_leaf (given_strings flags.now)) line (state_of state.old)) }
+    ensures { IfOk result (λ flow. ending_by flow (state_of state.new) ≡ keeps (delivery_as delivery.now) (given_strings flags.now) line (state_of state.old)) }
 {
     let mailbox = Octets::copied(delivery.alloc, delivery.envelope.mailbox.as_slice())?;
     let flags = stored_flags(delivery, &*state, flags)?;
@@ -63,7 +61,7 @@ pub(crate) fn discard(
     line: u64,
     state: &mut State,
 ) -> Result<Flow, AllocError>
-    ensures { IfOk result (λ flow. ending_by (delivery_as delivery.now) flow (state_of state.new) ≡ act_of (delivery_as delivery.now) discard_leaf line (state_of state.old)) }
+    ensures { IfOk result (λ flow. ending_by flow (state_of state.new) ≡ discards (delivery_as delivery.now) line (state_of state.old)) }
 {
     perform(delivery, Action::Discard, line, state)
 }
@@ -106,7 +104,7 @@ fn mailbox_named(
 }
 
 /// Stores into the mailbox of that name (RFC 5228, section 4.1).
-#[tactic(auto, using(crate::proofs::Named::files))]
+#[tactic(auto, using(crate::proofs::Named::filing))]
 pub(crate) fn file_into(
     delivery: &Delivery<'_>,
     mailbox: &[Part],
@@ -114,17 +112,14 @@ pub(crate) fn file_into(
     line: u64,
     state: &mut State,
 ) -> Result<Flow, AllocError>
-    ensures { IfOk result (λ flow. ending_by (delivery_as delivery.now) flow (state_of state.new) ≡ act_of (delivery_as delivery.now) (fileinto_leaf (map part_of mailbox.now) (given_strings flags.now)) line (state_of state.old)) }
+    ensures { IfOk result (λ flow. ending_by flow (state_of state.new) ≡ files_into (delivery_as delivery.now) (map part_of mailbox.now) (given_strings flags.now) line (state_of state.old)) }
 {
     match mailbox_named(delivery, &state.values, mailbox)? {
         Some(mailbox) => {
             let flags = stored_flags(delivery, &*state, flags)?;
             perform(delivery, Action::Store { mailbox, flags }, line, state)
         }
-        None => {
-            let kind = ErrorKind::BadMailbox;
-            Ok(Flow::Failed { line, kind })
-        }
+        None => fail(delivery, line, ErrorKind::BadMailbox),
     }
 }
 
@@ -166,21 +161,18 @@ fn address_named(
 }
 
 /// Sends the message on to the address that a string gives (RFC 5228, section 4.2).
-#[tactic(auto, using(crate::proofs::Named::sends))]
+#[tactic(auto, using(crate::proofs::Named::sending))]
 pub(crate) fn redirect(
     delivery: &Delivery<'_>,
     address: &[Part],
     line: u64,
     state: &mut State,
 ) -> Result<Flow, AllocError>
-    ensures { IfOk result (λ flow. ending_by (delivery_as delivery.now) flow (state_of state.new) ≡ act_of (delivery_as delivery.now) (redirect_leaf (map part_of address.now)) line (state_of state.old)) }
+    ensures { IfOk result (λ flow. ending_by flow (state_of state.new) ≡ sends (delivery_as delivery.now) (map part_of address.now) line (state_of state.old)) }
 {
     match address_named(delivery, &state.values, address)? {
         Some(address) => perform(delivery, Action::Redirect { address }, line, state),
-        None => {
-            let kind = ErrorKind::BadAddress;
-            Ok(Flow::Failed { line, kind })
-        }
+        None => fail(delivery, line, ErrorKind::BadAddress),
     }
 }
 
@@ -197,18 +189,34 @@ fn value_of(
     Ok(Octets::from_vec(modifiers.modified(delivery.alloc, text.as_slice())?))
 }
 
-/// Gives a variable of the script a value (RFC 5229, section 4).
+/// Gives a variable a value, where there is room for it (RFC 5229, sections 4 and 6).
+pub(crate) fn give(
+    delivery: &Delivery<'_>,
+    variable: &Variable,
+    value: Octets,
+    line: u64,
+    state: &mut State,
+) -> Result<Flow, AllocError>
+    ensures { IfOk result (λ flow. ending_by flow (state_of state.new) ≡ gives (delivery_as delivery.now) line (variable_of variable.now) value (state_of state.old)) }
+{
+    if !state.values.has_room_for(variable) {
+        return fail(delivery, line, ErrorKind::TooManyGlobals);
+    }
+    state.values.set(delivery.alloc, variable, value)?;
+    Ok(Flow::GoesOn)
+}
+
+/// Gives a variable the value that a `set` says (RFC 5229, section 4).
 pub(crate) fn set(
     delivery: &Delivery<'_>,
-    name: &[u8],
+    variable: &Variable,
     modifiers: Modifiers,
     value: &[Part],
     line: u64,
     state: &mut State,
 ) -> Result<Flow, AllocError>
-    ensures { IfOk result (λ flow. ending_by (delivery_as delivery.now) flow (state_of state.new) ≡ act_of (delivery_as delivery.now) (set_leaf name.now modifiers (map part_of value.now)) line (state_of state.old)) }
+    ensures { IfOk result (λ flow. ending_by flow (state_of state.new) ≡ sets (delivery_as delivery.now) (variable_of variable.now) modifiers (map part_of value.now) line (state_of state.old)) }
 {
     let octets = value_of(delivery, &state.values, modifiers, value)?;
-    state.values.set(delivery.alloc, name, octets)?;
-    Ok(Flow::GoesOn)
+    give(delivery, variable, octets, line, state)
 }

@@ -11,4 +11,6 @@ pub(crate) struct Delivery<'a> {
     pub(crate) envelope: &'a Envelope,
     /// The script that runs.
     pub(crate) script: &'a ScriptName,
+    /// The scripts that include it, each by the one before, from the main script on.
+    pub(crate) including: &'a [&'a ScriptName],
 }

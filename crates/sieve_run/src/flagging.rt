@@ -1,16 +1,15 @@
 //! What commands do with flags (RFC 5232, sections 3 and 5).
-ghost use Rattle.std.specs.Prelude.{◌≡◌, IfOk, OnOk, Some, None};
+ghost use Rattle.std.specs.Prelude.{◌≡◌, IfOk, Some, None};
 ghost use Rattle.std.specs.Option.{option_map};
 ghost use Rattle.match_text.specs.Flags.{flag_list};
-ghost use Rattle.sieve_check.specs.Reading.{flag_leaf};
 ghost use Rattle.sieve_code.specs.view.Op.{given_strings};
-ghost use Rattle.sieve_run.specs.Run.{act_of, changed_flags, flags_named, held_flags, stored_flags, with_flags};
+ghost use Rattle.sieve_run.specs.Run.{changed_flags, changes, flags_named, held_flags, stored_flags};
 ghost use Rattle.sieve_run.specs.view.Delivery.{delivery_as};
 ghost use Rattle.sieve_run.specs.view.Flow.{ending_by};
 ghost use Rattle.sieve_run.specs.view.State.{state_of};
-ghost use Rattle.sieve_variables.specs.Value.{local_value};
-ghost use Rattle.sieve_variables.specs.view.Part.{strings_of};
+ghost use Rattle.sieve_variables.specs.view.Part.{strings_of, variable_of};
 
+use crate::acting::give;
 use crate::delivery::Delivery;
 use crate::flow::Flow;
 use crate::state::State;
@@ -18,7 +17,7 @@ use match_text::{FlagList, flag_text, flags_of, flags_of_texts, union, without};
 use sieve_base::Octets;
 use sieve_base::limits::MAX_VALUE;
 use sieve_check::FlagChange;
-use sieve_variables::{Parts, SmallOctets};
+use sieve_variables::{Parts, Variable};
 use std::alloc::{AllocError, Global};
 
 /// The flags that strings name (RFC 5232, section 2).
@@ -91,15 +90,21 @@ fn changed_value(
 fn change_variable(
     delivery: &Delivery<'_>,
     change: FlagChange,
-    name: &[u8],
+    variable: &Variable,
     texts: &[Parts],
+    line: u64,
     state: &mut State,
-) -> Result<(), AllocError>
-    ensures { OnOk result (state_of state.new ≡ with_flags change (Some name.now) (strings_of texts.now) (state_of state.old)) }
+) -> Result<Flow, AllocError>
+    ensures { IfOk result (λ flow. ending_by flow (state_of state.new) ≡ changes (delivery_as delivery.now) line change (Some (variable_of variable.now)) (strings_of texts.now) (state_of state.old)) }
 {
     let named = flags_named(delivery, &*state, texts)?;
-    let value = changed_value(delivery.alloc, change, state.values.local(name), named)?;
-    state.values.set(delivery.alloc, name, value)
+    let value = changed_value(
+        delivery.alloc,
+        change,
+        state.values.variable(variable),
+        named,
+    )?;
+    give(delivery, variable, value, line, state)
 }
 
 /// Changes the internal flags.
@@ -107,29 +112,29 @@ fn change_internal(
     delivery: &Delivery<'_>,
     change: FlagChange,
     texts: &[Parts],
+    line: u64,
     state: &mut State,
-) -> Result<(), AllocError>
-    ensures { OnOk result (state_of state.new ≡ with_flags change None (strings_of texts.now) (state_of state.old)) }
+) -> Result<Flow, AllocError>
+    ensures { IfOk result (λ flow. ending_by flow (state_of state.new) ≡ changes (delivery_as delivery.now) line change None (strings_of texts.now) (state_of state.old)) }
 {
     let named = flags_named(delivery, &*state, texts)?;
     state.flags = changed_flags(delivery.alloc, change, &state.flags, named)?;
-    Ok(())
+    Ok(Flow::GoesOn)
 }
 
 /// Changes flags (RFC 5232, section 3).
 pub(crate) fn change(
     delivery: &Delivery<'_>,
     change: FlagChange,
-    variable: &Option<SmallOctets>,
+    variable: &Option<Variable>,
     texts: &[Parts],
     line: u64,
     state: &mut State,
 ) -> Result<Flow, AllocError>
-    ensures { IfOk result (λ flow. ending_by (delivery_as delivery.now) flow (state_of state.new) ≡ act_of (delivery_as delivery.now) (flag_leaf change (option_map (λ name. name.items) variable.now) (strings_of texts.now)) line (state_of state.old)) }
+    ensures { IfOk result (λ flow. ending_by flow (state_of state.new) ≡ changes (delivery_as delivery.now) line change (option_map variable_of variable.now) (strings_of texts.now) (state_of state.old)) }
 {
     match variable {
-        Some(name) => change_variable(delivery, change, name, texts, state)?,
-        None => change_internal(delivery, change, texts, state)?,
+        Some(variable) => change_variable(delivery, change, variable, texts, line, state),
+        None => change_internal(delivery, change, texts, line, state),
     }
-    Ok(Flow::GoesOn)
 }

@@ -1,12 +1,28 @@
-use crate::outcome::ErrorKind;
+//! How commands end.
+ghost use Rattle.std.specs.Prelude.{◌≡◌, IfOk};
+ghost use Rattle.sieve_run.specs.declared.flow.Flow.TheVariants.{Failed};
+
+use crate::delivery::Delivery;
+use crate::outcome::{ErrorKind, RunError};
+use std::alloc::AllocError;
 
 /// How commands ended.
-#[derive(Clone, Copy, Debug)]
+#[derive(Debug, Drop)]
 pub(crate) enum Flow {
     /// At their end.
     GoesOn,
-    /// By `stop`.
+    /// By `return`, which ends their script (RFC 6609, section 3.3).
+    Returned,
+    /// By `stop`, which ends the run (RFC 5228, section 3.3).
     Stopped,
-    /// By an error in the command on a line.
-    Failed { line: u64, kind: ErrorKind },
+    /// By an error in a command, which ends the run (RFC 5228, section 2.10.6).
+    Failed(RunError),
+}
+
+/// An error of the script that runs, at a line of it.
+pub(crate) fn fail(delivery: &Delivery<'_>, line: u64, kind: ErrorKind) -> Result<Flow, AllocError>
+    ensures { IfOk result (λ flow. flow ≡ Failed (record { script = delivery.now.script.now; line = line; kind = kind })) }
+{
+    let script = delivery.script.copy(delivery.alloc)?;
+    Ok(Flow::Failed(RunError { script, line, kind }))
 }

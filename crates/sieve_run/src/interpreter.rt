@@ -1,19 +1,19 @@
 ghost use Rattle.std.specs.Prelude.{◌≡◌, ◌≤◌, [], ◌∷◌, true, None, Some, IfOk, if◌then◌else◌, length};
 ghost use Rattle.std.specs.Option.{option_copied};
-ghost use Rattle.sieve_run.specs.Library.{found_at, lookup_of};
+ghost use Rattle.sieve_run.specs.Library.{lookup_of};
 ghost use Rattle.sieve_run.specs.Meter.{next_run};
-ghost use Rattle.sieve_run.specs.Run.{begun, outcome_of, verdict_of};
+ghost use Rattle.sieve_run.specs.Run.{act_of, begun, delivery_to, outcome_of, verdict_of};
 ghost use Rattle.sieve_code.specs.Walk.{code_walk};
 ghost use Rattle.sieve_code.specs.view.Code.{ops_of};
-ghost use Rattle.sieve_run.specs.view.Found.{FoundAs};
-ghost use Rattle.sieve_base.specs.Limits.{action_limit};
-ghost use Rattle.sieve_run.specs.view.Flow.{verdict_by};
+ghost use Rattle.sieve_base.specs.Limits.{action_limit, include_depth};
+ghost use Rattle.sieve_run.specs.view.Flow.{ending_by};
 ghost use Rattle.sieve_run.specs.view.State.{state_of};
 ghost use Rattle.sieve_run.specs.view.Step.{doing};
 
 use crate::delivery::Delivery;
 use crate::envelope::Envelope;
 use crate::flow::Flow;
+use crate::including::find;
 use crate::library::{Found, Library};
 use crate::meter::Meter;
 use crate::name::ScriptName;
@@ -23,7 +23,7 @@ use crate::steps::execute;
 use indexmap::IndexMap;
 use match_text::FlagList;
 use message_text::Message;
-use sieve_base::limits::MAX_NAME;
+use sieve_base::limits::MAX_INCLUDE_DEPTH;
 use sieve_code::Code;
 use sieve_variables::Values;
 use std::alloc::{AllocError, Global};
@@ -77,62 +77,71 @@ fn kept(cancelled: bool, flags: FlagList) -> Option<FlagList>
 }
 
 /// The outcome of a run of the main script that ended so.
-fn ended(alloc: Global, main: &ScriptName, flow: Flow, state: State) -> Result<Outcome, AllocError>
+fn ended(alloc: Global, flow: Flow, state: State) -> Outcome
     requires { length state.actions.items ≤ action_limit }
-    ensures { IfOk result (λ outcome. outcome ≡ verdict_by main.now flow (state_of state)) }
+    ensures { result ≡ verdict_of (ending_by flow (state_of state)) }
 {
     let State {
         actions,
         cancelled,
         reads,
+        entered: _,
         values: _,
         flags,
     } = state;
     match flow {
-        Flow::Failed { line, kind } => Ok(Outcome {
+        Flow::Failed(error) => Outcome {
             actions: Vec::new(alloc),
             implicit: Some(FlagList::new(alloc)),
-            error: Some(RunError {
-                script: main.copy(alloc)?,
-                line,
-                kind,
-            }),
+            error: Some(error),
             reads,
-        }),
-        Flow::GoesOn | Flow::Stopped => Ok(Outcome {
+        },
+        Flow::GoesOn | Flow::Returned | Flow::Stopped => Outcome {
             actions,
             implicit: kept(cancelled, flags),
             error: None,
             reads,
-        }),
+        },
     }
 }
 
+/// The state in which the main script begins.
+fn begun(alloc: Global, main: &ScriptName) -> Result<State, AllocError>
+    ensures { IfOk result (λ state. state_of state ≡ begun main.now) }
+{
+    let mut entered = Vec::new(alloc);
+    entered.push(main.copy(alloc)?)?;
+    Ok(State {
+        actions: Vec::new(alloc),
+        cancelled: false,
+        reads: first_read(alloc, main, true)?,
+        entered,
+        values: Values::new(alloc),
+        flags: FlagList::new(alloc),
+    })
+}
+
 /// Runs the main script's code from the start.
-fn run_main(
+fn run_main<L: Library>(
     alloc: Global,
+    lib: &L,
     main: &ScriptName,
     code: &Code,
     envelope: &Envelope,
     message: &Message,
 ) -> Result<Outcome, AllocError>
-    ensures { IfOk result (λ outcome. outcome ≡ verdict_of (doing (record { message = message.now; envelope = envelope.now; script = main.now }) (code_walk (ops_of code.now) (length (ops_of code.now))) (begun main.now))) }
+    ensures { IfOk result (λ outcome. outcome ≡ verdict_of (doing (act_of (λ name. lookup_of (L.texts lib.now name)) include_depth (delivery_to envelope.now message.now main.now)) (delivery_to envelope.now message.now main.now) (code_walk (ops_of code.now) (length (ops_of code.now))) (begun main.now))) }
 {
-    let mut state = State {
-        actions: Vec::new(alloc),
-        cancelled: false,
-        reads: first_read(alloc, main, true)?,
-        values: Values::new(alloc),
-        flags: FlagList::new(alloc),
-    };
+    let mut state = begun(alloc, main)?;
     let delivery = Delivery {
         alloc,
         message,
         envelope,
         script: main,
+        including: &[],
     };
-    let flow = execute(&delivery, code, &mut state)?;
-    ended(alloc, main, flow, state)
+    let flow = execute(lib, MAX_INCLUDE_DEPTH, &delivery, code, &mut state)?;
+    Ok(ended(alloc, flow, state))
 }
 
 /// The outcome where there is no main script: the implicit keep, and nothing is looked up.
@@ -144,17 +153,6 @@ fn no_main(alloc: Global) -> Outcome
         implicit: Some(FlagList::new(alloc)),
         error: None,
         reads: IndexMap::new(alloc),
-    }
-}
-
-/// What a library has at a name, where that isn't too long.
-fn find<'a, L: Library>(lib: &'a L, name: &ScriptName) -> Found<'a>
-    ensures { FoundAs result (found_at (λ name. lookup_of (L.texts lib.now name)) name.now) }
-{
-    if name.name.as_slice().len() > MAX_NAME {
-        Found::Missing
-    } else {
-        lib.find(name)
     }
 }
 
@@ -179,6 +177,6 @@ pub fn run<L: Library>(
     match find(lib, name) {
         Found::Missing => failed_at_main(alloc, name, false, ErrorKind::MissingScript),
         Found::Invalid => failed_at_main(alloc, name, true, ErrorKind::InvalidScript),
-        Found::Present(code) => run_main(alloc, name, code, envelope, message),
+        Found::Present(code) => run_main(alloc, lib, name, code, envelope, message),
     }
 }

@@ -1,19 +1,21 @@
 //! Laws over the definitions. Each of these functions does nothing: its contract is the law.
 
-ghost use Rattle.std.specs.Prelude.{◌≡◌, ◌≤◌, ℕ, List, Option, is_some, length};
+ghost use Rattle.std.specs.Prelude.{◌≡◌, ◌≤◌, ℕ, suc, Bool, List, Option, is_some, length};
 ghost use Rattle.sieve_check.specs.Reading.{Ask, Leaf};
-ghost use Rattle.sieve_check.specs.Script.{Commands, Condition, script_of, stops};
+ghost use Rattle.sieve_check.specs.Script.{Commands, Condition, returns, script_of, stops};
 ghost use Rattle.sieve_check.specs.Tree.{Node};
 ghost use Rattle.sieve_code.specs.Walk.{gone, tree_walk};
-ghost use Rattle.sieve_base.specs.Limits.{action_limit};
+ghost use Rattle.sieve_base.specs.Limits.{action_limit, include_limit};
 ghost use Rattle.sieve_table.specs.Address.{is_envelope_part};
 ghost use Rattle.sieve_run.specs.Delivery.{Delivery};
+ghost use Rattle.sieve_run.specs.Depth.{IsDeepest, depth_left, entered_within};
+ghost use Rattle.sieve_run.specs.Frame.{Agree, Texts, outcome_over};
 ghost use Rattle.sieve_run.specs.Library.{Lookup};
 ghost use Rattle.sieve_run.specs.Matching.{envelope_text};
 ghost use Rattle.sieve_run.specs.declared.envelope.Envelope.{Envelope};
 ghost use Rattle.sieve_run.specs.Name.{name_cmp, name_eq};
 ghost use Rattle.sieve_run.specs.Perform.{answers_of, do_gone, perform};
-ghost use Rattle.sieve_run.specs.Run.{Answer, Ending, SetsMatched, answer_of, decide, exec, outcome_of};
+ghost use Rattle.sieve_run.specs.Run.{Answer, Ending, SetsMatched, answer_of, begun, decide, delivery_to, exec, include_of, included, outcome_of, run_of, running, state_behind};
 ghost use Rattle.sieve_run.specs.State.{RunState};
 ghost use Rattle.sieve_run.specs.declared.name.ScriptName as names;
 
@@ -24,6 +26,32 @@ use crate::name::ScriptName;
 #[tactic(auto, using(crate::proofs::Unchanged::stop_ends))]
 pub fn stop_ends_the_commands()
     ensures same { (ask : Ask → RunState → Answer) (act : Leaf → ℕ → RunState → Ending) (rest other : Commands) (state : RunState) → exec ask act (stops rest) state ≡ exec ask act (stops other) state }
+{}
+
+/// Nor do those behind a `return` (RFC 6609, section 3.3).
+#[tactic(auto, using(crate::proofs::Unchanged::return_ends))]
+pub fn return_ends_the_commands()
+    ensures same { (ask : Ask → RunState → Answer) (act : Leaf → ℕ → RunState → Ending) (rest other : Commands) (state : RunState) → exec ask act (returns rest) state ≡ exec ask act (returns other) state }
+{}
+
+/// A run enters at most 256 scripts beside the main one.
+pub fn a_run_enters_so_many_scripts()
+    ensures { (find : names.ScriptName → Lookup) (envelope : Envelope) (message : List ℕ) (main : names.ScriptName) (tree : List Node) → length (state_behind (run_of find envelope message main tree)).entered ≤ suc include_limit }
+{}
+
+/// Scripts include one another 10 deep at most, counted by those that include the running one: the main script runs with none
+/// above it; an include runs its script with one more above it, and enters none where 10 are.
+pub fn scripts_include_one_another_so_deep()
+    ensures main { (find : names.ScriptName → Lookup) (envelope : Envelope) (message : List ℕ) (main : names.ScriptName) (tree : List Node) → run_of find envelope message main tree ≡ running find (depth_left (delivery_to envelope message main)) (delivery_to envelope message main) tree (begun main) }
+    ensures within { (find : names.ScriptName → Lookup) (delivery : Delivery) (name : names.ScriptName) (once optional : Bool) (line : ℕ) (state : RunState) → included find (depth_left delivery) delivery name once optional line state ≡ include_of find delivery (entered_within find delivery) name once optional line state }
+    ensures deepest { (find : names.ScriptName → Lookup) (delivery : Delivery) (name : names.ScriptName) (once optional : Bool) (line : ℕ) (state : RunState) → IsDeepest delivery → (state_behind (included find (depth_left delivery) delivery name once optional line state)).entered ≡ state.entered }
+{}
+
+/// The frame: a verdict, with the names that it looked up, is the same over each library that has the same text, or none, at each of
+/// these names.
+#[tactic(auto, using(crate::proofs::Frame::frame))]
+pub fn a_verdict_depends_on_what_it_looked_up()
+    ensures { (texts others : Texts) (main : Option names.ScriptName) (envelope : Envelope) (message : List ℕ) → Agree texts others (outcome_over texts main envelope message).reads → outcome_over others main envelope message ≡ outcome_over texts main envelope message }
 {}
 
 /// Tests set match variables at most (RFC 5229, section 3.2): neither the actions of a run nor whether the implicit keep is
@@ -54,8 +82,8 @@ pub fn envelope_parts_are_found()
     ensures { (envelope : Envelope) (name : List ℕ) → is_some (envelope_text envelope name) ≡ is_envelope_part name }
 {}
 
-/// The names of scripts are in the order of their stores, and within a store in the order of their octets. Two are equal where
-/// their stores and their octets are.
+/// The names of scripts are in the order of their places, and within a place in the order of their octets. Two are equal where
+/// their places and their octets are.
 pub fn names_have_their_order()
     ensures order { (a b : names.ScriptName) → ⟦<ScriptName as Ord>⟧.cmp a b ≡ name_cmp a b }
     ensures equality { (a b : names.ScriptName) → ⟦<ScriptName as PartialEq>⟧.eq a b ≡ name_eq a b }

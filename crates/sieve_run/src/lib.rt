@@ -10,6 +10,7 @@ mod envelope_tests;
 mod flag_tests;
 mod flagging;
 mod flow;
+mod including;
 mod interpreter;
 pub mod laws;
 mod library;

@@ -27,11 +27,11 @@ pub enum ErrorKind {
     MissingScript = 1,
     /// The script has a fault.
     InvalidScript = 2,
-    /// A script that is running is included again (RFC 6609, section 3.2).
+    /// A script that is running is included again (RFC 6609, section 3.1).
     RecursiveInclude = 3,
-    /// Includes are nested too deeply (RFC 6609, section 3.2).
+    /// Includes are nested too deeply (RFC 6609, section 3.1).
     IncludeDepth = 4,
-    /// Too many scripts are included (RFC 6609, section 3.2).
+    /// Too many scripts are included (RFC 6609, section 3.1, lets an implementation limit them).
     IncludeCount = 5,
     /// A redirect isn't to one address (RFC 5228, section 4.2).
     BadAddress = 6,

@@ -1,7 +1,7 @@
 //! The state of a run, and the actions that are performed.
-ghost use Rattle.std.specs.Prelude.{◌≡◌, IfOk, false, map};
+ghost use Rattle.std.specs.Prelude.{◌≡◌, IfOk, OnOk, false, map};
 ghost use Rattle.std.specs.List.{list_any};
-ghost use Rattle.sieve_run.specs.Run.{joined_with, same_action, with_action};
+ghost use Rattle.sieve_run.specs.Run.{joined_with, same_action, with_action, with_read};
 ghost use Rattle.sieve_run.specs.view.State.{performed_as};
 
 use crate::name::ScriptName;
@@ -20,10 +20,27 @@ pub(crate) struct State {
     /// Whether an action took the place of the implicit keep.
     pub(crate) cancelled: bool,
     pub(crate) reads: IndexMap<ScriptName, bool>,
-    /// The variables of the script that runs.
+    /// The scripts that were entered, in turn, the main script first (RFC 6609, section 3.2).
+    pub(crate) entered: Vec<ScriptName>,
+    /// The variables of the script that runs, and those that scripts share.
     pub(crate) values: Values,
     /// The internal flags (RFC 5232, section 2).
     pub(crate) flags: FlagList,
+}
+
+/// Notes that a name was looked up, and whether there was a text, where it isn't noted yet.
+pub(crate) fn note_read(
+    alloc: Global,
+    reads: &mut IndexMap<ScriptName, bool>,
+    name: &ScriptName,
+    is_there: bool,
+) -> Result<(), AllocError>
+    ensures { OnOk result (reads.new.entries ≡ with_read name.now is_there reads.old.entries) }
+{
+    if !reads.contains_key(name) {
+        reads.insert(name.copy(alloc)?, is_there)?;
+    }
+    Ok(())
 }
 
 /// Whether two actions are one.

@@ -3,8 +3,11 @@ ghost use Rattle.std.specs.Prelude.{◌≡◌, if◌then◌else◌, length, IfOk
 ghost use Rattle.sieve_code.specs.Walk.{code_walk};
 ghost use Rattle.sieve_code.specs.view.Code.{ops_of};
 ghost use Rattle.sieve_code.specs.view.Op.{op_as};
+ghost use Rattle.sieve_run.specs.Library.{lookup_of};
+ghost use Rattle.sieve_run.specs.Run.{act_of, included};
 ghost use Rattle.sieve_run.specs.view.Delivery.{delivery_as};
 ghost use Rattle.sieve_run.specs.view.Flow.{ending_by, step_after};
+ghost use Rattle.sieve_run.specs.view.Include.{enters, looks_up};
 ghost use Rattle.sieve_run.specs.view.State.{state_of};
 ghost use Rattle.sieve_run.specs.view.Step.{StepsTo, doing};
 ghost use Rattle.sieve_run.specs.declared.steps.Step.TheVariants.{Next};
@@ -14,34 +17,41 @@ use crate::delivery::Delivery;
 use crate::envelope_tests::envelope_holds;
 use crate::flag_tests::flags_hold;
 use crate::flagging::change;
-use crate::flow::Flow;
+use crate::flow::{Flow, fail};
+use crate::including::{find, including_next, is_running, is_script, is_there, resumed};
+use crate::library::{Found, Library};
 use crate::matching::{exists, fields_hold, is_over, is_under};
+use crate::name::ScriptName;
 use crate::outcome::ErrorKind;
-use crate::state::State;
+use crate::state::{State, note_read};
 use crate::string_tests::strings_hold;
+use sieve_base::Octets;
+use sieve_base::limits::MAX_INCLUDES;
 use sieve_code::{Code, Op};
 use std::alloc::AllocError;
 
 /// How an operation ended.
-#[derive(Clone, Copy, Debug)]
+#[derive(Debug, Drop)]
 enum Step {
     /// It goes on at a place, with a truth in the register.
     Next { place: usize, register: bool },
-    /// By `stop`.
-    Stopped,
-    /// By an error in the command on a line.
-    Failed { line: u64, kind: ErrorKind },
+    /// The script ended so.
+    Ended(Flow),
 }
 
-/// Carries out code. Its jumps go forward, so it takes no more turns than there are operations.
-pub(crate) fn execute(
+/// Carries out code, where scripts may include one another so deep. Its jumps go forward, so it takes no more turns than there
+/// are operations.
+#[cycle(execute)]
+pub(crate) fn execute<L: Library>(
+    lib: &L,
+    depth: usize,
     delivery: &Delivery<'_>,
     code: &Code,
     state: &mut State,
 ) -> Result<Flow, AllocError>
     ensures { IfOk result (λ flow.
-        doing (delivery_as delivery.now) (code_walk (ops_of code.now) (length (ops_of code.now))) (state_of state.old)
-        ≡ ending_by (delivery_as delivery.now) flow (state_of state.new)) }
+        doing (act_of (λ name. lookup_of (L.texts lib.now name)) depth (delivery_as delivery.now)) (delivery_as delivery.now) (code_walk (ops_of code.now) (length (ops_of code.now))) (state_of state.old)
+        ≡ ending_by flow (state_of state.new)) }
 {
     let mut place = 0;
     let mut register = false;
@@ -49,7 +59,15 @@ pub(crate) fn execute(
         if place >= code.len() {
             return Ok(Flow::GoesOn);
         }
-        match carry_out(delivery, code.op(place), place + 1, register, state)? {
+        match carry_out(
+            lib,
+            depth,
+            delivery,
+            code.op(place),
+            place + 1,
+            register,
+            &mut *state,
+        )? {
             Step::Next {
                 place: next,
                 register: truth,
@@ -57,16 +75,18 @@ pub(crate) fn execute(
                 place = next;
                 register = truth;
             }
-            Step::Stopped => return Ok(Flow::Stopped),
-            Step::Failed { line, kind } => return Ok(Flow::Failed { line, kind }),
+            Step::Ended(flow) => return Ok(flow),
         }
     }
     Ok(Flow::GoesOn)
 }
 
 /// Carries out an operation, where this is the place behind it.
-#[tactic(auto, using(crate::proofs::Stepping::asks_steps, crate::proofs::Stepping::exists_steps, crate::proofs::Stepping::over_steps, crate::proofs::Stepping::under_steps, crate::proofs::Stepping::acts_steps, crate::proofs::Stepping::stop_steps))]
-fn carry_out(
+#[cycle(execute)]
+#[tactic(auto, using(crate::proofs::Stepping::asks_steps, crate::proofs::Stepping::exists_steps, crate::proofs::Stepping::over_steps, crate::proofs::Stepping::under_steps, crate::proofs::Stepping::acts_steps, crate::proofs::Stepping::stop_steps, crate::proofs::Stepping::return_steps))]
+fn carry_out<L: Library>(
+    lib: &L,
+    depth: usize,
     delivery: &Delivery<'_>,
     op: &Op,
     behind: usize,
@@ -74,7 +94,7 @@ fn carry_out(
     state: &mut State,
 ) -> Result<Step, AllocError>
     ensures { IfOk result (λ step.
-        StepsTo (delivery_as delivery.now) (op_as op.now) behind register (state_of state.old) step (state_of state.new)) }
+        StepsTo (act_of (λ name. lookup_of (L.texts lib.now name)) depth (delivery_as delivery.now)) (delivery_as delivery.now) (op_as op.now) behind register (state_of state.old) step (state_of state.new)) }
 {
     match op {
         Op::True => Ok(proceed(true, behind)),
@@ -166,12 +186,12 @@ fn carry_out(
             Ok(step_after(flow, behind, register))
         }
         Op::Set {
-            name,
+            variable,
             modifiers,
             value,
             line,
         } => {
-            let flow = set(delivery, name, *modifiers, value, *line, state)?;
+            let flow = set(delivery, variable, *modifiers, value, *line, state)?;
             Ok(step_after(flow, behind, register))
         }
         Op::Flags {
@@ -183,8 +203,108 @@ fn carry_out(
             let flow = change(delivery, *how, variable, flags, *line, state)?;
             Ok(step_after(flow, behind, register))
         }
-        Op::Stop => Ok(Step::Stopped),
+        Op::Include {
+            place,
+            once,
+            optional,
+            name,
+            line,
+        } => {
+            let octets = Octets::copied(delivery.alloc, name)?;
+            let name = ScriptName {
+                place: *place,
+                name: octets,
+            };
+            let flow = include(lib, depth, delivery, &name, *once, *optional, *line, state)?;
+            Ok(step_after(flow, behind, register))
+        }
+        Op::Stop => Ok(Step::Ended(Flow::Stopped)),
+        Op::Return => Ok(Step::Ended(Flow::Returned)),
     }
+}
+
+/// Runs the code of a script that is included.
+#[cycle(execute)]
+fn enter<L: Library>(
+    lib: &L,
+    depth: usize,
+    delivery: &Delivery<'_>,
+    name: &ScriptName,
+    code: &Code,
+    state: &mut State,
+) -> Result<Flow, AllocError>
+    ensures { IfOk result (λ flow. ending_by flow (state_of state.new) ≡ enters (λ name. lookup_of (L.texts lib.now name)) depth (delivery_as delivery.now) name.now (ops_of code.now) (state_of state.old)) }
+{
+    state.entered.push(name.copy(delivery.alloc)?)?;
+    let own = state.values.begin(delivery.alloc);
+    let including = including_next(delivery)?;
+    let inner = Delivery {
+        alloc: delivery.alloc,
+        message: delivery.message,
+        envelope: delivery.envelope,
+        script: name,
+        including: including.as_slice(),
+    };
+    let flow = execute(lib, depth, &inner, code, &mut *state)?;
+    state.values.resume(own);
+    Ok(resumed(flow))
+}
+
+/// Looks a script up, and does what an include does with what is found.
+#[cycle(execute)]
+fn look_up<L: Library>(
+    lib: &L,
+    depth: usize,
+    delivery: &Delivery<'_>,
+    name: &ScriptName,
+    optional: bool,
+    line: u64,
+    state: &mut State,
+) -> Result<Flow, AllocError>
+    ensures { IfOk result (λ flow. ending_by flow (state_of state.new) ≡ looks_up (λ name. lookup_of (L.texts lib.now name)) depth (delivery_as delivery.now) name.now optional line (state_of state.old)) }
+{
+    let found = find(lib, name);
+    note_read(delivery.alloc, &mut state.reads, name, is_there(&found))?;
+    match found {
+        Found::Missing => {
+            if optional {
+                Ok(Flow::GoesOn)
+            } else {
+                fail(delivery, line, ErrorKind::MissingScript)
+            }
+        }
+        Found::Invalid => fail(delivery, line, ErrorKind::InvalidScript),
+        Found::Present(code) => enter(lib, depth, delivery, name, code, state),
+    }
+}
+
+/// Includes a script, where scripts may still include one another so deep (RFC 6609, section 3.2).
+#[cycle(execute)]
+fn include<L: Library>(
+    lib: &L,
+    depth: usize,
+    delivery: &Delivery<'_>,
+    name: &ScriptName,
+    once: bool,
+    optional: bool,
+    line: u64,
+    state: &mut State,
+) -> Result<Flow, AllocError>
+    ensures { IfOk result (λ flow. ending_by flow (state_of state.new) ≡ included (λ name. lookup_of (L.texts lib.now name)) depth (delivery_as delivery.now) name.now once optional line (state_of state.old)) }
+{
+    if once && is_script(name, state.entered.as_slice()) {
+        return Ok(Flow::GoesOn);
+    }
+    if is_running(name, delivery) {
+        return fail(delivery, line, ErrorKind::RecursiveInclude);
+    }
+    if depth == 0 {
+        return fail(delivery, line, ErrorKind::IncludeDepth);
+    }
+    if state.entered.len() > MAX_INCLUDES {
+        return fail(delivery, line, ErrorKind::IncludeCount);
+    }
+    look_up(lib, depth - 1, delivery, name, optional, line, state)
 }
 
 /// One of two places.
@@ -207,7 +327,8 @@ fn step_after(flow: Flow, behind: usize, register: bool) -> Step
 {
     match flow {
         Flow::GoesOn => proceed(register, behind),
-        Flow::Stopped => Step::Stopped,
-        Flow::Failed { line, kind } => Step::Failed { line, kind },
+        Flow::Returned => Step::Ended(Flow::Returned),
+        Flow::Stopped => Step::Ended(Flow::Stopped),
+        Flow::Failed(error) => Step::Ended(Flow::Failed(error)),
     }
 }

@@ -18,7 +18,7 @@ capability_name CasemapComparator = codes "comparator-i;ascii-casemap"
 
 -- those that there are
 abbrev pub capabilities : List Capability
-capabilities = Fileinto ∷ Envelope ∷ Variables ∷ Imap4flags ∷ OctetComparator ∷ CasemapComparator ∷ []
+capabilities = Fileinto ∷ Envelope ∷ Variables ∷ Imap4flags ∷ Include ∷ OctetComparator ∷ CasemapComparator ∷ []
 
 -- whether a string names this one, octet for octet
 abbrev pub is_name_of : List ℕ → Capability → Bool

@@ -94,6 +94,11 @@ tag_row tag.QuoteWildcard = bare_tag (codes "quotewildcard") kind.QuoteWildcard
 tag_row tag.Length = bare_tag (codes "length") kind.Length
 -- RFC 5232, section 5
 tag_row tag.Flags = record (bare_tag (codes "flags") kind.Flags) { takes = Some (slot form.List role.Flags); needs = Some capability.Imap4flags }
+-- RFC 6609, section 3.2
+tag_row tag.Personal = bare_tag (codes "personal") kind.Location
+tag_row tag.Global = bare_tag (codes "global") kind.Location
+tag_row tag.Once = bare_tag (codes "once") kind.Once
+tag_row tag.Optional = bare_tag (codes "optional") kind.Optional
 
 -- the match types
 abbrev pub match_tags : List Tag
@@ -138,6 +143,12 @@ command_row command.Set = record (bare (codes "set")) { tags = modifier_tags; sl
 command_row command.SetFlag = flag_command (codes "setflag")
 command_row command.AddFlag = flag_command (codes "addflag")
 command_row command.RemoveFlag = flag_command (codes "removeflag")
+-- RFC 6609, section 3.2
+command_row command.Include = record (bare (codes "include")) { tags = tag.Personal ∷ tag.Global ∷ tag.Once ∷ tag.Optional ∷ []; slots = slot form.One role.ScriptName ∷ []; needs = capability.Include ∷ [] }
+-- RFC 6609, section 3.3
+command_row command.Return = record (bare (codes "return")) { needs = capability.Include ∷ [] }
+-- RFC 6609, section 3.4.1
+command_row command.Global = record (bare (codes "global")) { slots = slot form.List role.NamesToDeclare ∷ []; needs = capability.Include ∷ capability.Variables ∷ [] }
 
 abbrev pub test_row : TestKind → Row
 -- RFC 5228, section 5.7
@@ -170,7 +181,7 @@ abbrev pub is_named : List ℕ → List ℕ → Bool
 is_named name written = str_eq_ignore_ascii_case name written
 
 abbrev pub commands : List CommandKind
-commands = command.Require ∷ command.If ∷ command.Elsif ∷ command.Else ∷ command.Keep ∷ command.Fileinto ∷ command.Redirect ∷ command.Discard ∷ command.Stop ∷ command.Set ∷ command.SetFlag ∷ command.AddFlag ∷ command.RemoveFlag ∷ []
+commands = command.Require ∷ command.If ∷ command.Elsif ∷ command.Else ∷ command.Keep ∷ command.Fileinto ∷ command.Redirect ∷ command.Discard ∷ command.Stop ∷ command.Set ∷ command.SetFlag ∷ command.AddFlag ∷ command.RemoveFlag ∷ command.Include ∷ command.Return ∷ command.Global ∷ []
 
 abbrev pub tests : List TestKind
 tests = test.Header ∷ test.Address ∷ test.Envelope ∷ test.Exists ∷ test.Size ∷ test.AllOf ∷ test.AnyOf ∷ test.Not ∷ test.True ∷ test.False ∷ test.String ∷ test.HasFlag ∷ []

@@ -22,11 +22,12 @@ pub enum Capability {
 }
 
 /// The capabilities that there are.
-const CAPABILITIES: [Capability; 6] = [
+const CAPABILITIES: [Capability; 7] = [
     Capability::Fileinto,
     Capability::Envelope,
     Capability::Variables,
     Capability::Imap4flags,
+    Capability::Include,
     Capability::OctetComparator,
     Capability::CasemapComparator,
 ];

@@ -35,6 +35,12 @@ pub enum CommandKind {
     AddFlag,
     /// `removeflag` (RFC 5232, section 3.3).
     RemoveFlag,
+    /// `include` (RFC 6609, section 3.2).
+    Include,
+    /// `return` (RFC 6609, section 3.3).
+    Return,
+    /// `global` (RFC 6609, section 3.4.1).
+    Global,
 }
 
 /// A test that there is.
@@ -101,10 +107,18 @@ pub enum Tag {
     Length,
     /// `:flags`, which takes the list behind it (RFC 5232, section 5).
     Flags,
+    /// `:personal` (RFC 6609, section 3.2).
+    Personal,
+    /// `:global` (RFC 6609, section 3.2).
+    Global,
+    /// `:once` (RFC 6609, section 3.2).
+    Once,
+    /// `:optional` (RFC 6609, section 3.2).
+    Optional,
 }
 
 /// All commands.
-const COMMANDS: [CommandKind; 13] = [
+const COMMANDS: [CommandKind; 16] = [
     CommandKind::Require,
     CommandKind::If,
     CommandKind::Elsif,
@@ -118,6 +132,9 @@ const COMMANDS: [CommandKind; 13] = [
     CommandKind::SetFlag,
     CommandKind::AddFlag,
     CommandKind::RemoveFlag,
+    CommandKind::Include,
+    CommandKind::Return,
+    CommandKind::Global,
 ];
 
 /// All tests.
@@ -273,6 +290,26 @@ impl Tag {
                 takes: Some(FLAGS),
                 needs: Some(Capability::Imap4flags),
             },
+            Tag::Personal => TagRow {
+                name: b"personal",
+                kind: TagKind::Location,
+                ..BARE_TAG
+            },
+            Tag::Global => TagRow {
+                name: b"global",
+                kind: TagKind::Location,
+                ..BARE_TAG
+            },
+            Tag::Once => TagRow {
+                name: b"once",
+                kind: TagKind::Once,
+                ..BARE_TAG
+            },
+            Tag::Optional => TagRow {
+                name: b"optional",
+                kind: TagKind::Optional,
+                ..BARE_TAG
+            },
         }
     }
 }
@@ -378,6 +415,32 @@ impl CommandKind {
             CommandKind::RemoveFlag => Row {
                 name: b"removeflag",
                 ..FLAG_COMMAND
+            },
+            CommandKind::Include => Row {
+                name: b"include",
+                tags: &[Tag::Personal, Tag::Global, Tag::Once, Tag::Optional],
+                slots: &[Slot {
+                    form: Form::One,
+                    role: Role::ScriptName,
+                    needs: None,
+                }],
+                needs: &[Capability::Include],
+                ..BARE
+            },
+            CommandKind::Return => Row {
+                name: b"return",
+                needs: &[Capability::Include],
+                ..BARE
+            },
+            CommandKind::Global => Row {
+                name: b"global",
+                slots: &[Slot {
+                    form: Form::List,
+                    role: Role::NamesToDeclare,
+                    needs: None,
+                }],
+                needs: &[Capability::Include, Capability::Variables],
+                ..BARE
             },
         }
     }

@@ -1,7 +1,8 @@
 pub mod Cut
-pub mod Locals
+pub mod Held
 pub mod Modified
 mod ModifierRows
+pub mod NameSet
 pub mod Numbers
 pub mod Rows
 pub mod Steps

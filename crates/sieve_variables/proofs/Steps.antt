@@ -1,16 +1,17 @@
 -- What a piece adds to what is found in a text, and to its parts.
-use Rattle.std.proofs.Common.{◌≡◌, ℕ, zero, suc, ◌+◌, ◌<◌, ◌≤◌, Bool, true, false, ◌||◌, nat_lt, cond, List, [], ◌∷◌, ◌++◌, length, take, drop, None, Some, refl, sym, ◌∙◌, ap, append_assoc, arith}
+use Rattle.std.proofs.Common.{◌≡◌, ℕ, zero, suc, ◌+◌, ◌<◌, ◌≤◌, Bool, true, false, ◌||◌, not, cond, List, [], ◌∷◌, ◌++◌, length, take, drop, None, Some, refl, sym, ◌∙◌, ap, append_assoc, arith}
 use Rattle.std.specs.List.{list_any}
 use Rattle.std.proofs.Math.Seq.{take-add, take-append_seam}
 use Rattle.std.proofs.lemmas.Bool.{false≢true}
 use Rattle.std.proofs.lemmas.List.{drop-drop}
 use Rattle.sieve_variables.specs.Name.{folded_name, index_of, is_identifier}
-use Rattle.sieve_variables.specs.Part.{Part, grouped, literal, local_part, match_part, octet_before, part_of_words}
+use Rattle.sieve_variables.specs.Part.{Part, global_part, grouped, is_shared, literal, local_part, match_part, octet_before, part_of_words, variable_part}
 use Rattle.sieve_variables.specs.Reference.{Piece, octet, reference, written}
-use Rattle.sieve_variables.specs.Scan.{inside_at, parts_of, pieces_from, words_of}
+use Rattle.sieve_variables.specs.Scan.{inside_at, is_foreign, parts_of, pieces_from, words_of}
+use Rattle.sieve_variables.specs.Variable.{Variable, global_variable, local_variable}
 use Rattle.sieve_variables.specs.view.Part.{added, literal_part}
 use Rattle.sieve_variables.proofs.Cut.{inside_written, length-written, pieces-octet, pieces-reference}
-use Rattle.sieve_variables.proofs.Words.{one_word}
+use Rattle.sieve_variables.proofs.Words.{some_words}
 
 -- what is found
 
@@ -85,10 +86,10 @@ last_step [] (suc plain) ended = none_left
 last_step (c ∷ rest) zero ended = absurd (omega arith)
 last_step (c ∷ rest) (suc plain) ended = ap (octet_before c) (last_step rest plain (omega arith)) ∙ literal_more c rest
 
-in_front-local : (octets name : List ℕ) (parts : List Part) → in_front octets (local_part name ∷ parts) ≡ literal_part octets ++ local_part name ∷ parts
-in_front-local [] name parts = refl
-in_front-local (c ∷ []) name parts = refl
-in_front-local (c ∷ d ∷ octets) name parts = ap (octet_before c) (in_front-local (d ∷ octets) name parts)
+in_front-variable : (octets : List ℕ) (variable : Variable) (parts : List Part) → in_front octets (variable_part variable ∷ parts) ≡ literal_part octets ++ variable_part variable ∷ parts
+in_front-variable [] variable parts = refl
+in_front-variable (c ∷ []) variable parts = refl
+in_front-variable (c ∷ d ∷ octets) variable parts = ap (octet_before c) (in_front-variable (d ∷ octets) variable parts)
 
 in_front-match : (octets : List ℕ) (index : ℕ) (parts : List Part) → in_front octets (match_part index ∷ parts) ≡ literal_part octets ++ match_part index ∷ parts
 in_front-match [] index parts = refl
@@ -100,13 +101,34 @@ in_front-literal [] further parts = refl
 in_front-literal (c ∷ octets) further parts = ap (octet_before c) (in_front-literal octets further parts)
 
 word_in_front : (octets word : List ℕ) (parts : List Part) (b : Bool) → in_front octets (cond b (local_part (folded_name word)) (match_part (index_of word)) ∷ parts) ≡ literal_part octets ++ cond b (local_part (folded_name word)) (match_part (index_of word)) ∷ parts
-word_in_front octets word parts true = in_front-local octets (folded_name word) parts
+word_in_front octets word parts true = in_front-variable octets (local_variable (folded_name word)) parts
 word_in_front octets word parts false = in_front-match octets (index_of word) parts
 
-namespaced_part : (words : List (List ℕ)) → nat_lt 1 (length words) ≡ true → part_of_words words ≡ literal (written words)
-namespaced_part [] more_than_one = absurd (false≢true more_than_one)
-namespaced_part (word ∷ []) more_than_one = absurd (false≢true more_than_one)
-namespaced_part (word ∷ next ∷ words) more_than_one = refl
+shared_in_front : (octets namespace name : List ℕ) (parts : List Part) (b : Bool) → not b ≡ false
+    → in_front octets (cond b (global_part (folded_name name)) (literal (written (namespace ∷ name ∷ []))) ∷ parts)
+    ≡ literal_part octets ++ cond b (global_part (folded_name name)) (literal (written (namespace ∷ name ∷ []))) ∷ parts
+shared_in_front octets namespace name parts true own = in_front-variable octets (global_variable (folded_name name)) parts
+shared_in_front octets namespace name parts false own = absurd (false≢true (sym own))
+
+-- a part that isn't in another namespace stands behind the literal of the octets in front of it
+own_in_front : (octets : List ℕ) (words : List (List ℕ)) (parts : List Part) → 0 < length words → is_foreign (reference words) ≡ false
+    → in_front octets (part_of_words words ∷ parts) ≡ literal_part octets ++ part_of_words words ∷ parts
+own_in_front octets [] parts some own = absurd (omega arith)
+own_in_front octets (word ∷ []) parts some own = word_in_front octets word parts (is_identifier word)
+own_in_front octets (namespace ∷ name ∷ []) parts some own = shared_in_front octets namespace name parts (is_shared namespace name) own
+own_in_front octets (namespace ∷ word ∷ next ∷ words) parts some own = absurd (false≢true (sym own))
+
+shared_or_written : (namespace name : List ℕ) (b : Bool) → not b ≡ true
+    → cond b (global_part (folded_name name)) (literal (written (namespace ∷ name ∷ []))) ≡ literal (written (namespace ∷ name ∷ []))
+shared_or_written namespace name true foreign = absurd (false≢true foreign)
+shared_or_written namespace name false foreign = refl
+
+-- one in another namespace stands as it is written
+foreign_part : (words : List (List ℕ)) → is_foreign (reference words) ≡ true → part_of_words words ≡ literal (written words)
+foreign_part [] foreign = absurd (false≢true foreign)
+foreign_part (word ∷ []) foreign = absurd (false≢true foreign)
+foreign_part (namespace ∷ name ∷ []) foreign = shared_or_written namespace name (is_shared namespace name) foreign
+foreign_part (namespace ∷ word ∷ next ∷ words) foreign = refl
 
 literal_written : (octets : List ℕ) (words : List (List ℕ)) → literal_part (octets ++ written words) ≡ literal (octets ++ written words) ∷ []
 literal_written [] words = refl
@@ -123,16 +145,15 @@ reference_at : (text inside : List ℕ) → Some inside ≡ inside_at text → p
 reference_at [] inside found = let none = none_at_end in absurd cc
 reference_at (c ∷ rest) inside found = ap grouped (pieces-reference c rest inside (sym found))
 
-added_step : (octets all inside : List ℕ) (parts : List Part) (b : Bool) → nat_lt 1 (length (words_of inside)) ≡ b → all ≡ octets ++ written (words_of inside) → in_front octets (part_of_words (words_of inside) ∷ parts) ≡ cond b (literal_part all) (literal_part octets ++ part_of_words (inside ∷ []) ∷ []) ++ parts
-added_step octets all inside parts true more_than_one is =
-    ap (λ part. in_front octets (part ∷ parts)) (namespaced_part (words_of inside) more_than_one)
+added_step : (octets all inside : List ℕ) (parts : List Part) (b : Bool) → is_foreign (reference (words_of inside)) ≡ b → all ≡ octets ++ written (words_of inside) → in_front octets (part_of_words (words_of inside) ∷ parts) ≡ cond b (literal_part all) (literal_part octets ++ part_of_words (words_of inside) ∷ []) ++ parts
+added_step octets all inside parts true foreign is =
+    ap (λ part. in_front octets (part ∷ parts)) (foreign_part (words_of inside) foreign)
     ∙ in_front-literal octets (written (words_of inside)) parts
     ∙ ap (λ first. first ++ parts) (sym (literal_written octets (words_of inside)))
     ∙ ap (λ one. literal_part one ++ parts) (sym is)
-added_step octets all inside parts false one is =
-    ap (λ words. in_front octets (part_of_words words ∷ parts)) (one_word inside one)
-    ∙ word_in_front octets inside parts (is_identifier inside)
-    ∙ sym (append_assoc (literal_part octets) (part_of_words (inside ∷ []) ∷ []) parts)
+added_step octets all inside parts false own is =
+    own_in_front octets (words_of inside) parts (some_words inside) own
+    ∙ sym (append_assoc (literal_part octets) (part_of_words (words_of inside) ∷ []) parts)
 
 pub reference_step : (left : List ℕ) (plain n : ℕ) (inside : List ℕ) → Some inside ≡ inside_at (drop plain left) → n ≡ plain + (length inside + 3) → in_front (take plain left) (parts_of (drop plain left)) ≡ added inside (take plain left) (take n left) ++ parts_of (drop n left)
 reference_step left plain n inside found same =
@@ -144,7 +165,7 @@ reference_step left plain n inside found same =
     let behind : drop (suc (length inside + 2)) text ≡ drop n left =
     drop-drop (suc (length inside + 2)) plain left ∙ ap (λ m. drop m left) count in
     ap (in_front (take plain left)) (reference_at text inside found)
-    ∙ added_step (take plain left) (take n left) inside (parts_of (drop (suc (length inside + 2)) text)) (nat_lt 1 (length (words_of inside))) refl all
+    ∙ added_step (take plain left) (take n left) inside (parts_of (drop (suc (length inside + 2)) text)) (is_foreign (reference (words_of inside))) refl all
     ∙ ap (λ one. added inside (take plain left) (take n left) ++ parts_of one) behind
 
 pub parts_step : (done next : List Part) (left : List ℕ) (plain n : ℕ) (inside octets all behind : List ℕ) (whole : List Part) → Some inside ≡ inside_at (drop plain left) → n ≡ plain + (length inside + 3) → next ≡ done ++ added inside octets all → octets ≡ take plain left → all ≡ take n left → behind ≡ drop n left → done ++ in_front (take plain left) (parts_of (drop plain left)) ≡ whole → next ++ parts_of behind ≡ whole

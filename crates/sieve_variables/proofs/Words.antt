@@ -1,14 +1,16 @@
 -- The words of a reference, and the octets that they are written with.
-use Rattle.std.proofs.Common.{◌≡◌, ℕ, zero, suc, ◌<◌, nat_lt, get_or, take, drop, append-nil, Bool, true, false, ◌&&◌, ◌||◌, ◌==◌, cond, List, [], ◌∷◌, ◌++◌, length, refl, sym, ◌∙◌, ap, arith}
+use Rattle.std.proofs.Common.{◌≡◌, ℕ, zero, suc, ◌<◌, nat_lt, get_or, take, drop, append-nil, Bool, true, false, ◌&&◌, ◌||◌, ◌==◌, not, cond, List, [], ◌∷◌, ◌++◌, length, refl, sym, ◌∙◌, ap, arith}
 use Rattle.std.specs.List.{flat_map, list_all, list_any, onto_first}
 use Rattle.std.proofs.lemmas.Bool.{false≢true}
 use Rattle.std.proofs.lemmas.Bool.Decides.{nat_tests}
 use Rattle.std.proofs.lemmas.List.Folds.{list_all-append}
 use Rattle.std.proofs.lemmas.List.Splits.{length-slice_split}
 use Rattle.sieve_base.specs.Octet.{begins_name, is_digit, is_name_octet}
-use Rattle.sieve_variables.specs.Name.{index_of, is_identifier, is_number}
-use Rattle.sieve_variables.specs.Reference.{dotted, is_legal, is_name, reference}
-use Rattle.sieve_variables.specs.Scan.{is_dot, is_far, is_inside, words_of}
+use Rattle.std.specs.Str.{str_eq_ignore_ascii_case}
+use Rattle.sieve_variables.specs.Name.{folded_name, global_namespace, index_of, is_identifier, is_number}
+use Rattle.sieve_variables.specs.Part.{global_part, is_shared, literal, part_of_words}
+use Rattle.sieve_variables.specs.Reference.{dotted, is_legal, is_name, reference, written}
+use Rattle.sieve_variables.specs.Scan.{is_dot, is_far, is_foreign, is_inside, words_of}
 
 -- tests that hold together
 
@@ -206,14 +208,6 @@ one_word inside one = only_word (words_of inside) inside (some_words inside) one
 
 -- one that is far
 
-far_words : (words : List (List ℕ)) → nat_lt 1 (length words) ≡ true → is_far (reference words) ≡ false
-far_words [] more_than_one = refl
-far_words (word ∷ []) more_than_one = absurd (false≢true more_than_one)
-far_words (word ∷ next ∷ words) more_than_one = refl
-
-pub not_far : (inside : List ℕ) → nat_lt 1 (length (words_of inside)) ≡ true → is_far (reference (words_of inside)) ≡ false
-not_far inside more_than_one = far_words (words_of inside) more_than_one
-
 pub far_word : (inside : List ℕ) → nat_lt 1 (length (words_of inside)) ≡ false → is_far (reference (words_of inside)) ≡ (is_number inside && nat_lt 99 (index_of inside))
 far_word inside one = ap (λ words. is_far (reference words)) (one_word inside one)
 
@@ -222,3 +216,49 @@ far_no inside one not_digits = sym (far_word inside one ∙ ap (λ b. b && nat_l
 
 pub far_yes : (inside : List ℕ) → nat_lt 1 (length (words_of inside)) ≡ false → is_number inside ≡ true → nat_lt 99 (index_of inside) ≡ is_far (reference (words_of inside))
 far_yes inside one is = sym (far_word inside one ∙ ap (λ b. b && nat_lt 99 (index_of inside)) is)
+
+-- one in a namespace, by what stands before and behind the first dot
+
+no_and : (b : Bool) → (b && false) ≡ false
+no_and true = refl
+no_and false = refl
+
+-- an identifier is one word
+identifier_word : (word : List ℕ) → is_identifier word ≡ true → words_of word ≡ word ∷ []
+identifier_word word is = ap words_of (sym (append-nil word)) ∙ split_last word (identifier_octets word is)
+
+-- what is no identifier is no name that scripts share
+not_shared : (namespace name : List ℕ) → is_identifier name ≡ false → is_shared namespace name ≡ false
+not_shared namespace name other = ap (λ b. str_eq_ignore_ascii_case global_namespace namespace && b) other ∙ no_and (str_eq_ignore_ascii_case global_namespace namespace)
+
+foreign_words : (namespace name : List ℕ) (words : List (List ℕ)) → 0 < length words → dotted words ≡ name → is_identifier name ≡ false → is_foreign (reference (namespace ∷ words)) ≡ true
+foreign_words namespace name [] some is other = absurd (omega arith)
+foreign_words namespace name (word ∷ []) some is other =
+    ap not (not_shared namespace word (ap is_identifier (sym (append-nil word) ∙ is) ∙ other))
+foreign_words namespace name (word ∷ next ∷ words) some is other = refl
+
+foreign_by : (namespace name : List ℕ) (b : Bool) → is_identifier name ≡ b → is_foreign (reference (namespace ∷ words_of name)) ≡ not (is_shared namespace name)
+foreign_by namespace name true is =
+    ap (λ words. is_foreign (reference (namespace ∷ words))) (identifier_word name is)
+foreign_by namespace name false other =
+    foreign_words namespace name (words_of name) (some_words name) (dotted-words_of name) other
+    ∙ sym (ap not (not_shared namespace name other))
+
+pub foreign_cut : (inside namespace name : List ℕ) → words_of inside ≡ namespace ∷ words_of name → not (is_shared namespace name) ≡ is_foreign (reference (words_of inside))
+foreign_cut inside namespace name cut =
+    sym (ap (λ words. is_foreign (reference words)) cut ∙ foreign_by namespace name (is_identifier name) refl)
+
+is_not : (b : Bool) → not b ≡ false → b ≡ true
+is_not true e = refl
+is_not false e = sym e
+
+-- one that scripts share
+pub shared_cut : (inside namespace name : List ℕ) → words_of inside ≡ namespace ∷ words_of name → is_foreign (reference (words_of inside)) ≡ false → global_part (folded_name name) ≡ part_of_words (words_of inside)
+shared_cut inside namespace name cut own =
+    let shared : is_shared namespace name ≡ true = is_not (is_shared namespace name) (foreign_cut inside namespace name cut ∙ own) in
+    let word : is_identifier name ≡ true = last_of_both (str_eq_ignore_ascii_case global_namespace namespace) (is_identifier name) shared in
+    sym (ap part_of_words (cut ∙ ap (λ words. namespace ∷ words) (identifier_word name word)) ∙ shared_part namespace name (is_shared namespace name) shared)
+  where
+    shared_part : (namespace name : List ℕ) (b : Bool) → b ≡ true → cond b (global_part (folded_name name)) (literal (written (namespace ∷ name ∷ []))) ≡ global_part (folded_name name)
+    shared_part namespace name true is = refl
+    shared_part namespace name false is = absurd (false≢true is)

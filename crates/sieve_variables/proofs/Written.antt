@@ -2,24 +2,32 @@
 use Rattle.std.proofs.Common.{◌≡◌, ℕ, Bool, true, false, ◌||◌, cond, List, [], ◌∷◌, ◌++◌, refl, sym, ap, subst}
 use Rattle.std.proofs.lemmas.Bool.{false≢true}
 use Rattle.sieve_variables.specs.Name.{folded_name, index_of, is_identifier, is_number}
-use Rattle.sieve_variables.specs.Part.{AreWritten, Part, grouped, literal, local_part, match_part, octet_before, part_of_words}
+use Rattle.sieve_variables.specs.Part.{AreWritten, Part, global_part, grouped, is_shared, literal, local_part, match_part, octet_before, part_of_words, variable_part}
 use Rattle.sieve_variables.specs.Reference.{Cuts, Piece, is_legal, octet, reference, written}
+use Rattle.sieve_variables.specs.Variable.{global_variable, local_variable}
 
 octet_written : (c : ℕ) (parts : List Part) (rest : List ℕ) → AreWritten parts rest → AreWritten (octet_before c parts) (c ∷ rest)
 octet_written c [] rest is = (rest, refl, is)
 octet_written c (literal octets ∷ parts) rest (further, is, behind) = (further, ap (λ text. c ∷ text) is, behind)
-octet_written c (local_part name ∷ parts) rest is = (rest, refl, is)
+octet_written c (variable_part (local_variable name) ∷ parts) rest is = (rest, refl, is)
+octet_written c (variable_part (global_variable name) ∷ parts) rest is = (rest, refl, is)
 octet_written c (match_part index ∷ parts) rest is = (rest, refl, is)
 
 word_written : (word : List ℕ) (parts : List Part) (text rest : List ℕ) (b : Bool) → is_identifier word ≡ b → (b || is_number word) ≡ true → text ≡ written (word ∷ []) ++ rest → AreWritten parts rest → AreWritten (cond b (local_part (folded_name word)) (match_part (index_of word)) ∷ parts) text
 word_written word parts text rest true kind legal is behind = (word, rest, kind, refl, is, behind)
 word_written word parts text rest false kind legal is behind = (word, rest, legal, refl, is, behind)
 
+shared_written : (namespace name : List ℕ) (parts : List Part) (text rest : List ℕ) (b : Bool) → is_shared namespace name ≡ b → text ≡ written (namespace ∷ name ∷ []) ++ rest → AreWritten parts rest → AreWritten (cond b (global_part (folded_name name)) (literal (written (namespace ∷ name ∷ []))) ∷ parts) text
+shared_written namespace name parts text rest true kind is behind = (namespace, name, rest, kind, refl, is, behind)
+shared_written namespace name parts text rest false kind is behind = (rest, is, behind)
+
 reference_written : (words : List (List ℕ)) (parts : List Part) (text rest : List ℕ) → is_legal words ≡ true → text ≡ written words ++ rest → AreWritten parts rest → AreWritten (part_of_words words ∷ parts) text
 reference_written [] parts text rest legal is behind = absurd (false≢true legal)
 reference_written (word ∷ []) parts text rest legal is behind =
     word_written word parts text rest (is_identifier word) refl legal is behind
-reference_written (namespace ∷ word ∷ words) parts text rest legal is behind = (rest, is, behind)
+reference_written (namespace ∷ name ∷ []) parts text rest legal is behind =
+    shared_written namespace name parts text rest (is_shared namespace name) refl is behind
+reference_written (namespace ∷ word ∷ next ∷ words) parts text rest legal is behind = (rest, is, behind)
 
 pub grouped-written : (pieces : List Piece) (text : List ℕ) → Cuts pieces text → AreWritten (grouped pieces) text
 grouped-written [] text is = is

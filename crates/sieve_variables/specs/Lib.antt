@@ -4,4 +4,5 @@ pub mod Part
 pub mod Reference
 pub mod Scan
 pub mod Value
+pub mod Variable
 pub mod view

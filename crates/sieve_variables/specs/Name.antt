@@ -1,5 +1,5 @@
 -- The names of variables (RFC 5229, section 3).
-use Rattle.std.specs.Prelude.{ℕ, Bool, false, ◌&&◌, ◌*◌, ◌+◌, ◌-◌, List, [], ◌∷◌, length, take, drop, min, codes, if◌then◌else◌}
+use Rattle.std.specs.Prelude.{ℕ, Bool, false, ◌&&◌, ◌*◌, ◌+◌, ◌-◌, List, [], ◌∷◌, length, take, drop, min, codes}
 use Rattle.std.specs.List.{list_all}
 use Rattle.std.specs.Str.{str_eq_ignore_ascii_case, str_to_ascii_lowercase}
 use Rattle.sieve_base.specs.Limits.{match_limit}
@@ -29,7 +29,10 @@ index_of digits = min (decimal_from 0 digits) (match_limit + 1)
 abbrev pub folded_name : List ℕ → List ℕ
 folded_name name = str_to_ascii_lowercase name
 
--- the namespace of the variables that scripts share, and its dot (RFC 6609, section 3.4.2)
+-- the namespace of the variables that scripts share, and with its dot (RFC 6609, section 3.4.2)
+abbrev pub global_namespace : List ℕ
+global_namespace = codes "global"
+
 abbrev pub global_prefix : List ℕ
 global_prefix = codes "global."
 

@@ -1,12 +1,12 @@
 -- The one cut of a text into references and octets (RFC 5229, section 3), and the parts of it, computed.
-use Rattle.std.specs.Prelude.{ℕ, zero, suc, ◌+◌, Bool, true, false, ◌==◌, ◌&&◌, ◌||◌, nat_lt, List, [], ◌∷◌, length, Option, None, Some, if◌then◌else◌}
+use Rattle.std.specs.Prelude.{ℕ, zero, suc, ◌+◌, Bool, true, false, not, ◌==◌, ◌&&◌, ◌||◌, nat_lt, List, [], ◌∷◌, length, Option, None, Some, if◌then◌else◌}
 use Rattle.std.specs.List.{list_any, slice_split}
 use Rattle.std.specs.Option.{option_map}
 use Rattle.sieve_base.specs.Limits.{match_limit}
 use Rattle.sieve_base.specs.Octet.{octet_of, is_name_octet}
 use Rattle.sieve_variables.specs.Name.{is_number, index_of}
 use Rattle.sieve_variables.specs.Reference.{is_legal, Piece, reference, octet}
-use Rattle.sieve_variables.specs.Part.{Part, grouped}
+use Rattle.sieve_variables.specs.Part.{Part, grouped, is_shared}
 
 -- what stands between the words of a reference
 abbrev pub is_dot : ℕ → Bool
@@ -70,6 +70,14 @@ abbrev pub is_namespaced : Piece → Bool
 is_namespaced (octet c) = false
 is_namespaced (reference words) = nat_lt 1 (length words)
 
+-- whether it is one in another namespace than that of the variables that scripts share (RFC 6609, section 3.4.2)
+abbrev pub is_foreign : Piece → Bool
+is_foreign (octet c) = false
+is_foreign (reference []) = false
+is_foreign (reference (name ∷ [])) = false
+is_foreign (reference (namespace ∷ name ∷ [])) = not (is_shared namespace name)
+is_foreign (reference (namespace ∷ word ∷ next ∷ words)) = true
+
 -- whether it is one to a match variable whose number is past the limit (RFC 5229, section 6)
 abbrev pub is_far : Piece → Bool
 is_far (octet c) = false
@@ -84,6 +92,10 @@ has_reference text = list_any is_reference (pieces_of text)
 -- whether it has one with a namespace
 abbrev pub has_namespace : List ℕ → Bool
 has_namespace text = list_any is_namespaced (pieces_of text)
+
+-- whether it has one in another namespace than that of the variables that scripts share
+abbrev pub has_foreign_namespace : List ℕ → Bool
+has_foreign_namespace text = list_any is_foreign (pieces_of text)
 
 -- whether it has one to a match variable whose number is past the limit
 abbrev pub has_far_index : List ℕ → Bool

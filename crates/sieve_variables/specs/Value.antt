@@ -1,43 +1,85 @@
 -- What strings stand for while a script runs (RFC 5229, section 3).
-use Rattle.std.specs.Prelude.{ℕ, List, [], Option, Some, None, slice_get, nat_eq}
+use Rattle.std.specs.Prelude.{ℕ, Bool, true, ◌||◌, List, [], Option, Some, None, is_some, slice_get, length, nat_eq, nat_lt}
 use Rattle.std.specs.List.{flat_map}
 use Rattle.std.specs.Map.{lookup}
 use Rattle.indexmap.specs.IndexMap as ordered
 use lib.Pointwise.{pointwise}
-use Rattle.sieve_variables.specs.Part.{Part, literal, local_part, match_part}
+use Rattle.sieve_base.specs.Limits.{global_limit}
+use Rattle.sieve_variables.specs.Part.{Part, literal, variable_part, match_part}
+use Rattle.sieve_variables.specs.Variable.{Variable, local_variable, global_variable}
 
--- the variables of a script that runs
+-- the variables while a script runs
 pub record Values : Type 0 where
-  -- those that it has set, by their names in lower case, each with its value (RFC 5229, section 4)
+  -- those of the script that it has set, by their names in lower case, each with its value (RFC 5229, section 4)
   pub locals : List (List ℕ × List ℕ)
-  -- what the last successful `:matches` gave: the whole value, and what each wildcard took (RFC 5229, section 3.2)
+  -- those that scripts share, and that the run has set (RFC 6609, section 3.4)
+  pub globals : List (List ℕ × List ℕ)
+  -- what the last successful `:matches` of the script gave: the whole value, and what each wildcard took (RFC 5229, section 3.2)
   pub matched : List (List ℕ)
 
--- at the start of a script
+-- at the start of a run
 abbrev pub no_values : Values
-no_values = record { locals = []; matched = [] }
+no_values = record { locals = []; globals = []; matched = [] }
+
+-- what a script has of its own, and doesn't share
+pub record Own : Type 0 where
+  pub locals : List (List ℕ × List ℕ)
+  pub matched : List (List ℕ)
+
+abbrev pub own_of : Values → Own
+own_of values = record { locals = values.locals; matched = values.matched }
+
+abbrev pub with_own : Own → Values → Values
+with_own own values = record values { locals = own.locals; matched = own.matched }
+
+-- at the start of a script that another one includes: it has nothing of its own
+abbrev pub begun_values : Values → Values
+begun_values values = with_own (record { locals = []; matched = [] }) values
+
+-- behind it: the including script has its own again (RFC 6609, section 3.4)
+abbrev pub resumed_values : (before ended : Values) → Values
+resumed_values before ended = with_own (own_of before) ended
 
 abbrev pub or_empty : Option (List ℕ) → List ℕ
 or_empty None = []
 or_empty (Some value) = value
 
--- what a variable of the script holds; one that isn't set is empty (RFC 5229, section 3)
-abbrev pub local_value : Values → List ℕ → List ℕ
-local_value values name = or_empty (lookup (pointwise nat_eq name) values.locals)
+-- what is held under a name; a variable that isn't set is empty (RFC 5229, section 3)
+abbrev pub held_under : List ℕ → List (List ℕ × List ℕ) → List ℕ
+held_under name variables = or_empty (lookup (pointwise nat_eq name) variables)
+
+-- what a variable holds
+abbrev pub variable_value : Values → Variable → List ℕ
+variable_value values (local_variable name) = held_under name values.locals
+variable_value values (global_variable name) = held_under name values.globals
 
 -- what a part stands for; a match variable that there isn't is empty (RFC 5229, section 3.2)
 abbrev pub part_value : Values → Part → List ℕ
 part_value values (literal octets) = octets
-part_value values (local_part name) = local_value values name
+part_value values (variable_part variable) = variable_value values variable
 part_value values (match_part index) = or_empty (slice_get values.matched index)
 
 -- what a string stands for; what a variable holds isn't looked through for references again
 abbrev pub text_value : Values → List Part → List ℕ
 text_value values parts = flat_map (part_value values) parts
 
+-- whether there is a variable of that name, or room for one more (RFC 5229, section 6)
+abbrev pub has_room_under : List ℕ → List (List ℕ × List ℕ) → Bool
+has_room_under name variables = is_some (lookup (pointwise nat_eq name) variables) || nat_lt (length variables) global_limit
+
+-- whether a variable can be set: those of a script have been counted before it runs
+abbrev pub has_room_for : Variable → Values → Bool
+has_room_for (local_variable name) values = true
+has_room_for (global_variable name) values = has_room_under name values.globals
+
+-- with a value under a name
+abbrev pub with_held : List ℕ → List ℕ → List (List ℕ × List ℕ) → List (List ℕ × List ℕ)
+with_held name value variables = ordered.insert_entry (pointwise nat_eq) variables name value
+
 -- with a variable set
-abbrev pub with_local : List ℕ → List ℕ → Values → Values
-with_local name value values = record values { locals = ordered.insert_entry (pointwise nat_eq) values.locals name value }
+abbrev pub with_variable : Variable → List ℕ → Values → Values
+with_variable (local_variable name) value values = record values { locals = with_held name value values.locals }
+with_variable (global_variable name) value values = record values { globals = with_held name value values.globals }
 
 -- with what a match gave
 abbrev pub with_matched : List (List ℕ) → Values → Values

@@ -1,3 +1,4 @@
 -- What the program's types stand for in contracts. The other files of specs/ restate the subject.
+pub mod Names
 pub mod Part
 pub mod Value

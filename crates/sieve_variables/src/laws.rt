@@ -1,6 +1,6 @@
 //! Laws over the definitions. Each of these functions does nothing: its contract is the law.
 ghost use Rattle.std.specs.Prelude.{◌≡◌, ℕ, List};
-ghost use Rattle.sieve_variables.specs.Part.{AreWritten};
+ghost use Rattle.sieve_variables.specs.Part.{AreWritten, grouped};
 ghost use Rattle.sieve_variables.specs.Reference.{Cuts, Piece};
 ghost use Rattle.sieve_variables.specs.Scan.{parts_of, pieces_of};
 
@@ -10,7 +10,8 @@ pub fn the_cut_is_the_only_one()
     ensures only { (pieces : List Piece) (text : List ℕ) → Cuts pieces text → pieces ≡ pieces_of text }
 {}
 
-/// A text can be written for its parts.
+/// The parts of a text are those that its cut makes, and the text can be written for them.
 pub fn parts_are_written()
-    ensures { (text : List ℕ) → AreWritten (parts_of text) text }
+    ensures cut { (text : List ℕ) → (pieces : List Piece) × Cuts pieces text × (parts_of text ≡ grouped pieces) }
+    ensures written { (text : List ℕ) → AreWritten (parts_of text) text }
 {}

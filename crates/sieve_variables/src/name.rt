@@ -1,9 +1,10 @@
 //! The names of variables (RFC 5229, section 3).
-ghost use Rattle.std.specs.Prelude.{◌≡◌, IfOk};
+ghost use Rattle.std.specs.Prelude.{◌≡◌, false, true, IfOk, MatchOption, drop, length};
 ghost use Rattle.std.specs.List.{list_all};
 ghost use Rattle.sieve_base.specs.Octet.{begins_name, is_digit, is_name_octet};
+ghost use Rattle.sieve_variables.specs.Part.{is_shared};
 ghost use Rattle.sieve_variables.specs.Reference.{is_name};
-ghost use Rattle.sieve_variables.specs.Name.{folded_name, index_of, is_global_name, is_identifier, is_number};
+ghost use Rattle.sieve_variables.specs.Name.{folded_name, global_prefix, index_of, is_global_name, is_identifier, is_number};
 
 use crate::part::SmallOctets;
 use sieve_base::limits::MAX_MATCH;
@@ -12,7 +13,9 @@ use std::alloc::{AllocError, Global};
 /// The first number that no match variable has.
 const PAST_MATCH_LIMIT: u16 = MAX_MATCH as u16 + 1;
 
-/// The namespace of the variables that scripts share, and its dot (RFC 6609, section 3.4.2).
+/// The namespace of the variables that scripts share, and with its dot (RFC 6609, section 3.4.2).
+const GLOBAL_NAMESPACE: &[u8] = b"global";
+
 const GLOBAL_PREFIX: &[u8] = b"global.";
 
 /// The name as variables are kept under it: in lower case.
@@ -63,6 +66,24 @@ pub fn is_global_name(name: &[u8]) -> bool
 {
     let (prefix, rest) = name.split_at(name.len().min(GLOBAL_PREFIX.len()));
     GLOBAL_PREFIX.eq_ignore_ascii_case(prefix) && is_identifier(rest)
+}
+
+/// What stands behind `global.` in the name of a variable that scripts share.
+pub(crate) fn global_name(name: &[u8]) -> Option<&[u8]>
+    ensures { MatchOption result (is_global_name name.now ≡ false) (λ rest. (is_global_name name.now ≡ true) × (rest.now ≡ drop (length global_prefix) name.now)) }
+{
+    if is_global_name(name) {
+        Some(&name[name.len().min(GLOBAL_PREFIX.len())..])
+    } else {
+        None
+    }
+}
+
+/// Whether a namespace is that of the variables that scripts share, and the name is that of a variable (RFC 6609, section 3.4.2).
+pub(crate) fn is_shared(namespace: &[u8], name: &[u8]) -> bool
+    ensures { result ≡ is_shared namespace.now name.now }
+{
+    GLOBAL_NAMESPACE.eq_ignore_ascii_case(namespace) && is_identifier(name)
 }
 
 /// Whether all of the octets are digits.

@@ -1,14 +1,15 @@
 //! References to variables in strings (RFC 5229, section 3), and strings as their parts.
-ghost use Rattle.std.specs.Prelude.{◌≡◌, ◌++◌, ◌+◌, ◌<◌, ◌≤◌, [], ◌∷◌, IfOk, OnOk, IfSome, MatchOption, length, map};
+ghost use Rattle.std.specs.Prelude.{◌≡◌, ◌++◌, ◌+◌, ◌<◌, ◌≤◌, [], ◌∷◌, false, IfOk, OnOk, IfSome, MatchOption, length, map};
 ghost use Rattle.std.specs.List.{list_all};
 ghost use Rattle.std.specs.Option.{option_map};
 ghost use Rattle.sieve_variables.specs.Part.{part_of_words};
 ghost use Rattle.sieve_variables.specs.Reference.{is_legal, is_name, reference};
-ghost use Rattle.sieve_variables.specs.Scan.{before_brace, has_far_index, has_namespace, has_reference, inside_at, is_dot, is_far, is_inside, is_namespaced, parts_of, words_of};
+ghost use Rattle.sieve_variables.specs.Scan.{before_brace, has_far_index, has_foreign_namespace, has_namespace, has_reference, inside_at, is_dot, is_far, is_foreign, is_inside, is_namespaced, parts_of, words_of};
 ghost use Rattle.sieve_variables.specs.view.Part.{added, literal_part, part_of};
 
-use crate::name::{folded, index_of, is_identifier, is_name, is_name_octet, is_number};
+use crate::name::{folded, index_of, is_identifier, is_name, is_name_octet, is_number, is_shared};
 use crate::part::{Part, Parts, SmallOctets};
+use crate::variable::Variable;
 use sieve_base::limits::MAX_MATCH;
 use std::alloc::{AllocError, Global};
 
@@ -19,6 +20,8 @@ pub struct References {
     pub any: bool,
     /// Whether one of them has a namespace.
     pub namespaced: bool,
+    /// Whether one of them has another namespace than that of the variables that scripts share (RFC 6609, section 3.4.2).
+    pub foreign: bool,
     /// Whether one of them is to a match variable whose number is past the limit (RFC 5229, section 6).
     pub far: bool,
 }
@@ -54,10 +57,12 @@ pub fn parts_of(alloc: Global, text: &[u8]) -> Result<Parts, AllocError>
 pub fn references_in(text: &[u8]) -> References
     ensures any { result.any ≡ has_reference text.now }
     ensures namespaced { result.namespaced ≡ has_namespace text.now }
+    ensures foreign { result.foreign ≡ has_foreign_namespace text.now }
     ensures far { result.far ≡ has_far_index text.now }
 {
     let mut any = false;
     let mut namespaced = false;
+    let mut foreign = false;
     let mut far = false;
     let mut rest = text;
     while !rest.is_empty() {
@@ -69,6 +74,7 @@ pub fn references_in(text: &[u8]) -> References
             Some(inside) => {
                 any = true;
                 namespaced |= is_namespaced(inside);
+                foreign |= is_foreign(inside);
                 far |= is_far(inside);
                 let (_, behind) = rest.split_at(SIGN_COUNT + inside.len());
                 rest = behind;
@@ -78,6 +84,7 @@ pub fn references_in(text: &[u8]) -> References
     References {
         any,
         namespaced,
+        foreign,
         far,
     }
 }
@@ -173,6 +180,16 @@ fn is_namespaced(inside: &[u8]) -> bool
     inside.contains(&b'.')
 }
 
+// Whether a reference is in another namespace than that of the variables that scripts share.
+fn is_foreign(inside: &[u8]) -> bool
+    ensures { result ≡ is_foreign (reference (words_of inside.now)) }
+{
+    match cut(inside) {
+        None => false,
+        Some((namespace, name)) => !is_shared(namespace, name),
+    }
+}
+
 // Whether a reference is to a match variable whose number is past the limit.
 fn is_far(inside: &[u8]) -> bool
     ensures { result ≡ is_far (reference (words_of inside.now)) }
@@ -201,9 +218,20 @@ fn part_of_word(alloc: Global, word: &[u8]) -> Result<Part, AllocError>
     ensures { IfOk result (λ part. part_of part ≡ part_of_words (word.now ∷ [])) }
 {
     if is_identifier(word) {
-        Ok(Part::Local(folded(alloc, word)?))
+        Ok(Part::Variable(Variable::Local(folded(alloc, word)?)))
     } else {
         Ok(Part::Match(index_of(word)))
+    }
+}
+
+// What a reference refers to that isn't in another namespace than that of the variables that scripts share.
+fn part_inside(alloc: Global, inside: &[u8]) -> Result<Part, AllocError>
+    requires { is_foreign (reference (words_of inside.now)) ≡ false }
+    ensures { IfOk result (λ part. part_of part ≡ part_of_words (words_of inside.now)) }
+{
+    match cut(inside) {
+        None => part_of_word(alloc, inside),
+        Some((_, name)) => Ok(Part::Variable(Variable::Global(folded(alloc, name)?))),
     }
 }
 
@@ -217,10 +245,10 @@ fn push_reference(
 ) -> Result<(), AllocError>
     ensures { OnOk result (map part_of parts.new.items ≡ map part_of parts.old.items ++ added inside.now octets.now written.now) }
 {
-    if is_namespaced(inside) {
+    if is_foreign(inside) {
         return push_literal(alloc, parts, written);
     }
     push_literal(alloc, parts, octets)?;
-    parts.push(part_of_word(alloc, inside)?)?;
+    parts.push(part_inside(alloc, inside)?)?;
     Ok(())
 }

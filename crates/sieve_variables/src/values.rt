@@ -1,79 +1,105 @@
 //! What variables hold while a script runs (RFC 5229, section 3).
-ghost use Rattle.std.specs.Prelude.{◌≡◌, IfErr, OnErr, OnOk, slice_get};
-ghost use Rattle.sieve_variables.specs.Value.{local_value, no_values, or_empty, part_value, with_local, with_matched};
-ghost use Rattle.sieve_variables.specs.view.Part.{part_of};
+ghost use Rattle.std.specs.Prelude.{◌≡◌, OnErr, OnOk, slice_get};
+ghost use Rattle.sieve_variables.specs.Value.{begun_values, has_room_for, no_values, or_empty, own_of, part_value, variable_value, with_matched, with_own, with_variable};
+ghost use Rattle.sieve_variables.specs.view.Part.{part_of, variable_of};
 
 use crate::part::Part;
-use indexmap::IndexMap;
+use crate::variable::Variable;
+use crate::variables::Variables;
 use sieve_base::Octets;
 use std::alloc::{AllocError, Global};
 use std::marker::Model;
+use std::mem;
 
-/// The variables of a script that runs, and what its last match gave. Contracts see the names with what they hold, and
-/// the texts of the match.
+/// The variables while a script runs: its own, those that scripts share, and what its last match gave. Contracts see the names
+/// with what they hold, and the texts of the match.
 #[derive(Debug, Drop)]
 pub struct Values {
-    locals: IndexMap<Vec<u8>, Octets>,
+    locals: Variables,
+    globals: Variables,
     matched: Vec<Octets>,
 }
 
 impl Model for Values {
-    ghost use Rattle.sieve_variables.specs.view.Value.{ValuesState, state_of};
+    ghost use Rattle.sieve_variables.specs.view.Value.{ValuesState};
 
     ghost Value = { ValuesState };
 
-    ghost view = { λ v. state_of v.locals.entries v.matched.items };
+    ghost view = { λ v. record { locals = v.locals; globals = v.globals; matched = v.matched.items } };
+}
+
+/// What a script has of its own, set aside while one that it includes runs.
+#[derive(Debug, Drop)]
+pub struct Own {
+    locals: Variables,
+    matched: Vec<Octets>,
+}
+
+impl Model for Own {
+    ghost use Rattle.sieve_variables.specs.view.Value.{OwnState};
+
+    ghost Value = { OwnState };
+
+    ghost view = { λ o. record { locals = o.locals; matched = o.matched.items } };
 }
 
 impl Values {
-    /// What a script starts with: no variable is set, and nothing has matched. Takes no memory.
-    #[tactic(auto, unfolding(crate::specs::view::Value::locals_of))]
+    /// What a run starts with: no variable is set, and nothing has matched. Takes no memory.
     pub fn new(alloc: Global) -> Values
         ensures { result ≡ no_values }
     {
         Values {
-            locals: IndexMap::new(alloc),
+            locals: Variables::new(alloc),
+            globals: Variables::new(alloc),
             matched: Vec::new(alloc),
         }
     }
 
-    /// Sets a variable that is set already. Gives the value back where it isn't, and then nothing is changed. Takes no
-    /// memory.
-    fn assign(&mut self, name: &[u8], value: Octets) -> Result<(), Octets>
-        ensures ok { OnOk result (self.new ≡ with_local name.now value self.old) }
-        ensures err { OnErr result (self.new ≡ self.old) }
-        ensures given_back { IfErr result (λ other. other ≡ value) }
+    /// What an included script starts with: it shares the global variables, and has nothing of its own (RFC 6609, section
+    /// 3.4). Answers what the including script has of its own. Takes no memory.
+    pub fn begin(&mut self, alloc: Global) -> Own
+        ensures begun { self.new ≡ begun_values self.old }
+        ensures own { result ≡ own_of self.old }
     {
-        match self.locals.get_mut(name) {
-            Some(held) => {
-                *held = value;
-                Ok(())
-            }
-            None => Err(value),
+        Own {
+            locals: mem::replace(&mut self.locals, Variables::new(alloc)),
+            matched: mem::replace(&mut self.matched, Vec::new(alloc)),
         }
     }
 
-    /// Sets a variable. A copy of its name is kept where it isn't set yet.
-    fn insert(&mut self, alloc: Global, name: &[u8], value: Octets) -> Result<(), AllocError>
-        ensures ok { OnOk result (self.new ≡ with_local name.now value self.old) }
-        ensures err { OnErr result (self.new ≡ self.old) }
+    /// Goes on with a script that has this of its own. Takes no memory.
+    pub fn resume(&mut self, own: Own)
+        ensures { self.new ≡ with_own own self.old }
     {
-        let name = Vec::from_slice(alloc, name)?;
-        match self.locals.insert(name, value) {
-            Ok(_) => Ok(()),
-            Err(_) => Err(AllocError),
+        self.locals = own.locals;
+        self.matched = own.matched;
+    }
+
+    /// Whether a variable can be set: one that scripts share where it is set already, or fewer than 128 are (RFC 5229, section
+    /// 6); one of the script always, since these were counted before it runs. Takes no memory.
+    pub fn has_room_for(&self, variable: &Variable) -> bool
+        ensures { result ≡ has_room_for (variable_of variable.now) self.now }
+    {
+        match variable {
+            Variable::Local(_) => true,
+            Variable::Global(name) => self.globals.has_room(name.as_slice()),
         }
     }
 
-    /// Sets a variable of the script, by its name in lower case (RFC 5229, section 4). What it held before is dropped. An
-    /// error, which is a lack of memory, changes nothing. A variable that is set already takes no memory.
-    pub fn set(&mut self, alloc: Global, name: &[u8], value: Octets) -> Result<(), AllocError>
-        ensures ok { OnOk result (self.new ≡ with_local name.now value self.old) }
+    /// Sets a variable (RFC 5229, section 4). What it held before is dropped. An error, which is a lack of memory, changes
+    /// nothing. A variable that is set already takes no memory.
+    pub fn set(
+        &mut self,
+        alloc: Global,
+        variable: &Variable,
+        value: Octets,
+    ) -> Result<(), AllocError>
+        ensures ok { OnOk result (self.new ≡ with_variable (variable_of variable.now) value self.old) }
         ensures err { OnErr result (self.new ≡ self.old) }
     {
-        match self.assign(name, value) {
-            Ok(()) => Ok(()),
-            Err(value) => self.insert(alloc, name, value),
+        match variable {
+            Variable::Local(name) => self.locals.set(alloc, name.as_slice(), value),
+            Variable::Global(name) => self.globals.set(alloc, name.as_slice(), value),
         }
     }
 
@@ -84,14 +110,13 @@ impl Values {
         self.matched = texts;
     }
 
-    /// What a variable of the script holds, by its name in lower case: nothing where it isn't set. Takes no memory.
-    #[tactic(auto, using(crate::proofs::Locals::lookup_locals))]
-    pub fn local(&self, name: &[u8]) -> &[u8]
-        ensures { result.now ≡ local_value self.now name.now }
+    /// What a variable holds: nothing where it isn't set. Takes no memory.
+    pub fn variable(&self, variable: &Variable) -> &[u8]
+        ensures { result.now ≡ variable_value self.now (variable_of variable.now) }
     {
-        match self.locals.get(name) {
-            Some(value) => value.as_slice(),
-            None => &[],
+        match variable {
+            Variable::Local(name) => self.locals.get(name.as_slice()),
+            Variable::Global(name) => self.globals.get(name.as_slice()),
         }
     }
 
@@ -111,7 +136,7 @@ impl Values {
     {
         match part {
             Part::Literal(octets) => octets.as_slice(),
-            Part::Local(name) => self.local(name.as_slice()),
+            Part::Variable(variable) => self.variable(variable),
             Part::Match(index) => self.matched_text(usize::from(*index)),
         }
     }

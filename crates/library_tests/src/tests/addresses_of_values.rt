@@ -34,12 +34,12 @@ fn check_listed(rt: &(impl AllocGlobal + Abort), rows: &[(&[u8], &[u8])]) -> Res
     Ok(())
 }
 
+/// Lists and groups.
 #[test]
-fn values_have_their_addresses(rt: HostRuntime) -> Result<(), Fail> {
+fn lists_and_groups_have_their_addresses(rt: HostRuntime) -> Result<(), Fail> {
     check_listed(
         &rt,
         &[
-            // Lists and groups.
             (
                 b"\"Doe, Jane\" <@a.example:Jane@B.example>, Team: x@c.example (c, d), y@c.example;",
                 b"Jane@B.example|Jane|B.example\nx@c.example|x|c.example\ny@c.example|y|c.example\n",
@@ -48,7 +48,16 @@ fn values_have_their_addresses(rt: HostRuntime) -> Result<(), Fail> {
             (b",,;", b""),
             (b" \t\r\n", b""),
             (b"a: b: \"c:\"d@e, f:; [g:h]:i", b"c:d@e|c:d|e\ni|-|-\n"),
-            // What is not closed lasts to the end.
+        ],
+    )
+}
+
+/// What is not closed lasts to the end.
+#[test]
+fn what_is_not_closed_lasts_to_the_end(rt: HostRuntime) -> Result<(), Fail> {
+    check_listed(
+        &rt,
+        &[
             (b"\"a", b"a|-|-\n"),
             (b"\"a, b@c", b"a, b@c|-|-\n"),
             // A last backslash stands for itself, unless one before it protects it.
@@ -58,7 +67,16 @@ fn values_have_their_addresses(rt: HostRuntime) -> Result<(), Fail> {
             (b"(((", b""),
             (b"a@b (c, d@e", b"a@b|a|b\n"),
             (b"a@[b, c@d", b"a@[b,c@d|a|[b,c@d\n"),
-            // Only the last sign divides.
+        ],
+    )
+}
+
+/// Only the last sign divides.
+#[test]
+fn the_last_sign_divides(rt: HostRuntime) -> Result<(), Fail> {
+    check_listed(
+        &rt,
+        &[
             (b"a@b@", b"a@b@|-|-\n"),
             (b"@b", b"@b|-|-\n"),
             (b"@", b"@|-|-\n"),
@@ -69,7 +87,16 @@ fn values_have_their_addresses(rt: HostRuntime) -> Result<(), Fail> {
             (b"\"a@b\"", b"a@b|-|-\n"),
             (b"a@[b@c]", b"a@[b@c]|a|[b@c]\n"),
             (b"\"\"@c", b"@c|-|-\n"),
-            // The first angle is read.
+        ],
+    )
+}
+
+/// The first angle is read.
+#[test]
+fn the_first_angle_is_read(rt: HostRuntime) -> Result<(), Fail> {
+    check_listed(
+        &rt,
+        &[
             // The standard has none of the first three.
             (b"x <a<b@c> y", b"a<b@c|a<b|c\n"),
             (b"<a@b> <c@d>", b"a@b|a|b\n"),
@@ -77,12 +104,30 @@ fn values_have_their_addresses(rt: HostRuntime) -> Result<(), Fail> {
             (b"x <>, a", b"a|-|-\n"),
             (b"<a,b;c:d@e>", b"a,b;c:d@e|a,b;c:d|e\n"),
             (b"\"<\" (<) [<] <a\">\"@b>", b"a>@b|a>|b\n"),
-            // A source route goes only with its colon.
+        ],
+    )
+}
+
+/// A source route goes only with its colon.
+#[test]
+fn a_source_route_goes_with_its_colon(rt: HostRuntime) -> Result<(), Fail> {
+    check_listed(
+        &rt,
+        &[
             (b"< (c:) @a,@b:c:d@e>", b"c:d@e|c:d|e\n"),
             (b"<@a,@b>", b"@a,@b|@a,|b\n"),
             (b"<@[a:b]:c@d>", b"c@d|c|d\n"),
             (b"<\"@\":c@d>", b"@:c@d|@:c|d\n"),
-            // Comments and white space go.
+        ],
+    )
+}
+
+/// Comments and white space go.
+#[test]
+fn comments_and_white_space_go(rt: HostRuntime) -> Result<(), Fail> {
+    check_listed(
+        &rt,
+        &[
             (b"(a, (b) \\) <) c (\"; )@d", b"c@d|c|d\n"),
             (b"a)b@c", b"a)b@c|a)b|c\n"),
             (b" \t a \r\n b\" \t c\" @ d", b"ab \t c@d|ab \t c|d\n"),
@@ -96,7 +141,16 @@ fn values_have_their_addresses(rt: HostRuntime) -> Result<(), Fail> {
                 b"\xc3\xa4\x00@\xff",
                 b"\xc3\xa4\x00@\xff|\xc3\xa4\x00|\xff\n",
             ),
-            // The examples of RFC 5322, appendices A.1.1 to A.1.3. The standard reads the same addresses in each.
+        ],
+    )
+}
+
+/// The examples of RFC 5322, appendices A.1.1 to A.1.3. The standard reads the same addresses in each.
+#[test]
+fn the_addresses_of_the_standard(rt: HostRuntime) -> Result<(), Fail> {
+    check_listed(
+        &rt,
+        &[
             (
                 b" John Doe <jdoe@machine.example>",
                 b"jdoe@machine.example|jdoe|machine.example\n",
@@ -130,7 +184,16 @@ fn values_have_their_addresses(rt: HostRuntime) -> Result<(), Fail> {
                 b"c@a.test|c|a.test\njoe@where.test|joe|where.test\njdoe@one.test|jdoe|one.test\n",
             ),
             (b" Undisclosed recipients:;", b""),
-            // The examples of RFC 5322, appendices A.5, A.6.1 and A.6.3. The standard reads the same addresses in each.
+        ],
+    )
+}
+
+/// The examples of RFC 5322, appendices A.5, A.6.1 and A.6.3. The standard reads the same addresses in each.
+#[test]
+fn addresses_in_odd_spellings_of_the_standard(rt: HostRuntime) -> Result<(), Fail> {
+    check_listed(
+        &rt,
+        &[
             (
                 b" Pete(A nice \\) chap) <pete(his account)@silly.test(his host)>",
                 b"pete@silly.test|pete|silly.test\n",

@@ -11,166 +11,75 @@ use std::fmt::Display;
 use std::process::Abort;
 use std::test::Fail;
 
-/// A number and a word, and what they must be.
-type Row<'a> = (u8, &'a [u8], u8, &'a [u8]);
-
-/// Refusals have numbers alone.
-#[test]
-fn rules_errors_and_refusals_have_their_numbers_and_words(rt: HostRuntime) {
-    let rows: [Row<'_>; 29] = [
-        (
-            Rule::RequirePlace.number(),
-            Rule::RequirePlace.word(),
-            1,
-            b"require-place",
-        ),
-        (
-            Rule::UnknownCapability.number(),
-            Rule::UnknownCapability.word(),
-            2,
-            b"unknown-capability",
-        ),
-        (
-            Rule::UnknownCommand.number(),
-            Rule::UnknownCommand.word(),
-            3,
-            b"unknown-command",
-        ),
-        (
-            Rule::NotRequired.number(),
-            Rule::NotRequired.word(),
-            4,
-            b"not-required",
-        ),
-        (
-            Rule::ElsePlace.number(),
-            Rule::ElsePlace.word(),
-            5,
-            b"else-place",
-        ),
-        (Rule::BadTag.number(), Rule::BadTag.word(), 6, b"bad-tag"),
-        (
-            Rule::BadArguments.number(),
-            Rule::BadArguments.word(),
-            7,
-            b"bad-arguments",
-        ),
-        (
-            Rule::UnknownComparator.number(),
-            Rule::UnknownComparator.word(),
-            8,
-            b"unknown-comparator",
-        ),
-        (
-            Rule::BadVariableName.number(),
-            Rule::BadVariableName.word(),
-            9,
-            b"bad-variable-name",
-        ),
-        (
-            Rule::GlobalAfterSet.number(),
-            Rule::GlobalAfterSet.word(),
-            10,
-            b"global-after-set",
-        ),
-        (
-            Rule::BadNamespace.number(),
-            Rule::BadNamespace.word(),
-            11,
-            b"bad-namespace",
-        ),
-        (
-            Rule::MatchIndex.number(),
-            Rule::MatchIndex.word(),
-            12,
-            b"match-index",
-        ),
-        (
-            Rule::NumberTooLarge.number(),
-            Rule::NumberTooLarge.word(),
-            13,
-            b"number-too-large",
-        ),
-        (
-            Rule::BadEnvelopePart.number(),
-            Rule::BadEnvelopePart.word(),
-            14,
-            b"bad-envelope-part",
-        ),
-        (
-            Rule::NotAddressHeader.number(),
-            Rule::NotAddressHeader.word(),
-            15,
-            b"not-address-header",
-        ),
-        (
-            Rule::TooManyVariables.number(),
-            Rule::TooManyVariables.word(),
-            16,
-            b"too-many-variables",
-        ),
-        (
-            ErrorKind::MissingScript as u8,
-            ErrorKind::MissingScript.word(),
-            1,
-            b"missing-script",
-        ),
-        (
-            ErrorKind::InvalidScript as u8,
-            ErrorKind::InvalidScript.word(),
-            2,
-            b"invalid-script",
-        ),
-        (
-            ErrorKind::RecursiveInclude as u8,
-            ErrorKind::RecursiveInclude.word(),
-            3,
-            b"recursive-include",
-        ),
-        (
-            ErrorKind::IncludeDepth as u8,
-            ErrorKind::IncludeDepth.word(),
-            4,
-            b"include-depth",
-        ),
-        (
-            ErrorKind::IncludeCount as u8,
-            ErrorKind::IncludeCount.word(),
-            5,
-            b"include-count",
-        ),
-        (
-            ErrorKind::BadAddress as u8,
-            ErrorKind::BadAddress.word(),
-            6,
-            b"bad-address",
-        ),
-        (
-            ErrorKind::TooManyActions as u8,
-            ErrorKind::TooManyActions.word(),
-            7,
-            b"too-many-actions",
-        ),
-        (
-            ErrorKind::TooManyGlobals as u8,
-            ErrorKind::TooManyGlobals.word(),
-            8,
-            b"too-many-globals",
-        ),
-        (
-            ErrorKind::BadMailbox as u8,
-            ErrorKind::BadMailbox.word(),
-            9,
-            b"bad-mailbox",
-        ),
-        (MessageFault::TooLarge as u8, b"", 1, b""),
-        (MessageFault::NoMemory as u8, b"", 2, b""),
-        (JudgeFault::TooLarge as u8, b"", 1, b""),
-        (JudgeFault::NoMemory as u8, b"", 2, b""),
-    ];
-    for (number, word, wanted_number, wanted_word) in rows {
-        assert_eq!(rt; (number, word), (wanted_number, wanted_word));
+/// Compares rules with their numbers and words.
+fn check_rules(rt: &impl Abort, rows: &[(Rule, u8, &[u8])]) {
+    for (rule, number, word) in rows {
+        assert_eq!(rt; (rule.number(), rule.word()), (*number, *word));
     }
+}
+
+#[test]
+fn rules_have_their_numbers_and_words(rt: HostRuntime) {
+    check_rules(
+        &rt,
+        &[
+            (Rule::RequirePlace, 1, b"require-place"),
+            (Rule::UnknownCapability, 2, b"unknown-capability"),
+            (Rule::UnknownCommand, 3, b"unknown-command"),
+            (Rule::NotRequired, 4, b"not-required"),
+            (Rule::ElsePlace, 5, b"else-place"),
+            (Rule::BadTag, 6, b"bad-tag"),
+            (Rule::BadArguments, 7, b"bad-arguments"),
+            (Rule::UnknownComparator, 8, b"unknown-comparator"),
+        ],
+    );
+}
+
+#[test]
+fn later_rules_have_their_numbers_and_words(rt: HostRuntime) {
+    check_rules(
+        &rt,
+        &[
+            (Rule::BadVariableName, 9, b"bad-variable-name"),
+            (Rule::GlobalAfterSet, 10, b"global-after-set"),
+            (Rule::BadNamespace, 11, b"bad-namespace"),
+            (Rule::MatchIndex, 12, b"match-index"),
+            (Rule::NumberTooLarge, 13, b"number-too-large"),
+            (Rule::BadEnvelopePart, 14, b"bad-envelope-part"),
+            (Rule::NotAddressHeader, 15, b"not-address-header"),
+            (Rule::TooManyVariables, 16, b"too-many-variables"),
+        ],
+    );
+}
+
+#[test]
+fn errors_have_their_numbers_and_words(rt: HostRuntime) {
+    let rows: [(ErrorKind, u8, &[u8]); 9] = [
+        (ErrorKind::MissingScript, 1, b"missing-script"),
+        (ErrorKind::InvalidScript, 2, b"invalid-script"),
+        (ErrorKind::RecursiveInclude, 3, b"recursive-include"),
+        (ErrorKind::IncludeDepth, 4, b"include-depth"),
+        (ErrorKind::IncludeCount, 5, b"include-count"),
+        (ErrorKind::BadAddress, 6, b"bad-address"),
+        (ErrorKind::TooManyActions, 7, b"too-many-actions"),
+        (ErrorKind::TooManyGlobals, 8, b"too-many-globals"),
+        (ErrorKind::BadMailbox, 9, b"bad-mailbox"),
+    ];
+    for (kind, number, word) in rows {
+        assert_eq!(rt; (kind as u8, kind.word()), (number, word));
+    }
+}
+
+#[test]
+fn refusals_have_their_numbers(rt: HostRuntime) {
+    assert_eq!(rt;
+        (MessageFault::TooLarge as u8, MessageFault::NoMemory as u8),
+        (1, 2)
+    );
+    assert_eq!(rt;
+        (JudgeFault::TooLarge as u8, JudgeFault::NoMemory as u8),
+        (1, 2)
+    );
 }
 
 /// Prints a refusal, and compares.

@@ -48,6 +48,15 @@ fn messages_have_their_fields(rt: HostRuntime) -> Result<(), Fail> {
             // Blanks at the seams stay, and outer ones go wherever they stand.
             (b"A: \t\r\n \r\n x \r\n\ty\t\r\n \t\r\n", b"A:x \ty\n"),
             (b"A:\n \n\t\n", b"A:\n"),
+        ],
+    )
+}
+
+#[test]
+fn lines_that_are_no_fields_are_skipped(rt: HostRuntime) -> Result<(), Fail> {
+    check_listed(
+        &rt,
+        &[
             // Lines that are no fields are skipped.
             (b" x\nA b: c\n d\n:e\nF : g\n h\n\nI: j", b"F:g h\n"),
             (b"", b""),
@@ -61,6 +70,15 @@ fn messages_have_their_fields(rt: HostRuntime) -> Result<(), Fail> {
             (b"\xc3\xa4: b\nC:\xc3\xa4\n", b"C:\xc3\xa4\n"),
             (b"A:b:c\n::\n", b"A:b:c\n"),
             (b"A\x00: b\nC: \x00 \x00\n\x00: d\n", b"C:\x00 \x00\n"),
+        ],
+    )
+}
+
+#[test]
+fn a_lone_return_is_an_octet(rt: HostRuntime) -> Result<(), Fail> {
+    check_listed(
+        &rt,
+        &[
             // A lone return is an octet.
             (b"A: b\rc\r\n\r\n", b"A:b\rc\n"),
             (b"A: b\r", b"A:b\r\n"),
@@ -68,6 +86,15 @@ fn messages_have_their_fields(rt: HostRuntime) -> Result<(), Fail> {
             (b"A: b\n\r", b"A:b\n"),
             (b"A: b\n\rC: d\nE: f\n", b"A:b\nE:f\n"),
             (b"A: b\n\r\nC: d\n", b"A:b\n"),
+        ],
+    )
+}
+
+#[test]
+fn messages_of_the_standard_have_their_fields(rt: HostRuntime) -> Result<(), Fail> {
+    check_listed(
+        &rt,
+        &[
             // RFC 5322, appendices A.1.1, A.5 and A.6.3.
             (
                 b"From: John Doe <jdoe@machine.example>\r\nTo: Mary Smith <mary@example.net>\r\nSubject: Saying Hello\r\nDate: Fri, 21 Nov 1997 09:55:06 -0600\r\nMessage-ID: <1234@local.machine.example>\r\n\r\nThis is a message just to say hello.\r\nSo, \"Hello\".\r\n",

@@ -31,6 +31,15 @@ fn scripts_have_their_trees(rt: HostRuntime) -> Result<(), Fail> {
                 b"/*1*/a/*2*/[/*3*/\"b\"/*4*/,#5\n\"c\"/*6*/]/*7*/(/*8*/d/*9*/,/*10*/e/*11*/)/*12*/{/*13*/}/*14*/",
                 "a@1 [\"b\"1\"c\"2] (d@2,e@2,){}",
             ),
+        ],
+    )
+}
+
+#[test]
+fn scripts_of_the_standard_have_their_trees(rt: HostRuntime) -> Result<(), Fail> {
+    check_trees(
+        &rt,
+        &[
             // Examples of RFC 5228, sections 2.3, 2.7.3, 3.1 and 9.
             (
                 b"if size :over 100K { # this is a comment\n    discard;\n}\n",
@@ -61,7 +70,7 @@ fn scripts_have_their_trees(rt: HostRuntime) -> Result<(), Fail> {
 }
 
 #[test]
-fn values(rt: HostRuntime) -> Result<(), Fail> {
+fn strings_have_their_values(rt: HostRuntime) -> Result<(), Fail> {
     check_trees(
         &rt,
         &[
@@ -88,6 +97,15 @@ fn values(rt: HostRuntime) -> Result<(), Fail> {
             ),
             (b"a text:\n.\n;", "a@1 \"\"1;"),
             (b"a text:\n.\r\r\n.\n;", "a@1 \".\\x0d\\x0d\\x0a\"1;"),
+        ],
+    )
+}
+
+#[test]
+fn numbers_and_tags_have_their_values(rt: HostRuntime) -> Result<(), Fail> {
+    check_trees(
+        &rt,
+        &[
             (b"a 0 007 10;", "a@1 #0@1 #7@1 #10@1;"),
             (
                 b"a 1k 1K 1m 1M 1g 1G;",

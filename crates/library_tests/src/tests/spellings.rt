@@ -4,14 +4,13 @@ use super::print::check_tokens;
 use std::test::Fail;
 
 #[test]
-fn spellings(rt: HostRuntime) -> Result<(), Fail> {
+fn white_space_and_comments(rt: HostRuntime) -> Result<(), Fail> {
     check_tokens(
         &rt,
         &[
             (b"", ""),
             (b" \t\r\n\r", ""),
             (b"a\n\"b", "Identifier 0-1@1 Bad 2-4@2 "),
-            // Comments.
             (b"#c", ""),
             (b"#c\nx", "Identifier 3-4@2 "),
             (b"#\rx", ""),
@@ -23,7 +22,15 @@ fn spellings(rt: HostRuntime) -> Result<(), Fail> {
             (b"/*\n\0\xff\r*/x", "Identifier 8-9@2 "),
             (b"x /* y", "Identifier 0-1@1 Bad 2-6@1 "),
             (b"/x", "Bad 0-2@1 "),
-            // Identifiers, tags and numbers.
+        ],
+    )
+}
+
+#[test]
+fn identifiers_tags_and_numbers(rt: HostRuntime) -> Result<(), Fail> {
+    check_tokens(
+        &rt,
+        &[
             (b"_a9Z", "Identifier 0-4@1 "),
             (b"a-b", "Identifier 0-1@1 Bad 1-3@1 "),
             (b":a9 :_", "Tag 0-3@1 Tag 4-6@1 "),
@@ -35,20 +42,45 @@ fn spellings(rt: HostRuntime) -> Result<(), Fail> {
             (b"10Kx", "Number 0-3@1 Identifier 3-4@1 "),
             (b"1KK", "Number 0-2@1 Identifier 2-3@1 "),
             (b"1T", "Number 0-1@1 Identifier 1-2@1 "),
-            // Quoted strings.
+        ],
+    )
+}
+
+#[test]
+fn quoted_strings(rt: HostRuntime) -> Result<(), Fail> {
+    check_tokens(
+        &rt,
+        &[
             (b"\"\"\"a\"", "Quoted 0-2@1 Quoted 2-5@1 "),
             (b"\"a\\\"b\"", "Quoted 0-6@1 "),
             (b"\"a\\\\\"b", "Quoted 0-5@1 Identifier 5-6@1 "),
             (b"\"\\", "Bad 0-2@1 "),
             (b"\"\\\"", "Bad 0-3@1 "),
             (b"\"\0\r\xff\n#/*\" x", "Quoted 0-9@1 Identifier 10-11@2 "),
-            // Multi-line strings.
+        ],
+    )
+}
+
+#[test]
+fn multi_line_strings(rt: HostRuntime) -> Result<(), Fail> {
+    check_tokens(
+        &rt,
+        &[
             (b"text:\n.\n", "MultiLine 0-8@1 "),
             (b"text:\r\n.\r\nx", "MultiLine 0-10@1 Identifier 10-11@3 "),
             (b"TeXT: \t# c\n..\n.\n", "MultiLine 0-16@1 "),
             (b"text: \t\r\n.\n", "MultiLine 0-11@1 "),
             (b"text:\n\0\r\xff\n.a\n. \n.\r\r\n.\n", "MultiLine 0-22@1 "),
             (b"text:\n.\n.\n", "MultiLine 0-8@1 Bad 8-10@3 "),
+        ],
+    )
+}
+
+#[test]
+fn what_begins_like_a_multi_line_string(rt: HostRuntime) -> Result<(), Fail> {
+    check_tokens(
+        &rt,
+        &[
             (b"text:", "Identifier 0-4@1 Bad 4-5@1 "),
             (b"text:\n", "Identifier 0-4@1 Bad 4-6@1 "),
             (b"text:\n.", "Identifier 0-4@1 Bad 4-7@1 "),
@@ -61,7 +93,15 @@ fn spellings(rt: HostRuntime) -> Result<(), Fail> {
             (b"text:x\n.\n", "Identifier 0-4@1 Tag 4-6@1 Bad 7-9@2 "),
             (b"texts:\n.\n", "Identifier 0-5@1 Bad 5-9@1 "),
             (b"atext:\n.\n", "Identifier 0-5@1 Bad 5-9@1 "),
-            // Punctuation, and octets that begin nothing.
+        ],
+    )
+}
+
+#[test]
+fn punctuation_and_octets_that_begin_nothing(rt: HostRuntime) -> Result<(), Fail> {
+    check_tokens(
+        &rt,
+        &[
             (
                 b";,{}()[]",
                 "Semicolon 0-1@1 Comma 1-2@1 OpenBrace 2-3@1 CloseBrace 3-4@1 OpenParenthesis 4-5@1 CloseParenthesis 5-6@1 OpenBracket 6-7@1 CloseBracket 7-8@1 ",

@@ -1,10 +1,10 @@
 //! Rows for the public calls of variables: references, names, modifiers, and what strings stand for. What is expected was
-//! written by hand from RFC 5229.
+//! written by hand from RFC 5229 and RFC 6609.
 
 use sieve_base::Octets;
 use sieve_variables::{
-    LetterCase, Modifiers, Part, Parts, References, SmallOctets, Values, folded, is_global_name,
-    is_identifier, parts_of, references_in,
+    LetterCase, Modifiers, Names, Part, Parts, References, Values, Variable, folded,
+    is_global_name, is_identifier, parts_of, references_in, scoped_parts,
 };
 use std::alloc::{AllocError, Global};
 use std::process::Abort;
@@ -15,7 +15,11 @@ use std::test::Fail;
 fn strings_have_their_parts(rt: HostRuntime) -> Result<(), Fail> {
     let parts = parts_of(rt.alloc(), b"${Company}${099} Inc.}")?;
     match parts.as_slice() {
-        [Part::Local(name), Part::Match(index), Part::Literal(octets)] => {
+        [
+            Part::Variable(Variable::Local(name)),
+            Part::Match(index),
+            Part::Literal(octets),
+        ] => {
             assert_eq!(rt; name.as_slice(), b"company".as_slice());
             assert_eq!(rt; *index, 99);
             assert_eq!(rt; octets.as_slice(), b" Inc.}".as_slice());
@@ -26,31 +30,72 @@ fn strings_have_their_parts(rt: HostRuntime) -> Result<(), Fail> {
 }
 
 /// The answer for a text with such references.
-fn found(any: bool, namespaced: bool, far: bool) -> References {
+fn found(any: bool, namespaced: bool, foreign: bool, far: bool) -> References {
     References {
         any,
         namespaced,
+        foreign,
         far,
     }
 }
 
 #[test]
 fn references_are_found(rt: HostRuntime) {
-    let rows: [(&[u8], References); 10] = [
-        (b"", found(false, false, false)),
-        (b"${doh!}", found(false, false, false)),
-        (b"${7.a}${.a}${a.}${a..b}${.}", found(false, false, false)),
-        (b"${BAD${Company}", found(true, false, false)),
-        (b"${00099}", found(true, false, false)),
-        (b"${100}", found(true, false, true)),
-        (b"${a}${18446744073709551617}", found(true, false, true)),
-        (b"x${a.7.b_2}${y}", found(true, true, false)),
+    let rows: [(&[u8], References); 11] = [
+        (b"", found(false, false, false, false)),
+        (b"${doh!}", found(false, false, false, false)),
+        (
+            b"${7.a}${.a}${a.}${a..b}${.}",
+            found(false, false, false, false),
+        ),
+        (b"${BAD${Company}", found(true, false, false, false)),
+        (b"${00099}", found(true, false, false, false)),
+        (b"${100}", found(true, false, false, true)),
+        (
+            b"${a}${18446744073709551617}",
+            found(true, false, false, true),
+        ),
+        (b"x${a.7.b_2}${y}", found(true, true, true, false)),
         // A number in a namespace is none of a match variable.
-        (b"${a.100}", found(true, true, false)),
-        (b"${a.b}${256}", found(true, true, true)),
+        (b"${a.100}", found(true, true, true, false)),
+        (b"${a.b}${256}", found(true, true, true, true)),
+        (b"${Global.x}", found(true, true, false, false)),
     ];
     for (text, wanted) in rows {
         assert_eq!(rt; references_in(text), wanted, "in {text:?}");
+    }
+}
+
+/// The variable of a name, and the one of the first part of a string, where `x` is declared.
+#[test]
+fn a_declared_name_is_the_shared_variable(rt: HostRuntime) -> Result<(), Fail> {
+    let mut declared = Names::new(rt.alloc());
+    declared.add(rt.alloc(), b"x")?;
+    assert!(rt; declared.has(b"x") && !declared.has(b"y"));
+    let shared = Variable::named(rt.alloc(), b"Global.X")?;
+    check_variable(&rt, &shared, true, b"x");
+    let local = Variable::named(rt.alloc(), b"X")?;
+    check_variable(&rt, &local, false, b"x");
+    check_variable(
+        &rt,
+        &local.copied(rt.alloc())?.scoped(&declared),
+        true,
+        b"x",
+    );
+    let parts = parts_of(rt.alloc(), b"${X}")?;
+    let parts = scoped_parts(rt.alloc(), parts, &declared)?;
+    match parts.as_slice() {
+        [Part::Variable(variable)] => check_variable(&rt, variable, true, b"x"),
+        other => panic!(rt; "{other:?}"),
+    }
+    Ok(())
+}
+
+/// Compares whether scripts share a variable, and its name.
+fn check_variable(rt: &impl Abort, variable: &Variable, is_shared: bool, wanted: &[u8]) {
+    match variable {
+        Variable::Local(name) => assert_eq!(rt; (false, name.as_slice()), (is_shared, wanted)),
+        Variable::Global(name) => assert_eq!(rt; (true, name.as_slice()), (is_shared, wanted)),
     }
 }
 
@@ -80,7 +125,8 @@ fn values_are_modified(rt: HostRuntime) -> Result<(), Fail> {
 
 fn set(values: &mut Values, alloc: Global, name: &[u8], text: &[u8]) -> Result<(), AllocError> {
     let octets = Octets::copied(alloc, text)?;
-    values.set(alloc, name, octets)
+    let variable = Variable::named(alloc, name)?;
+    values.set(alloc, &variable, octets)
 }
 
 /// Sets each variable, in this order.
@@ -109,15 +155,15 @@ fn set_match(values: &mut Values, alloc: Global) -> Result<(), AllocError> {
     Ok(())
 }
 
-/// Compares what each variable of the script holds.
-fn check_locals(
+/// Compares what each variable holds.
+fn check_held(
     rt: &(impl AllocGlobal + Abort),
     values: &Values,
     rows: &[(&[u8], &[u8])],
 ) -> Result<(), Fail> {
     for (name, wanted) in rows {
-        let part = Part::Local(SmallOctets::from_slice(rt.alloc(), *name)?);
-        assert_eq!(rt; values.part(&part), *wanted, "at {name:?}");
+        let variable = Variable::named(rt.alloc(), *name)?;
+        assert_eq!(rt; values.variable(&variable), *wanted, "at {name:?}");
     }
     Ok(())
 }
@@ -127,7 +173,7 @@ fn check_locals(
 fn a_variable_holds_what_was_set_last(rt: HostRuntime) -> Result<(), Fail> {
     let mut values = Values::new(rt.alloc());
     set_all(&mut values, rt.alloc(), VARIABLES)?;
-    check_locals(
+    check_held(
         &rt,
         &values,
         &[
@@ -137,6 +183,28 @@ fn a_variable_holds_what_was_set_last(rt: HostRuntime) -> Result<(), Fail> {
             (b"", b""),
         ],
     )
+}
+
+/// A script that is included has the shared variables, and none of the including one's; behind it that one has its own again.
+#[test]
+fn included_scripts_share_global_variables_alone(rt: HostRuntime) -> Result<(), Fail> {
+    let mut values = Values::new(rt.alloc());
+    set_all(
+        &mut values,
+        rt.alloc(),
+        &[(b"name", b"Tim"), (b"global.box", b"Lists")],
+    )?;
+    let own = values.begin(rt.alloc());
+    check_held(&rt, &values, &[(b"name", b""), (b"global.box", b"Lists")])?;
+    set_all(
+        &mut values,
+        rt.alloc(),
+        &[(b"name", b"Ann"), (b"global.box", b"Junk")],
+    )?;
+    values.resume(own);
+    let box_name = Variable::named(rt.alloc(), b"global.box")?;
+    assert!(rt; values.has_room_for(&box_name));
+    check_held(&rt, &values, &[(b"name", b"Tim"), (b"global.box", b"Junk")])
 }
 
 /// Compares what each match variable stands for.

@@ -4,13 +4,13 @@ use Rattle.std.specs.Option.{option_map}
 use Rattle.sieve_check.specs.Reading as reading
 use Rattle.sieve_check.specs.view.Tree.{text_of}
 use Rattle.sieve_variables.specs.Part.{Part}
-use Rattle.sieve_variables.specs.view.Part.{part_of}
+use Rattle.sieve_variables.specs.view.Part.{part_of, variable_of}
 use Rattle.sieve_check.specs.declared.reading.Ask.{Ask}
 use Rattle.sieve_check.specs.declared.reading.Ask.TheVariants.{Compares, Exists, Over, Under}
 use Rattle.sieve_check.specs.declared.reading.CommandReading.{CommandReading}
-use Rattle.sieve_check.specs.declared.reading.CommandReading.TheVariants.{Opens, Continues, Otherwise, Stops, Nothing, Acts}
+use Rattle.sieve_check.specs.declared.reading.CommandReading.TheVariants.{Opens, Continues, Otherwise, Stops, Returns, Nothing, Acts}
 use Rattle.sieve_check.specs.declared.reading.Leaf.{Leaf}
-use Rattle.sieve_check.specs.declared.reading.Leaf.TheVariants.{Keep, Fileinto, Redirect, Discard, Set, Flags}
+use Rattle.sieve_check.specs.declared.reading.Leaf.TheVariants.{Keep, Fileinto, Redirect, Discard, Set, Flags, Include}
 use Rattle.sieve_check.specs.declared.reading.Source.{Source}
 use Rattle.sieve_check.specs.declared.reading.Source.TheVariants as source
 use Rattle.sieve_check.specs.declared.reading.TestReading.{TestReading}
@@ -47,13 +47,15 @@ leaf_as (Keep flags) = reading.keep_leaf (option_map (λ texts. texts_as texts.n
 leaf_as (Fileinto mailbox flags) = reading.fileinto_leaf (map part_of mailbox.now) (option_map (λ texts. texts_as texts.now) flags)
 leaf_as (Redirect address) = reading.redirect_leaf (map part_of address.now)
 leaf_as Discard = reading.discard_leaf
-leaf_as (Set name modifiers value) = reading.set_leaf name.now modifiers (map part_of value.now)
-leaf_as (Flags change variable flags) = reading.flag_leaf change (option_map (λ name. name.now) variable) (texts_as flags.now)
+leaf_as (Set variable modifiers value) = reading.set_leaf (variable_of variable.now) modifiers (map part_of value.now)
+leaf_as (Flags change variable flags) = reading.flag_leaf change (option_map (λ one. variable_of one.now) variable) (texts_as flags.now)
+leaf_as (Include place once optional name) = reading.include_leaf place once optional name.now
 
 abbrev pub command_reading_as : CommandReading → reading.CommandReading
 command_reading_as Opens = reading.opens
 command_reading_as Continues = reading.continues
 command_reading_as Otherwise = reading.otherwise
 command_reading_as Stops = reading.stops
+command_reading_as Returns = reading.returns
 command_reading_as Nothing = reading.nothing
 command_reading_as (Acts leaf) = reading.acts (leaf_as leaf)

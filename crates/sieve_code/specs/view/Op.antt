@@ -4,13 +4,13 @@ use Rattle.std.specs.Option.{option_map}
 use Rattle.std.specs.declared.alloc.Global.{Global}
 use Rattle.std.specs.declared.vec.Vec.{Vec}
 use Rattle.smallvec.specs.SmallVec.{SmallVec}
-use Rattle.sieve_check.specs.Reading.{header_values, address_values, envelope_values, string_values, flag_values, compares, exists_ask, over_ask, under_ask, keep_leaf, fileinto_leaf, redirect_leaf, discard_leaf, set_leaf, flag_leaf}
+use Rattle.sieve_check.specs.Reading.{header_values, address_values, envelope_values, string_values, flag_values, compares, exists_ask, over_ask, under_ask, keep_leaf, fileinto_leaf, redirect_leaf, discard_leaf, set_leaf, flag_leaf, include_leaf}
 use Rattle.sieve_variables.specs.Part as part
-use Rattle.sieve_variables.specs.view.Part.{part_of, strings_of}
+use Rattle.sieve_variables.specs.view.Part.{part_of, strings_of, variable_of}
 use Rattle.sieve_variables.specs.declared.part.Part.{Part}
-use Rattle.sieve_code.specs.Operation.{Operation, sets, inverts, asks, jumps, jumps_if, acts, stops}
+use Rattle.sieve_code.specs.Operation.{Operation, sets, inverts, asks, jumps, jumps_if, acts, stops, returns}
 use Rattle.sieve_code.specs.declared.op.Op.{Op}
-use Rattle.sieve_code.specs.declared.op.Op.TheVariants.{True, False, Not, Header, Address, Envelope, String, HasFlag, Exists, SizeOver, SizeUnder, Jump, JumpIfFalse, JumpIfTrue, Keep, Fileinto, Redirect, Discard, Set, Flags, Stop}
+use Rattle.sieve_code.specs.declared.op.Op.TheVariants.{True, False, Not, Header, Address, Envelope, String, HasFlag, Exists, SizeOver, SizeUnder, Jump, JumpIfFalse, JumpIfTrue, Keep, Fileinto, Redirect, Discard, Set, Flags, Include, Stop, Return}
 
 -- the parts of a string
 abbrev pub parts_of : SmallVec Part → List part.Part
@@ -39,9 +39,11 @@ op_as (Keep flags line) = acts (keep_leaf (given_strings flags)) line
 op_as (Fileinto mailbox flags line) = acts (fileinto_leaf (parts_of mailbox) (given_strings flags)) line
 op_as (Redirect address line) = acts (redirect_leaf (parts_of address)) line
 op_as (Discard line) = acts discard_leaf line
-op_as (Set name modifiers value line) = acts (set_leaf name.items modifiers (parts_of value)) line
-op_as (Flags change variable flags line) = acts (flag_leaf change (option_map (λ name. name.items) variable) (strings_of flags.items)) line
+op_as (Set variable modifiers value line) = acts (set_leaf (variable_of variable) modifiers (parts_of value)) line
+op_as (Flags change variable flags line) = acts (flag_leaf change (option_map variable_of variable) (strings_of flags.items)) line
+op_as (Include place once optional name line) = acts (include_leaf place once optional name.items) line
 op_as Stop = stops
+op_as Return = returns
 
 -- an operation whose target counts from the end of code of that length, with the target's place
 abbrev pub with_place_of : ℕ → Op → Op
@@ -63,6 +65,8 @@ with_place_of count (Keep flags line) = Keep flags line
 with_place_of count (Fileinto mailbox flags line) = Fileinto mailbox flags line
 with_place_of count (Redirect address line) = Redirect address line
 with_place_of count (Discard line) = Discard line
-with_place_of count (Set name modifiers value line) = Set name modifiers value line
+with_place_of count (Set variable modifiers value line) = Set variable modifiers value line
 with_place_of count (Flags change variable flags line) = Flags change variable flags line
+with_place_of count (Include place once optional name line) = Include place once optional name line
 with_place_of count Stop = Stop
+with_place_of count Return = Return

@@ -10,5 +10,5 @@ use Rattle.sieve_check.proofs.command_rules.+check_commands.Given as goal
 -- the breaches of the commands that are left are all that there are, and what stands behind them is what stands behind all
 abbrev pub invariant-check_commands-loop-command : goal.invariant-check_commands-loop-command
 invariant-check_commands-loop-command l =
-    (breaches_in (nodes_elements (at_spot l.spot l.assigned) (nodes (map node_of (drop l.command-index l.commands)))) ≡ breaches_in (nodes_elements (at_spot l.fn.start l.fn.assigned) (nodes (map node_of l.commands))))
-    × (behind_nodes (at_spot l.spot l.assigned) (nodes (map node_of (drop l.command-index l.commands))) ≡ behind_nodes (at_spot l.fn.start l.fn.assigned) (nodes (map node_of l.commands)))
+    (breaches_in (nodes_elements (at_spot l.spot l.scope) (nodes (map node_of (drop l.command-index l.commands)))) ≡ breaches_in (nodes_elements (at_spot l.fn.start l.fn.scope) (nodes (map node_of l.commands))))
+    × (behind_nodes (at_spot l.spot l.scope) (nodes (map node_of (drop l.command-index l.commands))) ≡ behind_nodes (at_spot l.fn.start l.fn.scope) (nodes (map node_of l.commands)))

@@ -1,14 +1,11 @@
-use Rattle.std.proofs.Common.{◌∙◌, ap, map}
-use Rattle.sieve_syntax.specs.view.Tree as seen
-use Rattle.sieve_syntax.specs.declared.tree.Command.TheViews.{out-Command}
-use Rattle.sieve_check.specs.view.Context.{required_as}
-use Rattle.sieve_check.proofs.Copies.{command_copied, parted_args}
+use Rattle.std.proofs.Common.{ap}
+use Rattle.sieve_check.specs.view.Copy.{cutting_by}
+use Rattle.sieve_check.proofs.Copies.{command_copied}
 use Rattle.sieve_check.proofs.copying.+parted_commands.Goals as goal
 
-pub parted_command-returns-in_ok-block-in-Some : goal.parted_command-returns-in_ok-block-in-Some
-parted_command-returns-in_ok-block-in-Some t c =
-    command_copied (required_as c.args.required) c.in_ok-name.name c.in_ok-args.args c.in_ok-tests.tests c.in_ok-block-in-Some.block c.args.command.now c.in-Some.commands c.deref-in-Some.result.now
-    (c.in_ok-name.ensures.ok ∙ c.deref.ensures)
-    (c.in_ok-args.ensures ∙ ap (λ xs. parted_args (required_as c.args.required) c.deref-2.result.now (map seen.argument_of xs)) c.deref-3.ensures.value ∙ ap (λ n. parted_args (required_as c.args.required) n (map seen.argument_of (out-Command c.args.command.now).args.items)) c.deref-2.ensures)
-    c.in_ok-tests.ensures
-    c.in-Some.is c.deref-in-Some.ensures.value c.in_ok-block-in-Some.ensures
+pub parted_command-returns-in_ok-block-in-Some-clause-copy : goal.parted_command-returns-in_ok-block-in-Some-clause-copy
+parted_command-returns-in_ok-block-in-Some-clause-copy t c =
+    let front = c.in_ok-name.ensures.front in
+    command_copied (cutting_by c.args.required c.args.declared.now) (cutting_by c.args.required c.parted_front.new.declared) c.in_ok-name.field-0.name c.in_ok-name.field-0.args c.in_ok-name.field-0.tests c.in_ok-block-in-Some.block c.args.command.now c.in-Some.commands c.deref.result.now
+    front.name front.args front.tests
+    c.in-Some.is c.deref.ensures.value (ap (cutting_by c.args.required) c.in_ok-name.ensures.declared) c.in_ok-block-in-Some.ensures.copies

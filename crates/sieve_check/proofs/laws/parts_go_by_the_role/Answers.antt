@@ -1,8 +1,8 @@
-use Rattle.sieve_check.proofs.PartsByRole.{expanded_written, named, plain}
+use Rattle.sieve_check.proofs.PartsByRole.{expanded_cut, named, plain}
 use Rattle.sieve_check.proofs.laws.parts_go_by_the_role.Goals as goal
 
 pub returns-clause-expanded : goal.returns-clause-expanded
-returns-clause-expanded c = expanded_written
+returns-clause-expanded c = expanded_cut
 
 pub returns-clause-name : goal.returns-clause-name
 returns-clause-name c = named

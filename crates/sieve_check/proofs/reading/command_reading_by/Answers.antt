@@ -1,6 +1,6 @@
 use Rattle.std.proofs.Common.{Some, ◌∙◌, ap, map, sym}
 use Rattle.std.specs.Option.{option_map}
-use Rattle.sieve_check.specs.Reading.{acts, command_reading_by, fileinto_by, flags_by, keep_by, labels_in, redirect_by, set_by}
+use Rattle.sieve_check.specs.Reading.{acts, command_reading_by, fileinto_by, flags_by, include_by, keep_by, labels_in, redirect_by, set_by}
 use Rattle.sieve_check.specs.view.Tree.{argument_of}
 use Rattle.sieve_table.specs.Table.{command_row}
 use Rattle.sieve_check.specs.declared.reading.FlagChange.TheVariants as change
@@ -54,3 +54,10 @@ returns-in-RemoveFlag c =
     c.flag_leaf-in-RemoveFlag.ensures
     ∙ ap (λ r. option_map acts (flags_by change.Remove (labels_in r args) args)) (c.row-in-RemoveFlag.ensures ∙ ap command_row c.in-RemoveFlag.is)
     ∙ sym (ap (λ kind. command_reading_by (Some kind) args) c.in-RemoveFlag.is)
+
+pub returns-in-Include : goal.returns-in-Include
+returns-in-Include c =
+    let args = map argument_of c.args.args.now in
+    c.include_leaf.ensures
+    ∙ ap (λ r. option_map acts (include_by (labels_in r args) args)) (c.row-in-Include.ensures ∙ ap command_row c.in-Include.is)
+    ∙ sym (ap (λ kind. command_reading_by (Some kind) args) c.in-Include.is)

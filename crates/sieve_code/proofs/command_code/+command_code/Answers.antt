@@ -3,7 +3,7 @@ use Rattle.sieve_check.specs.Reading as reading
 use Rattle.sieve_check.specs.view.Reading.{command_reading_as, leaf_as}
 use Rattle.sieve_check.specs.view.Tree.{node_of}
 use Rattle.sieve_code.specs.Choice.{no_branch}
-use Rattle.sieve_code.specs.Operation.{acts, jumps_if, stops}
+use Rattle.sieve_code.specs.Operation.{acts, jumps_if, stops, returns}
 use Rattle.sieve_code.specs.view.Branches.{block_at, branch_at, branches_as, first_at, last}
 use Rattle.sieve_code.proofs.Tails.{ends_below}
 use Rattle.sieve_code.proofs.Putting.{alone, block_at_ends, block_none, block_some, branch_at_ends, branches_on, command_listed, command_put, commands_none, first_seen, last_branch, length_last, line_at, line_seen, made, on_ok_along, with_front}
@@ -87,6 +87,14 @@ put_command-returns-in_ok-put-in-Some-Stops-clause-value t c =
     ∙ ap no_branch (c.in_ok-put-in-Some-Stops.ensures ∙ ap (λ tail. stops ∷ tail) c.keep_last-in-Some-Stops.ensures)
     ∙ command_put (node_of c.args.command.now) (Some reading.stops) (branches_as c.args.front c.args.tail.now)
     (ap (λ r. Some (command_reading_as r)) (sym c.in-Some-Stops.field-0-is) ∙ c.in-Some-Stops.ensures)
+
+pub put_command-returns-in_ok-put-in-Some-Returns-clause-value :
+    goal.put_command-returns-in_ok-put-in-Some-Returns-clause-value
+put_command-returns-in_ok-put-in-Some-Returns-clause-value t c =
+    alone c.without_branch-in-Some-Returns.result c.put-in-Some-Returns.new.self c.without_branch-in-Some-Returns.ensures.branches c.without_branch-in-Some-Returns.ensures.behind
+    ∙ ap no_branch (c.in_ok-put-in-Some-Returns.ensures ∙ ap (λ tail. returns ∷ tail) c.keep_last-in-Some-Returns.ensures)
+    ∙ command_put (node_of c.args.command.now) (Some reading.returns) (branches_as c.args.front c.args.tail.now)
+    (ap (λ r. Some (command_reading_as r)) (sym c.in-Some-Returns.field-0-is) ∙ c.in-Some-Returns.ensures)
 
 pub put_command-returns-in-Some-Nothing-clause-value :
     goal.put_command-returns-in-Some-Nothing-clause-value

@@ -1,4 +1,4 @@
-use Rattle.std.proofs.Common.{Some, sym, ap, ◌∙◌, arith}
+use Rattle.std.proofs.Common.{Some, ap, ◌∙◌}
 use Rattle.message_text.specs.Fields.{fields_of}
 use Rattle.sieve_run.specs.view.FieldTests.{field_found, found_with}
 use Rattle.sieve_run.proofs.Searching.{first_at, first_after}

@@ -1,6 +1,6 @@
 use Rattle.std.proofs.Common.{◌≡◌, ◌<◌, length, refl, arith}
 use Rattle.std.proofs.lemmas.Bool.{eqb-false, eqb-true}
-use Rattle.sieve_variables.specs.Scan.{is_far, is_namespaced, is_reference}
+use Rattle.sieve_variables.specs.Scan.{is_far, is_foreign, is_namespaced, is_reference}
 use Rattle.sieve_variables.proofs.Steps.{passed_all, passed_octet, passed_reference, true_once}
 use Rattle.sieve_variables.proofs.references.references_in.Goals as goal
 
@@ -14,6 +14,7 @@ loop-rest-preserved-in-None c =
     record {
       any = passed_octet is_reference (λ _. refl) rest behind c.loop-rest.any _ some none is c.loop-rest.invariant.any;
       namespaced = passed_octet is_namespaced (λ _. refl) rest behind c.loop-rest.namespaced _ some none is c.loop-rest.invariant.namespaced;
+      foreign = passed_octet is_foreign (λ _. refl) rest behind c.loop-rest.foreign _ some none is c.loop-rest.invariant.foreign;
       far = passed_octet is_far (λ _. refl) rest behind c.loop-rest.far _ some none is c.loop-rest.invariant.far;
     }
 
@@ -30,6 +31,8 @@ loop-rest-preserved c =
           (passed_reference is_reference rest inside behind c.loop-rest.any _ _ found refl is c.loop-rest.invariant.any);
       namespaced =
           passed_reference is_namespaced rest inside behind c.loop-rest.namespaced _ _ found c.is_namespaced-namespaced.ensures is c.loop-rest.invariant.namespaced;
+      foreign =
+          passed_reference is_foreign rest inside behind c.loop-rest.foreign _ _ found c.is_foreign-foreign.ensures is c.loop-rest.invariant.foreign;
       far = passed_reference is_far rest inside behind c.loop-rest.far _ _ found c.is_far-far.ensures is c.loop-rest.invariant.far;
     }
 
@@ -42,6 +45,11 @@ pub returns-clause-namespaced : goal.returns-clause-namespaced
 returns-clause-namespaced c =
     let none : length c.loop-rest.rest.now ≡ 0 = grind (arith, eqb-true) in
     passed_all is_namespaced c.loop-rest.rest.now c.loop-rest.namespaced _ none c.loop-rest.invariant.namespaced
+
+pub returns-clause-foreign : goal.returns-clause-foreign
+returns-clause-foreign c =
+    let none : length c.loop-rest.rest.now ≡ 0 = grind (arith, eqb-true) in
+    passed_all is_foreign c.loop-rest.rest.now c.loop-rest.foreign _ none c.loop-rest.invariant.foreign
 
 pub returns-clause-far : goal.returns-clause-far
 returns-clause-far c =

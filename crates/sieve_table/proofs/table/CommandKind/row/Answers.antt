@@ -39,3 +39,12 @@ returns-in-AddFlag c = rw c.in-AddFlag.is refl
 
 pub returns-in-RemoveFlag : goal.returns-in-RemoveFlag
 returns-in-RemoveFlag c = rw c.in-RemoveFlag.is refl
+
+pub returns-in-Include : goal.returns-in-Include
+returns-in-Include c = rw c.in-Include.is refl
+
+pub returns-in-Return : goal.returns-in-Return
+returns-in-Return c = rw c.in-Return.is refl
+
+pub returns-in-Global : goal.returns-in-Global
+returns-in-Global c = rw c.in-Global.is refl

@@ -48,3 +48,15 @@ returns-in-Length c = rw c.in-Length.is refl
 
 pub returns-in-Flags : goal.returns-in-Flags
 returns-in-Flags c = rw c.in-Flags.is refl
+
+pub returns-in-Personal : goal.returns-in-Personal
+returns-in-Personal c = rw c.in-Personal.is refl
+
+pub returns-in-Global : goal.returns-in-Global
+returns-in-Global c = rw c.in-Global.is refl
+
+pub returns-in-Once : goal.returns-in-Once
+returns-in-Once c = rw c.in-Once.is refl
+
+pub returns-in-Optional : goal.returns-in-Optional
+returns-in-Optional c = rw c.in-Optional.is refl

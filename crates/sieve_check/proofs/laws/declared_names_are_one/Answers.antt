@@ -1,0 +1,6 @@
+-- The law is the lemma.
+use Rattle.sieve_check.proofs.Declares.{declared_alike}
+use Rattle.sieve_check.proofs.laws.declared_names_are_one.Goals as goal
+
+pub returns : goal.returns
+returns c = declared_alike

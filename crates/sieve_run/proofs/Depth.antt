@@ -1,0 +1,59 @@
+-- How deep scripts include one another, counted by those that include the running one.
+use Rattle.std.proofs.Common.{◌≡◌, ℕ, zero, suc, ◌+◌, ◌-◌, Bool, true, false, ◌&&◌, Option, None, Some, List, length, nat_lt, refl, ap, ◌∙◌, arith}
+use Rattle.std.proofs.lemmas.Bool.Decides.{nat_tests}
+use Rattle.std.proofs.lemmas.List.{length_push}
+use Rattle.std.specs.Prelude.{if◌then◌else◌}
+use Rattle.sieve_base.specs.Limits.{include_depth}
+use Rattle.sieve_check.specs.Tree.{Node}
+use Rattle.sieve_run.specs.Delivery.{Delivery, inside}
+use Rattle.sieve_run.specs.Depth.{IsDeepest, depth_left, entered_within}
+use Rattle.sieve_run.specs.Library.{Lookup}
+use Rattle.sieve_run.specs.Run.{Ending, begun, delivery_to, goes_on, include_of, included, is_running, is_script, run_of, running, state_behind}
+use Rattle.sieve_run.specs.State.{RunState}
+use Rattle.sieve_run.specs.declared.envelope.Envelope.{Envelope}
+use Rattle.sieve_run.specs.declared.name.ScriptName.{ScriptName}
+
+-- the main script has all depth left
+pub main_first : (find : ScriptName → Lookup) (envelope : Envelope) (message : List ℕ) (main : ScriptName) (tree : List Node) → run_of find envelope message main tree ≡ running find (depth_left (delivery_to envelope message main)) (delivery_to envelope message main) tree (begun main)
+main_first find envelope message main tree = refl
+
+-- one level is left less by each script that includes
+one_less : (n m : ℕ) → m ≡ n + 1 → nat_lt n include_depth ≡ true → include_depth - n ≡ suc (include_depth - m)
+one_less n m next room = grind (arith, nat_tests)
+
+none_left : (n : ℕ) → nat_lt n include_depth ≡ false → include_depth - n ≡ zero
+none_left n full = grind (arith, nat_tests)
+
+module _ (find : ScriptName → Lookup) (delivery : Delivery) (name : ScriptName) (once optional : Bool) (line : ℕ) (s : RunState) where
+  -- what the include does, by how a script is entered
+  abbrev done_by : Option (ScriptName → List Node → RunState → Ending) → Ending
+  done_by enter = include_of find delivery enter name once optional line s
+
+  -- how scripts are entered so deep
+  abbrev entered_at : ℕ → ScriptName → List Node → RunState → Ending
+  entered_at depth script = running find depth (inside script delivery)
+
+  by_room : (room : Bool) → nat_lt (length delivery.including) include_depth ≡ room
+      → included find (depth_left delivery) delivery name once optional line s ≡ done_by (if room then Some (λ script. entered_at (depth_left (inside script delivery)) script) else None)
+  unfolding included
+  by_room true room =
+      ap (λ (depth : ℕ). included find depth delivery name once optional line s) (one_less (length delivery.including) (length (inside name delivery).including) (length_push delivery.including delivery.script) room)
+  by_room false full = ap (λ (depth : ℕ). included find depth delivery name once optional line s) (none_left (length delivery.including) full)
+
+  -- a script is entered by the number of those that include the running one
+  pub by_stack : included find (depth_left delivery) delivery name once optional line s ≡ done_by (entered_within find delivery)
+  by_stack = by_room (nat_lt (length delivery.including) include_depth) refl
+
+  none_by : (skips runs_already : Bool) (fails others : Ending) → (state_behind fails).entered ≡ s.entered → (state_behind others).entered ≡ s.entered → (state_behind (if skips then goes_on s else if runs_already then fails else others)).entered ≡ s.entered
+  none_by true runs_already fails others f o = refl
+  none_by false true fails others f o = f
+  none_by false false fails others f o = o
+
+  full_of : IsDeepest delivery → nat_lt (length delivery.including) include_depth ≡ false
+  full_of deep = grind (arith, nat_tests, deep)
+
+  -- and none is where so many do
+  pub none_deeper : IsDeepest delivery → (state_behind (included find (depth_left delivery) delivery name once optional line s)).entered ≡ s.entered
+  none_deeper deep =
+      ap (λ e. (state_behind e).entered) (by_room false (full_of deep))
+      ∙ none_by (once && is_script name s.entered) (is_running name delivery) _ _ refl refl

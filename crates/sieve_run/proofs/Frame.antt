@@ -1,0 +1,336 @@
+-- A verdict depends on no more of a library than the names that it looked up.
+use Rattle.std.proofs.Common.{◌≡◌, ℕ, zero, suc, Bool, true, false, ◌&&◌, ◌||◌, Option, None, Some, List, [], ◌∷◌, ◌++◌, length, map, nat_lt, nat_eq, refl, subst, sym, ap, ◌∙◌, arith}
+use Rattle.std.proofs.lemmas.Bool.Decides.{nat_tests}
+use Rattle.std.specs.Prelude.{if◌then◌else◌}
+use Rattle.std.specs.List.{list_any}
+use lib.Pointwise.{pointwise}
+use Rattle.message_text.specs.Addresses.{addresses_of}
+use Rattle.match_text.specs.Flags.{flag_list}
+use Rattle.sieve_base.specs.Limits.{action_limit, include_depth, include_limit, name_limit}
+use Rattle.sieve_base.specs.declared.place.Place.{Place}
+use Rattle.sieve_base.specs.declared.place.Place.TheVariants.{Personal, Global}
+use Rattle.sieve_check.specs.Reading.{Leaf, keep_leaf, fileinto_leaf, redirect_leaf, discard_leaf, set_leaf, flag_leaf, include_leaf}
+use Rattle.sieve_check.specs.declared.reading.FlagChange.{FlagChange}
+use Rattle.sieve_check.specs.Script.{Condition, Commands, no_commands, stops, returns, acts, chooses, script_of}
+use Rattle.sieve_check.specs.Tree.{Node}
+use Rattle.sieve_run.specs.Delivery.{Delivery, inside}
+use Rattle.sieve_run.specs.Frame.{Agree, Texts, outcome_over}
+use Rattle.sieve_run.specs.Library.{Lookup, missing, invalid, present, found_at, lookup_of}
+use Rattle.sieve_run.specs.Name.{name_eq, place_eq}
+use Rattle.sieve_run.specs.Run.{Ending, goes_on, returned, stopped, failed, performed, one_too_many, same_action, joined_with, stored_flags, changes, changed_flags, ends_with, entering, flags_named, held_flags, included, include_of, includes, is_read, is_running, is_script, is_there, looked_up, performs, fails_at, is_mailbox, only_address, redirects, act_by, act_of, and_then, answer_of, begun, chosen, decide, delivery_to, exec, resumed, run_of, running, state_behind, verdict_at, verdict_of, outcome_of, with_found_script, with_read}
+use Rattle.sieve_run.specs.State.{RunState}
+use Rattle.sieve_run.specs.declared.envelope.Envelope.{Envelope}
+use Rattle.sieve_run.specs.declared.name.ScriptName.{ScriptName}
+use Rattle.sieve_run.specs.declared.outcome.Action.{Action}
+use Rattle.sieve_run.specs.declared.outcome.Action.TheVariants.{Store, Redirect, Discard}
+use Rattle.sieve_run.specs.declared.outcome.ErrorKind.TheVariants.{BadMailbox, IncludeCount, TooManyGlobals}
+use Rattle.sieve_run.specs.view.Step.{Acts}
+use Rattle.sieve_variables.specs.Modifier.{modified}
+use Rattle.sieve_variables.specs.Part.{Part}
+use Rattle.sieve_variables.specs.Value.{Values, has_room_for, text_value, variable_value, with_variable}
+use Rattle.sieve_variables.specs.Variable.{Variable}
+use Rattle.sieve_run.proofs.Unchanged.{decide_keeps}
+
+-- NAMES THAT ARE READ
+
+same_octets : (octets : List ℕ) → pointwise nat_eq octets octets ≡ true
+same_octets [] = refl
+same_octets (c ∷ cs) = both (nat_eq c c) (pointwise nat_eq cs cs) (same_octet c) (same_octets cs)
+  where
+    same_octet : (n : ℕ) → nat_eq n n ≡ true
+    same_octet n = grind (arith, nat_tests)
+
+    both : (a b : Bool) → a ≡ true → b ≡ true → (a && b) ≡ true
+    both true b is_a is_b = is_b
+    both false b is_a is_b = is_a
+
+same_place : (place : Place) → place_eq place place ≡ true
+same_place Personal = refl
+same_place Global = refl
+
+same_name : (name : ScriptName) → name_eq name name ≡ true
+same_name name = both (place_eq name.place name.place) (pointwise nat_eq name.name name.name) (same_place name.place) (same_octets name.name)
+  where
+    both : (a b : Bool) → a ≡ true → b ≡ true → (a && b) ≡ true
+    both true b is_a is_b = is_b
+    both false b is_a is_b = is_a
+
+or_first : (a b : Bool) → a ≡ true → (a || b) ≡ true
+or_first true b is = refl
+or_first false b is = absurd cc
+
+or_second : (a b : Bool) → b ≡ true → (a || b) ≡ true
+or_second true b is = refl
+or_second false b is = is
+
+or_front : (a b c : Bool) → (b ≡ true → c ≡ true) → (a || b) ≡ true → (a || c) ≡ true
+or_front true b c more is = refl
+or_front false b c more is = more is
+
+read_before : (name : ScriptName) (reads more : List (ScriptName × Bool)) → is_read name reads ≡ true → is_read name (reads ++ more) ≡ true
+read_before name [] more is = absurd cc
+read_before name (read ∷ reads) more is = or_front (name_eq name read.0) (is_read name reads) (is_read name (reads ++ more)) (read_before name reads more) is
+
+read_last : (name : ScriptName) (there : Bool) (reads : List (ScriptName × Bool)) → is_read name (reads ++ (name, there) ∷ []) ≡ true
+read_last name there [] = or_first (name_eq name name) false (same_name name)
+read_last name there (read ∷ reads) = or_second (name_eq name read.0) (is_read name (reads ++ (name, there) ∷ [])) (read_last name there reads)
+
+read_there : (name : ScriptName) (there : Bool) (reads : List (ScriptName × Bool)) → is_read name (with_read name there reads) ≡ true
+read_there name there reads = by (is_read name reads) refl
+  where
+    by : (b : Bool) → is_read name reads ≡ b → is_read name (if b then reads else reads ++ (name, there) ∷ []) ≡ true
+    by true is = is
+    by false is = read_last name there reads
+
+read_still : (other name : ScriptName) (there : Bool) (reads : List (ScriptName × Bool)) → is_read other reads ≡ true → is_read other (with_read name there reads) ≡ true
+read_still other name there reads is = by (is_read name reads)
+  where
+    by : (b : Bool) → is_read other (if b then reads else reads ++ (name, there) ∷ []) ≡ true
+    by true = is
+    by false = read_before other reads ((name, there) ∷ []) is
+
+-- what was read before is read behind
+abbrev Grows : RunState → RunState → Type 0
+Grows s t = (name : ScriptName) → is_read name s.reads ≡ true → is_read name t.reads ≡ true
+
+reads_stay : (s t : RunState) → t.reads ≡ s.reads → Grows s t
+reads_stay s t same name r = subst (λ reads. is_read name reads ≡ true) (sym same) r
+
+-- WHAT COMMANDS READ THAT INCLUDE NOTHING
+
+performed_reads : (delivery : Delivery) (line : ℕ) (action : Action) (s : RunState) (there room : Bool) → (state_behind (ends_with delivery line (if there then performed (map (joined_with action) s.actions) else if room then performed (s.actions ++ action ∷ []) else one_too_many) s)).reads ≡ s.reads
+performed_reads delivery line action s true room = refl
+performed_reads delivery line action s false true = refl
+performed_reads delivery line action s false false = refl
+
+performs_reads : (delivery : Delivery) (line : ℕ) (action : Action) (s : RunState) → (state_behind (performs delivery line action s)).reads ≡ s.reads
+performs_reads delivery line action s = performed_reads delivery line action s (list_any (same_action action) s.actions) (nat_lt (length s.actions) action_limit)
+
+filed_reads : (delivery : Delivery) (line : ℕ) (name : List ℕ) (flags : List (List ℕ)) (s : RunState) (named : Bool) → (state_behind (if named then performs delivery line (Store name flags) s else fails_at delivery line BadMailbox s)).reads ≡ s.reads
+filed_reads delivery line name flags s true = performs_reads delivery line (Store name flags) s
+filed_reads delivery line name flags s false = refl
+
+redirected_reads : (delivery : Delivery) (line : ℕ) (address : Option (List ℕ)) (s : RunState) → (state_behind (redirects delivery line address s)).reads ≡ s.reads
+redirected_reads delivery line None s = refl
+redirected_reads delivery line (Some address) s = performs_reads delivery line (Redirect address) s
+
+given_reads : (delivery : Delivery) (line : ℕ) (variable : Variable) (value : List ℕ) (s : RunState) (room : Bool) → (state_behind (if room then goes_on (record s { values = with_variable variable value s.values }) else fails_at delivery line TooManyGlobals s)).reads ≡ s.reads
+given_reads delivery line variable value s true = refl
+given_reads delivery line variable value s false = refl
+
+changed_reads : (delivery : Delivery) (line : ℕ) (how : FlagChange) (variable : Option Variable) (texts : List (List Part)) (s : RunState) → (state_behind (changes delivery line how variable texts s)).reads ≡ s.reads
+changed_reads delivery line how None texts s = refl
+changed_reads delivery line how (Some variable) texts s =
+    given_reads delivery line variable (held_flags (changed_flags how (flag_list (variable_value s.values variable)) (flags_named s texts))) s (has_room_for variable s.values)
+
+resumed_reads : (before : Values) (e : Ending) → (state_behind (resumed before e)).reads ≡ (state_behind e).reads
+resumed_reads before (goes_on s) = refl
+resumed_reads before (returned s) = refl
+resumed_reads before (stopped s) = refl
+resumed_reads before (failed error s) = refl
+
+-- OVER TWO LIBRARIES
+
+module _ (find other : ScriptName → Lookup) where
+  -- they find the same at each name that was read
+  abbrev AgreeOn : List (ScriptName × Bool) → Type 0
+  AgreeOn reads = (name : ScriptName) → is_read name reads ≡ true → find name ≡ other name
+
+  -- `f` over the first and `g` over the other do the same wherever the libraries agree on what `f` has read
+  record Frames (f g : RunState → Ending) : Type 0 where
+    grows : (s : RunState) → Grows s (state_behind (f s))
+    same : (s : RunState) → AgreeOn (state_behind (f s)).reads → g s ≡ f s
+
+  -- what reads nothing
+  own_frames : (f : RunState → Ending) → ((s : RunState) → (state_behind (f s)).reads ≡ s.reads) → Frames f f
+  own_frames f stay = record { grows = λ s. reads_stay s (state_behind (f s)) (stay s); same = λ s agree. refl }
+
+  -- COMMANDS IN TURN
+
+  then_grows : (e : Ending) (h k : RunState → Ending) → Frames h k → Grows (state_behind e) (state_behind (and_then e h))
+  then_grows (goes_on t) h k second = second.grows t
+  then_grows (returned t) h k second = λ name r. r
+  then_grows (stopped t) h k second = λ name r. r
+  then_grows (failed error t) h k second = λ name r. r
+
+  then_same : (e e' : Ending) (h k : RunState → Ending) → Frames h k → (AgreeOn (state_behind e).reads → e' ≡ e) → AgreeOn (state_behind (and_then e h)).reads → and_then e' k ≡ and_then e h
+  then_same (goes_on t) e' h k second is agree = ap (λ x. and_then x k) (is (λ name r. agree name (second.grows t name r))) ∙ second.same t agree
+  then_same (returned t) e' h k second is agree = ap (λ x. and_then x k) (is agree)
+  then_same (stopped t) e' h k second is agree = ap (λ x. and_then x k) (is agree)
+  then_same (failed error t) e' h k second is agree = ap (λ x. and_then x k) (is agree)
+
+  then_frames : (f g h k : RunState → Ending) → Frames f g → Frames h k → Frames (λ s. and_then (f s) h) (λ s. and_then (g s) k)
+  then_frames f g h k first second = record {
+    grows = λ s name r. then_grows (f s) h k second name (first.grows s name r);
+    same = λ s agree. then_same (f s) (g s) h k second (first.same s) agree;
+  }
+
+  chosen_grows : (truth : Bool) (f g h k : RunState → Ending) → Frames f g → Frames h k → (s : RunState) → Grows s (state_behind (chosen truth f h s))
+  chosen_grows true f g h k first second s = first.grows s
+  chosen_grows false f g h k first second s = second.grows s
+
+  chosen_same : (truth : Bool) (f g h k : RunState → Ending) → Frames f g → Frames h k → (s : RunState) → AgreeOn (state_behind (chosen truth f h s)).reads → chosen truth g k s ≡ chosen truth f h s
+  chosen_same true f g h k first second s agree = first.same s agree
+  chosen_same false f g h k first second s agree = second.same s agree
+
+  module _ (delivery : Delivery) where
+    decide_reads : (c : Condition) (s : RunState) → (decide (answer_of delivery) c s).state.reads ≡ s.reads
+    decide_reads c s = ap (λ t. t.reads) (decide_keeps delivery c s).1
+
+    choice_frames : (c : Condition) (f g h k : RunState → Ending) → Frames f g → Frames h k
+        → Frames (λ s. chosen (decide (answer_of delivery) c s).truth f h (decide (answer_of delivery) c s).state) (λ s. chosen (decide (answer_of delivery) c s).truth g k (decide (answer_of delivery) c s).state)
+    choice_frames c f g h k first second = record {
+      grows = λ s name r.
+          chosen_grows (decide (answer_of delivery) c s).truth f g h k first second (decide (answer_of delivery) c s).state name (reads_stay s (decide (answer_of delivery) c s).state (decide_reads c s) name r);
+      same = λ s agree. chosen_same (decide (answer_of delivery) c s).truth f g h k first second (decide (answer_of delivery) c s).state agree;
+    }
+
+    exec_frames : (act act' : Acts) → ((leaf : Leaf) (line : ℕ) → Frames (act leaf line) (act' leaf line)) → (c : Commands) → Frames (exec (answer_of delivery) act c) (exec (answer_of delivery) act' c)
+    unfolding exec
+    exec_frames act act' frames no_commands = record { grows = λ s name r. r; same = λ s agree. refl }
+    exec_frames act act' frames (stops rest) = record { grows = λ s name r. r; same = λ s agree. refl }
+    exec_frames act act' frames (returns rest) = record { grows = λ s name r. r; same = λ s agree. refl }
+    exec_frames act act' frames (acts leaf line rest) =
+        let all = then_frames (act leaf line) (act' leaf line) (exec (answer_of delivery) act rest) (exec (answer_of delivery) act' rest) (frames leaf line) (exec_frames act act' frames rest) in
+        record { grows = all.grows; same = all.same }
+    exec_frames act act' frames (chooses condition block otherwise rest) =
+        let choice = choice_frames condition (exec (answer_of delivery) act block) (exec (answer_of delivery) act' block) (exec (answer_of delivery) act otherwise) (exec (answer_of delivery) act' otherwise) (exec_frames act act' frames block) (exec_frames act act' frames otherwise) in
+        let all = then_frames _ _ (exec (answer_of delivery) act rest) (exec (answer_of delivery) act' rest) choice (exec_frames act act' frames rest) in
+        record { grows = all.grows; same = all.same }
+
+  -- INCLUDES
+
+  abbrev Enter : Type 0
+  Enter = List Node → RunState → Ending
+
+  module _ (delivery : Delivery) (optional : Bool) (line : ℕ) (enter enter' : Enter) (name : ScriptName) where
+    optional_grows : (b : Bool) (t : RunState) → Grows t (state_behind (with_found_script delivery b line enter name missing t))
+    optional_grows true t = λ n r. r
+    optional_grows false t = λ n r. r
+
+    found_grows : ((tree : List Node) → Frames (enter tree) (enter' tree)) → (lookup : Lookup) (t : RunState) → Grows t (state_behind (with_found_script delivery optional line enter name lookup t))
+    found_grows frames missing t = optional_grows optional t
+    found_grows frames invalid t = λ n r. r
+    found_grows frames (present tree) t = λ n r.
+        reads_stay (state_behind (enter tree (entering name t))) (state_behind (resumed t.values (enter tree (entering name t)))) (resumed_reads t.values (enter tree (entering name t))) n ((frames tree).grows (entering name t) n r)
+
+    found_same : ((tree : List Node) → Frames (enter tree) (enter' tree)) → (lookup : Lookup) (t : RunState) → AgreeOn (state_behind (with_found_script delivery optional line enter name lookup t)).reads → with_found_script delivery optional line enter' name lookup t ≡ with_found_script delivery optional line enter name lookup t
+    found_same frames missing t agree = refl
+    found_same frames invalid t agree = refl
+    found_same frames (present tree) t agree =
+        ap (resumed t.values) ((frames tree).same (entering name t) (λ n r. agree n (reads_stay (state_behind (enter tree (entering name t))) (state_behind (resumed t.values (enter tree (entering name t)))) (resumed_reads t.values (enter tree (entering name t))) n r)))
+
+    -- what is found is the same where the libraries agree
+    same_found : find name ≡ other name → found_at find name ≡ found_at other name
+    same_found is = ap (λ lookup. if nat_lt name_limit (length name.name) then missing else lookup) is
+
+    abbrev does : Enter → Lookup → RunState → Ending
+    does one lookup s = with_found_script delivery optional line one name lookup (looked_up name lookup s)
+
+    lookup_grows : ((tree : List Node) → Frames (enter tree) (enter' tree)) → (s : RunState) (n : ScriptName) → is_read n (looked_up name (found_at find name) s).reads ≡ true → is_read n (state_behind (does enter (found_at find name) s)).reads ≡ true
+    lookup_grows frames s n r = found_grows frames (found_at find name) (looked_up name (found_at find name) s) n r
+
+    lookup_frames : ((tree : List Node) → Frames (enter tree) (enter' tree)) → Frames (does enter (found_at find name)) (does enter' (found_at other name))
+    lookup_frames frames = record {
+      grows = λ s n r. lookup_grows frames s n (read_still n name (is_there (found_at find name)) s.reads r);
+      same = λ s agree.
+          ap (λ lookup. does enter' lookup s) (sym (same_found (agree name (lookup_grows frames s name (read_there name (is_there (found_at find name)) s.reads)))))
+          ∙ found_same frames (found_at find name) (looked_up name (found_at find name) s) agree;
+    }
+
+  -- by a test on the state
+  if_frames : (test : RunState → Bool) (f g h k : RunState → Ending) → Frames f g → Frames h k → Frames (λ s. if test s then f s else h s) (λ s. if test s then g s else k s)
+  if_frames test f g h k first second = record {
+    grows = λ s. by_grows (test s) s;
+    same = λ s. by_same (test s) s;
+  }
+    where
+      by_grows : (b : Bool) (s : RunState) → Grows s (state_behind (if b then f s else h s))
+      by_grows true s = first.grows s
+      by_grows false s = second.grows s
+
+      by_same : (b : Bool) (s : RunState) → AgreeOn (state_behind (if b then f s else h s)).reads → (if b then g s else k s) ≡ (if b then f s else h s)
+      by_same true s agree = first.same s agree
+      by_same false s agree = second.same s agree
+
+  abbrev EnterFrames : Option (ScriptName → Enter) → Option (ScriptName → Enter) → Type 0
+  EnterFrames None None = Unit {0}
+  EnterFrames None (Some b) = ⊥
+  EnterFrames (Some a) None = ⊥
+  EnterFrames (Some a) (Some b) = (name : ScriptName) (tree : List Node) → Frames (a name tree) (b name tree)
+
+  includes_frames : (delivery : Delivery) (enter enter' : Option (ScriptName → Enter)) → EnterFrames enter enter' → (name : ScriptName) (optional : Bool) (line : ℕ) → Frames (includes find delivery enter name optional line) (includes other delivery enter' name optional line)
+  includes_frames delivery None None frames name optional line = record { grows = λ s n r. r; same = λ s agree. refl }
+  includes_frames delivery None (Some b) frames name optional line = absurd frames
+  includes_frames delivery (Some a) None frames name optional line = absurd frames
+  includes_frames delivery (Some a) (Some b) frames name optional line =
+      let all = if_frames (λ s. nat_lt include_limit (length s.entered)) (fails_at delivery line IncludeCount) (fails_at delivery line IncludeCount) _ _ (own_frames (fails_at delivery line IncludeCount) (λ s. refl)) (lookup_frames delivery optional line (a name) (b name) name (frames name)) in
+      record { grows = all.grows; same = all.same }
+
+  include_frames : (delivery : Delivery) (enter enter' : Option (ScriptName → Enter)) → EnterFrames enter enter' → (name : ScriptName) (once optional : Bool) (line : ℕ) → Frames (include_of find delivery enter name once optional line) (include_of other delivery enter' name once optional line)
+  include_frames delivery enter enter' frames name once optional line =
+      let inner = if_frames (λ s. is_running name delivery) _ _ (includes find delivery enter name optional line) (includes other delivery enter' name optional line) (own_frames _ (λ s. refl)) (includes_frames delivery enter enter' frames name optional line) in
+      let all = if_frames (λ s. once && is_script name s.entered) goes_on goes_on _ _ (own_frames goes_on (λ s. refl)) inner in
+      record { grows = all.grows; same = all.same }
+
+  -- SCRIPTS
+
+  acts_frames : (delivery : Delivery) (include include' : ScriptName → (once optional : Bool) → ℕ → RunState → Ending) → ((name : ScriptName) (once optional : Bool) (line : ℕ) → Frames (include name once optional line) (include' name once optional line))
+      → (leaf : Leaf) (line : ℕ) → Frames (act_by include delivery leaf line) (act_by include' delivery leaf line)
+  acts_frames delivery include include' frames (keep_leaf flags) line = own_frames _ (λ s. performs_reads delivery line (Store delivery.envelope.mailbox (stored_flags s flags)) s)
+  acts_frames delivery include include' frames (fileinto_leaf mailbox flags) line = own_frames _ (λ s. filed_reads delivery line (text_value s.values mailbox) (stored_flags s flags) s (is_mailbox (text_value s.values mailbox)))
+  acts_frames delivery include include' frames (redirect_leaf address) line = own_frames _ (λ s. redirected_reads delivery line (only_address (addresses_of (text_value s.values address))) s)
+  acts_frames delivery include include' frames discard_leaf line = own_frames _ (λ s. performs_reads delivery line Discard s)
+  acts_frames delivery include include' frames (set_leaf variable modifiers value) line = own_frames _ (λ s. given_reads delivery line variable (modified modifiers (text_value s.values value)) s (has_room_for variable s.values))
+  acts_frames delivery include include' frames (flag_leaf how variable flags) line = own_frames _ (λ s. changed_reads delivery line how variable flags s)
+  acts_frames delivery include include' frames (include_leaf place once optional name) line =
+      let all = frames (record { place = place; name = name }) once optional line in record { grows = all.grows; same = all.same }
+
+  included_frames : (depth : ℕ) (delivery : Delivery) (name : ScriptName) (once optional : Bool) (line : ℕ) → Frames (included find depth delivery name once optional line) (included other depth delivery name once optional line)
+  unfolding included
+  included_frames zero delivery name once optional line =
+      let all = include_frames delivery None None tt name once optional line in record { grows = all.grows; same = all.same }
+  included_frames (suc depth) delivery name once optional line =
+      let all = include_frames delivery
+      (Some (λ script tree. exec (answer_of (inside script delivery)) (act_of find depth (inside script delivery)) (script_of tree)))
+      (Some (λ script tree. exec (answer_of (inside script delivery)) (act_of other depth (inside script delivery)) (script_of tree)))
+      (λ script tree. exec_frames (inside script delivery) (act_of find depth (inside script delivery)) (act_of other depth (inside script delivery)) (acts_frames (inside script delivery) (included find depth (inside script delivery)) (included other depth (inside script delivery)) (included_frames depth (inside script delivery))) (script_of tree))
+      name once optional line in
+      record { grows = all.grows; same = all.same }
+
+  running_frames : (depth : ℕ) (delivery : Delivery) (tree : List Node) → Frames (running find depth delivery tree) (running other depth delivery tree)
+  running_frames depth delivery tree = exec_frames delivery (act_of find depth delivery) (act_of other depth delivery) (acts_frames delivery (included find depth delivery) (included other depth delivery) (included_frames depth delivery)) (script_of tree)
+
+  -- VERDICTS
+
+  verdict_reads : (e : Ending) → (verdict_of e).reads ≡ (state_behind e).reads
+  verdict_reads (goes_on s) = refl
+  verdict_reads (returned s) = refl
+  verdict_reads (stopped s) = refl
+  verdict_reads (failed error s) = refl
+
+  main_read : (envelope : Envelope) (message : List ℕ) (main : ScriptName) (lookup : Lookup) → is_read main (verdict_at find envelope message main lookup).reads ≡ true
+  main_read envelope message main missing = or_first (name_eq main main) false (same_name main)
+  main_read envelope message main invalid = or_first (name_eq main main) false (same_name main)
+  main_read envelope message main (present tree) =
+      subst (λ reads. is_read main reads ≡ true) (sym (verdict_reads (run_of find envelope message main tree)))
+      ((running_frames include_depth (delivery_to envelope message main) tree).grows (begun main) main (or_first (name_eq main main) false (same_name main)))
+
+  verdict_same : (envelope : Envelope) (message : List ℕ) (main : ScriptName) (lookup : Lookup) → AgreeOn (verdict_at find envelope message main lookup).reads → verdict_at other envelope message main lookup ≡ verdict_at find envelope message main lookup
+  verdict_same envelope message main missing agree = refl
+  verdict_same envelope message main invalid agree = refl
+  verdict_same envelope message main (present tree) agree =
+      ap verdict_of ((running_frames include_depth (delivery_to envelope message main) tree).same (begun main)
+      (λ name r. agree name (subst (λ reads. is_read name reads ≡ true) (sym (verdict_reads (run_of find envelope message main tree))) r)))
+
+  outcome_same : (main : Option ScriptName) (envelope : Envelope) (message : List ℕ) → AgreeOn (outcome_of find main envelope message).reads → outcome_of other main envelope message ≡ outcome_of find main envelope message
+  unfolding outcome_of
+  outcome_same None envelope message agree = refl
+  outcome_same (Some main) envelope message agree =
+      ap (λ lookup. verdict_at other envelope message main (if nat_lt name_limit (length main.name) then missing else lookup)) (sym (agree main (main_read envelope message main (found_at find main))))
+      ∙ verdict_same envelope message main (found_at find main) agree
+
+-- the frame
+pub frame : (texts others : Texts) (main : Option ScriptName) (envelope : Envelope) (message : List ℕ) → Agree texts others (outcome_over texts main envelope message).reads → outcome_over others main envelope message ≡ outcome_over texts main envelope message
+frame texts others main envelope message agree =
+    outcome_same (λ name. lookup_of (texts name)) (λ name. lookup_of (others name)) main envelope message (λ name r. ap lookup_of (agree name r))

@@ -1,0 +1,159 @@
+use Rattle.std.proofs.Common.{◌≡◌, ◌&&◌, ◌∙◌, ◌<◌, ◌≤◌, ◌+◌, ◌-◌, true, false, List, length, map, nat_lt, sym, ap, subst, arith, Bor}
+use Rattle.std.proofs.lemmas.Bool.Decides.{nat_tests}
+use Rattle.std.proofs.lemmas.Result.{IfOk-weaker}
+use Rattle.sieve_code.specs.Walk.{walk_from}
+use Rattle.sieve_code.specs.view.Code.{ops_of}
+use Rattle.sieve_code.specs.view.Op.{op_as}
+use Rattle.sieve_base.specs.Limits.{include_limit}
+use Rattle.sieve_check.specs.Reading.{include_leaf}
+use Rattle.sieve_run.specs.Library.{Lookup, found_at, lookup_of}
+use Rattle.sieve_run.specs.Run.{act_of, included, is_script}
+use Rattle.sieve_run.specs.declared.flow.Flow.{Flow}
+use Rattle.sieve_run.specs.declared.flow.Flow.TheVariants.{Failed}
+use Rattle.sieve_run.specs.declared.name.ScriptName.{ScriptName}
+use Rattle.sieve_run.specs.declared.outcome.ErrorKind.TheVariants.{IncludeCount, IncludeDepth, RecursiveInclude}
+use Rattle.sieve_run.specs.view.Delivery.{delivery_as}
+use Rattle.sieve_run.specs.view.Flow.{ending_by}
+use Rattle.sieve_run.specs.view.Found.{FoundAs}
+use Rattle.sieve_run.specs.view.Include.{looks_up, there_as}
+use Rattle.sieve_run.specs.view.State.{state_of}
+use Rattle.sieve_run.specs.view.Step.{StepsTo, doing_after}
+use Rattle.sieve_variables.specs.Value.{with_own}
+use Rattle.sieve_run.proofs.Includes.{entering_by, enters_by, fails_deep, fails_many, fails_running, looks_included, looks_present, not_entered, not_once, skips_included}
+use Rattle.sieve_run.proofs.Stepping.{acts_steps, past_end, runs_out, turns}
+use Rattle.sieve_run.proofs.steps.+execute.Goals as goal
+use Rattle.sieve_run.proofs.steps.+execute.Goals.{include-else-once-via-then-once+else-is_script, include-else-once-via-else-once}
+
+pub carry_out-returns-in_ok-flow-in-Include : goal.carry_out-returns-in_ok-flow-in-Include
+carry_out-returns-in_ok-flow-in-Include g t c =
+    let find : ScriptName → Lookup = λ name. lookup_of (g.L.Library.texts c.args.lib.now name) in
+    let d = delivery_as c.args.delivery.now in
+    let s = state_of c.args.state.now in
+    let i = c.in-Include in
+    let new = state_of c.include.new.state in
+    subst (λ op. StepsTo (act_of find c.args.depth d) d (op_as op) c.args.behind c.args.register s c.step_after-in-Include.result new) (sym i.is)
+    (acts_steps (act_of find c.args.depth d) d (include_leaf i.place i.once i.optional i.name.items) i.line c.args.behind c.args.register c.in_ok-flow-in-Include.flow c.step_after-in-Include.result s new c.step_after-in-Include.ensures
+    (c.in_ok-flow-in-Include.ensures ∙ ap (λ octets. included find c.args.depth d (record { place = i.place; name = octets }) i.once i.optional i.line s) (c.in_ok-octets-in-Include.ensures ∙ c.deref-in-Include.ensures)))
+
+pub enter-returns : goal.enter-returns
+enter-returns g t c =
+    let find : ScriptName → Lookup = λ name. lookup_of (g.L.Library.texts c.args.lib.now name) in
+    let d = delivery_as c.args.delivery.now in
+    let s = state_of c.args.state.now in
+    let ended = state_of c.execute.new.state in
+    enters_by find c.args.depth d _ c.args.name.now (ops_of c.args.code.now) s _ ended _ c.in_ok-flow.flow c.resumed.result
+    (ap (λ (names : List ScriptName). record d { script = c.args.name.now; including = names }) (ap (map (λ (name : Bor ScriptName). name.now)) c.as_slice.ensures.value ∙ c.in_ok-including.ensures))
+    (entering_by s c.args.name.now c.in_ok-copy.field-0 _ _ c.in_ok-push.ensures.items c.in_ok-copy.ensures c.begin-own.ensures.begun)
+    c.in_ok-flow.ensures
+    c.resumed.ensures
+    (ap (λ values. record ended { values = values }) (c.resume.ensures ∙ ap (λ own. with_own own ended.values) c.begin-own.ensures.own))
+
+pub execute-returns-then-place-len : goal.execute-returns-then-place-len
+execute-returns-then-place-len g t c =
+    let d = delivery_as c.args.delivery.now in
+    let act = act_of (λ name. lookup_of (g.L.Library.texts c.args.lib.now name)) c.args.depth d in
+    let ops = ops_of c.args.code.now in
+    sym c.loop-turn.invariant
+    ∙ past_end act d ops (length ops - c.loop-turn._turn) c.loop-turn.place c.loop-turn.register (state_of c.loop-turn.state) (subst (λ n. n ≤ c.loop-turn.place) c.len.ensures c.if-place-len.true)
+
+pub execute-returns-in-Ended : goal.execute-returns-in-Ended
+execute-returns-in-Ended g t c =
+    let d = delivery_as c.args.delivery.now in
+    let act = act_of (λ name. lookup_of (g.L.Library.texts c.args.lib.now name)) c.args.depth d in
+    let ops = ops_of c.args.code.now in
+    sym c.loop-turn.invariant
+    ∙ turns act d ops c.loop-turn._turn c.loop-turn.place c.loop-turn.register (op_as c.op.result.now) (state_of c.loop-turn.state) c.in_ok-next.field-0 (state_of c.carry_out.new.state) (subst (λ n. c.loop-turn._turn < n) c.len-turn-end.ensures c.loop-turn-test.true) c.op.ensures c.in_ok-next.ensures
+    ∙ ap (λ step. doing_after act d (walk_from ops (length ops - (c.loop-turn._turn + 1))) step (state_of c.carry_out.new.state)) c.in-Ended.is
+
+pub execute-loop-turn-preserved : goal.execute-loop-turn-preserved
+execute-loop-turn-preserved g t c =
+    let d = delivery_as c.args.delivery.now in
+    let act = act_of (λ name. lookup_of (g.L.Library.texts c.args.lib.now name)) c.args.depth d in
+    let ops = ops_of c.args.code.now in
+    sym (turns act d ops c.loop-turn._turn c.loop-turn.place c.loop-turn.register (op_as c.op.result.now) (state_of c.loop-turn.state) c.in_ok-next.field-0 (state_of c.carry_out.new.state) (subst (λ n. c.loop-turn._turn < n) c.len-turn-end.ensures c.loop-turn-test.true) c.op.ensures c.in_ok-next.ensures
+    ∙ ap (λ step. doing_after act d (walk_from ops (length ops - (c.loop-turn._turn + 1))) step (state_of c.carry_out.new.state)) c.in-Next.is)
+    ∙ c.loop-turn.invariant
+
+pub execute-returns : goal.execute-returns
+execute-returns g t c =
+    let d = delivery_as c.args.delivery.now in
+    let act = act_of (λ name. lookup_of (g.L.Library.texts c.args.lib.now name)) c.args.depth d in
+    sym c.loop-turn.invariant
+    ∙ runs_out act d (ops_of c.args.code.now) c.loop-turn._turn c.loop-turn.place c.loop-turn.register (state_of c.loop-turn.state) (subst (λ n. n ≤ c.loop-turn._turn) c.len-turn-end.ensures c.loop-turn-test.false)
+
+pub include-returns-then-is_script : goal.include-returns-then-is_script
+include-returns-then-is_script g t c =
+    let find : ScriptName → Lookup = λ name. lookup_of (g.L.Library.texts c.args.lib.now name) in
+    skips_included find (delivery_as c.args.delivery.now) c.args.name.now c.args.once c.args.optional c.args.line (state_of c.args.state.now) c.args.depth c.if-once.true
+    (sym (c.is_script.ensures ∙ ap (is_script c.args.name.now) c.as_slice.ensures.value) ∙ c.if-is_script.true)
+
+pub include-returns-then-is_running : goal.include-returns-then-is_running
+include-returns-then-is_running g t c =
+    let find : ScriptName → Lookup = λ name. lookup_of (g.L.Library.texts c.args.lib.now name) in
+    let d = delivery_as c.args.delivery.now in
+    let s = state_of c.args.state.now in
+    let first : (c.args.once && is_script c.args.name.now s.entered) ≡ false = elim c.else-once.branch [
+      | include-else-once-via-then-once+else-is_script w ↦ not_entered c.args.once w.is_script.result c.args.name.now s.entered w.as_slice.result.now w.as_slice.ensures.value w.is_script.ensures w.if-is_script.false
+      | include-else-once-via-else-once w ↦ not_once c.args.once c.args.name.now s.entered w.if-once.false
+    ] in
+    IfOk-weaker c.fail.result (λ (flow : Flow). flow ≡ Failed (record { script = d.script; line = c.args.line; kind = RecursiveInclude }))
+    (λ (flow : Flow). ending_by flow s ≡ included find c.args.depth d c.args.name.now c.args.once c.args.optional c.args.line s)
+    (λ flow is. ap (λ f. ending_by f s) is ∙ fails_running find d c.args.name.now c.args.once c.args.optional c.args.line s c.args.depth first (sym c.is_running.ensures ∙ c.if-is_running.true))
+    c.fail.ensures
+
+pub include-returns-then-depth-eq0 : goal.include-returns-then-depth-eq0
+include-returns-then-depth-eq0 g t c =
+    let find : ScriptName → Lookup = λ name. lookup_of (g.L.Library.texts c.args.lib.now name) in
+    let d = delivery_as c.args.delivery.now in
+    let s = state_of c.args.state.now in
+    let first : (c.args.once && is_script c.args.name.now s.entered) ≡ false = elim c.else-once.branch [
+      | include-else-once-via-then-once+else-is_script w ↦ not_entered c.args.once w.is_script.result c.args.name.now s.entered w.as_slice.result.now w.as_slice.ensures.value w.is_script.ensures w.if-is_script.false
+      | include-else-once-via-else-once w ↦ not_once c.args.once c.args.name.now s.entered w.if-once.false
+    ] in
+    IfOk-weaker c.fail-then-depth-eq0.result (λ (flow : Flow). flow ≡ Failed (record { script = d.script; line = c.args.line; kind = IncludeDepth }))
+    (λ (flow : Flow). ending_by flow s ≡ included find c.args.depth d c.args.name.now c.args.once c.args.optional c.args.line s)
+    (λ flow is. ap (λ f. ending_by f s) is ∙ fails_deep find d c.args.name.now c.args.once c.args.optional c.args.line s c.args.depth first (sym c.is_running.ensures ∙ c.if-is_running.false) c.if-depth-eq0.true)
+    c.fail-then-depth-eq0.ensures
+
+pub include-returns-then-len-gt-MAX_INCLUDES : goal.include-returns-then-len-gt-MAX_INCLUDES
+include-returns-then-len-gt-MAX_INCLUDES g t c =
+    let find : ScriptName → Lookup = λ name. lookup_of (g.L.Library.texts c.args.lib.now name) in
+    let d = delivery_as c.args.delivery.now in
+    let s = state_of c.args.state.now in
+    let first : (c.args.once && is_script c.args.name.now s.entered) ≡ false = elim c.else-once.branch [
+      | include-else-once-via-then-once+else-is_script w ↦ not_entered c.args.once w.is_script.result c.args.name.now s.entered w.as_slice.result.now w.as_slice.ensures.value w.is_script.ensures w.if-is_script.false
+      | include-else-once-via-else-once w ↦ not_once c.args.once c.args.name.now s.entered w.if-once.false
+    ] in
+    let many : nat_lt include_limit (length s.entered) ≡ true = grind (arith, nat_tests, c.len.ensures, c.if-len-gt-MAX_INCLUDES.true) in
+    IfOk-weaker c.fail-then-len-gt-MAX_INCLUDES.result (λ (flow : Flow). flow ≡ Failed (record { script = d.script; line = c.args.line; kind = IncludeCount }))
+    (λ (flow : Flow). ending_by flow s ≡ included find c.args.depth d c.args.name.now c.args.once c.args.optional c.args.line s)
+    (λ flow is. ap (λ f. ending_by f s) is ∙ fails_many find d c.args.name.now c.args.once c.args.optional c.args.line s c.args.depth first (sym c.is_running.ensures ∙ c.if-is_running.false) c.if-depth-eq0.false many)
+    c.fail-then-len-gt-MAX_INCLUDES.ensures
+
+pub include-returns : goal.include-returns
+include-returns g t c =
+    let find : ScriptName → Lookup = λ name. lookup_of (g.L.Library.texts c.args.lib.now name) in
+    let d = delivery_as c.args.delivery.now in
+    let s = state_of c.args.state.now in
+    let first : (c.args.once && is_script c.args.name.now s.entered) ≡ false = elim c.else-once.branch [
+      | include-else-once-via-then-once+else-is_script w ↦ not_entered c.args.once w.is_script.result c.args.name.now s.entered w.as_slice.result.now w.as_slice.ensures.value w.is_script.ensures w.if-is_script.false
+      | include-else-once-via-else-once w ↦ not_once c.args.once c.args.name.now s.entered w.if-once.false
+    ] in
+    let few : nat_lt include_limit (length s.entered) ≡ false = grind (arith, nat_tests, c.len.ensures, c.if-len-gt-MAX_INCLUDES.false) in
+    IfOk-weaker c.look_up.result (λ (flow : Flow). ending_by flow (state_of c.look_up.new.state) ≡ looks_up find (c.args.depth - 1) d c.args.name.now c.args.optional c.args.line s)
+    (λ (flow : Flow). ending_by flow (state_of c.look_up.new.state) ≡ included find c.args.depth d c.args.name.now c.args.once c.args.optional c.args.line s)
+    (λ flow is. is ∙ looks_included find d c.args.name.now c.args.once c.args.optional c.args.line s c.args.depth first (sym c.is_running.ensures ∙ c.if-is_running.false) c.if-depth-eq0.false few)
+    c.look_up.ensures
+
+pub look_up-returns-in-Present : goal.look_up-returns-in-Present
+look_up-returns-in-Present g t c =
+    let find : ScriptName → Lookup = λ name. lookup_of (g.L.Library.texts c.args.lib.now name) in
+    let d = delivery_as c.args.delivery.now in
+    let s = state_of c.args.state.now in
+    let ops = ops_of c.in-Present.code.now in
+    let has = subst (λ found. FoundAs found (found_at find c.args.name.now)) c.in-Present.is c.find-found.ensures in
+    let there : c.is_there.result ≡ true = c.is_there.ensures ∙ ap there_as c.in-Present.is in
+    IfOk-weaker c.enter.result _
+    (λ (flow : Flow). ending_by flow (state_of c.enter.new.state) ≡ looks_up find c.args.depth d c.args.name.now c.args.optional c.args.line s)
+    (λ flow is. is ∙ looks_present find c.args.depth d c.args.name.now c.args.optional c.args.line ops s _ c.is_there.result has there (ap (λ reads. record s { reads = reads }) c.in_ok-note_read.ensures))
+    c.enter.ensures

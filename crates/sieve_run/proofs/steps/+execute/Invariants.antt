@@ -1,0 +1,33 @@
+use Rattle.std.proofs.Common.{◌≡◌, ◌-◌, ◌+◌, ◌*◌, length}
+use Rattle.sieve_code.specs.Walk.{code_walk, walk_from}
+use Rattle.sieve_code.specs.view.Code.{ops_of}
+use Rattle.sieve_run.specs.Library.{lookup_of}
+use Rattle.sieve_run.specs.Run.{act_of}
+use Rattle.sieve_run.specs.view.Delivery.{delivery_as}
+use Rattle.sieve_run.specs.view.State.{state_of}
+use Rattle.sieve_run.specs.view.Step.{doing}
+use Rattle.sieve_run.proofs.steps.+execute.Given as goal
+
+-- what is left to do from the place, in the turns that are left, gives what all of it gives
+abbrev pub invariant-execute-loop-turn : goal.invariant-execute-loop-turn
+invariant-execute-loop-turn g l =
+    let ops = ops_of l.code in
+    let d = delivery_as l.delivery in
+    let act = act_of (λ name. lookup_of (g.L.Library.texts l.lib name)) l.depth d in
+    doing act d (walk_from ops (length ops - l._turn) l.place l.register) (state_of l.state) ≡ doing act d (code_walk ops (length ops)) (state_of l.fn.state)
+
+-- how deep scripts may still be included, and within one depth the way from a script's code to the script that it includes
+abbrev pub decreases-execute : goal.decreases-execute
+decreases-execute g l = 5 * l.depth + 3
+
+abbrev pub decreases-carry_out : goal.decreases-carry_out
+decreases-carry_out g l = 5 * l.depth + 2
+
+abbrev pub decreases-include : goal.decreases-include
+decreases-include g l = 5 * l.depth + 1
+
+abbrev pub decreases-look_up : goal.decreases-look_up
+decreases-look_up g l = 5 * l.depth + 5
+
+abbrev pub decreases-enter : goal.decreases-enter
+decreases-enter g l = 5 * l.depth + 4

@@ -1,0 +1,35 @@
+-- What the interpreter does where a script is included.
+use Rattle.std.specs.Prelude.{ℕ, Bool, true, false, List, length}
+use Rattle.sieve_check.specs.Script.{script_of}
+use Rattle.sieve_code.specs.Operation.{Operation}
+use Rattle.sieve_code.specs.Walk.{code_walk}
+use Rattle.sieve_run.specs.Delivery.{Delivery, inside}
+use Rattle.sieve_run.specs.Library.{Lookup, found_at}
+use Rattle.sieve_run.specs.Run.{Ending, act_of, answer_of, entering, exec, looked_up, resumed, with_found_script}
+use Rattle.sieve_run.specs.State.{RunState}
+use Rattle.sieve_run.specs.declared.flow.Flow.{Flow}
+use Rattle.sieve_run.specs.declared.flow.Flow.TheVariants.{GoesOn, Returned, Stopped, Failed}
+use Rattle.sieve_run.specs.declared.library.Found.{Found}
+use Rattle.sieve_run.specs.declared.library.Found.TheVariants.{Missing, Invalid, Present}
+use Rattle.sieve_run.specs.declared.name.ScriptName.{ScriptName}
+use Rattle.sieve_run.specs.view.Step.{doing}
+
+abbrev pub there_as : Found → Bool
+there_as Missing = false
+there_as Invalid = true
+there_as (Present code) = true
+
+abbrev pub resumed_by : Flow → Flow
+resumed_by GoesOn = GoesOn
+resumed_by Returned = GoesOn
+resumed_by Stopped = Stopped
+resumed_by (Failed error) = Failed error
+
+-- running these operations of an included script, where scripts may include one another so deep in it
+abbrev pub enters : (ScriptName → Lookup) → (depth : ℕ) → Delivery → ScriptName → List Operation → RunState → Ending
+enters find depth delivery name ops state = resumed state.values (doing (act_of find depth (inside name delivery)) (inside name delivery) (code_walk ops (length ops)) (entering name state))
+
+-- looking a script up and including it
+abbrev pub looks_up : (ScriptName → Lookup) → (depth : ℕ) → Delivery → ScriptName → Bool → ℕ → RunState → Ending
+looks_up find depth delivery name optional line state =
+    with_found_script delivery optional line (λ tree. exec (answer_of (inside name delivery)) (act_of find depth (inside name delivery)) (script_of tree)) name (found_at find name) (looked_up name (found_at find name) state)

@@ -1,0 +1,86 @@
+//! What an include looks at and looks up (RFC 6609, section 3).
+ghost use Rattle.std.specs.Prelude.{◌≡◌, ◌++◌, [], ◌∷◌, map, IfOk};
+ghost use Rattle.sieve_run.specs.Library.{found_at, lookup_of};
+ghost use Rattle.sieve_run.specs.Run.{is_running, is_script};
+ghost use Rattle.sieve_run.specs.view.Delivery.{delivery_as};
+ghost use Rattle.sieve_run.specs.view.Found.{FoundAs};
+ghost use Rattle.sieve_run.specs.view.Include.{resumed_by, there_as};
+
+use crate::delivery::Delivery;
+use crate::flow::Flow;
+use crate::library::{Found, Library};
+use crate::name::ScriptName;
+use sieve_base::limits::MAX_NAME;
+use std::alloc::AllocError;
+
+/// What a library has at a name, where that isn't too long.
+pub(crate) fn find<'a, L: Library>(lib: &'a L, name: &ScriptName) -> Found<'a>
+    ensures { FoundAs result (found_at (λ name. lookup_of (L.texts lib.now name)) name.now) }
+{
+    if name.name.as_slice().len() > MAX_NAME {
+        Found::Missing
+    } else {
+        lib.find(name)
+    }
+}
+
+/// Whether a script is among some.
+pub(crate) fn is_script(name: &ScriptName, names: &[ScriptName]) -> bool
+    ensures { result ≡ is_script name.now names.now }
+{
+    names.iter().any(|other| *name == *other)
+}
+
+/// Whether a script is among those that include others.
+fn is_including(name: &ScriptName, names: &[&ScriptName]) -> bool
+    ensures { result ≡ is_script name.now (map (λ other. other.now) names.now) }
+{
+    for other in names {
+        if *name == **other {
+            return true;
+        }
+    }
+    false
+}
+
+/// Whether a script runs: it is the running one, or one that includes it.
+pub(crate) fn is_running(name: &ScriptName, delivery: &Delivery<'_>) -> bool
+    ensures { result ≡ is_running name.now (delivery_as delivery.now) }
+{
+    *name == *delivery.script || is_including(name, delivery.including)
+}
+
+/// The scripts that include one that the running one includes.
+pub(crate) fn including_next<'a>(delivery: &Delivery<'a>) -> Result<Vec<&'a ScriptName>, AllocError>
+    ensures { IfOk result (λ names. map (λ name. name.now) names.items ≡ (delivery_as delivery.now).including ++ (delivery_as delivery.now).script ∷ []) }
+{
+    let mut names = Vec::with_capacity(delivery.alloc, delivery.including.len())?;
+    for name in delivery.including {
+        names.push(*name)?;
+    }
+    names.push(delivery.script)?;
+    Ok(names)
+}
+
+/// Whether there is a text at a name.
+pub(crate) fn is_there(found: &Found<'_>) -> bool
+    ensures { result ≡ there_as found.now }
+{
+    match found {
+        Found::Missing => false,
+        Found::Invalid => true,
+        Found::Present(_) => true,
+    }
+}
+
+/// How the including script goes on behind one that ended so.
+pub(crate) fn resumed(flow: Flow) -> Flow
+    ensures { result ≡ resumed_by flow }
+{
+    match flow {
+        Flow::GoesOn => Flow::GoesOn,
+        Flow::Returned => Flow::GoesOn,
+        Flow::Stopped => Flow::Stopped,
+        Flow::Failed(error) => Flow::Failed(error),
+    }
+}

@@ -1,0 +1,14 @@
+use Rattle.std.proofs.Common.{ap, sym, ◌∙◌}
+use Rattle.std.specs.Option.{option_copied_mut}
+use Rattle.sieve_variables.proofs.Held.{set_held}
+use Rattle.sieve_variables.proofs.variables.Variables.assign.Goals as goal
+use Rattle.sieve_variables.proofs.variables.Variables.assign.Goals.{in-Some, in-None}
+
+pub returns-clause-ok : goal.returns-clause-ok
+returns-clause-ok c =
+    elim c.match-get_mut.branch [
+      | in-Some w ↦
+          (let found = sym c.get_mut.ensures.value ∙ ap option_copied_mut w.in-Some.is in
+          rw w.result-is (rw w.self-inside-is (set_held c.args.self.now c.self.inside.entries.entries _ c.args.name.now c.args.value _ c.self.view_is found (c.get_mut.follows.holds c.args.value).0)))
+      | in-None w ↦ rw w.result-is tt
+    ]

@@ -1,0 +1,109 @@
+//! Variables by their names (RFC 5229, section 3; RFC 6609, section 3.4).
+ghost use Rattle.std.specs.Prelude.{◌≡◌, [], IfOk, OnErr, OnOk};
+ghost use Rattle.sieve_variables.specs.Variable.{is_among, scoped, variable_named, with_name};
+ghost use Rattle.sieve_variables.specs.view.Part.{variable_of};
+
+use crate::name::{folded, global_name};
+use crate::part::SmallOctets;
+use indexmap::IndexSet;
+use std::alloc::{AllocError, Global};
+use std::marker::Model;
+
+/// A variable, by its name in lower case.
+#[derive(Debug, Drop)]
+pub enum Variable {
+    /// One of the script (RFC 5229, section 3).
+    Local(SmallOctets),
+    /// One that scripts share (RFC 6609, section 3.4).
+    Global(SmallOctets),
+}
+
+impl Variable {
+    /// The variable of a name that a command or a test has: behind `global.`, in any case, it is one that scripts share (RFC
+    /// 6609, section 3.4.2).
+    pub fn named(alloc: Global, name: &[u8]) -> Result<Variable, AllocError>
+        ensures { IfOk result (λ variable. variable_of variable ≡ variable_named name.now) }
+    {
+        match global_name(name) {
+            Some(rest) => Ok(Variable::Global(folded(alloc, rest)?)),
+            None => Ok(Variable::Local(folded(alloc, name)?)),
+        }
+    }
+
+    /// The variable where these names are declared to be those of variables that scripts share (RFC 6609, section 3.4.1).
+    /// Takes no memory.
+    pub fn scoped(self, declared: &Names) -> Variable
+        ensures { variable_of result ≡ scoped declared.now (variable_of self) }
+    {
+        match self {
+            Variable::Local(name) => {
+                if declared.has(name.as_slice()) {
+                    Variable::Global(name)
+                } else {
+                    Variable::Local(name)
+                }
+            }
+            Variable::Global(name) => Variable::Global(name),
+        }
+    }
+
+    /// A copy of the variable's name.
+    pub fn copied(&self, alloc: Global) -> Result<Variable, AllocError>
+        ensures { IfOk result (λ variable. variable_of variable ≡ variable_of self.now) }
+    {
+        match self {
+            Variable::Local(name) => Ok(Variable::Local(SmallOctets::from_slice(alloc, name)?)),
+            Variable::Global(name) => Ok(Variable::Global(SmallOctets::from_slice(alloc, name)?)),
+        }
+    }
+}
+
+/// Names in lower case, each once, in the order in which they came. They are found by a hash, so that no number of them
+/// makes that slow. Contracts see the names.
+#[derive(Debug, Drop)]
+pub struct Names {
+    names: IndexSet<Vec<u8>>,
+}
+
+impl Model for Names {
+    ghost use Rattle.std.specs.Prelude.{ℕ, List};
+    ghost use Rattle.sieve_variables.specs.view.Names.{names_of};
+
+    ghost Value = { List (List ℕ) };
+
+    ghost view = { λ n. names_of n.names.keys };
+}
+
+impl Names {
+    /// None. Takes no memory.
+    #[tactic(auto, unfolding(crate::specs::view::Names::names_of))]
+    pub fn new(alloc: Global) -> Names
+        ensures { result ≡ [] }
+    {
+        Names {
+            names: IndexSet::new(alloc),
+        }
+    }
+
+    /// Whether a name in lower case is among these. Takes no memory.
+    pub fn has(&self, name: &[u8]) -> bool
+        ensures { result ≡ is_among name.now self.now }
+    {
+        self.names.contains(name)
+    }
+
+    /// Adds a name in lower case. An error, which is a lack of memory, changes nothing.
+    pub fn add(&mut self, alloc: Global, name: &[u8]) -> Result<(), AllocError>
+        ensures ok { OnOk result (self.new ≡ with_name name.now self.old) }
+        ensures err { OnErr result (self.new ≡ self.old) }
+    {
+        if self.has(name) {
+            return Ok(());
+        }
+        let name = Vec::from_slice(alloc, name)?;
+        match self.names.insert(name) {
+            Ok(_) => Ok(()),
+            Err(_) => Err(AllocError),
+        }
+    }
+}

@@ -1,0 +1,99 @@
+//! Names with what is held under them.
+ghost use Rattle.std.specs.Prelude.{◌≡◌, [], IfErr, OnErr, OnOk};
+ghost use Rattle.sieve_variables.specs.Value.{has_room_under, held_under, with_held};
+
+use indexmap::IndexMap;
+use sieve_base::Octets;
+use sieve_base::limits::MAX_GLOBALS;
+use std::alloc::{AllocError, Global};
+use std::marker::Model;
+
+/// Names in lower case with their values, in the order in which they were first set. Contracts see the names, each with its
+/// value.
+#[derive(Debug, Drop)]
+pub(crate) struct Variables {
+    entries: IndexMap<Vec<u8>, Octets>,
+}
+
+impl Model for Variables {
+    ghost use Rattle.std.specs.Prelude.{ℕ, List};
+    ghost use Rattle.sieve_variables.specs.view.Value.{held_of};
+
+    ghost Value = { List (List ℕ × List ℕ) };
+
+    ghost view = { λ v. held_of v.entries.entries };
+}
+
+impl Variables {
+    /// None is set. Takes no memory.
+    #[tactic(auto, unfolding(crate::specs::view::Value::held_of))]
+    pub(crate) fn new(alloc: Global) -> Variables
+        ensures { result ≡ [] }
+    {
+        Variables {
+            entries: IndexMap::new(alloc),
+        }
+    }
+
+    /// What is held under a name: nothing where it isn't set. Takes no memory.
+    #[tactic(auto, using(crate::proofs::Held::lookup_held))]
+    pub(crate) fn get(&self, name: &[u8]) -> &[u8]
+        ensures { result.now ≡ held_under name.now self.now }
+    {
+        match self.entries.get(name) {
+            Some(value) => value.as_slice(),
+            None => &[],
+        }
+    }
+
+    /// Whether a name is set, or there is room for one more. Takes no memory.
+    pub(crate) fn has_room(&self, name: &[u8]) -> bool
+        ensures { result ≡ has_room_under name.now self.now }
+    {
+        self.entries.contains_key(name) || self.entries.len() < MAX_GLOBALS
+    }
+
+    /// Sets a name that is set already. Gives the value back where it isn't, and then nothing is changed. Takes no memory.
+    fn assign(&mut self, name: &[u8], value: Octets) -> Result<(), Octets>
+        ensures ok { OnOk result (self.new ≡ with_held name.now value self.old) }
+        ensures err { OnErr result (self.new ≡ self.old) }
+        ensures given_back { IfErr result (λ other. other ≡ value) }
+    {
+        match self.entries.get_mut(name) {
+            Some(held) => {
+                *held = value;
+                Ok(())
+            }
+            None => Err(value),
+        }
+    }
+
+    /// Sets a name. A copy of it is kept where it isn't set yet.
+    fn insert(&mut self, alloc: Global, name: &[u8], value: Octets) -> Result<(), AllocError>
+        ensures ok { OnOk result (self.new ≡ with_held name.now value self.old) }
+        ensures err { OnErr result (self.new ≡ self.old) }
+    {
+        let name = Vec::from_slice(alloc, name)?;
+        match self.entries.insert(name, value) {
+            Ok(_) => Ok(()),
+            Err(_) => Err(AllocError),
+        }
+    }
+
+    /// Sets a name. What was held under it is dropped. An error, which is a lack of memory, changes nothing. A name that is
+    /// set already takes no memory.
+    pub(crate) fn set(
+        &mut self,
+        alloc: Global,
+        name: &[u8],
+        value: Octets,
+    ) -> Result<(), AllocError>
+        ensures ok { OnOk result (self.new ≡ with_held name.now value self.old) }
+        ensures err { OnErr result (self.new ≡ self.old) }
+    {
+        match self.assign(name, value) {
+            Ok(()) => Ok(()),
+            Err(value) => self.insert(alloc, name, value),
+        }
+    }
+}

@@ -1,0 +1,3 @@
+require "include";
+include :optional "friends";
+include :global "list";
