@@ -2,7 +2,7 @@
 use Rattle.std.proofs.Common.{◌≡◌, ℕ, ◌+◌, ◌<◌, Bool, true, false, if◌then◌else◌, List, [], ◌∷◌, length, drop, get_or, map, fold, Option, None, Some, Result, Ok, Err, IfOk, refl, sym, ap, ◌∙◌, subst}
 use Rattle.std.proofs.lemmas.List.{drop_more}
 use Rattle.std.proofs.lemmas.List.Sums.{fold-append}
-use Rattle.sieve_run.specs.declared.name.ScriptName.{ScriptName}
+use Rattle.sieve_delivery.specs.declared.name.ScriptName.{ScriptName}
 use Rattle.bench.specs.Content.{Content, Edit, after, new_content, put_message, set_main, set_envelope, set_mailbox, Refuses, unless, script_refusal, message_refusal, main_refusal, envelope_refusal, mailbox_refusal}
 use Rattle.bench.specs.Test.{after_all, made_by, put_of, then_edit}
 use Rattle.bench.specs.declared.fault.EditFault.{EditFault}

@@ -9,7 +9,7 @@ use Rattle.sieve_check.specs.Script.{acts, no_commands, script_of}
 use Rattle.sieve_check.specs.Tree.{Node}
 use Rattle.sieve_check.specs.declared.judged.FaultKind.{FaultKind}
 use Rattle.sieve_run.specs.Run.{outcome_of, exec}
-use Rattle.sieve_run.specs.declared.name.ScriptName.{ScriptName}
+use Rattle.sieve_delivery.specs.declared.name.ScriptName.{ScriptName}
 use Rattle.bench.specs.Content.{Content, Edit, put_script, put_message, set_main, rename_script, remove_script, remove_message, clear_main, set_envelope, set_mailbox}
 use Rattle.bench.specs.Stale.{touches, stale_after, verdict_on}
 

@@ -4,12 +4,12 @@ use Rattle.std.specs.List.{flat_map}
 use Rattle.sieve_base.specs.Writers.{quoted}
 use Rattle.sieve_check.specs.Judgement.{Judgement, judgement_of, sound, faulty, fault_word}
 use Rattle.sieve_code.specs.Dump.{place_word}
-use Rattle.sieve_run.specs.declared.name.ScriptName.{ScriptName}
-use Rattle.sieve_run.specs.declared.envelope.Envelope.{Envelope}
-use Rattle.sieve_run.specs.declared.outcome.Action.{Action}
-use Rattle.sieve_run.specs.declared.outcome.Action.TheVariants.{Store, Redirect, Discard}
-use Rattle.sieve_run.specs.declared.outcome.RunError.{RunError}
-use Rattle.sieve_run.specs.ErrorKind.{error_word}
+use Rattle.sieve_delivery.specs.declared.name.ScriptName.{ScriptName}
+use Rattle.sieve_delivery.specs.declared.envelope.Envelope.{Envelope}
+use Rattle.sieve_delivery.specs.declared.action.Action.{Action}
+use Rattle.sieve_delivery.specs.declared.action.Action.TheVariants.{Store, Redirect, Discard}
+use Rattle.sieve_action.specs.declared.error.RunError.{RunError}
+use Rattle.sieve_action.specs.ErrorKind.{error_word}
 use Rattle.sieve_run.specs.Library.{lookup_of}
 use Rattle.sieve_run.specs.Run.{outcome_of}
 use Rattle.sieve_run.specs.Verdict.{Verdict}

@@ -2,8 +2,8 @@
 use Rattle.std.specs.Prelude.{ℕ, Bool, false, ◌||◌, ◌&&◌, not, List, Option, None, Some, is_some, Result, Ok, Err, nat_eq}
 use Rattle.std.specs.List.{list_any}
 use lib.Pointwise.{pointwise}
-use Rattle.sieve_run.specs.declared.name.ScriptName.{ScriptName}
-use Rattle.sieve_run.specs.Name.{name_eq}
+use Rattle.sieve_delivery.specs.declared.name.ScriptName.{ScriptName}
+use Rattle.sieve_delivery.specs.Name.{name_eq}
 use Rattle.sieve_run.specs.Verdict.{Verdict}
 use Rattle.bench.specs.declared.fault.EditFault.{EditFault}
 use Rattle.bench.specs.Content.{Content, Edit, put_script, put_message, set_main, rename_script, remove_script, remove_message, clear_main, set_envelope, set_mailbox, after, message_at}

@@ -3,7 +3,7 @@ ghost use Rattle.std.specs.BTreeMap.{is_at};
 ghost use Rattle.std.specs.Map.{lookup};
 ghost use Rattle.sieve_base.specs.Limits.{text_limit};
 ghost use Rattle.sieve_check.specs.Judgement.{judgement_of};
-ghost use Rattle.sieve_run.specs.Name.{name_cmp};
+ghost use Rattle.sieve_delivery.specs.Name.{name_cmp};
 ghost use Rattle.bench.specs.Test.{is_sound};
 
 use sieve_base::Octets;
@@ -20,7 +20,7 @@ pub(crate) struct Scripts {
 
 impl Model for Scripts {
     ghost use Rattle.std.specs.Prelude.{ℕ, List};
-    ghost use Rattle.sieve_run.specs.declared.name.ScriptName.{ScriptName};
+    ghost use Rattle.sieve_delivery.specs.declared.name.ScriptName.{ScriptName};
 
     ghost Value = { List (ScriptName × List ℕ) };
 

@@ -20,20 +20,21 @@ use Rattle.sieve_base.specs.Limits.{include_depth, include_limit, name_limit}
 use Rattle.message_text.specs.Addresses.{addresses_of, envelope_address_of, marks_from}
 use Rattle.message_text.specs.declared.addressing.AddressPart.TheVariants as part
 use Rattle.sieve_table.specs.Address.{is_address_field}
-use Rattle.sieve_run.specs.Delivery.{Delivery}
+use Rattle.sieve_delivery.specs.Delivery.{Delivery}
 use Rattle.sieve_run.specs.Library.{Lookup, missing, invalid, present, found_at}
-use Rattle.sieve_run.specs.Name.{name_eq}
+use Rattle.sieve_delivery.specs.Name.{name_eq}
 use Rattle.match_text.specs.Flags.{distinct, flag_keys, flag_keys_of_texts, flag_list, flag_text, flag_union, flags_of_texts, flags_without}
 use Rattle.match_text.specs.Wildcard.{least_fit, matched}
-use Rattle.sieve_run.specs.Matching.{keys_of, match_found, truth_of, values_behind, values_named, values_of, pairs_of}
-use Rattle.sieve_run.specs.Run.{Ending, goes_on, stopped, failed, Answer, answer_of, act_of, decide, exec, begun, included, includes, looked_up, with_found_script, verdict_at, verdict_of, outcome_of}
-use Rattle.sieve_run.specs.State.{RunState}
-use Rattle.sieve_run.specs.declared.envelope.Envelope.{Envelope}
-use Rattle.sieve_run.specs.declared.name.ScriptName.{ScriptName}
-use Rattle.sieve_run.specs.declared.outcome.Action.{Action}
-use Rattle.sieve_run.specs.declared.outcome.Action.TheVariants.{Store, Redirect, Discard}
-use Rattle.sieve_run.specs.declared.outcome.RunError.{RunError}
-use Rattle.sieve_run.specs.declared.outcome.ErrorKind.TheVariants.{MissingScript, InvalidScript, RecursiveInclude, IncludeDepth, IncludeCount, BadAddress, BadMailbox}
+use Rattle.sieve_delivery.specs.Matching.{keys_of, match_found, truth_of, values_behind, values_named, values_of, pairs_of}
+use Rattle.sieve_action.specs.Act.{Ending, goes_on, stopped, failed}
+use Rattle.sieve_run.specs.Run.{Answer, answer_of, act_of, decide, exec, begun, included, includes, looked_up, with_found_script, verdict_at, verdict_of, outcome_of}
+use Rattle.sieve_delivery.specs.State.{RunState}
+use Rattle.sieve_delivery.specs.declared.envelope.Envelope.{Envelope}
+use Rattle.sieve_delivery.specs.declared.name.ScriptName.{ScriptName}
+use Rattle.sieve_delivery.specs.declared.action.Action.{Action}
+use Rattle.sieve_delivery.specs.declared.action.Action.TheVariants.{Store, Redirect, Discard}
+use Rattle.sieve_action.specs.declared.error.RunError.{RunError}
+use Rattle.sieve_action.specs.declared.error.ErrorKind.TheVariants.{MissingScript, InvalidScript, RecursiveInclude, IncludeDepth, IncludeCount, BadAddress, BadMailbox}
 
 -- DELIVERIES
 

@@ -1,14 +1,9 @@
-pub mod Delivery
 pub mod Depth
-pub mod ErrorKind
 pub mod Frame
 pub mod Library
-pub mod Matching
 pub mod Meter
-pub mod Name
 pub mod Perform
 pub mod Run
 pub mod Shelf
-pub mod State
 pub mod Verdict
 pub mod view

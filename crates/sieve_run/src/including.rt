@@ -2,15 +2,14 @@
 ghost use Rattle.std.specs.Prelude.{◌≡◌, ◌++◌, [], ◌∷◌, map, IfOk};
 ghost use Rattle.sieve_run.specs.Library.{found_at, lookup_of};
 ghost use Rattle.sieve_run.specs.Run.{is_running, is_script};
-ghost use Rattle.sieve_run.specs.view.Delivery.{delivery_as};
+ghost use Rattle.sieve_delivery.specs.view.Delivery.{delivery_as};
 ghost use Rattle.sieve_run.specs.view.Found.{FoundAs};
 ghost use Rattle.sieve_run.specs.view.Include.{resumed_by, there_as};
 
-use crate::delivery::Delivery;
-use crate::flow::Flow;
 use crate::library::{Found, Library};
-use crate::name::ScriptName;
+use sieve_action::Flow;
 use sieve_base::limits::MAX_NAME;
+use sieve_delivery::{Delivery, ScriptName};
 use std::alloc::AllocError;
 
 /// What a library has at a name, where that isn't too long.

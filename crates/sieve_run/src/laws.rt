@@ -1,25 +1,21 @@
 //! Laws over the definitions. Each of these functions does nothing: its contract is the law.
 
-ghost use Rattle.std.specs.Prelude.{◌≡◌, ◌≤◌, ℕ, suc, Bool, List, Option, is_some, length};
+ghost use Rattle.std.specs.Prelude.{◌≡◌, ◌≤◌, ℕ, suc, Bool, List, Option, length};
 ghost use Rattle.sieve_check.specs.Reading.{Ask, Leaf};
 ghost use Rattle.sieve_check.specs.Script.{Commands, Condition, returns, script_of, stops};
 ghost use Rattle.sieve_check.specs.Tree.{Node};
 ghost use Rattle.sieve_code.specs.Walk.{gone, tree_walk};
 ghost use Rattle.sieve_base.specs.Limits.{action_limit, include_limit};
-ghost use Rattle.sieve_table.specs.Address.{is_envelope_part};
-ghost use Rattle.sieve_run.specs.Delivery.{Delivery};
+ghost use Rattle.sieve_delivery.specs.Delivery.{Delivery};
 ghost use Rattle.sieve_run.specs.Depth.{IsDeepest, depth_left, entered_within};
 ghost use Rattle.sieve_run.specs.Frame.{Agree, Texts, outcome_over};
 ghost use Rattle.sieve_run.specs.Library.{Lookup};
-ghost use Rattle.sieve_run.specs.Matching.{envelope_text};
-ghost use Rattle.sieve_run.specs.declared.envelope.Envelope.{Envelope};
-ghost use Rattle.sieve_run.specs.Name.{name_cmp, name_eq};
+ghost use Rattle.sieve_delivery.specs.declared.envelope.Envelope.{Envelope};
 ghost use Rattle.sieve_run.specs.Perform.{answers_of, do_gone, perform};
-ghost use Rattle.sieve_run.specs.Run.{Answer, Ending, SetsMatched, answer_of, begun, decide, delivery_to, exec, include_of, included, outcome_of, run_of, running, state_behind};
-ghost use Rattle.sieve_run.specs.State.{RunState};
-ghost use Rattle.sieve_run.specs.declared.name.ScriptName as names;
-
-use crate::name::ScriptName;
+ghost use Rattle.sieve_action.specs.Act.{Ending, state_behind};
+ghost use Rattle.sieve_run.specs.Run.{Answer, SetsMatched, answer_of, begun, decide, delivery_to, exec, include_of, included, outcome_of, run_of, running};
+ghost use Rattle.sieve_delivery.specs.State.{RunState};
+ghost use Rattle.sieve_delivery.specs.declared.name.ScriptName as names;
 
 /// Commands behind a `stop` change nothing, whatever they are, whatever tests ask and whatever commands that act do
 /// (RFC 5228, section 3.3).
@@ -74,17 +70,4 @@ pub fn a_run_does_its_walk()
 #[tactic(auto, using(crate::proofs::Bounds::outcome_bounded))]
 pub fn no_run_acts_too_often()
     ensures { (find : names.ScriptName → Lookup) (main : Option names.ScriptName) (envelope : Envelope) (message : List ℕ) → length (outcome_of find main envelope message).actions ≤ action_limit }
-{}
-
-/// The names that a test finds in an envelope are those that the validator accepts (RFC 5228, section 5.4).
-#[tactic(auto, using(crate::proofs::Paths::named_parts))]
-pub fn envelope_parts_are_found()
-    ensures { (envelope : Envelope) (name : List ℕ) → is_some (envelope_text envelope name) ≡ is_envelope_part name }
-{}
-
-/// The names of scripts are in the order of their places, and within a place in the order of their octets. Two are equal where
-/// their places and their octets are.
-pub fn names_have_their_order()
-    ensures order { (a b : names.ScriptName) → ⟦<ScriptName as Ord>⟧.cmp a b ≡ name_cmp a b }
-    ensures equality { (a b : names.ScriptName) → ⟦<ScriptName as PartialEq>⟧.eq a b ≡ name_eq a b }
 {}

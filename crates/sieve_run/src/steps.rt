@@ -5,29 +5,24 @@ ghost use Rattle.sieve_code.specs.view.Code.{ops_of};
 ghost use Rattle.sieve_code.specs.view.Op.{op_as};
 ghost use Rattle.sieve_run.specs.Library.{lookup_of};
 ghost use Rattle.sieve_run.specs.Run.{act_of, included};
-ghost use Rattle.sieve_run.specs.view.Delivery.{delivery_as};
-ghost use Rattle.sieve_run.specs.view.Flow.{ending_by, step_after};
+ghost use Rattle.sieve_delivery.specs.view.Delivery.{delivery_as};
+ghost use Rattle.sieve_action.specs.view.Flow.{ending_by};
+ghost use Rattle.sieve_run.specs.view.Step.{step_after, StepsTo, doing};
 ghost use Rattle.sieve_run.specs.view.Include.{enters, looks_up};
-ghost use Rattle.sieve_run.specs.view.State.{state_of};
-ghost use Rattle.sieve_run.specs.view.Step.{StepsTo, doing};
+ghost use Rattle.sieve_delivery.specs.view.State.{state_of};
 ghost use Rattle.sieve_run.specs.declared.steps.Step.TheVariants.{Next};
 
-use crate::acting::{discard, file_into, keep, redirect, set};
-use crate::delivery::Delivery;
-use crate::envelope_tests::envelope_holds;
-use crate::flag_tests::flags_hold;
-use crate::flagging::change;
-use crate::flow::{Flow, fail};
 use crate::including::{find, including_next, is_running, is_script, is_there, resumed};
 use crate::library::{Found, Library};
-use crate::matching::{exists, fields_hold, is_over, is_under};
-use crate::name::ScriptName;
-use crate::outcome::ErrorKind;
-use crate::state::{State, note_read};
-use crate::string_tests::strings_hold;
+use crate::reads::note_read;
+use sieve_action::{ErrorKind, Flow, change, discard, fail, file_into, keep, redirect, set};
 use sieve_base::Octets;
 use sieve_base::limits::MAX_INCLUDES;
 use sieve_code::{Code, Op};
+use sieve_delivery::{
+    Delivery, ScriptName, State, envelope_holds, exists, fields_hold, flags_hold, is_over,
+    is_under, strings_hold,
+};
 use std::alloc::AllocError;
 
 /// How an operation ended.

@@ -7,7 +7,6 @@ use sieve_run::{
     Action, Envelope, ErrorKind, Message, Meter, Octets, Outcome, Place, ScriptName, Shelf, run,
 };
 use std::alloc::{AllocError, Global};
-use std::cmp::Ordering;
 use std::process::Abort;
 use std::test::Fail;
 
@@ -193,61 +192,6 @@ fn shelves(rt: HostRuntime) -> Result<(), Fail> {
     let main = main_name(rt.alloc())?;
     let other = named(rt.alloc(), Place::Global, b"main")?;
     check_shelf(&rt, &mut Shelf::new(rt.alloc()), &main, &other)
-}
-
-/// Compares two names: their order and whether they are equal go by their places in the table.
-fn check_order(
-    rt: &impl Abort,
-    left: &ScriptName,
-    right: &ScriptName,
-    order: Ordering,
-    is_same: bool,
-) {
-    assert_eq!(rt;
-        (left.cmp(right), left == right),
-        (order, is_same),
-        "{left:?} {right:?}"
-    );
-}
-
-/// Compares a name with each row's.
-fn check_name(
-    rt: &(impl AllocGlobal + Abort),
-    rows: &[(Place, &[u8])],
-    i: usize,
-    left: &ScriptName,
-) -> Result<(), Fail> {
-    for (j, (place, octets)) in rows.iter().enumerate() {
-        let right = named(rt.alloc(), *place, *octets)?;
-        check_order(rt, left, &right, i.cmp(&j), i == j);
-    }
-    Ok(())
-}
-
-/// Compares each row's name with each row's.
-fn check_names(rt: &(impl AllocGlobal + Abort), rows: &[(Place, &[u8])]) -> Result<(), Fail> {
-    for (i, (place, octets)) in rows.iter().enumerate() {
-        let left = named(rt.alloc(), *place, *octets)?;
-        check_name(rt, rows, i, &left)?;
-    }
-    Ok(())
-}
-
-/// The personal store comes first, and then octets decide, a beginning before what is longer.
-#[test]
-fn names_in_order(rt: HostRuntime) -> Result<(), Fail> {
-    check_names(
-        &rt,
-        &[
-            (Place::Personal, b""),
-            (Place::Personal, b"B"),
-            (Place::Personal, b"a"),
-            (Place::Personal, b"ab"),
-            (Place::Personal, b"\xff"),
-            (Place::Global, b""),
-            (Place::Global, b"a"),
-        ],
-    )
 }
 
 #[test]

@@ -4,13 +4,16 @@ use Rattle.sieve_check.specs.Reading.{Leaf}
 use Rattle.sieve_code.specs.Operation.{Operation}
 use Rattle.sieve_code.specs.Walk as walk
 use Rattle.sieve_code.specs.Walk.{Walk}
-use Rattle.sieve_run.specs.Delivery.{Delivery}
+use Rattle.sieve_delivery.specs.Delivery.{Delivery}
 use Rattle.sieve_run.specs.Perform.{perform}
-use Rattle.sieve_run.specs.Run.{Ending, answer_of}
-use Rattle.sieve_run.specs.State.{RunState}
+use Rattle.sieve_action.specs.Act.{Ending}
+use Rattle.sieve_run.specs.Run.{answer_of}
+use Rattle.sieve_delivery.specs.State.{RunState}
+use Rattle.sieve_action.specs.declared.flow.Flow.{Flow}
+use Rattle.sieve_action.specs.declared.flow.Flow.TheVariants as flow
 use Rattle.sieve_run.specs.declared.steps.Step.{Step}
 use Rattle.sieve_run.specs.declared.steps.Step.TheVariants.{Next, Ended}
-use Rattle.sieve_run.specs.view.Flow.{ending_by}
+use Rattle.sieve_action.specs.view.Flow.{ending_by}
 
 -- what commands do that act
 abbrev pub Acts : Type 0
@@ -28,3 +31,10 @@ doing_after act delivery go (Ended flow) state = ending_by flow state
 -- a step does its operation, whatever the walk behind it; `behind` is the place behind the operation's
 pub record StepsTo (act : Acts) (delivery : Delivery) (op : Operation) (behind : ℕ) (register : Bool) (old : RunState) (step : Step) (new : RunState) : Type 0 where
   pub before : (place : ℕ) (go : ℕ → Bool → Walk) → behind ≡ place + 1 → doing act delivery (walk.step go (Some op) place register) old ≡ doing_after act delivery go step new
+
+-- the step after a command that ended so, where this is the place behind its operation's
+abbrev pub step_after : Flow → ℕ → Bool → Step
+step_after flow.GoesOn behind register = Next behind register
+step_after flow.Returned behind register = Ended flow.Returned
+step_after flow.Stopped behind register = Ended flow.Stopped
+step_after (flow.Failed error) behind register = Ended (flow.Failed error)

@@ -8,15 +8,15 @@ use Rattle.sieve_base.specs.Limits.{include_limit}
 use Rattle.sieve_check.specs.Reading.{include_leaf}
 use Rattle.sieve_run.specs.Library.{Lookup, found_at, lookup_of}
 use Rattle.sieve_run.specs.Run.{act_of, included, is_script}
-use Rattle.sieve_run.specs.declared.flow.Flow.{Flow}
-use Rattle.sieve_run.specs.declared.flow.Flow.TheVariants.{Failed}
-use Rattle.sieve_run.specs.declared.name.ScriptName.{ScriptName}
-use Rattle.sieve_run.specs.declared.outcome.ErrorKind.TheVariants.{IncludeCount, IncludeDepth, RecursiveInclude}
-use Rattle.sieve_run.specs.view.Delivery.{delivery_as}
-use Rattle.sieve_run.specs.view.Flow.{ending_by}
+use Rattle.sieve_action.specs.declared.flow.Flow.{Flow}
+use Rattle.sieve_action.specs.declared.flow.Flow.TheVariants.{Failed}
+use Rattle.sieve_delivery.specs.declared.name.ScriptName.{ScriptName}
+use Rattle.sieve_action.specs.declared.error.ErrorKind.TheVariants.{IncludeCount, IncludeDepth, RecursiveInclude}
+use Rattle.sieve_delivery.specs.view.Delivery.{delivery_as}
+use Rattle.sieve_action.specs.view.Flow.{ending_by}
 use Rattle.sieve_run.specs.view.Found.{FoundAs}
 use Rattle.sieve_run.specs.view.Include.{looks_up, there_as}
-use Rattle.sieve_run.specs.view.State.{state_of}
+use Rattle.sieve_delivery.specs.view.State.{state_of}
 use Rattle.sieve_run.specs.view.Step.{StepsTo, doing_after}
 use Rattle.sieve_variables.specs.Value.{with_own}
 use Rattle.sieve_run.proofs.Includes.{entering_by, enters_by, fails_deep, fails_many, fails_running, looks_included, looks_present, not_entered, not_once, skips_included}

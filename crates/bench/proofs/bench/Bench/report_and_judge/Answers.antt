@@ -1,6 +1,6 @@
 use Rattle.std.proofs.Common.{◌≡◌, Bool, List, ℕ, Option, ap, ◌∙◌, map, option_copied, subst}
 use Rattle.sieve_base.specs.Writers.{WroteFront}
-use Rattle.sieve_run.specs.declared.name.ScriptName.{ScriptName}
+use Rattle.sieve_delivery.specs.declared.name.ScriptName.{ScriptName}
 use Rattle.sieve_run.specs.Verdict.{Verdict}
 use Rattle.bench.specs.Content.{Content}
 use Rattle.bench.specs.Report.{report_with, report_text, verdicts}

@@ -1,0 +1,4 @@
+mod Paths
+mod Rows
+pub mod Copying
+pub mod Searching

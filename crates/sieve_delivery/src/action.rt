@@ -1,0 +1,13 @@
+use match_text::FlagList;
+use sieve_base::Octets;
+
+/// What is done with a message (RFC 5228, section 2.10).
+#[derive(Debug, Drop)]
+pub enum Action {
+    /// It is stored into a mailbox (RFC 5228, sections 4.1 and 4.3), with flags (RFC 5232, section 5).
+    Store { mailbox: Octets, flags: FlagList },
+    /// It is sent on to an address (RFC 5228, section 4.2).
+    Redirect { address: Octets },
+    /// It is discarded (RFC 5228, section 4.4).
+    Discard,
+}
