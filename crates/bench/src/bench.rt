@@ -33,7 +33,7 @@ use std::marker::Model;
 
 /// Scripts beside sample messages, with the main script's name and the envelope. Contracts see what it holds as
 /// plain data.
-#[derive(Debug, Drop)]
+#[derive(Drop)]
 pub struct Bench {
     alloc: Global,
     main: Option<ScriptName>,

@@ -6,7 +6,7 @@ use sieve_run::{Message, MessageFault};
 use std::alloc::{AllocError, Global};
 
 /// A message with what the bench keeps beside it.
-#[derive(Debug, Drop)]
+#[derive(Drop)]
 pub(crate) struct Entry {
     pub(crate) message: Message,
 }

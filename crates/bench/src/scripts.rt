@@ -13,7 +13,7 @@ use std::collections::BTreeMap;
 use std::marker::Model;
 
 /// The scripts of a bench, in the order of their names.
-#[derive(Debug, Drop)]
+#[derive(Drop)]
 pub(crate) struct Scripts {
     pub(crate) by_name: BTreeMap<ScriptName, Script>,
 }

@@ -2,7 +2,7 @@ use sieve_base::Octets;
 use sieve_run::ScriptName;
 
 /// A script of a job: its name, of at most 1,024 octets, and its text, of at most 1,048,576.
-#[derive(Debug, Drop)]
+#[derive(Drop)]
 pub struct TestScript {
     /// The name that the script is put at.
     pub name: ScriptName,
@@ -11,7 +11,7 @@ pub struct TestScript {
 }
 
 /// What is tested: a message, the scripts that are run on it, and the envelope.
-#[derive(Debug, Drop)]
+#[derive(Drop)]
 pub struct TestJob {
     /// The sender's address, of at most 1,024 octets; empty where there is none.
     pub from: Octets,

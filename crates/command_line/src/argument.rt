@@ -4,7 +4,7 @@ use std::alloc::{AllocError, Global};
 use std::marker::Model;
 
 /// A value that the command line gives. Contracts see its octets.
-#[derive(Debug, Drop)]
+#[derive(Drop)]
 pub struct Argument {
     text: String,
 }

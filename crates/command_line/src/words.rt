@@ -12,7 +12,7 @@ use std::alloc::{AllocError, Global};
 use std::convert::AsStr;
 
 /// What the program is to do.
-#[derive(Debug, Drop)]
+#[derive(Drop)]
 pub enum Job {
     /// To read a session from standard input and write its replies to standard output.
     Session,

@@ -56,7 +56,7 @@ pub trait Comparator {
 }
 
 /// The comparator `i;octet`: each octet is equal to itself alone.
-#[derive(Clone, Copy, Debug)]
+#[derive(Clone, Copy)]
 pub struct Octet;
 
 impl Comparator for Octet {
@@ -78,7 +78,7 @@ impl Comparator for Octet {
 }
 
 /// The comparator `i;ascii-casemap`: A to Z are equal to a to z.
-#[derive(Clone, Copy, Debug)]
+#[derive(Clone, Copy)]
 pub struct AsciiCasemap;
 
 impl Comparator for AsciiCasemap {

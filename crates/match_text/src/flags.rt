@@ -17,7 +17,7 @@ use std::hash::{Hash, Hasher};
 use std::marker::Model;
 
 /// A flag as it is spelled. Two are equal where they are under `i;ascii-casemap`.
-#[derive(Debug, Drop)]
+#[derive(Drop)]
 struct Flag {
     spelling: Octets,
 }
@@ -83,7 +83,7 @@ fn write_folded<H: Hasher>(octets: &[u8], state: &mut H)
 }
 
 /// Flags in the order in which they came, no two of them equal under `i;ascii-casemap`. Contracts see their spellings.
-#[derive(Debug, Drop)]
+#[derive(Drop)]
 pub struct FlagList {
     flags: IndexSet<Flag>,
 }

@@ -8,7 +8,7 @@ use crate::comparators::Comparator;
 use std::alloc::{AllocError, Global};
 
 /// A piece of a pattern (RFC 5228, section 2.7.1).
-#[derive(Clone, Copy, Debug)]
+#[derive(Clone, Copy)]
 pub(crate) enum Item {
     /// Any octets, or none.
     Star,

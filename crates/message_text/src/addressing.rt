@@ -22,7 +22,7 @@ pub enum AddressPart {
 }
 
 /// An address of a value, as [`addresses`] reads it.
-#[derive(Debug, Drop)]
+#[derive(Drop)]
 pub struct Address {
     all: Vec<u8>,
     // The place of the `@` between local part and domain.

@@ -14,7 +14,7 @@ use memchr::memchr;
 use std::alloc::{AllocError, Global};
 
 /// Where a field stands among the octets of its message.
-#[derive(Clone, Copy, Debug)]
+#[derive(Clone, Copy)]
 pub(crate) struct FieldSpan {
     /// Where its first line begins, with its name.
     pub(crate) start: usize,
@@ -29,7 +29,7 @@ pub(crate) struct FieldSpan {
 }
 
 // The places of a field's name and colon in its first line.
-#[derive(Clone, Copy, Debug)]
+#[derive(Clone, Copy)]
 struct Head {
     name_len: usize,
     colon: usize,

@@ -6,7 +6,7 @@ ghost use Rattle.message_text.specs.view.Positions.{IsLineAt};
 use memchr::memchr;
 
 /// The places of a line in a text.
-#[derive(Clone, Copy, Debug)]
+#[derive(Clone, Copy)]
 pub(crate) struct Line {
     /// Where its octets end: before its line feed and a carriage return directly before that.
     pub(crate) end: usize,

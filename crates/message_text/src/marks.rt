@@ -6,7 +6,7 @@ ghost use Rattle.message_text.specs.view.Depths.{depth_of};
 use std::alloc::{AllocError, Global};
 
 /// What an octet of an address list is, or what it stands in.
-#[derive(Clone, Copy, Debug)]
+#[derive(Clone, Copy)]
 pub(crate) enum Mark {
     /// An octet outside of quoted strings, comments and literals that stands for itself.
     Plain,
@@ -25,7 +25,7 @@ pub(crate) enum Mark {
 }
 
 /// What is open at a place of a value.
-#[derive(Clone, Copy, Debug)]
+#[derive(Clone, Copy)]
 pub(crate) enum Inside {
     /// Neither a quoted string nor a comment nor a literal.
     Nothing,
@@ -38,7 +38,7 @@ pub(crate) enum Inside {
 }
 
 /// A place of a value.
-#[derive(Clone, Copy, Debug)]
+#[derive(Clone, Copy)]
 pub(crate) struct Spot {
     /// What is open there.
     pub(crate) inside: Inside,
@@ -49,7 +49,7 @@ pub(crate) struct Spot {
 }
 
 /// An octet with its mark.
-#[derive(Clone, Copy, Debug)]
+#[derive(Clone, Copy)]
 pub(crate) struct Marked {
     pub(crate) octet: u8,
     pub(crate) mark: Mark,

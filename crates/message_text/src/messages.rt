@@ -30,7 +30,7 @@ pub enum MessageFault {
 /// that begins with space or tab continues the one before. A field's name is one or more octets of
 /// 33 to 126, up to the first colon of its first line, with spaces and tabs before the colon dropped.
 /// Other lines are skipped, with those that continue them.
-#[derive(Debug, Drop)]
+#[derive(Drop)]
 pub struct Message {
     octets: Vec<u8>,
     fields: Vec<FieldSpan>,

@@ -47,7 +47,7 @@ impl ErrorKind {
 }
 
 /// Where a run failed, and why.
-#[derive(Debug, Drop)]
+#[derive(Drop)]
 pub struct RunError {
     /// The script of the command that failed.
     pub script: ScriptName,

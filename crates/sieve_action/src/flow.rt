@@ -7,7 +7,7 @@ use sieve_delivery::Delivery;
 use std::alloc::AllocError;
 
 /// How commands ended.
-#[derive(Debug, Drop)]
+#[derive(Drop)]
 pub enum Flow {
     /// At their end.
     GoesOn,

@@ -53,7 +53,7 @@ pub trait Sink: Faults {
 }
 
 /// A reader or a writer of std, with its faults and its reads counted.
-#[derive(Debug, Drop)]
+#[derive(Drop)]
 pub struct Counted<D> {
     inner: D,
     faults: u64,

@@ -13,7 +13,7 @@ use std::hash::{Hash, Hasher};
 use std::marker::Model;
 
 /// A string of octets of any values. Contracts see the list of the octets.
-#[derive(Debug, Drop)]
+#[derive(Drop)]
 pub struct Octets {
     bytes: Vec<u8>,
 }

@@ -1,7 +1,7 @@
 //! Where a script is kept.
 
 /// The two places of RFC 6609, section 3: the scripts of one user, and those of the whole site.
-#[derive(Clone, Copy, Debug, PartialEq, Eq, PartialOrd, Ord, Hash)]
+#[derive(Clone, Copy, PartialEq, Eq, PartialOrd, Ord, Hash)]
 pub enum Place {
     Personal,
     Global,

@@ -14,7 +14,7 @@ use thiserror::Error;
 pub struct WriteFault;
 
 /// A part of a line.
-#[derive(Clone, Copy, Debug)]
+#[derive(Clone, Copy)]
 pub enum Piece<'a> {
     /// These octets.
     Raw(&'a [u8]),

@@ -5,7 +5,7 @@ ghost use Rattle.sieve_check.specs.view.Tree.{node_of};
 use crate::tree::Command;
 
 /// A script that breaks no rule. Only the validator makes one.
-#[derive(Debug, Drop)]
+#[derive(Drop)]
 pub struct Checked {
     pub(crate) commands: Vec<Command>,
     pub ghost faultless: { ∥ AreFaultless (map node_of commands.items) ∥₁ },

@@ -9,7 +9,7 @@ use std::alloc::Global;
 use thiserror::Error;
 
 /// What is wrong with a script's text.
-#[derive(Clone, Copy, Debug, PartialEq, Eq)]
+#[derive(Clone, Copy, PartialEq, Eq)]
 pub enum FaultKind {
     /// No script is written so (RFC 5228, section 8).
     Syntax,
@@ -30,7 +30,7 @@ impl FaultKind {
 }
 
 /// What a script's text is.
-#[derive(Debug, Drop)]
+#[derive(Drop)]
 pub enum Judged {
     /// A script without a fault.
     Sound(Checked),

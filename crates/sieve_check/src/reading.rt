@@ -18,7 +18,7 @@ use sieve_table::{CommandKind, Role, Row, Tag, TestKind, command_named, test_nam
 use sieve_variables::{LetterCase, Modifiers, Part, Variable};
 
 /// How a test compares values with keys (RFC 5228, section 2.7.1).
-#[derive(Clone, Copy, Debug, PartialEq, Eq)]
+#[derive(Clone, Copy, PartialEq, Eq)]
 pub enum MatchType {
     /// A value is a key.
     Is,
@@ -29,7 +29,7 @@ pub enum MatchType {
 }
 
 /// Where a test takes values from.
-#[derive(Clone, Copy, Debug)]
+#[derive(Clone, Copy)]
 pub enum Source<'a> {
     /// From the fields of some names (RFC 5228, section 5.7).
     Header {
@@ -63,7 +63,7 @@ pub enum Source<'a> {
 }
 
 /// What a test asks of the delivery.
-#[derive(Clone, Copy, Debug)]
+#[derive(Clone, Copy)]
 pub enum Ask<'a> {
     /// Whether some value matches some key (RFC 5228, section 2.7).
     Compares {
@@ -94,7 +94,7 @@ pub enum Ask<'a> {
 }
 
 /// What a test is, apart from the tests in it.
-#[derive(Clone, Copy, Debug)]
+#[derive(Clone, Copy)]
 pub enum TestReading<'a> {
     /// True (RFC 5228, section 5.10).
     Always,
@@ -111,7 +111,7 @@ pub enum TestReading<'a> {
 }
 
 /// How a command changes flags (RFC 5232, section 3).
-#[derive(Clone, Copy, Debug, PartialEq, Eq)]
+#[derive(Clone, Copy, PartialEq, Eq)]
 pub enum FlagChange {
     /// They become those that it names (RFC 5232, section 3.1).
     Set,
@@ -122,7 +122,7 @@ pub enum FlagChange {
 }
 
 /// What a command does that acts.
-#[derive(Clone, Copy, Debug)]
+#[derive(Clone, Copy)]
 pub enum Leaf<'a> {
     /// It stores into the mailbox of the delivery (RFC 5228, section 4.3).
     Keep {
@@ -175,7 +175,7 @@ pub enum Leaf<'a> {
 }
 
 /// What a command is, apart from its test and its block.
-#[derive(Clone, Copy, Debug)]
+#[derive(Clone, Copy)]
 pub enum CommandReading<'a> {
     /// It is the first branch of a chain (RFC 5228, section 3.1).
     Opens,

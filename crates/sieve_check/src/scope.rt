@@ -18,7 +18,7 @@ use std::marker::Model;
 
 /// The names of the variables that are set, each once, as they were first written, and those that are declared to be shared, in
 /// lower case. Contracts see the names.
-#[derive(Debug, Drop)]
+#[derive(Drop)]
 pub(crate) struct Scope {
     assigned: Vec<Octets>,
     declared: Names,

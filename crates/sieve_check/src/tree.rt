@@ -4,7 +4,7 @@
 use sieve_variables::{Parts, SmallOctets};
 
 /// A string: what it is made of, and the line where it begins.
-#[derive(Debug, Drop)]
+#[derive(Drop)]
 pub struct Text {
     /// Its parts in order. What they stand for, joined, is what the string stands for.
     pub parts: Parts,
@@ -13,7 +13,7 @@ pub struct Text {
 }
 
 /// An argument (RFC 5228, section 2.6).
-#[derive(Debug, Drop)]
+#[derive(Drop)]
 pub enum Argument {
     /// A list of strings in brackets, or one string without brackets.
     Strings { items: Vec<Text>, bracketed: bool },
@@ -24,7 +24,7 @@ pub enum Argument {
 }
 
 /// A test, with its arguments and its own tests (RFC 5228, section 5).
-#[derive(Debug, Drop)]
+#[derive(Drop)]
 #[cycle(tests)]
 pub struct Test {
     /// The identifier, as it is written. Case doesn't matter.
@@ -38,7 +38,7 @@ pub struct Test {
 }
 
 /// The tests that stand behind the arguments of a command or a test.
-#[derive(Debug, Drop)]
+#[derive(Drop)]
 #[cycle(tests)]
 pub enum Tests {
     /// None.
@@ -50,7 +50,7 @@ pub enum Tests {
 }
 
 /// A command, with its arguments, its tests and its block (RFC 5228, section 2.9).
-#[derive(Debug, Drop)]
+#[derive(Drop)]
 pub struct Command {
     /// The identifier, as it is written. Case doesn't matter.
     pub name: SmallOctets,

@@ -12,7 +12,7 @@ use sieve_base::{Sink, WriteFault};
 
 /// The code of a checked script. It starts at the first operation and ends behind the last. Each jump goes forward, and at most
 /// to the end; and what it does is what the script does that it was compiled from.
-#[derive(Debug, Drop)]
+#[derive(Drop)]
 pub struct Code {
     pub(crate) ops: Vec<Op>,
     pub ghost forward: { AllGoForward (map op_as ops.items) },

@@ -13,7 +13,7 @@ use sieve_check::{Command, CommandReading};
 use std::alloc::{AllocError, Global};
 
 /// What stands at the front of a tail.
-#[derive(Clone, Copy, Debug)]
+#[derive(Clone, Copy)]
 pub(crate) struct Front {
     /// Whether a branch `elsif` or `else` stands there.
     has_branch: bool,

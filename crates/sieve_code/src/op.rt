@@ -7,7 +7,7 @@ use sieve_check::{FlagChange, MatchType};
 use sieve_variables::{Modifiers, Parts, SmallOctets, Variable};
 
 /// An operation. Code has one truth register, which tests set. A string is its parts in order.
-#[derive(Debug, Drop)]
+#[derive(Drop)]
 pub enum Op {
     /// Sets the register to true.
     True,

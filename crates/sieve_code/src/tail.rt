@@ -10,7 +10,7 @@ use std::marker::Model;
 
 /// The operations from some place to the end of the code. A jump in it has for its target how many operations there are from
 /// the target to the end, so that what is put in front of it changes nothing in it. Contracts see the list of operations.
-#[derive(Debug, Drop)]
+#[derive(Drop)]
 pub(crate) struct Tail {
     ops: VecDeque<Op>,
 }

@@ -2,7 +2,7 @@ use match_text::FlagList;
 use sieve_base::Octets;
 
 /// What is done with a message (RFC 5228, section 2.10).
-#[derive(Debug, Drop)]
+#[derive(Drop)]
 pub enum Action {
     /// It is stored into a mailbox (RFC 5228, sections 4.1 and 4.3), with flags (RFC 5232, section 5).
     Store { mailbox: Octets, flags: FlagList },

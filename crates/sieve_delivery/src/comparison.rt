@@ -17,7 +17,7 @@ use std::marker::Model;
 
 /// What a value that matches a key gives to `${0}`, `${1}` and so on (RFC 5229, section 3.2): under `:matches` the value and what each
 /// wildcard took, under the other match types nothing.
-#[derive(Debug, Drop)]
+#[derive(Drop)]
 pub(crate) struct MatchValues {
     texts: Vec<Octets>,
 }
@@ -99,7 +99,7 @@ fn wildcard_match<C: Comparator>(
 }
 
 /// How a test compares a value with keys.
-#[derive(Clone, Copy, Debug)]
+#[derive(Clone, Copy)]
 pub(crate) struct Comparison<'a> {
     pub(crate) match_type: MatchType,
     pub(crate) collation: Collation,

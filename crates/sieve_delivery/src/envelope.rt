@@ -1,7 +1,7 @@
 use sieve_base::Octets;
 
 /// What a run knows of a delivery beside the message (RFC 5228, section 5.4), each of any octets.
-#[derive(Debug, Drop)]
+#[derive(Drop)]
 pub struct Envelope {
     /// The sender's address, empty where there is none.
     pub from: Octets,

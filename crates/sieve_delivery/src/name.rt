@@ -5,7 +5,7 @@ use std::alloc::{AllocError, Global};
 
 /// The name of a script: the store that it is kept in, and its octets there. Personal names come first, and names
 /// of one store are in the order of their octets.
-#[derive(Debug, Drop, PartialEq, Eq, PartialOrd, Ord, Hash)]
+#[derive(Drop, PartialEq, Eq, PartialOrd, Ord, Hash)]
 pub struct ScriptName {
     /// The store.
     pub place: Place,

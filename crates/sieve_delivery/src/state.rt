@@ -5,7 +5,7 @@ use match_text::FlagList;
 use sieve_variables::Values;
 
 /// The state of a run. Where a call that may change it fails, it is of no further use.
-#[derive(Debug, Drop)]
+#[derive(Drop)]
 pub struct State {
     /// The actions in their order (RFC 5228, section 2.10).
     pub actions: Vec<Action>,

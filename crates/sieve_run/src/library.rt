@@ -5,7 +5,7 @@ use sieve_code::Code;
 use sieve_delivery::ScriptName;
 
 /// What a library has at a name.
-#[derive(Debug, Drop)]
+#[derive(Drop)]
 pub enum Found<'a> {
     /// No script.
     Missing,

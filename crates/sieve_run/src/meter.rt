@@ -4,7 +4,7 @@ ghost use Rattle.sieve_run.specs.Meter.{next_run};
 use std::marker::Model;
 
 /// Counts runs of scripts. Only a run adds to it. At the greatest `u64` it stays.
-#[derive(Debug, Drop)]
+#[derive(Drop)]
 pub struct Meter {
     runs: u64,
 }

@@ -9,7 +9,7 @@ use sieve_delivery::{Action, ScriptName};
 use std::marker::Model;
 
 /// The verdict on a message, and the scripts that it looked at. Only a run makes one.
-#[derive(Debug, Drop)]
+#[derive(Drop)]
 pub struct Outcome {
     pub(crate) actions: Vec<Action>,
     pub(crate) implicit: Option<FlagList>,

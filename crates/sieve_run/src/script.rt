@@ -14,7 +14,7 @@ use std::alloc::{AllocError, Global};
 use std::marker::Model;
 
 /// What is kept of a text's judgement.
-#[derive(Debug, Drop)]
+#[derive(Drop)]
 enum Compiled {
     /// The code of a text without a fault.
     Sound(Code),
@@ -33,7 +33,7 @@ fn without_tree(alloc: Global, judged: Judged) -> Result<Compiled, AllocError>
 }
 
 /// A script's text with its code or its first fault, which are found once. Contracts see the text.
-#[derive(Debug, Drop)]
+#[derive(Drop)]
 pub struct Script {
     text: Octets,
     compiled: Compiled,

@@ -13,7 +13,7 @@ use std::alloc::{AllocError, Global};
 use std::marker::Model;
 
 /// What stands at a name.
-#[derive(Debug, Drop)]
+#[derive(Drop)]
 enum Entry {
     Script(Script),
     /// A text that is too long for a script.
@@ -21,7 +21,7 @@ enum Entry {
 }
 
 /// A text of any length, with its judgement where it isn't too long. Contracts see the text.
-#[derive(Debug, Drop)]
+#[derive(Drop)]
 struct Kept {
     entry: Entry,
 }
@@ -63,7 +63,7 @@ impl Kept {
 }
 
 /// Scripts by their names. Contracts see the names, each with its text.
-#[derive(Debug, Drop)]
+#[derive(Drop)]
 pub struct Shelf {
     alloc: Global,
     scripts: IndexMap<ScriptName, Kept>,

@@ -26,7 +26,7 @@ use sieve_delivery::{
 use std::alloc::AllocError;
 
 /// How an operation ended.
-#[derive(Debug, Drop)]
+#[derive(Drop)]
 enum Step {
     /// It goes on at a place, with a truth in the register.
     Next { place: usize, register: bool },

@@ -11,7 +11,7 @@ use crate::token::{Token, TokenKind};
 use crate::white::white_length;
 
 /// A place in a text, and the number of LF before it.
-#[derive(Clone, Copy, Debug)]
+#[derive(Clone, Copy)]
 pub(crate) struct Cursor {
     pub(crate) place: usize,
     pub(crate) line_feeds: usize,

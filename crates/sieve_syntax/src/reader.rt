@@ -8,7 +8,7 @@ ghost use Rattle.sieve_syntax.specs.view.Tree.{node_of, test_of, tests_of};
 use crate::tree::{Argument, Command, SmallOctets, Test, Tests, Text};
 
 /// A command or a test whose arguments are being read.
-#[derive(Debug, Drop)]
+#[derive(Drop)]
 pub(crate) struct Head {
     pub(crate) name: SmallOctets,
     pub(crate) line: u64,
@@ -16,7 +16,7 @@ pub(crate) struct Head {
 }
 
 /// A command or a test that waits for a test inside it.
-#[derive(Debug, Drop)]
+#[derive(Drop)]
 pub(crate) enum Level {
     /// It waits for its one test.
     One(Head),
@@ -25,7 +25,7 @@ pub(crate) enum Level {
 }
 
 /// A command whose block stands open, and the commands before it.
-#[derive(Debug, Drop)]
+#[derive(Drop)]
 pub(crate) struct Open {
     pub(crate) done: Vec<Command>,
     pub(crate) head: Head,
@@ -34,7 +34,7 @@ pub(crate) struct Open {
 
 /// The open blocks, the innermost last, the commands read in the innermost, and the tests that are open in the command that
 /// is being read, the innermost last. Between two commands the tests don't matter.
-#[derive(Debug, Drop)]
+#[derive(Drop)]
 pub(crate) struct Outer {
     pub(crate) blocks: Vec<Open>,
     pub(crate) done: Vec<Command>,
@@ -42,7 +42,7 @@ pub(crate) struct Outer {
 }
 
 /// Where the next token stands.
-#[derive(Debug, Drop)]
+#[derive(Drop)]
 pub(crate) enum State {
     /// Between two commands.
     Between,

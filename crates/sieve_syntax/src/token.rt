@@ -35,7 +35,7 @@ pub enum TokenKind {
 
 /// A token: what it is, where it begins and ends in the text, in octets from 0 on, and the line where it begins, which is
 /// one plus the number of LF before it.
-#[derive(Clone, Copy, Debug, PartialEq, Eq)]
+#[derive(Clone, Copy, PartialEq, Eq)]
 pub struct Token {
     pub kind: TokenKind,
     pub start: usize,

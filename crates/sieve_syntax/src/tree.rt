@@ -6,13 +6,13 @@ use smallvec::SmallVec;
 pub type SmallOctets = SmallVec<u8, 16>;
 
 /// A whole script: its commands in the order of the text.
-#[derive(Debug, Drop)]
+#[derive(Drop)]
 pub struct Script {
     pub commands: Vec<Command>,
 }
 
 /// A command, with its arguments, its tests and its block (RFC 5228, section 2.9).
-#[derive(Debug, Drop)]
+#[derive(Drop)]
 pub struct Command {
     /// The identifier, as it is written. Case doesn't matter to Sieve.
     pub name: SmallOctets,
@@ -25,7 +25,7 @@ pub struct Command {
 }
 
 /// A test, with its arguments and its own tests (RFC 5228, section 2.7).
-#[derive(Debug, Drop)]
+#[derive(Drop)]
 #[cycle(tests)]
 pub struct Test {
     /// The identifier, as it is written. Case doesn't matter to Sieve.
@@ -37,7 +37,7 @@ pub struct Test {
 }
 
 /// The tests that stand behind the arguments of a command or a test.
-#[derive(Debug, Drop)]
+#[derive(Drop)]
 #[cycle(tests)]
 pub enum Tests {
     None,
@@ -47,7 +47,7 @@ pub enum Tests {
 }
 
 /// An argument (RFC 5228, section 2.6).
-#[derive(Debug, Drop)]
+#[derive(Drop)]
 pub enum Argument {
     /// A list of one or more strings in brackets, or one string without brackets.
     Strings { items: Vec<Text>, bracketed: bool },
@@ -58,7 +58,7 @@ pub enum Argument {
 }
 
 /// A string: the octets that it stands for, and the line where it begins.
-#[derive(Debug, Drop)]
+#[derive(Drop)]
 pub struct Text {
     pub octets: SmallOctets,
     pub line: u64,

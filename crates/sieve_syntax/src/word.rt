@@ -11,7 +11,7 @@ use crate::value::{multi_line_octets, number_of, quoted_octets};
 use std::alloc::{AllocError, Global};
 
 /// A token without its place.
-#[derive(Debug, Drop)]
+#[derive(Drop)]
 pub(crate) enum Word {
     Identifier { name: SmallOctets, line: u64 },
     Tag { name: SmallOctets, line: u64 },

@@ -44,7 +44,7 @@ pub enum CommandKind {
 }
 
 /// A test that there is.
-#[derive(Clone, Copy, Debug, PartialEq, Eq)]
+#[derive(Clone, Copy, PartialEq, Eq)]
 pub enum TestKind {
     /// `header` (RFC 5228, section 5.7).
     Header,

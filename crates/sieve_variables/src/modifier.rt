@@ -9,7 +9,7 @@ use sieve_base::limits::MAX_VALUE;
 use std::alloc::{AllocError, Global};
 
 /// The case of letters.
-#[derive(Clone, Copy, Debug, PartialEq, Eq)]
+#[derive(Clone, Copy, PartialEq, Eq)]
 pub enum LetterCase {
     /// Small letters.
     Lower,
@@ -18,7 +18,7 @@ pub enum LetterCase {
 }
 
 /// The modifiers that a `set` has, at most one of each precedence.
-#[derive(Clone, Copy, Debug, PartialEq, Eq)]
+#[derive(Clone, Copy, PartialEq, Eq)]
 pub struct Modifiers {
     /// `:lower` or `:upper`, of precedence 40 (RFC 5229, section 4.1.3).
     pub letter_case: Option<LetterCase>,

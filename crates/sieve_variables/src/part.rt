@@ -13,7 +13,7 @@ use std::default::MadeWith;
 pub type SmallOctets = SmallVec<u8, 16>;
 
 /// A part of a string.
-#[derive(Debug, Drop)]
+#[derive(Drop)]
 pub enum Part {
     /// These octets.
     Literal(SmallOctets),

@@ -13,7 +13,7 @@ use std::mem;
 
 /// The variables while a script runs: its own, those that scripts share, and what its last match gave. Contracts see the names
 /// with what they hold, and the texts of the match.
-#[derive(Debug, Drop)]
+#[derive(Drop)]
 pub struct Values {
     locals: Variables,
     globals: Variables,
@@ -29,7 +29,7 @@ impl Model for Values {
 }
 
 /// What a script has of its own, set aside while one that it includes runs.
-#[derive(Debug, Drop)]
+#[derive(Drop)]
 pub struct Own {
     locals: Variables,
     matched: Vec<Octets>,

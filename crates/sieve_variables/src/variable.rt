@@ -10,7 +10,7 @@ use std::alloc::{AllocError, Global};
 use std::marker::Model;
 
 /// A variable, by its name in lower case.
-#[derive(Debug, Drop)]
+#[derive(Drop)]
 pub enum Variable {
     /// One of the script (RFC 5229, section 3).
     Local(SmallOctets),
@@ -60,7 +60,7 @@ impl Variable {
 
 /// Names in lower case, each once, in the order in which they came. They are found by a hash, so that no number of them
 /// makes that slow. Contracts see the names.
-#[derive(Debug, Drop)]
+#[derive(Drop)]
 pub struct Names {
     names: IndexSet<Vec<u8>>,
 }

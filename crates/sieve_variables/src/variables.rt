@@ -10,7 +10,7 @@ use std::marker::Model;
 
 /// Names in lower case with their values, in the order in which they were first set. Contracts see the names, each with its
 /// value.
-#[derive(Debug, Drop)]
+#[derive(Drop)]
 pub(crate) struct Variables {
     entries: IndexMap<Vec<u8>, Octets>,
 }

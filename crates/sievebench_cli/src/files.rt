@@ -9,7 +9,7 @@ use std::{fs, io, str};
 pub(crate) const SCRIPT_END: &str = ".sieve";
 
 /// Why files could not be read.
-#[derive(Debug, Drop)]
+#[derive(Drop)]
 pub(crate) enum ReadFault {
     /// The file, or the folder, at this path can't be read.
     Unreadable(Vec<u8>),

@@ -11,7 +11,7 @@ use std::rt::Files;
 const DEFAULT_MAILBOX: &str = "INBOX";
 
 /// The words of `sievebench test`.
-#[derive(Debug, Drop)]
+#[derive(Drop)]
 pub(crate) struct TestWords {
     pub from: Option<Argument>,
     pub to: Option<Argument>,
@@ -23,7 +23,7 @@ pub(crate) struct TestWords {
 }
 
 /// Scripts that were read, and the path of each.
-#[derive(Debug, Drop)]
+#[derive(Drop)]
 pub(crate) struct TestFiles {
     pub scripts: Vec<TestScript>,
     pub paths: Vec<Vec<u8>>,
@@ -53,7 +53,7 @@ impl TestFiles {
 }
 
 /// A test whose files were read.
-#[derive(Debug, Drop)]
+#[derive(Drop)]
 pub(crate) struct TestInput {
     pub job: TestJob,
     /// The path of each script of the job.

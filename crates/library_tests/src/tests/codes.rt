@@ -23,7 +23,7 @@ fn a_sound_text_is_compiled(rt: HostRuntime) -> Result<(), Fail> {
             let lines = b"0: stop\n1: keep internal @2\n";
             assert_eq!(rt; printed(rt.alloc(), &code)?.as_slice(), lines.as_slice());
         }
-        other => panic!(rt; "{other:?}"),
+        _ => panic!(rt; "another judgement"),
     }
     Ok(())
 }
@@ -34,7 +34,7 @@ fn a_faulty_text_has_its_first_fault(rt: HostRuntime) -> Result<(), Fail> {
         Judged::Faulty { line, kind } => {
             assert_eq!(rt; (line, kind.word()), (1, b"unknown-command".as_slice()));
         }
-        other => panic!(rt; "{other:?}"),
+        _ => panic!(rt; "another judgement"),
     }
     Ok(())
 }

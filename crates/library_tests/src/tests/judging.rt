@@ -28,7 +28,7 @@ fn check_keep(rt: &impl Abort, keep: &Command) {
 fn check_negation(rt: &impl Abort, negation: &Test) {
     assert!(rt; matches!(negation.reading(), Some(TestReading::Not)));
     let Tests::One(size) = &negation.tests else {
-        panic!(rt; "{negation:?}");
+        panic!(rt; "not one test");
     };
     assert!(rt;
         matches!(
@@ -41,7 +41,7 @@ fn check_negation(rt: &impl Abort, negation: &Test) {
 /// Its block.
 fn check_stop(rt: &impl Abort, block: &[Command]) {
     let [stop] = block else {
-        panic!(rt; "{block:?}");
+        panic!(rt; "not one command");
     };
     assert_eq!(rt;
         (stop.name.as_slice(), stop.line, stop.kind()),
@@ -59,7 +59,7 @@ fn check_choice(rt: &impl Abort, choice: &Command) {
             check_negation(rt, negation);
             check_stop(rt, block.as_slice());
         }
-        other => panic!(rt; "{other:?}"),
+        _ => panic!(rt; "another tree"),
     }
 }
 
@@ -69,7 +69,7 @@ fn check_both(rt: &impl Abort, commands: &[Command]) {
             check_keep(rt, keep);
             check_choice(rt, choice);
         }
-        other => panic!(rt; "{other:?}"),
+        _ => panic!(rt; "another tree"),
     }
 }
 
@@ -91,7 +91,7 @@ fn check_text(rt: &impl Abort, text: &Text, octets: &[u8], line: u64) {
         [Part::Literal(literal)] => {
             assert_eq!(rt; (literal.as_slice(), text.line), (octets, line));
         }
-        other => panic!(rt; "{other:?}"),
+        _ => panic!(rt; "another tree"),
     }
 }
 
@@ -112,7 +112,7 @@ fn check_header(rt: &impl Abort, test: &Test) {
             check_text(rt, first, b"b", 2);
             check_text(rt, second, b"c", 2);
         }
-        _ => panic!(rt; "{test:?}"),
+        _ => panic!(rt; "another test"),
     }
 }
 
@@ -124,7 +124,7 @@ fn check_choice_of_header(rt: &impl Abort, commands: &[Command]) {
                 ..
             },
         ] => check_header(rt, test),
-        other => panic!(rt; "{other:?}"),
+        _ => panic!(rt; "another tree"),
     }
 }
 
