@@ -4,9 +4,11 @@
 
 mod address;
 mod capability;
+mod command_rows;
 mod row;
 mod rule;
 mod table;
+mod test_rows;
 
 pub use address::{is_address_field, is_envelope_part};
 pub use capability::{Capability, is_capability, is_name_of};

@@ -128,3 +128,22 @@ pub struct Row {
     /// What has to be required for it.
     pub needs: &'static [Capability],
 }
+
+/// What takes nothing, and has no name yet.
+pub(crate) const BARE: Row = Row {
+    name: b"",
+    tags: &[],
+    one_of: None,
+    front: None,
+    slots: &[],
+    tests: Inner::None,
+    has_block: false,
+    needs: &[],
+};
+
+/// A list of flags.
+pub(crate) const FLAGS: Slot = Slot {
+    form: Form::List,
+    role: Role::Flags,
+    needs: None,
+};

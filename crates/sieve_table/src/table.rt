@@ -4,7 +4,8 @@ ghost use Rattle.sieve_table.specs.Table.{command_named, command_row, is_named, 
 ghost use Rattle.sieve_table.specs.view.Row.{row_as, tag_row_as};
 
 use crate::capability::Capability;
-use crate::row::{Form, Inner, Role, Row, Slot, TagKind, TagRow};
+use crate::row::{FLAGS, Form, Role, Row, Slot, TagKind, TagRow};
+use crate::{command_rows, test_rows};
 
 /// A command that there is.
 #[derive(Clone, Copy, Debug, PartialEq, Eq)]
@@ -153,18 +154,6 @@ const TESTS: [TestKind; 12] = [
     TestKind::HasFlag,
 ];
 
-/// What takes nothing, and has no name yet.
-const BARE: Row = Row {
-    name: b"",
-    tags: &[],
-    one_of: None,
-    front: None,
-    slots: &[],
-    tests: Inner::None,
-    has_block: false,
-    needs: &[],
-};
-
 /// A tag that takes nothing, and has no name yet.
 const BARE_TAG: TagRow = TagRow {
     name: b"",
@@ -178,28 +167,6 @@ const COMPARATOR_NAME: Slot = Slot {
     form: Form::One,
     role: Role::ComparatorName,
     needs: None,
-};
-
-/// A list of flags.
-const FLAGS: Slot = Slot {
-    form: Form::List,
-    role: Role::Flags,
-    needs: None,
-};
-
-/// The variable whose flags a command changes.
-const FLAG_VARIABLE: Slot = Slot {
-    form: Form::One,
-    role: Role::NameToSet,
-    needs: Some(Capability::Variables),
-};
-
-/// A command that changes flags (RFC 5232, section 3), and has no name yet.
-const FLAG_COMMAND: Row = Row {
-    front: Some(FLAG_VARIABLE),
-    slots: &[FLAGS],
-    needs: &[Capability::Imap4flags],
-    ..BARE
 };
 
 impl Tag {
@@ -320,159 +287,25 @@ impl CommandKind {
         ensures { row_as result ≡ command_row self }
     {
         match self {
-            CommandKind::Require => Row {
-                name: b"require",
-                slots: &[Slot {
-                    form: Form::List,
-                    role: Role::Capabilities,
-                    needs: None,
-                }],
-                ..BARE
-            },
-            CommandKind::If => Row {
-                name: b"if",
-                tests: Inner::One,
-                has_block: true,
-                ..BARE
-            },
-            CommandKind::Elsif => Row {
-                name: b"elsif",
-                tests: Inner::One,
-                has_block: true,
-                ..BARE
-            },
-            CommandKind::Else => Row {
-                name: b"else",
-                has_block: true,
-                ..BARE
-            },
-            CommandKind::Keep => Row {
-                name: b"keep",
-                tags: &[Tag::Flags],
-                ..BARE
-            },
-            CommandKind::Fileinto => Row {
-                name: b"fileinto",
-                tags: &[Tag::Flags],
-                slots: &[Slot {
-                    form: Form::One,
-                    role: Role::Mailbox,
-                    needs: None,
-                }],
-                needs: &[Capability::Fileinto],
-                ..BARE
-            },
-            CommandKind::Redirect => Row {
-                name: b"redirect",
-                slots: &[Slot {
-                    form: Form::One,
-                    role: Role::Address,
-                    needs: None,
-                }],
-                ..BARE
-            },
-            CommandKind::Discard => Row {
-                name: b"discard",
-                ..BARE
-            },
-            CommandKind::Stop => Row {
-                name: b"stop",
-                ..BARE
-            },
-            CommandKind::Set => Row {
-                name: b"set",
-                tags: &[
-                    Tag::Lower,
-                    Tag::Upper,
-                    Tag::LowerFirst,
-                    Tag::UpperFirst,
-                    Tag::QuoteWildcard,
-                    Tag::Length,
-                ],
-                slots: &[
-                    Slot {
-                        form: Form::One,
-                        role: Role::NameToSet,
-                        needs: None,
-                    },
-                    Slot {
-                        form: Form::One,
-                        role: Role::Text,
-                        needs: None,
-                    },
-                ],
-                needs: &[Capability::Variables],
-                ..BARE
-            },
-            CommandKind::SetFlag => Row {
-                name: b"setflag",
-                ..FLAG_COMMAND
-            },
-            CommandKind::AddFlag => Row {
-                name: b"addflag",
-                ..FLAG_COMMAND
-            },
-            CommandKind::RemoveFlag => Row {
-                name: b"removeflag",
-                ..FLAG_COMMAND
-            },
-            CommandKind::Include => Row {
-                name: b"include",
-                tags: &[Tag::Personal, Tag::Global, Tag::Once, Tag::Optional],
-                slots: &[Slot {
-                    form: Form::One,
-                    role: Role::ScriptName,
-                    needs: None,
-                }],
-                needs: &[Capability::Include],
-                ..BARE
-            },
-            CommandKind::Return => Row {
-                name: b"return",
-                needs: &[Capability::Include],
-                ..BARE
-            },
-            CommandKind::Global => Row {
-                name: b"global",
-                slots: &[Slot {
-                    form: Form::List,
-                    role: Role::NamesToDeclare,
-                    needs: None,
-                }],
-                needs: &[Capability::Include, Capability::Variables],
-                ..BARE
-            },
+            CommandKind::Require => command_rows::require_row(),
+            CommandKind::If => command_rows::if_row(),
+            CommandKind::Elsif => command_rows::elsif_row(),
+            CommandKind::Else => command_rows::else_row(),
+            CommandKind::Keep => command_rows::keep_row(),
+            CommandKind::Fileinto => command_rows::fileinto_row(),
+            CommandKind::Redirect => command_rows::redirect_row(),
+            CommandKind::Discard => command_rows::discard_row(),
+            CommandKind::Stop => command_rows::stop_row(),
+            CommandKind::Set => command_rows::set_row(),
+            CommandKind::SetFlag => command_rows::set_flag_row(),
+            CommandKind::AddFlag => command_rows::add_flag_row(),
+            CommandKind::RemoveFlag => command_rows::remove_flag_row(),
+            CommandKind::Include => command_rows::include_row(),
+            CommandKind::Return => command_rows::return_row(),
+            CommandKind::Global => command_rows::global_row(),
         }
     }
 }
-
-/// The tags that say how values are compared with keys (RFC 5228, section 2.7).
-const COMPARING_TAGS: [Tag; 4] = [Tag::Comparator, Tag::Is, Tag::Contains, Tag::Matches];
-
-/// Those that name a part of an address too (RFC 5228, section 2.7.4).
-const ADDRESS_TAGS: [Tag; 7] = [
-    Tag::All,
-    Tag::LocalPart,
-    Tag::Domain,
-    Tag::Comparator,
-    Tag::Is,
-    Tag::Contains,
-    Tag::Matches,
-];
-
-/// A list of the names of header fields.
-const FIELD_NAMES: Slot = Slot {
-    form: Form::List,
-    role: Role::FieldNames,
-    needs: None,
-};
-
-/// A list of keys.
-const KEYS: Slot = Slot {
-    form: Form::List,
-    role: Role::Keys,
-    needs: None,
-};
 
 impl TestKind {
     /// The test's row.
@@ -480,104 +313,18 @@ impl TestKind {
         ensures { row_as result ≡ test_row self }
     {
         match self {
-            TestKind::Header => Row {
-                name: b"header",
-                tags: &COMPARING_TAGS,
-                slots: &[FIELD_NAMES, KEYS],
-                ..BARE
-            },
-            TestKind::Address => Row {
-                name: b"address",
-                tags: &ADDRESS_TAGS,
-                slots: &[
-                    Slot {
-                        form: Form::List,
-                        role: Role::AddressFields,
-                        needs: None,
-                    },
-                    KEYS,
-                ],
-                ..BARE
-            },
-            TestKind::Envelope => Row {
-                name: b"envelope",
-                tags: &ADDRESS_TAGS,
-                slots: &[
-                    Slot {
-                        form: Form::List,
-                        role: Role::EnvelopeParts,
-                        needs: None,
-                    },
-                    KEYS,
-                ],
-                needs: &[Capability::Envelope],
-                ..BARE
-            },
-            TestKind::Exists => Row {
-                name: b"exists",
-                slots: &[FIELD_NAMES],
-                ..BARE
-            },
-            TestKind::Size => Row {
-                name: b"size",
-                tags: &[Tag::Over, Tag::Under],
-                one_of: Some(TagKind::Bound),
-                slots: &[Slot {
-                    form: Form::Number,
-                    role: Role::Limit,
-                    needs: None,
-                }],
-                ..BARE
-            },
-            TestKind::AllOf => Row {
-                name: b"allof",
-                tests: Inner::List,
-                ..BARE
-            },
-            TestKind::AnyOf => Row {
-                name: b"anyof",
-                tests: Inner::List,
-                ..BARE
-            },
-            TestKind::Not => Row {
-                name: b"not",
-                tests: Inner::One,
-                ..BARE
-            },
-            TestKind::True => Row {
-                name: b"true",
-                ..BARE
-            },
-            TestKind::False => Row {
-                name: b"false",
-                ..BARE
-            },
-            TestKind::String => Row {
-                name: b"string",
-                tags: &COMPARING_TAGS,
-                slots: &[
-                    Slot {
-                        form: Form::List,
-                        role: Role::Text,
-                        needs: None,
-                    },
-                    KEYS,
-                ],
-                needs: &[Capability::Variables],
-                ..BARE
-            },
-            TestKind::HasFlag => Row {
-                name: b"hasflag",
-                tags: &COMPARING_TAGS,
-                front: Some(Slot {
-                    form: Form::List,
-                    role: Role::NamesToRead,
-                    needs: Some(Capability::Variables),
-                }),
-                slots: &[KEYS],
-                needs: &[Capability::Imap4flags],
-                ..BARE
-            },
+            TestKind::Header => test_rows::header_row(),
+            TestKind::Address => test_rows::address_row(),
+            TestKind::Envelope => test_rows::envelope_row(),
+            TestKind::Exists => test_rows::exists_row(),
+            TestKind::Size => test_rows::size_row(),
+            TestKind::AllOf => test_rows::all_of_row(),
+            TestKind::AnyOf => test_rows::any_of_row(),
+            TestKind::Not => test_rows::not_row(),
+            TestKind::True => test_rows::true_row(),
+            TestKind::False => test_rows::false_row(),
+            TestKind::String => test_rows::string_row(),
+            TestKind::HasFlag => test_rows::has_flag_row(),
         }
     }
 }

@@ -1,0 +1,207 @@
+//! The rows of the table for tests, each in a function of its own, since a large one is slow to prove.
+ghost use Rattle.std.specs.Prelude.{◌≡◌};
+ghost use Rattle.sieve_table.specs.Table.{test_row};
+ghost use Rattle.sieve_table.specs.declared.table.TestKind.TheVariants as test;
+ghost use Rattle.sieve_table.specs.view.Row.{row_as};
+
+use crate::capability::Capability;
+use crate::row::{BARE, Form, Inner, Role, Row, Slot, TagKind};
+use crate::table::Tag;
+
+/// The tags that say how values are compared with keys (RFC 5228, section 2.7).
+const COMPARING_TAGS: [Tag; 4] = [Tag::Comparator, Tag::Is, Tag::Contains, Tag::Matches];
+
+/// Those that name a part of an address too (RFC 5228, section 2.7.4).
+const ADDRESS_TAGS: [Tag; 7] = [
+    Tag::All,
+    Tag::LocalPart,
+    Tag::Domain,
+    Tag::Comparator,
+    Tag::Is,
+    Tag::Contains,
+    Tag::Matches,
+];
+
+/// A list of the names of header fields.
+const FIELD_NAMES: Slot = Slot {
+    form: Form::List,
+    role: Role::FieldNames,
+    needs: None,
+};
+
+/// A list of keys.
+const KEYS: Slot = Slot {
+    form: Form::List,
+    role: Role::Keys,
+    needs: None,
+};
+
+/// `header` (RFC 5228, section 5.7).
+pub(crate) fn header_row() -> Row
+    ensures { row_as result ≡ test_row test.Header }
+{
+    Row {
+        name: b"header",
+        tags: &COMPARING_TAGS,
+        slots: &[FIELD_NAMES, KEYS],
+        ..BARE
+    }
+}
+
+/// `address` (RFC 5228, section 5.1).
+pub(crate) fn address_row() -> Row
+    ensures { row_as result ≡ test_row test.Address }
+{
+    Row {
+        name: b"address",
+        tags: &ADDRESS_TAGS,
+        slots: &[
+            Slot {
+                form: Form::List,
+                role: Role::AddressFields,
+                needs: None,
+            },
+            KEYS,
+        ],
+        ..BARE
+    }
+}
+
+/// `envelope` (RFC 5228, section 5.4).
+pub(crate) fn envelope_row() -> Row
+    ensures { row_as result ≡ test_row test.Envelope }
+{
+    Row {
+        name: b"envelope",
+        tags: &ADDRESS_TAGS,
+        slots: &[
+            Slot {
+                form: Form::List,
+                role: Role::EnvelopeParts,
+                needs: None,
+            },
+            KEYS,
+        ],
+        needs: &[Capability::Envelope],
+        ..BARE
+    }
+}
+
+/// `exists` (RFC 5228, section 5.5).
+pub(crate) fn exists_row() -> Row
+    ensures { row_as result ≡ test_row test.Exists }
+{
+    Row {
+        name: b"exists",
+        slots: &[FIELD_NAMES],
+        ..BARE
+    }
+}
+
+/// `size` (RFC 5228, section 5.9).
+pub(crate) fn size_row() -> Row
+    ensures { row_as result ≡ test_row test.Size }
+{
+    Row {
+        name: b"size",
+        tags: &[Tag::Over, Tag::Under],
+        one_of: Some(TagKind::Bound),
+        slots: &[Slot {
+            form: Form::Number,
+            role: Role::Limit,
+            needs: None,
+        }],
+        ..BARE
+    }
+}
+
+/// `allof` (RFC 5228, section 5.2).
+pub(crate) fn all_of_row() -> Row
+    ensures { row_as result ≡ test_row test.AllOf }
+{
+    Row {
+        name: b"allof",
+        tests: Inner::List,
+        ..BARE
+    }
+}
+
+/// `anyof` (RFC 5228, section 5.3).
+pub(crate) fn any_of_row() -> Row
+    ensures { row_as result ≡ test_row test.AnyOf }
+{
+    Row {
+        name: b"anyof",
+        tests: Inner::List,
+        ..BARE
+    }
+}
+
+/// `not` (RFC 5228, section 5.8).
+pub(crate) fn not_row() -> Row
+    ensures { row_as result ≡ test_row test.Not }
+{
+    Row {
+        name: b"not",
+        tests: Inner::One,
+        ..BARE
+    }
+}
+
+/// `true` (RFC 5228, section 5.10).
+pub(crate) fn true_row() -> Row
+    ensures { row_as result ≡ test_row test.True }
+{
+    Row {
+        name: b"true",
+        ..BARE
+    }
+}
+
+/// `false` (RFC 5228, section 5.6).
+pub(crate) fn false_row() -> Row
+    ensures { row_as result ≡ test_row test.False }
+{
+    Row {
+        name: b"false",
+        ..BARE
+    }
+}
+
+/// `string` (RFC 5229, section 5).
+pub(crate) fn string_row() -> Row
+    ensures { row_as result ≡ test_row test.String }
+{
+    Row {
+        name: b"string",
+        tags: &COMPARING_TAGS,
+        slots: &[
+            Slot {
+                form: Form::List,
+                role: Role::Text,
+                needs: None,
+            },
+            KEYS,
+        ],
+        needs: &[Capability::Variables],
+        ..BARE
+    }
+}
+
+/// `hasflag` (RFC 5232, section 4).
+pub(crate) fn has_flag_row() -> Row
+    ensures { row_as result ≡ test_row test.HasFlag }
+{
+    Row {
+        name: b"hasflag",
+        tags: &COMPARING_TAGS,
+        front: Some(Slot {
+            form: Form::List,
+            role: Role::NamesToRead,
+            needs: Some(Capability::Variables),
+        }),
+        slots: &[KEYS],
+        needs: &[Capability::Imap4flags],
+        ..BARE
+    }
+}
