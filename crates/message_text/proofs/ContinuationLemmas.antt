@@ -46,11 +46,6 @@ pub continues-drop : (octets : List ℕ) (start : ℕ) → start < length octets
 continues-drop octets start below =
     ap (λ (rest : List ℕ). continues (lines rest)) (drop_more octets start 0 below) ∙ continues-lines (get_or octets start 0) (drop (start + 1) octets)
 
-pub take_while-none : (text : List (List ℕ)) → continues text ≡ false → take_while is_continuation text ≡ []
-take_while-none [] none = refl
-take_while-none (line ∷ more) none =
-    take_while-cons is_continuation line more ∙ cond-false (is_continuation line) (line ∷ take_while is_continuation more) [] none
-
 pub concat-continuation : (text more : List (List ℕ)) (line : List ℕ) → text ≡ line ∷ more → is_continuation line ≡ true → concat (take_while is_continuation text) ≡ line ++ concat (take_while is_continuation more)
 concat-continuation text more line is continued =
     ap (λ (all : List (List ℕ)). concat (take_while is_continuation all)) is

@@ -8,9 +8,6 @@ use Rattle.std.proofs.lemmas.List.Splits.{slice_split_at, slice_split_none}
 use Rattle.memchr.specs.Find.{Nowhere, Passes, is_byte}
 use Rattle.message_text.specs.view.Positions.{IsLineAt}
 
-is_feed : ℕ → Bool
-is_feed b = b == 10
-
 -- a part before another one is a line, without the carriage return at its end
 line_onto : (part : List ℕ) (b : ℕ) (parts : List (List ℕ)) → lines_of_parts (part ∷ onto_first b parts) ≡ strip_carriage_return part ∷ lines_of_parts (onto_first b parts)
 line_onto part b [] = refl

@@ -1,4 +1,3 @@
-pub mod Count
 pub mod Lines
 pub mod Ranges
 pub mod Reading

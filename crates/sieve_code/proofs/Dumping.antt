@@ -45,10 +45,6 @@ string_some [] part some is = absurd (omega (arith, some))
 string_some (p ∷ ps) part some is =
     ap (λ x. part_text (part_of x) ++ flat_map marked_part ps) is ∙ ap (λ t. part_text (part_of p) ++ t) (sym (parts_marked ps))
 
-pub strings_none : (strings : List (SmallVec Part)) → length strings ≤ 0 → [] ≡ separated (codes ", ") string_text (strings_of strings)
-strings_none [] none = refl
-strings_none (s ∷ ss) none = absurd (omega (arith, none))
-
 pub strings_some : (strings : List (SmallVec Part)) (string : SmallVec Part) (parts : List Part) → 0 < length strings → parts ≡ string.items → string ≡ get_or strings 0 string → string_text (map part_of parts) ++ flat_map marked_string (drop 1 strings) ≡ separated (codes ", ") string_text (strings_of strings)
 strings_some [] string parts some same is = absurd (omega (arith, some))
 strings_some (s ∷ ss) string parts some same is =

@@ -1,3 +1,5 @@
+//! The state of a run (RFC 5228, section 2.10; RFC 5229; RFC 5232, section 2; RFC 6609).
+
 use crate::action::Action;
 use crate::name::ScriptName;
 use indexmap::IndexMap;

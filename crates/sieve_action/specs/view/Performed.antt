@@ -1,4 +1,4 @@
--- What becomes of the actions of a run, by whether there was room.
+-- How the code tells what became of a run's actions.
 use Rattle.std.specs.Prelude.{Bool, true, false, List}
 use Rattle.sieve_delivery.specs.declared.action.Action.{Action}
 use Rattle.sieve_action.specs.Act.{Performed, performed, one_too_many}
