@@ -1,1 +1,2 @@
 mod Named
+pub mod Adding

@@ -2,11 +2,13 @@
 use Rattle.std.specs.Prelude.{◌≡◌, ◌≢◌, ℕ, Bool, true, false, List, [], ◌∷◌, Option, Some, None, codes, if◌then◌else◌, unwrap_or}
 use Prim.Native.Char.{code}
 use Rattle.std.specs.Str.{bytes_eq}
-use Rattle.clap.specs.Words.{App, IsAmong, Kinds, Row, Shape, Text, fault_of, new_app, subcommand_of, with_subcommand}
+use Rattle.clap.specs.Words.{App, IsAmong, Kinds, Row, Shape, Text, app_of, fault_of, new_app, subcommand_of, with_rule, with_subcommand}
 use Rattle.clap.specs.Simple.{new_rule, new_shape, on_top}
 use Rattle.clap.specs.Walk.{Rule, first_of}
 use Rattle.clap.specs.declared.error.kind.ErrorKind.{ErrorKind}
 use Rattle.clap.specs.declared.error.kind.ErrorKind.TheVariants.{DisplayHelp, DisplayVersion, OutOfMemory}
+use Rattle.clap.specs.declared.builder.command.Command.{Command}
+use Rattle.clap.specs.declared.builder.command.Command.TheViews.{out-Command}
 use Rattle.command_line.specs.declared.words.Job.{Job}
 use Rattle.command_line.specs.declared.words.Job.TheVariants as job
 use Rattle.command_line.specs.declared.words.UsageFault.{UsageFault}
@@ -38,6 +40,31 @@ test_shape = record (new_shape (codes "test")) {
   rules = letter_rule (codes "from") (code "f") ∷ name_rule (codes "to") ∷ letter_rule (codes "mailbox") (code "m")
       ∷ name_rule (codes "personal") ∷ name_rule (codes "global") ∷ path_rule (codes "script") ∷ path_rule (codes "mail") ∷ [];
 }
+
+-- the options of `test` for the envelope
+abbrev pub envelope_rules : List Rule
+envelope_rules = letter_rule (codes "from") (code "f") ∷ name_rule (codes "to") ∷ []
+
+-- its option for the mailbox
+abbrev pub mailbox_rules : List Rule
+mailbox_rules = letter_rule (codes "mailbox") (code "m") ∷ []
+
+-- its options for folders of scripts
+abbrev pub folder_rules : List Rule
+folder_rules = name_rule (codes "personal") ∷ name_rule (codes "global") ∷ []
+
+-- its files
+abbrev pub file_rules : List Rule
+file_rules = path_rule (codes "script") ∷ path_rule (codes "mail") ∷ []
+
+-- a command's words with these rules more, the last
+abbrev pub with_rules : App → List Rule → App
+with_rules app [] = app
+with_rules app (rule ∷ rules) = with_rules (with_rule app rule) rules
+
+-- `new` is `old` with arguments of these rules more, none of which is global
+abbrev pub HasMore : Command → List Rule → Command → Type 0
+HasMore old rules new = (app_of new ≡ with_rules (app_of old) rules) × ((out-Command new).has_globals ≡ (out-Command old).has_globals)
 
 -- the program, which wants a subcommand and has a version
 unfoldable pub top_app : App

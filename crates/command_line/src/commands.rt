@@ -1,10 +1,10 @@
 //! The program's command line, as `clap` is told of it.
 
-ghost use Rattle.std.specs.Prelude.{◌≡◌, IfOk, false};
-ghost use Rattle.clap.specs.Words.{app_of, shape_of};
+ghost use Rattle.std.specs.Prelude.{◌≡◌, IfOk, codes, false};
+ghost use Rattle.clap.specs.Words.{app_of, new_app, shape_of, with_subcommand};
 ghost use Rattle.clap.specs.Walk.{rule_of};
 ghost use Rattle.clap.specs.declared.builder.command.Command.TheViews.{out-Command};
-ghost use Rattle.command_line.specs.CommandLine.{the_app, top_app, dump_shape, path_rule, letter_rule, name_rule, session_shape, test_shape};
+ghost use Rattle.command_line.specs.CommandLine.{HasMore, the_app, top_app, dump_shape, envelope_rules, file_rules, folder_rules, mailbox_rules, path_rule, letter_rule, name_rule, session_shape, test_shape};
 
 use crate::help;
 use clap::{Arg, Command};
@@ -62,16 +62,74 @@ fn name_option<'a>(alloc: Global, name: &'a str, value: &'a str, help: &'a str) 
         .help(help)
 }
 
+// The subcommand `dump` before it has an argument.
+fn bare_dump_command<'a>(alloc: Global) -> Command<'a>
+    ensures shape { app_of result ≡ new_app (codes "dump") }
+    ensures local { (out-Command result).has_globals ≡ false }
+{
+    Command::new(alloc, "dump")
+        .about("Prints the code that a script is compiled to, or the line of its first fault")
+        .after_help(help::of_dump())
+}
+
 // The subcommand `dump`.
 fn dump_command<'a>(alloc: Global) -> Result<Command<'a>, AllocError>
     ensures shape { IfOk result (λ command. shape_of command ≡ dump_shape) }
     ensures local { IfOk result (λ command. (out-Command command).has_globals ≡ false) }
 {
     let script = path_argument(alloc, "script", "SCRIPT", "The file that the script is in");
-    Command::new(alloc, "dump")
-        .about("Prints the code that a script is compiled to, or the line of its first fault")
-        .after_help(help::of_dump())
-        .arg(script)
+    bare_dump_command(alloc).arg(script)
+}
+
+// The subcommand `test` before it has an argument.
+fn bare_test_command<'a>(alloc: Global) -> Command<'a>
+    ensures shape { app_of result ≡ new_app (codes "test") }
+    ensures local { (out-Command result).has_globals ≡ false }
+{
+    Command::new(alloc, "test")
+        .about("Runs a script against a message in a file, and prints the report")
+        .after_help(help::of_test())
+}
+
+// The command with the options for the envelope.
+fn with_envelope<'a>(alloc: Global, command: Command<'a>) -> Result<Command<'a>, AllocError>
+    ensures { IfOk result (HasMore command.entry envelope_rules) }
+{
+    let from = "The sender's address in the envelope; empty where it is not given";
+    let to = "The recipient's address in the envelope; empty where it is not given";
+    command
+        .arg(letter_option(alloc, "from", 'f', "ADDRESS", from))?
+        .arg(name_option(alloc, "to", "ADDRESS", to))
+}
+
+// The command with the option for the mailbox.
+fn with_mailbox<'a>(alloc: Global, command: Command<'a>) -> Result<Command<'a>, AllocError>
+    ensures { IfOk result (HasMore command.entry mailbox_rules) }
+{
+    let mailbox = "The mailbox that mail is kept in; INBOX where it is not given";
+    command.arg(letter_option(alloc, "mailbox", 'm', "BOX", mailbox))
+}
+
+// The command with the options for folders of scripts.
+fn with_folders<'a>(alloc: Global, command: Command<'a>) -> Result<Command<'a>, AllocError>
+    ensures { IfOk result (HasMore command.entry folder_rules) }
+{
+    let personal = "A folder of personal scripts, for include and include :personal";
+    let global = "A folder of global scripts, for include :global";
+    command
+        .arg(name_option(alloc, "personal", "DIR", personal))?
+        .arg(name_option(alloc, "global", "DIR", global))
+}
+
+// The command with the paths of the script and the message.
+fn with_files<'a>(alloc: Global, command: Command<'a>) -> Result<Command<'a>, AllocError>
+    ensures { IfOk result (HasMore command.entry file_rules) }
+{
+    let script = "The file that the main script is in";
+    let mail = "The file that the message is in";
+    command
+        .arg(path_argument(alloc, "script", "SCRIPT", script))?
+        .arg(path_argument(alloc, "mail", "MAIL", mail))
 }
 
 // The subcommand `test`.
@@ -79,48 +137,49 @@ fn test_command<'a>(alloc: Global) -> Result<Command<'a>, AllocError>
     ensures shape { IfOk result (λ command. shape_of command ≡ test_shape) }
     ensures local { IfOk result (λ command. (out-Command command).has_globals ≡ false) }
 {
-    let from = "The sender's address in the envelope; empty where it is not given";
-    let to = "The recipient's address in the envelope; empty where it is not given";
-    let mailbox = "The mailbox that mail is kept in; INBOX where it is not given";
-    let personal = "A folder of personal scripts, for include and include :personal";
-    let global = "A folder of global scripts, for include :global";
-    let command = Command::new(alloc, "test")
-        .about("Runs a script against a message in a file, and prints the report")
-        .after_help(help::of_test());
-    command
-        .arg(letter_option(alloc, "from", 'f', "ADDRESS", from))?
-        .arg(name_option(alloc, "to", "ADDRESS", to))?
-        .arg(letter_option(alloc, "mailbox", 'm', "BOX", mailbox))?
-        .arg(name_option(alloc, "personal", "DIR", personal))?
-        .arg(name_option(alloc, "global", "DIR", global))?
-        .arg(path_argument(
-            alloc,
-            "script",
-            "SCRIPT",
-            "The file that the main script is in",
-        ))?
-        .arg(path_argument(alloc, "mail", "MAIL", "The file that the message is in"))
+    let command = with_envelope(alloc, bare_test_command(alloc))?;
+    let command = with_mailbox(alloc, command)?;
+    let command = with_folders(alloc, command)?;
+    with_files(alloc, command)
+}
+
+// The program before its settings.
+fn bare_top_command<'a>(alloc: Global) -> Command<'a>
+    ensures { app_of result ≡ new_app (codes "sievebench") }
+{
+    Command::new(alloc, "sievebench")
+        .about("Runs Sieve scripts against sample messages and prints what would happen")
+        .after_help(help::of_program())
 }
 
 // The program, which wants a subcommand. Its usage has this name, whatever its file is called.
 fn top_command<'a>(alloc: Global) -> Result<Command<'a>, AllocError>
     ensures { IfOk result (λ command. app_of command ≡ top_app) }
 {
-    Command::new(alloc, "sievebench")
-        .about("Runs Sieve scripts against sample messages and prints what would happen")
-        .after_help(help::of_program())
+    bare_top_command(alloc)
         .version(VERSION)
         .subcommand_required(true)
         .arg_required_else_help(true)
         .bin_name("sievebench")
 }
 
+// The program with `session`.
+fn with_session<'a>(alloc: Global) -> Result<Command<'a>, AllocError>
+    ensures { IfOk result (λ command. app_of command ≡ with_subcommand top_app session_shape) }
+{
+    top_command(alloc)?.subcommand(session_command(alloc))
+}
+
+// The program with `session` and `dump`.
+fn with_dump<'a>(alloc: Global) -> Result<Command<'a>, AllocError>
+    ensures { IfOk result (λ command. app_of command ≡ with_subcommand (with_subcommand top_app session_shape) dump_shape) }
+{
+    with_session(alloc)?.subcommand(dump_command(alloc)?)
+}
+
 /// The program and its subcommands.
 pub(crate) fn program<'a>(alloc: Global) -> Result<Command<'a>, AllocError>
     ensures { IfOk result (λ command. app_of command ≡ the_app) }
 {
-    top_command(alloc)?
-        .subcommand(session_command(alloc))?
-        .subcommand(dump_command(alloc)?)?
-        .subcommand(test_command(alloc)?)
+    with_dump(alloc)?.subcommand(test_command(alloc)?)
 }

@@ -63,7 +63,7 @@ impl Tail {
     fn drop_first(&mut self)
         ensures { self.new ≡ drop 1 self.old }
     {
-        let _dropped = self.ops.pop_front();
+        drop(self.ops.pop_front());
     }
 
     /// The operations in order.

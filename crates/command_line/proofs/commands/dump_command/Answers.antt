@@ -1,7 +1,7 @@
 -- The subcommand with its argument is the one that the definition names.
 use Rattle.std.proofs.Common.{ap, ap₂, ◌∙◌}
 use Rattle.std.proofs.lemmas.Result.{IfOk-weaker}
-use Rattle.clap.specs.Simple.{App, app_of_fields, with_rule}
+use Rattle.clap.specs.Simple.{App, with_rule}
 use Rattle.command_line.specs.CommandLine.{dump_shape}
 use Rattle.command_line.proofs.commands.dump_command.Goals as goal
 
@@ -9,5 +9,5 @@ pub returns-clause-shape : goal.returns-clause-shape
 unfolding dump_shape
 returns-clause-shape c = IfOk-weaker c.arg.result _ _
     (λ r added. ap (λ (a : App). a.top) (added.shape c.path_argument-script.ensures.local
-    ∙ ap₂ with_rule (ap app_of_fields c.after_help.ensures ∙ ap app_of_fields c.about.ensures ∙ c.new.ensures.app) c.path_argument-script.ensures.rule))
+    ∙ ap₂ with_rule c.bare_dump_command.ensures.shape c.path_argument-script.ensures.rule))
     c.arg.ensures

@@ -7,10 +7,6 @@ use Rattle.command_line.proofs.commands.program.Goals as goal
 
 pub returns : goal.returns
 unfolding the_app
-returns c = IfOk-weaker c.subcommand-3.result _ _
-    (λ r added. added.shape c.in_ok-test_command.ensures.local ∙ ap₂ with_subcommand
-    (c.in_ok-subcommand-2.ensures.shape c.in_ok-dump_command.ensures.local ∙ ap₂ with_subcommand
-    (c.in_ok-subcommand.ensures.shape c.session_command.ensures.local ∙ ap₂ with_subcommand c.in_ok-top_command.ensures c.session_command.ensures.shape)
-    c.in_ok-dump_command.ensures.shape)
-    c.in_ok-test_command.ensures.shape)
-    c.subcommand-3.ensures
+returns c = IfOk-weaker c.subcommand.result _ _
+    (λ r added. added.shape c.in_ok-test_command.ensures.local ∙ ap₂ with_subcommand c.in_ok-with_dump.ensures c.in_ok-test_command.ensures.shape)
+    c.subcommand.ensures

@@ -11,6 +11,5 @@ returns c = IfOk-weaker c.bin_name.result _ _
     (λ r named. ap app_of_fields named.0 ∙ (ap app_of_fields c.arg_required_else_help.ensures
     ∙ ap (on_top (λ (s : Shape). record s { arg_required_else_help = true })) (ap app_of_fields c.subcommand_required.ensures
     ∙ ap (on_top (λ (s : Shape). record s { subcommand_required = true })) (ap app_of_fields c.version.ensures
-    ∙ ap (on_top (λ (s : Shape). record s { has_version = true })) (ap app_of_fields c.after_help.ensures
-    ∙ ap app_of_fields c.about.ensures ∙ c.new.ensures.app)))))
+    ∙ ap (on_top (λ (s : Shape). record s { has_version = true })) c.bare_top_command.ensures))))
     c.bin_name.ensures

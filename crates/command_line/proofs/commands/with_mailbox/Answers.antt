@@ -1,0 +1,7 @@
+-- The option is the one that the definition names.
+use Rattle.std.proofs.lemmas.Result.{IfOk-weaker}
+use Rattle.command_line.proofs.Adding.{one_more}
+use Rattle.command_line.proofs.commands.with_mailbox.Goals as goal
+
+pub returns : goal.returns
+returns c = IfOk-weaker c.arg.result _ _ (λ r added. one_more _ _ _ _ added c.letter_option.ensures.rule c.letter_option.ensures.local) c.arg.ensures
