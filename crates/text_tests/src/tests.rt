@@ -17,12 +17,23 @@ mod writers;
 use std::alloc::AllocError;
 use std::process::Abort;
 
-/// Octets, and those that are wanted of them.
+/// Two texts, as octets and those that are wanted of them.
 type Row<'a> = (&'a [u8], &'a [u8]);
+
+/// Compares what came of two texts with what is wanted.
+fn same_of(rt: &impl Abort, (first, second): Row<'_>, got: &[u8], wanted: &[u8]) {
+    assert_eq!(rt;
+        got,
+        wanted,
+        "in \"{}\" \"{}\"",
+        first.escape_ascii(),
+        second.escape_ascii()
+    );
+}
 
 /// Compares what came of a row with what is wanted.
 fn same(rt: &impl Abort, row: &[u8], got: &[u8], wanted: &[u8]) {
-    assert_eq!(rt; got, wanted, "in {}", row.escape_ascii());
+    same_of(rt, (row, b""), got, wanted);
 }
 
 /// Asserts what must hold of a row.

@@ -1,5 +1,5 @@
 //! Rows of both comparators, and both ways of searching.
-use super::holds;
+use super::{holds, same_of};
 use match_text::{AsciiCasemap, Collation, Comparator, Octet, contains, contains_in, is};
 use std::alloc::AllocError;
 use std::process::Abort;
@@ -48,25 +48,29 @@ fn folds_letters_alone(rt: HostRuntime) {
 /// A value, a key, and what is answered under i;octet and under i;ascii-casemap.
 type Row<'a> = (&'a [u8], &'a [u8], bool, bool);
 
-/// Compares whether a value equals a key under i;octet, under i;ascii-casemap, and under the fold of the latter.
+/// Compares whether a value equals a key under i;octet, under i;ascii-casemap, and under the fold of the latter: 1, or else 0.
 fn check_whole(rt: &impl Abort, rows: &[Row<'_>]) {
     for (value, key, octet, casemap) in rows {
-        holds(rt, *value, is::<Octet>(*value, *key) == *octet);
-        holds(rt, *value, is::<AsciiCasemap>(*value, *key) == *casemap);
-        holds(rt, *value, is::<Plain>(*value, *key) == *casemap);
+        let got = [
+            is::<Octet>(*value, *key) as u8,
+            is::<AsciiCasemap>(*value, *key) as u8,
+            is::<Plain>(*value, *key) as u8,
+        ];
+        let wanted = [*octet as u8, *casemap as u8, *casemap as u8];
+        same_of(rt, (*value, *key), &got, &wanted);
     }
 }
 
 /// Compares whether a key is part of a value under the same three.
 fn check_part(rt: &impl Abort, rows: &[Row<'_>]) {
     for (value, key, octet, casemap) in rows {
-        holds(rt, *value, contains::<Octet>(*value, *key) == *octet);
-        holds(
-            rt,
-            *value,
-            contains::<AsciiCasemap>(*value, *key) == *casemap,
-        );
-        holds(rt, *value, contains::<Plain>(*value, *key) == *casemap);
+        let got = [
+            contains::<Octet>(*value, *key) as u8,
+            contains::<AsciiCasemap>(*value, *key) as u8,
+            contains::<Plain>(*value, *key) as u8,
+        ];
+        let wanted = [*octet as u8, *casemap as u8, *casemap as u8];
+        same_of(rt, (*value, *key), &got, &wanted);
     }
 }
 

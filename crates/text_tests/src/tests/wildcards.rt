@@ -1,7 +1,7 @@
 //! Rows of `:matches`, and the fast way of matching against a slow one.
 ghost use Rattle.std.specs.Prelude.{◌<◌, length};
 
-use super::{holds, same};
+use super::{holds, same, same_of};
 use match_text::{AsciiCasemap, Captures, Comparator, Octet, matches};
 use std::alloc::{AllocError, Global};
 use std::process::Abort;
@@ -40,7 +40,7 @@ fn check_answers<C: Comparator>(
     for (value, pattern, wanted) in rows {
         let mut told = Vec::new(rt.alloc());
         push_answer::<C>(rt.alloc(), &mut told, *value, *pattern)?;
-        same(rt, *pattern, &told, *wanted);
+        same_of(rt, (*value, *pattern), &told, *wanted);
     }
     Ok(())
 }
@@ -235,7 +235,7 @@ fn check_ways(
     push_answer::<Octet>(rt.alloc(), &mut got, value, pattern)?;
     let mut told = Vec::new(rt.alloc());
     push_slow(rt.alloc(), &mut told, value, pattern)?;
-    same(rt, pattern, &got, &told);
+    same_of(rt, (value, pattern), &got, &told);
     Ok(())
 }
 
