@@ -35,16 +35,28 @@ const REPLIES: &[u8] =
 const REPORT: &[u8] =
     b"main none\nenvelope \"\" \"\" mailbox \"INBOX\"\ntotal 0 messages 0 errors\n";
 
+/// What is compared, and two numbers that tell its row from others.
+type At<'a> = (&'a str, u64, u64);
+
+/// Asserts what must hold of a row.
+fn holds(rt: &impl Abort, (what, first, second): At<'_>, condition: bool) {
+    assert!(rt; condition, "{what} at {first}, {second}");
+}
+
+/// Compares what came of a row with what is wanted.
+fn same(rt: &impl Abort, (what, first, second): At<'_>, got: &[u8], wanted: &[u8]) {
+    assert_eq!(rt; got, wanted, "{what} at {first}, {second}");
+}
+
 /// Reports, and compares the text.
 fn check_report(
     rt: &(impl AllocGlobal + Abort),
     bench: &mut Bench,
     text: &[u8],
 ) -> Result<(), Fail> {
-    let mut meter = Meter::new();
     let mut writer = Counted::new(Vec::new(rt.alloc()));
-    bench.report(&mut meter, &mut writer)?;
-    assert_eq!(rt; writer.into_inner().as_slice(), text);
+    bench.report(&mut Meter::new(), &mut writer)?;
+    same(rt, ("a report", 0, 0), &writer.into_inner(), text);
     Ok(())
 }
 

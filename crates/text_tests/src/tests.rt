@@ -13,3 +13,37 @@ mod spellings;
 mod variables;
 mod wildcards;
 mod writers;
+
+use std::alloc::AllocError;
+use std::process::Abort;
+
+/// Two texts, as octets and those that are wanted of them.
+type Row<'a> = (&'a [u8], &'a [u8]);
+
+/// Compares what came of two texts with what is wanted.
+fn same_of(rt: &impl Abort, (first, second): Row<'_>, got: &[u8], wanted: &[u8]) {
+    assert_eq!(rt;
+        got,
+        wanted,
+        "in \"{}\" \"{}\"",
+        first.escape_ascii(),
+        second.escape_ascii()
+    );
+}
+
+/// Compares what came of a row with what is wanted.
+fn same(rt: &impl Abort, row: &[u8], got: &[u8], wanted: &[u8]) {
+    same_of(rt, (row, b""), got, wanted);
+}
+
+/// Asserts what must hold of a row.
+fn holds(rt: &impl Abort, row: &[u8], condition: bool) {
+    assert!(rt; condition, "in {}", row.escape_ascii());
+}
+
+/// Adds octets and an end.
+fn push_ended(text: &mut Vec<u8>, octets: &[u8], end: u8) -> Result<(), AllocError> {
+    text.extend_from_slice(octets)?;
+    text.push(end)?;
+    Ok(())
+}

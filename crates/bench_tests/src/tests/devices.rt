@@ -1,11 +1,11 @@
 //! Sessions over readers that give little, interrupt or never end.
 
-use super::{REPLIES, REPORT, SESSION, TURNS};
+use super::{REPLIES, REPORT, SESSION, TURNS, holds, same};
 use sievebench::{Bench, Counted, Meter, SessionEnd, Source, session};
+use std::alloc::AllocError;
 use std::io;
 use std::io::{ErrorKind, Read};
 use std::process::Abort;
-use std::test::Fail;
 
 /// Two reports of a new bench.
 const TWO_REPORTS: &[u8] =
@@ -55,12 +55,20 @@ fn check_ended<R: Source>(
     turns: u64,
     text: &[u8],
     wanted: SessionEnd,
-) -> Result<(), Fail> {
+) -> Result<(), AllocError> {
     let mut bench = Bench::new(rt.alloc())?;
     let mut writer = Counted::new(Vec::new(rt.alloc()));
     let end = session(&mut bench, &mut Meter::new(), reader, &mut writer, turns);
-    assert_eq!(rt; (end, writer.into_inner().as_slice()), (wanted, text));
+    let at = ("so many reads", turns, reader.calls());
+    holds(rt, at, end == wanted);
+    same(rt, at, &writer.into_inner(), text);
     Ok(())
+}
+
+/// Compares with how many reads a session is served.
+fn check_calls<R: Source>(rt: &impl Abort, reader: &R, turns: u64) {
+    let calls = reader.calls();
+    holds(rt, ("so many reads", turns, calls), calls == turns);
 }
 
 /// Serves the session in single octets, each after some interruptions, and compares.
@@ -69,13 +77,13 @@ fn check_dripping(
     interruptions: u32,
     text: &[u8],
     wanted: SessionEnd,
-) -> Result<(), Fail> {
+) -> Result<(), AllocError> {
     let mut reader = Counted::new(Dripping::new(SESSION, interruptions));
     check_ended(rt, &mut reader, TURNS, text, wanted)
 }
 
 #[test]
-fn the_pieces_of_the_input_do_not_matter(rt: HostRuntime) -> Result<(), Fail> {
+fn the_pieces_of_the_input_do_not_matter(rt: HostRuntime) -> Result<(), AllocError> {
     check_dripping(&rt, 0, REPLIES, SessionEnd::Done)?;
     check_dripping(&rt, 1_000, REPLIES, SessionEnd::Done)?;
     check_dripping(&rt, 1_001, b"", SessionEnd::Read)
@@ -87,15 +95,15 @@ fn check_turns(
     turns: u64,
     text: &[u8],
     wanted: SessionEnd,
-) -> Result<(), Fail> {
+) -> Result<(), AllocError> {
     let mut reader = Counted::new(Dripping::new(b"report", 0));
     check_ended(rt, &mut reader, turns, text, wanted)?;
-    assert_eq!(rt; reader.calls(), turns);
+    check_calls(rt, &reader, turns);
     Ok(())
 }
 
 #[test]
-fn the_end_of_the_input_is_read_once(rt: HostRuntime) -> Result<(), Fail> {
+fn the_end_of_the_input_is_read_once(rt: HostRuntime) -> Result<(), AllocError> {
     check_turns(&rt, 7, REPORT, SessionEnd::Done)?;
     check_turns(&rt, 6, b"", SessionEnd::TurnLimit)
 }
@@ -118,15 +126,15 @@ fn check_endless(
     line: &[u8],
     turns: u64,
     text: &[u8],
-) -> Result<(), Fail> {
+) -> Result<(), AllocError> {
     let mut reader = Counted::new(Endless(line));
     check_ended(rt, &mut reader, turns, text, SessionEnd::TurnLimit)?;
-    assert_eq!(rt; reader.calls(), turns);
+    check_calls(rt, &reader, turns);
     Ok(())
 }
 
 #[test]
-fn reads_are_limited(rt: HostRuntime) -> Result<(), Fail> {
+fn reads_are_limited(rt: HostRuntime) -> Result<(), AllocError> {
     check_endless(&rt, b"\n", 5, b"")?;
     check_endless(&rt, b"report\n", 1, REPORT)?;
     check_endless(&rt, b"report\n", 2, TWO_REPORTS)?;

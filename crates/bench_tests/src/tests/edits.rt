@@ -55,12 +55,22 @@ fn edit_settings(
     )
 }
 
+/// Makes each edit on a new bench.
+fn edit_all(
+    rt: &(impl AllocGlobal + Abort),
+    main: &ScriptName,
+    other: &ScriptName,
+    id: &Octets,
+) -> Result<(), Fail> {
+    let mut bench = Bench::new(rt.alloc())?;
+    edit_content(rt, &mut bench, main, other, id)?;
+    edit_settings(rt, &mut bench, main)
+}
+
 #[test]
 fn each_edit_is_made(rt: HostRuntime) -> Result<(), Fail> {
     let main = personal(rt.alloc(), b"main")?;
     let other = personal(rt.alloc(), b"b")?;
     let id = Octets::copied(rt.alloc(), b"m")?;
-    let mut bench = Bench::new(rt.alloc())?;
-    edit_content(&rt, &mut bench, &main, &other, &id)?;
-    edit_settings(&rt, &mut bench, &main)
+    edit_all(&rt, &main, &other, &id)
 }

@@ -1,6 +1,6 @@
 //! Sessions over readers that fail at some calls and work at every other.
 
-use super::{REPLIES, REPORT, SESSION, TURNS, check_report};
+use super::{At, REPLIES, REPORT, SESSION, TURNS, check_report, holds, same};
 use sievebench::{Bench, Counted, Faults, Meter, SessionEnd, Source, session};
 use std::io;
 use std::io::{ErrorKind, Read};
@@ -20,7 +20,7 @@ pub(super) const MAIN_REPORT: &[u8] =
     b"main personal \"main\"\nenvelope \"\" \"\" mailbox \"INBOX\"\nscript personal \"main\" ok\nmessage \"m1\"\n  discard\n  read personal \"main\"\ntotal 1 messages 0 errors\n";
 
 /// The calls at which a device fails: so many in a row, behind so many at which it works.
-#[derive(Clone, Copy, Debug)]
+#[derive(Clone, Copy)]
 pub(super) struct Failures {
     pub before: u64,
     pub times: u64,
@@ -42,7 +42,7 @@ impl Failures {
 }
 
 /// A reader that gives so many octets a call.
-#[derive(Clone, Copy, Debug)]
+#[derive(Clone, Copy)]
 struct Faltering<'a> {
     octets: &'a [u8],
     piece: usize,
@@ -62,9 +62,11 @@ impl Read for Faltering<'_> {
     }
 }
 
-/// What must come of a session: its end, what it writes, the report of the bench behind it, and how many reads and faults are counted.
-#[derive(Clone, Copy, Debug)]
+/// What must come of a session: its row in a message, its end, what it writes, the report of the bench behind it, and how many reads and
+/// faults are counted.
+#[derive(Clone, Copy)]
 struct Outcome<'a> {
+    at: At<'a>,
     end: SessionEnd,
     text: &'a [u8],
     report: &'a [u8],
@@ -76,25 +78,17 @@ struct Outcome<'a> {
 fn check_read_on(
     rt: &(impl AllocGlobal + Abort),
     bench: &mut Bench,
-    input: Faltering<'_>,
+    reader: &mut Counted<Faltering<'_>>,
     turns: u64,
-    wanted: Outcome<'_>,
+    wanted: &Outcome<'_>,
 ) -> Result<(), Fail> {
-    let Faltering { failures, kind, .. } = input;
-    let mut reader = Counted::new(input);
     let mut writer = Counted::new(Vec::new(rt.alloc()));
-    let end = session(bench, &mut Meter::new(), &mut reader, &mut writer, turns);
-    let (calls, faults) = (reader.calls(), reader.faults());
-    assert_eq!(rt;
-        (end, calls, faults),
-        (wanted.end, wanted.calls, wanted.faults),
-        "at {failures:?}, {kind:?}"
-    );
-    assert_eq!(rt;
-        writer.into_inner().as_slice(),
-        wanted.text,
-        "at {failures:?}, {kind:?}"
-    );
+    let end = session(bench, &mut Meter::new(), reader, &mut writer, turns);
+    let at = wanted.at;
+    holds(rt, at, end == wanted.end);
+    holds(rt, at, reader.calls() == wanted.calls);
+    holds(rt, at, reader.faults() == wanted.faults);
+    same(rt, at, &writer.into_inner(), wanted.text);
     check_report(rt, bench, wanted.report)
 }
 
@@ -103,10 +97,10 @@ fn check_read(
     rt: &(impl AllocGlobal + Abort),
     input: Faltering<'_>,
     turns: u64,
-    wanted: Outcome<'_>,
+    wanted: &Outcome<'_>,
 ) -> Result<(), Fail> {
     let mut bench = Bench::new(rt.alloc())?;
-    check_read_on(rt, &mut bench, input, turns, wanted)
+    check_read_on(rt, &mut bench, &mut Counted::new(input), turns, wanted)
 }
 
 /// What the session writes once it has read so many octets, with more to come, and the report of the bench then.
@@ -127,7 +121,7 @@ type Run = (u64, u64, u64, u64, SessionEnd, u64, u64);
 /// Runs the session over a reader that fails in this way, and compares.
 fn check_run(
     rt: &(impl AllocGlobal + Abort),
-    kind: ErrorKind,
+    (what, kind): (&str, ErrorKind),
     (before, times, turns, octets, end, calls, faults): Run,
 ) -> Result<(), Fail> {
     let (text, report) = left_by(octets);
@@ -138,91 +132,113 @@ fn check_run(
         kind,
     };
     let wanted = Outcome {
+        at: (what, before, turns),
         end,
         text,
         report,
         calls,
         faults,
     };
-    check_read(rt, input, turns, wanted)
+    check_read(rt, input, turns, &wanted)
+}
+
+/// Compares a session of which one read fails in this way, be it any of the 72.
+fn check_each_read(
+    rt: &(impl AllocGlobal + Abort),
+    what: &str,
+    kind: ErrorKind,
+) -> Result<(), Fail> {
+    for before in 0..72 {
+        let run = (before, 1, TURNS, before, SessionEnd::Read, before + 1, 1);
+        check_run(rt, (what, kind), run)?;
+    }
+    Ok(())
 }
 
 /// A read that fails is the last one, and what came whole before it is answered.
 #[test]
 fn a_read_that_fails_ends_the_session(rt: HostRuntime) -> Result<(), Fail> {
-    for before in 0..72 {
-        let run = (before, 1, TURNS, before, SessionEnd::Read, before + 1, 1);
-        check_run(&rt, ErrorKind::ConnectionReset, run)?;
-        check_run(&rt, ErrorKind::WouldBlock, run)?;
-        check_run(&rt, ErrorKind::UnexpectedEof, run)?;
-    }
+    check_each_read(&rt, "a reset", ErrorKind::ConnectionReset)?;
+    check_each_read(&rt, "a read that would block", ErrorKind::WouldBlock)?;
+    check_each_read(&rt, "an unexpected end", ErrorKind::UnexpectedEof)?;
     // There is no read behind that of the end.
     let run = (72, 1, TURNS, 71, SessionEnd::Done, 72, 0);
-    check_run(&rt, ErrorKind::ConnectionReset, run)
+    check_run(&rt, ("no reset", ErrorKind::ConnectionReset), run)
+}
+
+/// Compares runs of which reads are interrupted.
+fn check_runs(rt: &(impl AllocGlobal + Abort), runs: &[Run]) -> Result<(), Fail> {
+    for run in runs {
+        check_run(rt, ("interruptions", ErrorKind::Interrupted), *run)?;
+    }
+    Ok(())
 }
 
 /// A read that is tried again is one more read, and a fault.
 #[test]
 fn reads_run_out_among_interruptions_too(rt: HostRuntime) -> Result<(), Fail> {
-    let runs: [Run; 19] = [
-        (0, 1_000, TURNS, 71, SessionEnd::Done, 1_072, 1_000),
-        (23, 1_000, TURNS, 71, SessionEnd::Done, 1_072, 1_000),
-        (71, 1_000, TURNS, 71, SessionEnd::Done, 1_072, 1_000),
-        (0, 1_001, TURNS, 0, SessionEnd::Read, 1_001, 1_001),
-        (23, 1_001, TURNS, 23, SessionEnd::Read, 1_024, 1_001),
-        (40, 1_001, TURNS, 40, SessionEnd::Read, 1_041, 1_001),
-        (71, 1_001, TURNS, 71, SessionEnd::Read, 1_072, 1_001),
-        (0, 0, 0, 0, SessionEnd::TurnLimit, 0, 0),
-        (0, 0, 31, 31, SessionEnd::TurnLimit, 31, 0),
-        (0, 0, 32, 32, SessionEnd::TurnLimit, 32, 0),
-        (0, 0, 63, 63, SessionEnd::TurnLimit, 63, 0),
-        (0, 0, 64, 64, SessionEnd::TurnLimit, 64, 0),
-        (0, 0, 71, 71, SessionEnd::TurnLimit, 71, 0),
-        (0, 0, 72, 71, SessionEnd::Done, 72, 0),
-        (0, 1_000, 1_000, 0, SessionEnd::TurnLimit, 1_000, 1_000),
-        (0, 1_000, 1_071, 71, SessionEnd::TurnLimit, 1_071, 1_000),
-        (0, 1_000, 1_072, 71, SessionEnd::Done, 1_072, 1_000),
-        (23, 1_001, 123, 23, SessionEnd::TurnLimit, 123, 100),
-        (40, 1_000, 540, 40, SessionEnd::TurnLimit, 540, 500),
-    ];
-    for run in runs {
-        check_run(&rt, ErrorKind::Interrupted, run)?;
-    }
-    Ok(())
+    check_runs(
+        &rt,
+        &[
+            (0, 1_000, TURNS, 71, SessionEnd::Done, 1_072, 1_000),
+            (23, 1_000, TURNS, 71, SessionEnd::Done, 1_072, 1_000),
+            (71, 1_000, TURNS, 71, SessionEnd::Done, 1_072, 1_000),
+            (0, 1_001, TURNS, 0, SessionEnd::Read, 1_001, 1_001),
+            (23, 1_001, TURNS, 23, SessionEnd::Read, 1_024, 1_001),
+            (40, 1_001, TURNS, 40, SessionEnd::Read, 1_041, 1_001),
+            (71, 1_001, TURNS, 71, SessionEnd::Read, 1_072, 1_001),
+            (0, 0, 0, 0, SessionEnd::TurnLimit, 0, 0),
+            (0, 0, 31, 31, SessionEnd::TurnLimit, 31, 0),
+            (0, 0, 32, 32, SessionEnd::TurnLimit, 32, 0),
+            (0, 0, 63, 63, SessionEnd::TurnLimit, 63, 0),
+            (0, 0, 64, 64, SessionEnd::TurnLimit, 64, 0),
+            (0, 0, 71, 71, SessionEnd::TurnLimit, 71, 0),
+            (0, 0, 72, 71, SessionEnd::Done, 72, 0),
+            (0, 1_000, 1_000, 0, SessionEnd::TurnLimit, 1_000, 1_000),
+            (0, 1_000, 1_071, 71, SessionEnd::TurnLimit, 1_071, 1_000),
+            (0, 1_000, 1_072, 71, SessionEnd::Done, 1_072, 1_000),
+            (23, 1_001, 123, 23, SessionEnd::TurnLimit, 123, 100),
+            (40, 1_000, 540, 40, SessionEnd::TurnLimit, 540, 500),
+        ],
+    )
 }
 
-/// Serves octets of three commands and a put that is cut: by the end of the input, by too few reads, and by a read that fails.
+/// What is cut: so many reads fail behind the last octet, so many may be made, and how that ends, what is written, how many reads are
+/// made behind the last octet, and how many faults there are.
+type Cut<'a> = (u64, u64, SessionEnd, &'a [u8], u64, u64);
+
+/// Serves octets of three commands and a put that is cut, and compares.
+fn check_cut_by(
+    rt: &(impl AllocGlobal + Abort),
+    octets: &[u8],
+    (times, turns, end, text, last, faults): Cut<'_>,
+) -> Result<(), Fail> {
+    let before = octets.len() as u64;
+    let input = Faltering {
+        octets,
+        piece: 1,
+        failures: Failures { before, times },
+        kind: ErrorKind::UnexpectedEof,
+    };
+    let wanted = Outcome {
+        at: ("a put that is cut", before, turns),
+        end,
+        text,
+        report: b"main personal \"a\"\nenvelope \"\" \"\" mailbox \"INBOX\"\nscript personal \"a\" ok\nmessage \"m\"\n  discard\n  read personal \"a\"\ntotal 1 messages 0 errors\n",
+        calls: before.saturating_add(last),
+        faults,
+    };
+    check_read(rt, input, turns, &wanted)
+}
+
+/// Cuts a put by the end of the input, by too few reads, and by a read that fails.
 fn check_cut(rt: &(impl AllocGlobal + Abort), octets: &[u8]) -> Result<(), Fail> {
+    let text = b"ok\nok\nok\nno truncated\n";
+    let front = b"ok\nok\nok\n";
     let len = octets.len() as u64;
-    let ways: [(u64, u64, SessionEnd, &[u8], u64, u64); 3] = [
-        (
-            0,
-            TURNS,
-            SessionEnd::Truncated,
-            b"ok\nok\nok\nno truncated\n",
-            1,
-            0,
-        ),
-        (0, len, SessionEnd::TurnLimit, b"ok\nok\nok\n", 0, 0),
-        (1, TURNS, SessionEnd::Read, b"ok\nok\nok\n", 1, 1),
-    ];
-    for (times, turns, end, text, last, faults) in ways {
-        let input = Faltering {
-            octets,
-            piece: 1,
-            failures: Failures { before: len, times },
-            kind: ErrorKind::UnexpectedEof,
-        };
-        let wanted = Outcome {
-            end,
-            text,
-            report: b"main personal \"a\"\nenvelope \"\" \"\" mailbox \"INBOX\"\nscript personal \"a\" ok\nmessage \"m\"\n  discard\n  read personal \"a\"\ntotal 1 messages 0 errors\n",
-            calls: len.saturating_add(last),
-            faults,
-        };
-        check_read(rt, input, turns, wanted)?;
-    }
-    Ok(())
+    check_cut_by(rt, octets, (0, TURNS, SessionEnd::Truncated, text, 1, 0))?;
+    check_cut_by(rt, octets, (0, len, SessionEnd::TurnLimit, front, 0, 0))?;
+    check_cut_by(rt, octets, (1, TURNS, SessionEnd::Read, front, 1, 1))
 }
 
 /// Octets that are kept and octets that are passed over, of scripts and of messages.
@@ -246,35 +262,48 @@ fn a_put_that_is_cut_puts_nothing(rt: HostRuntime) -> Result<(), Fail> {
     )
 }
 
+/// Serves octets that come at once, where the read behind so many fails, and compares.
+fn check_at_once(
+    rt: &(impl AllocGlobal + Abort),
+    octets: &[u8],
+    before: u64,
+    text: &[u8],
+    report: &[u8],
+) -> Result<(), Fail> {
+    let input = Faltering {
+        octets,
+        piece: usize::MAX,
+        failures: Failures { before, times: 1 },
+        kind: ErrorKind::ConnectionReset,
+    };
+    let wanted = Outcome {
+        at: ("octets at once", octets.len() as u64, before),
+        end: SessionEnd::Read,
+        text,
+        report,
+        calls: before.saturating_add(1),
+        faults: 1,
+    };
+    check_read(rt, input, TURNS, &wanted)
+}
+
 /// Octets that come at once: the commands that are whole are answered, and nothing else is.
 #[test]
 fn a_reader_that_fails_ends_the_session(rt: HostRuntime) -> Result<(), Fail> {
-    let rows: [(&[u8], u64, &[u8], &[u8]); 4] = [
-        (b"", 0, b"", REPORT),
-        (
-            b"message m 0\nmain personal main",
-            1,
-            b"ok\n",
-            b"main none\nenvelope \"\" \"\" mailbox \"INBOX\"\nmessage \"m\"\n  implicit \"INBOX\"\ntotal 1 messages 0 errors\n",
-        ),
-        (b"no-main\nscript personal main 9\ndisc", 1, b"ok\n", REPORT),
-        (b"frob", 1, b"", REPORT),
-    ];
-    for (octets, before, text, report) in rows {
-        let input = Faltering {
-            octets,
-            piece: usize::MAX,
-            failures: Failures { before, times: 1 },
-            kind: ErrorKind::ConnectionReset,
-        };
-        let wanted = Outcome {
-            end: SessionEnd::Read,
-            text,
-            report,
-            calls: before.saturating_add(1),
-            faults: 1,
-        };
-        check_read(&rt, input, TURNS, wanted)?;
-    }
-    Ok(())
+    check_at_once(&rt, b"", 0, b"", REPORT)?;
+    check_at_once(
+        &rt,
+        b"message m 0\nmain personal main",
+        1,
+        b"ok\n",
+        b"main none\nenvelope \"\" \"\" mailbox \"INBOX\"\nmessage \"m\"\n  implicit \"INBOX\"\ntotal 1 messages 0 errors\n",
+    )?;
+    check_at_once(
+        &rt,
+        b"no-main\nscript personal main 9\ndisc",
+        1,
+        b"ok\n",
+        REPORT,
+    )?;
+    check_at_once(&rt, b"frob", 1, b"", REPORT)
 }

@@ -1,7 +1,7 @@
 //! Sessions and dumps over writers that fail at some calls and work at every other.
 
 use super::failing_reads::{Failures, MAIN_REPORT, MESSAGE_REPORT, SCRIPT_REPORT};
-use super::{REPLIES, REPORT, SESSION, TURNS, check_report, personal};
+use super::{At, REPLIES, REPORT, SESSION, TURNS, check_report, holds, personal};
 use sievebench::{Bench, Counted, End, Faults, Meter, SessionEnd, TestEnd, dump_text, session};
 use std::alloc::Global;
 use std::io;
@@ -56,7 +56,7 @@ impl Write for Balking {
 }
 
 /// What is written.
-#[derive(Clone, Copy, Debug)]
+#[derive(Clone, Copy)]
 enum Output {
     /// The replies of the session.
     Replies,
@@ -87,24 +87,54 @@ impl Output {
         }
     }
 
+    /// Its name in a message.
+    fn name(self) -> &'static str {
+        match self {
+            Output::Replies => "replies",
+            Output::Dump => "a dump",
+        }
+    }
+
     /// Writes it, and answers how that ended.
     fn write(self, alloc: Global, bench: &mut Bench, writer: &mut Counted<Balking>) -> End {
-        match (self, personal(alloc, b"a")) {
-            (Output::Replies, _) => End::Session(session(
+        match self {
+            Output::Replies => End::Session(session(
                 bench,
                 &mut Meter::new(),
                 &mut Counted::new(SESSION),
                 writer,
                 TURNS,
             )),
-            (Output::Dump, Ok(name)) => End::Test(dump_text(alloc, &name, SCRIPT, writer)),
-            (Output::Dump, Err(_)) => End::Test(TestEnd::NoMemory),
+            Output::Dump => End::Test(dumped(alloc, writer)),
         }
+    }
+}
+
+/// Dumps the script, and answers how that ended.
+fn dumped(alloc: Global, writer: &mut Counted<Balking>) -> TestEnd {
+    match personal(alloc, b"a") {
+        Ok(name) => dump_text(alloc, &name, SCRIPT, writer),
+        Err(_) => TestEnd::NoMemory,
     }
 }
 
 /// A front of an output that was written: how that ended, and how many calls and faults there were.
 type Written = (End, u64, u64);
+
+/// Compares what a writer took, where an output was written to it that is whole or isn't.
+fn check_taken(
+    rt: &(impl AllocGlobal + Abort),
+    bench: &mut Bench,
+    output: Output,
+    taken: &[u8],
+    at: At<'_>,
+    end: End,
+) -> Result<(), Fail> {
+    let (whole, done, _) = output.whole();
+    holds(rt, at, whole.starts_with(taken));
+    holds(rt, at, (taken.len() == whole.len()) == (end == done));
+    check_report(rt, bench, output.report_behind(taken.len()))
+}
 
 /// Writes an output to a writer, and compares how that ends. The whole output is written where the writer didn't fail, and a front
 /// where it did.
@@ -113,26 +143,19 @@ fn check_written_on(
     bench: &mut Bench,
     output: Output,
     balking: Balking,
-    wanted: Written,
+    (end, calls, faults): Written,
 ) -> Result<(), Fail> {
-    let failures = balking.failures;
+    let at = (
+        output.name(),
+        balking.failures.before,
+        balking.failures.times,
+    );
     let mut writer = Counted::new(balking);
-    let end = output.write(rt.alloc(), bench, &mut writer);
-    let faults = writer.faults();
+    holds(rt, at, output.write(rt.alloc(), bench, &mut writer) == end);
+    holds(rt, at, writer.faults() == faults);
     let balking = writer.into_inner();
-    assert_eq!(rt;
-        (end, balking.calls, faults),
-        wanted,
-        "at {output:?}, {failures:?}"
-    );
-    let (whole, done, _) = output.whole();
-    let taken = balking.taken.as_slice();
-    assert_eq!(rt;
-        (whole.starts_with(taken), taken.len() == whole.len()),
-        (true, end == done),
-        "at {output:?}, {failures:?}"
-    );
-    check_report(rt, bench, output.report_behind(taken.len()))
+    holds(rt, at, balking.calls == calls);
+    check_taken(rt, bench, output, &balking.taken, at, end)
 }
 
 /// Writes an output on a new bench to a writer that takes at most so many octets a call and fails in this way, and compares.
@@ -149,18 +172,22 @@ fn check_written(
     check_written_on(rt, &mut bench, output, balking, wanted)
 }
 
+/// In how many calls an output is written on a bench to a writer.
+fn calls_on(alloc: Global, bench: &mut Bench, output: Output, balking: Balking) -> u64 {
+    let mut writer = Counted::new(balking);
+    let _ = output.write(alloc, bench, &mut writer);
+    writer.into_inner().calls
+}
+
 /// In how many calls an output is written that takes at most so many octets each.
-fn calls_of(alloc: Global, output: Output, piece: usize) -> u64 {
-    let Ok(mut bench) = Bench::new(alloc) else {
-        return 0;
-    };
+fn calls_of(alloc: Global, output: Output, piece: usize) -> Result<u64, Fail> {
     let never = Failures {
         before: 0,
         times: 0,
     };
-    let mut writer = Counted::new(Balking::new(alloc, piece, never, None));
-    let _ = output.write(alloc, &mut bench, &mut writer);
-    writer.into_inner().calls
+    let mut bench = Bench::new(alloc)?;
+    let balking = Balking::new(alloc, piece, never, None);
+    Ok(calls_on(alloc, &mut bench, output, balking))
 }
 
 /// Writes an output to writers that fail once, at each call in turn and at the one behind the last.
@@ -171,7 +198,7 @@ fn check_each_call(
     kind: Option<ErrorKind>,
 ) -> Result<(), Fail> {
     let (_, done, failed) = output.whole();
-    let calls = calls_of(rt.alloc(), output, piece);
+    let calls = calls_of(rt.alloc(), output, piece)?;
     for before in 0..calls {
         let failures = Failures { before, times: 1 };
         let wanted = (failed, before + 1, 1);
@@ -184,14 +211,34 @@ fn check_each_call(
     check_written(rt, output, piece, behind, kind, (done, calls, 0))
 }
 
+/// Compares both outputs over writers that fail once in this way, where the writer takes little and where it takes all at once.
+fn check_kind(rt: &(impl AllocGlobal + Abort), kind: Option<ErrorKind>) -> Result<(), Fail> {
+    check_each_call(rt, Output::Replies, 1, kind)?;
+    check_each_call(rt, Output::Replies, usize::MAX, kind)?;
+    check_each_call(rt, Output::Dump, 1, kind)?;
+    check_each_call(rt, Output::Dump, usize::MAX, kind)
+}
+
 /// A write that fails is the last one.
 #[test]
 fn a_write_that_fails_ends_the_output(rt: HostRuntime) -> Result<(), Fail> {
-    for kind in [Some(ErrorKind::Other), Some(ErrorKind::WouldBlock), None] {
-        check_each_call(&rt, Output::Replies, 1, kind)?;
-        check_each_call(&rt, Output::Replies, usize::MAX, kind)?;
-        check_each_call(&rt, Output::Dump, 1, kind)?;
-        check_each_call(&rt, Output::Dump, usize::MAX, kind)?;
+    check_kind(&rt, Some(ErrorKind::Other))?;
+    check_kind(&rt, Some(ErrorKind::WouldBlock))?;
+    check_kind(&rt, None)
+}
+
+/// An output, and how many interruptions there are behind how many octets.
+type Interrupted = (Output, u64, u64, Written);
+
+/// Writes outputs an octet a call, with interruptions, and compares.
+fn check_interrupted(rt: &(impl AllocGlobal + Abort), rows: &[Interrupted]) -> Result<(), Fail> {
+    for (output, before, times, wanted) in rows {
+        let failures = Failures {
+            before: *before,
+            times: *times,
+        };
+        let kind = Some(ErrorKind::Interrupted);
+        check_written(rt, *output, 1, failures, kind, *wanted)?;
     }
     Ok(())
 }
@@ -201,20 +248,17 @@ fn a_write_that_fails_ends_the_output(rt: HostRuntime) -> Result<(), Fail> {
 fn so_many_writes_may_be_interrupted(rt: HostRuntime) -> Result<(), Fail> {
     let (_, replied, unreplied) = Output::Replies.whole();
     let (_, dumped, undumped) = Output::Dump.whole();
-    let rows: [(Output, u64, u64, Written); 8] = [
-        (Output::Replies, 0, 1_000, (replied, 1_159, 1_000)),
-        (Output::Replies, 158, 1_000, (replied, 1_159, 1_000)),
-        (Output::Replies, 0, 1_001, (unreplied, 1_001, 1_001)),
-        (Output::Replies, 4, 1_001, (unreplied, 1_005, 1_001)),
-        (Output::Replies, 158, 1_001, (unreplied, 1_159, 1_001)),
-        (Output::Dump, 20, 1_000, (dumped, 1_034, 1_000)),
-        (Output::Dump, 0, 1_001, (undumped, 1_001, 1_001)),
-        (Output::Dump, 33, 1_001, (undumped, 1_034, 1_001)),
-    ];
-    for (output, before, times, wanted) in rows {
-        let failures = Failures { before, times };
-        let kind = Some(ErrorKind::Interrupted);
-        check_written(&rt, output, 1, failures, kind, wanted)?;
-    }
-    Ok(())
+    check_interrupted(
+        &rt,
+        &[
+            (Output::Replies, 0, 1_000, (replied, 1_159, 1_000)),
+            (Output::Replies, 158, 1_000, (replied, 1_159, 1_000)),
+            (Output::Replies, 0, 1_001, (unreplied, 1_001, 1_001)),
+            (Output::Replies, 4, 1_001, (unreplied, 1_005, 1_001)),
+            (Output::Replies, 158, 1_001, (unreplied, 1_159, 1_001)),
+            (Output::Dump, 20, 1_000, (dumped, 1_034, 1_000)),
+            (Output::Dump, 0, 1_001, (undumped, 1_001, 1_001)),
+            (Output::Dump, 33, 1_001, (undumped, 1_034, 1_001)),
+        ],
+    )
 }

@@ -1,54 +1,69 @@
 //! Edits at the limits of names, texts and messages, and past them: sessions refuse what is past them before they ask for an edit.
 
-use super::{many, personal};
-use sievebench::{Bench, EditFault, Octets, ScriptName};
+use super::{holds, many, personal};
+use sievebench::{Bench, EditFault};
+use std::alloc::AllocError;
 use std::process::Abort;
-use std::test::Fail;
 
-/// Makes edits with a name and an id, and edits with a text and with a message under others, and compares what each answers.
-fn check_answers(
-    rt: &impl Abort,
-    bench: &mut Bench,
-    (name, id): (&ScriptName, &Octets),
-    (main, text): (&ScriptName, &Octets),
-    (mail, message): (&Octets, &Octets),
-    wanted: Result<(), EditFault>,
-) {
-    assert_eq!(rt; bench.set_main(name), wanted);
-    assert_eq!(rt; bench.put_script(name, b""), wanted);
-    assert_eq!(rt; bench.put_message(id, b""), wanted);
-    assert_eq!(rt; bench.put_script(main, text.as_slice()), wanted);
-    assert_eq!(rt; bench.put_message(mail, message.as_slice()), wanted);
-}
-
-/// Makes edits with a name, a text and a message of so many octets, and compares what each answers.
-fn check_sizes(
+/// Makes edits with a name and an id of so many octets, and compares what each answers.
+fn check_names(
     rt: &(impl AllocGlobal + Abort),
-    name: usize,
-    text: usize,
-    message: usize,
-    wanted: Result<(), EditFault>,
-) -> Result<(), Fail> {
-    let id = many(rt.alloc(), name)?;
-    let text = many(rt.alloc(), text)?;
-    let message = many(rt.alloc(), message)?;
-    let mail = many(rt.alloc(), 1)?;
-    let long = personal(rt.alloc(), id.as_slice())?;
-    let main = personal(rt.alloc(), b"main")?;
-    let mut bench = Bench::new(rt.alloc())?;
-    check_answers(
-        rt,
-        &mut bench,
-        (&long, &id),
-        (&main, &text),
-        (&mail, &message),
-        wanted,
-    );
+    bench: &mut Bench,
+    count: usize,
+    wanted: &Result<(), EditFault>,
+) -> Result<(), AllocError> {
+    let id = many(rt.alloc(), count)?;
+    let name = personal(rt.alloc(), id.as_slice())?;
+    let at = ("a name", count as u64, 0);
+    holds(rt, at, bench.set_main(&name) == *wanted);
+    holds(rt, at, bench.put_script(&name, b"") == *wanted);
+    holds(rt, at, bench.put_message(&id, b"") == *wanted);
     Ok(())
 }
 
+/// Makes an edit with a text of so many octets, and compares what it answers.
+fn check_text(
+    rt: &(impl AllocGlobal + Abort),
+    bench: &mut Bench,
+    count: usize,
+    wanted: &Result<(), EditFault>,
+) -> Result<(), AllocError> {
+    let text = many(rt.alloc(), count)?;
+    let main = personal(rt.alloc(), b"main")?;
+    let answer = bench.put_script(&main, text.as_slice());
+    holds(rt, ("a text", count as u64, 0), answer == *wanted);
+    Ok(())
+}
+
+/// Makes an edit with a message of so many octets, and compares what it answers.
+fn check_message(
+    rt: &(impl AllocGlobal + Abort),
+    bench: &mut Bench,
+    count: usize,
+    wanted: &Result<(), EditFault>,
+) -> Result<(), AllocError> {
+    let message = many(rt.alloc(), count)?;
+    let mail = many(rt.alloc(), 1)?;
+    let answer = bench.put_message(&mail, message.as_slice());
+    holds(rt, ("a message", count as u64, 0), answer == *wanted);
+    Ok(())
+}
+
+/// Makes edits on a new bench with a name, a text and a message of so many octets, and compares what each answers.
+fn check_sizes(
+    rt: &(impl AllocGlobal + Abort),
+    (name, text, message): (usize, usize, usize),
+    wanted: &Result<(), EditFault>,
+) -> Result<(), AllocError> {
+    let mut bench = Bench::new(rt.alloc())?;
+    check_names(rt, &mut bench, name, wanted)?;
+    check_text(rt, &mut bench, text, wanted)?;
+    check_message(rt, &mut bench, message, wanted)
+}
+
 #[test]
-fn names_texts_and_messages_have_their_limits(rt: HostRuntime) -> Result<(), Fail> {
-    check_sizes(&rt, 1_024, 1_048_576, 16_777_216, Ok(()))?;
-    check_sizes(&rt, 1_025, 1_048_577, 16_777_217, Err(EditFault::TooLarge))
+fn names_texts_and_messages_have_their_limits(rt: HostRuntime) -> Result<(), AllocError> {
+    check_sizes(&rt, (1_024, 1_048_576, 16_777_216), &Ok(()))?;
+    let large = Err(EditFault::TooLarge);
+    check_sizes(&rt, (1_025, 1_048_577, 16_777_217), &large)
 }

@@ -1,6 +1,6 @@
 //! Calls that no clause keeps from saying that memory is refused, or reads are spent: here there is enough of both.
 
-use super::{TURNS, check_report, personal};
+use super::{TURNS, check_report, holds, personal, same};
 use sievebench::{Bench, Counted, Meter, Octets, SessionEnd, session};
 use std::process::Abort;
 use std::test::Fail;
@@ -9,32 +9,36 @@ use std::test::Fail;
 fn put_script_always_out_of_memory(rt: HostRuntime) -> Result<(), Fail> {
     let name = personal(rt.alloc(), b"main")?;
     let mut bench = Bench::new(rt.alloc())?;
-    assert_eq!(rt; bench.put_script(&name, b"keep;"), Ok(()));
+    bench.put_script(&name, b"keep;")?;
     Ok(())
 }
 
 /// Puts messages of no octets.
 pub(super) fn put_messages(
-    rt: &(impl AllocGlobal + Abort),
+    rt: &impl AllocGlobal,
     bench: &mut Bench,
     ids: &[&[u8]],
 ) -> Result<(), Fail> {
     for id in ids {
-        let id = Octets::copied(rt.alloc(), *id)?;
-        assert_eq!(rt; bench.put_message(&id, b""), Ok(()));
+        bench.put_message(&Octets::copied(rt.alloc(), *id)?, b"")?;
     }
     Ok(())
+}
+
+/// Puts a message, and compares the report.
+fn check_message(rt: &(impl AllocGlobal + Abort), bench: &mut Bench) -> Result<(), Fail> {
+    put_messages(rt, bench, &[b"m"])?;
+    check_report(
+        rt,
+        bench,
+        b"main none\nenvelope \"\" \"\" mailbox \"INBOX\"\nmessage \"m\"\n  implicit \"INBOX\"\ntotal 1 messages 0 errors\n",
+    )
 }
 
 #[test]
 fn report_out_of_memory_when_stale(rt: HostRuntime) -> Result<(), Fail> {
     let mut bench = Bench::new(rt.alloc())?;
-    put_messages(&rt, &mut bench, &[b"m"])?;
-    check_report(
-        &rt,
-        &mut bench,
-        b"main none\nenvelope \"\" \"\" mailbox \"INBOX\"\nmessage \"m\"\n  implicit \"INBOX\"\ntotal 1 messages 0 errors\n",
-    )
+    check_message(&rt, &mut bench)
 }
 
 /// Serves a session on a bench, and compares what it writes and how it ends.
@@ -48,7 +52,9 @@ fn check_session(
     let mut reader = Counted::new(input);
     let mut writer = Counted::new(Vec::new(rt.alloc()));
     let end = session(bench, &mut Meter::new(), &mut reader, &mut writer, TURNS);
-    assert_eq!(rt; (end, writer.into_inner().as_slice()), (wanted, text));
+    let at = ("a session", input.len() as u64, 0);
+    holds(rt, at, end == wanted);
+    same(rt, at, &writer.into_inner(), text);
 }
 
 #[test]

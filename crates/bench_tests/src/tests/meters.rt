@@ -1,7 +1,7 @@
 //! How many runs reports and sessions make.
 
-use super::TURNS;
 use super::memory::put_messages;
+use super::{TURNS, holds};
 use sievebench::{Bench, Counted, Meter, SessionEnd, session};
 use std::process::Abort;
 use std::test::Fail;
@@ -15,17 +15,22 @@ fn check_runs(
 ) -> Result<(), Fail> {
     let mut writer = Counted::new(Vec::new(rt.alloc()));
     bench.report(meter, &mut writer)?;
-    assert_eq!(rt; meter.runs(), runs);
+    holds(rt, ("a report", runs, meter.runs()), meter.runs() == runs);
     Ok(())
+}
+
+/// Reports twice on a bench of two messages, and compares.
+fn check_two_reports(rt: &(impl AllocGlobal + Abort), bench: &mut Bench) -> Result<(), Fail> {
+    let mut meter = Meter::new();
+    put_messages(rt, bench, &[b"a", b"b"])?;
+    check_runs(rt, bench, &mut meter, 2)?;
+    check_runs(rt, bench, &mut meter, 4)
 }
 
 #[test]
 fn a_report_counts_its_runs(rt: HostRuntime) -> Result<(), Fail> {
     let mut bench = Bench::new(rt.alloc())?;
-    let mut meter = Meter::new();
-    put_messages(&rt, &mut bench, &[b"a", b"b"])?;
-    check_runs(&rt, &mut bench, &mut meter, 2)?;
-    check_runs(&rt, &mut bench, &mut meter, 4)
+    check_two_reports(&rt, &mut bench)
 }
 
 /// Serves a session on a new bench, and compares how many runs it makes.
@@ -36,32 +41,35 @@ fn check_session_runs(
 ) -> Result<(), Fail> {
     let mut bench = Bench::new(rt.alloc())?;
     let mut meter = Meter::new();
-    let mut reader = Counted::new(input);
     let mut writer = Counted::new(Vec::new(rt.alloc()));
-    let end = session(&mut bench, &mut meter, &mut reader, &mut writer, TURNS);
-    assert_eq!(rt; (end, meter.runs()), (SessionEnd::Done, runs));
+    let end = session(
+        &mut bench,
+        &mut meter,
+        &mut Counted::new(input),
+        &mut writer,
+        TURNS,
+    );
+    let at = ("a session", runs, meter.runs());
+    holds(rt, at, end == SessionEnd::Done && meter.runs() == runs);
     Ok(())
 }
 
 #[test]
 fn a_session_counts_the_runs_of_its_reports(rt: HostRuntime) -> Result<(), Fail> {
-    let rows: [(&[u8], u64); 4] = [
-        (
-            b"script personal main 9\ndiscard;\nmessage m1 0\nmain personal main\nreport\n",
-            1,
-        ),
-        (
-            b"message a 0\nmessage b 0\nreport\nmessage c 0\nreport\n",
-            5,
-        ),
-        (b"message a 0\ndrop-message a\nreport\n", 0),
-        (
-            b"script personal main 0\nmessage a 0\nmain personal main\n",
-            0,
-        ),
-    ];
-    for (input, runs) in rows {
-        check_session_runs(&rt, input, runs)?;
-    }
-    Ok(())
+    check_session_runs(
+        &rt,
+        b"script personal main 9\ndiscard;\nmessage m1 0\nmain personal main\nreport\n",
+        1,
+    )?;
+    check_session_runs(
+        &rt,
+        b"message a 0\nmessage b 0\nreport\nmessage c 0\nreport\n",
+        5,
+    )?;
+    check_session_runs(&rt, b"message a 0\ndrop-message a\nreport\n", 0)?;
+    check_session_runs(
+        &rt,
+        b"script personal main 0\nmessage a 0\nmain personal main\n",
+        0,
+    )
 }

@@ -1,12 +1,11 @@
 //! The test of a message by a job: what is written, how it ends, and which edit is refused first.
 
-use super::{many, personal};
+use super::{holds, many, personal, same};
 use sievebench::{
-    Counted, Faults, Meter, Octets, ScriptName, TestEnd, TestJob, TestScript, test_bench,
+    Counted, Faults, Meter, Octets, Place, ScriptName, TestEnd, TestJob, TestScript, test_bench,
 };
 use std::alloc::{AllocError, Global};
 use std::process::Abort;
-use std::test::Fail;
 
 /// The names of personal scripts, with their texts.
 type Texts<'a> = &'a [(&'a [u8], &'a [u8])];
@@ -19,22 +18,36 @@ fn script_of(alloc: Global, name: &[u8], text: &[u8]) -> Result<TestScript, Allo
     })
 }
 
+/// A job of nothing but the name of a main script.
+fn bare(alloc: Global, main: ScriptName) -> TestJob {
+    TestJob {
+        from: Octets::from_vec(Vec::new(alloc)),
+        to: Octets::from_vec(Vec::new(alloc)),
+        mailbox: Octets::from_vec(Vec::new(alloc)),
+        scripts: Vec::new(alloc),
+        main,
+        id: Octets::from_vec(Vec::new(alloc)),
+        message: Octets::from_vec(Vec::new(alloc)),
+    }
+}
+
+/// Gives a job a sender, a mailbox, a message and scripts.
+fn fill(alloc: Global, job: &mut TestJob, texts: Texts<'_>) -> Result<(), AllocError> {
+    job.from = Octets::copied(alloc, b"a@b.example")?;
+    job.mailbox = Octets::copied(alloc, b"INBOX")?;
+    job.id = Octets::copied(alloc, b"mail.txt")?;
+    job.message = Octets::copied(alloc, b"Subject: one\n\n")?;
+    for (name, text) in texts {
+        job.scripts.push(script_of(alloc, *name, *text)?)?;
+    }
+    Ok(())
+}
+
 /// A job with a sender and one message, on which the personal script `main` is run.
 fn job_of(alloc: Global, texts: Texts<'_>) -> Result<TestJob, AllocError> {
-    let mut scripts = Vec::new(alloc);
-    for (name, text) in texts {
-        let script = script_of(alloc, *name, *text)?;
-        scripts.push(script)?;
-    }
-    Ok(TestJob {
-        from: Octets::copied(alloc, b"a@b.example")?,
-        to: Octets::from_vec(Vec::new(alloc)),
-        mailbox: Octets::copied(alloc, b"INBOX")?,
-        scripts,
-        main: personal(alloc, b"main")?,
-        id: Octets::copied(alloc, b"mail.txt")?,
-        message: Octets::copied(alloc, b"Subject: one\n\n")?,
-    })
+    let mut job = bare(alloc, personal(alloc, b"main")?);
+    fill(alloc, &mut job, texts)?;
+    Ok(job)
 }
 
 /// Makes a test, and compares how it ends, how many runs it makes and what it writes.
@@ -48,10 +61,10 @@ fn check_job(
     let mut meter = Meter::new();
     let mut writer = Counted::new(Vec::new(rt.alloc()));
     let end = test_bench(rt.alloc(), job, &mut meter, &mut writer);
-    assert_eq!(rt;
-        (end, meter.runs(), writer.into_inner().as_slice()),
-        (wanted, runs, text)
-    );
+    let at = ("a job with so many scripts", job.scripts.len() as u64, runs);
+    holds(rt, at, end == wanted);
+    holds(rt, at, meter.runs() == runs);
+    same(rt, at, &writer.into_inner(), text);
 }
 
 /// Makes a test of scripts, and compares.
@@ -60,14 +73,14 @@ fn check_texts(
     texts: Texts<'_>,
     wanted: TestEnd,
     text: &[u8],
-) -> Result<(), Fail> {
+) -> Result<(), AllocError> {
     let job = job_of(rt.alloc(), texts)?;
     check_job(rt, &job, wanted, 1, text);
     Ok(())
 }
 
 #[test]
-fn messages_are_tested(rt: HostRuntime) -> Result<(), Fail> {
+fn messages_are_tested(rt: HostRuntime) -> Result<(), AllocError> {
     check_texts(
         &rt,
         &[(b"main", b"discard;\n")],
@@ -104,7 +117,7 @@ fn messages_are_tested(rt: HostRuntime) -> Result<(), Fail> {
 }
 
 /// A part of a job that has a limit.
-#[derive(Clone, Copy, Debug)]
+#[derive(Clone, Copy)]
 enum Part {
     From,
     To,
@@ -116,6 +129,36 @@ enum Part {
     Message,
 }
 
+/// The name of a part in a message.
+fn name_of(part: Part) -> &'static str {
+    match part {
+        Part::From => "the sender",
+        Part::To => "the recipient",
+        Part::Mailbox => "the mailbox",
+        Part::Name => "a script's name",
+        Part::Text => "a script's text",
+        Part::Main => "the main script",
+        Part::Id => "the message's name",
+        Part::Message => "the message",
+    }
+}
+
+/// Adds a script whose name is so many octets.
+fn add_name(alloc: Global, job: &mut TestJob, name: Octets) -> Result<(), AllocError> {
+    let name = ScriptName {
+        name,
+        place: Place::Personal,
+    };
+    let text = Octets::from_vec(Vec::new(alloc));
+    Ok(job.scripts.push(TestScript { name, text })?)
+}
+
+/// Adds a script whose text is so many octets.
+fn add_text(alloc: Global, job: &mut TestJob, text: Octets) -> Result<(), AllocError> {
+    let name = personal(alloc, b"x")?;
+    Ok(job.scripts.push(TestScript { name, text })?)
+}
+
 /// Makes a part of a job so many octets long.
 fn lengthen(alloc: Global, job: &mut TestJob, part: Part, count: usize) -> Result<(), AllocError> {
     let octets = many(alloc, count)?;
@@ -123,16 +166,8 @@ fn lengthen(alloc: Global, job: &mut TestJob, part: Part, count: usize) -> Resul
         Part::From => job.from = octets,
         Part::To => job.to = octets,
         Part::Mailbox => job.mailbox = octets,
-        Part::Name => {
-            let mut script = script_of(alloc, b"", b"")?;
-            script.name.name = octets;
-            job.scripts.push(script)?;
-        }
-        Part::Text => {
-            let mut script = script_of(alloc, b"x", b"")?;
-            script.text = octets;
-            job.scripts.push(script)?;
-        }
+        Part::Name => add_name(alloc, job, octets)?,
+        Part::Text => add_text(alloc, job, octets)?,
         Part::Main => job.main.name = octets,
         Part::Id => job.id = octets,
         Part::Message => job.message = octets,
@@ -140,99 +175,111 @@ fn lengthen(alloc: Global, job: &mut TestJob, part: Part, count: usize) -> Resul
     Ok(())
 }
 
-/// A job with so many scripts, `main` among them.
-fn crowded(alloc: Global, count: u64) -> Result<TestJob, AllocError> {
-    let mut job = job_of(alloc, &[(b"main", b"stop;")])?;
+/// Gives a job so many scripts, of which it has one.
+fn crowd(alloc: Global, job: &mut TestJob, count: u64) -> Result<(), AllocError> {
     for number in 1..count {
         let name = format!(in alloc; "{number}")?;
-        let script = script_of(alloc, name.as_bytes(), b"")?;
-        job.scripts.push(script)?;
+        job.scripts.push(script_of(alloc, name.as_bytes(), b"")?)?;
     }
+    Ok(())
+}
+
+/// A job with so many scripts, `main` among them, of which a part is so many octets long.
+fn crowded(alloc: Global, scripts: u64, part: Part, count: usize) -> Result<TestJob, AllocError> {
+    let mut job = job_of(alloc, &[(b"main", b"stop;")])?;
+    crowd(alloc, &mut job, scripts)?;
+    lengthen(alloc, &mut job, part, count)?;
     Ok(job)
 }
 
-/// How the test of a job with so many scripts, of which a part is changed, ends, and whether something was written.
-fn end_of(
-    rt: &impl AllocGlobal,
-    scripts: u64,
-    part: Part,
-    count: usize,
-) -> Result<(TestEnd, bool), AllocError> {
-    let mut job = crowded(rt.alloc(), scripts)?;
-    lengthen(rt.alloc(), &mut job, part, count)?;
-    let mut meter = Meter::new();
+/// How many scripts there are, which part is how many octets long, how the test ends, and whether something is written.
+type Row = (u64, Part, usize, TestEnd, bool);
+
+/// Makes a test of a job with so many scripts, of which a part is changed, and compares.
+fn check_row(
+    rt: &(impl AllocGlobal + Abort),
+    (scripts, part, count, wanted, is_written): Row,
+) -> Result<(), AllocError> {
+    let job = crowded(rt.alloc(), scripts, part, count)?;
     let mut writer = Counted::new(Vec::new(rt.alloc()));
-    let end = test_bench(rt.alloc(), &job, &mut meter, &mut writer);
-    Ok((end, !writer.into_inner().is_empty()))
+    let end = test_bench(rt.alloc(), &job, &mut Meter::new(), &mut writer);
+    let at = (name_of(part), scripts, count as u64);
+    holds(rt, at, end == wanted);
+    holds(rt, at, writer.into_inner().is_empty() != is_written);
+    Ok(())
 }
 
-#[test]
-fn each_part_of_a_job_has_its_limit(rt: HostRuntime) -> Result<(), Fail> {
-    let large = (TestEnd::TooLarge, false);
-    let rows = [
-        (Part::From, 1_024, (TestEnd::Clean, true)),
-        (Part::From, 1_025, large),
-        (Part::To, 1_024, (TestEnd::Clean, true)),
-        (Part::To, 1_025, large),
-        (Part::Mailbox, 255, (TestEnd::Clean, true)),
-        (Part::Mailbox, 256, large),
-        (Part::Name, 1_024, (TestEnd::Clean, true)),
-        (Part::Name, 1_025, large),
-        (Part::Text, 1_048_576, (TestEnd::Faulty, true)),
-        (Part::Text, 1_048_577, large),
-        (Part::Main, 1_024, (TestEnd::Faulty, true)),
-        (Part::Main, 1_025, large),
-        (Part::Id, 1_024, (TestEnd::Clean, true)),
-        (Part::Id, 1_025, large),
-        (Part::Message, 16_777_216, (TestEnd::Clean, true)),
-        (Part::Message, 16_777_217, large),
-    ];
-    for (part, count, wanted) in rows {
-        let end = end_of(&rt, 1, part, count)?;
-        assert_eq!(rt; end, wanted, "at {count} octets of {part:?}");
+fn check_rows(rt: &(impl AllocGlobal + Abort), rows: &[Row]) -> Result<(), AllocError> {
+    for row in rows {
+        check_row(rt, *row)?;
     }
     Ok(())
 }
 
 #[test]
-fn the_first_refusal_is_told(rt: HostRuntime) -> Result<(), Fail> {
-    let rows = [
-        // 1,024 scripts are as many as there may be.
-        (1_024, Part::Mailbox, 255, (TestEnd::Clean, true)),
-        (1_025, Part::Mailbox, 255, (TestEnd::Full, false)),
-        // The settings come before the scripts, and these before the main script's name and the message.
-        (1_025, Part::From, 1_025, (TestEnd::TooLarge, false)),
-        (1_025, Part::Mailbox, 256, (TestEnd::TooLarge, false)),
-        (1_025, Part::Main, 1_025, (TestEnd::Full, false)),
-        (1_025, Part::Id, 1_025, (TestEnd::Full, false)),
-        (1_025, Part::Text, 1_048_577, (TestEnd::Full, false)),
-        // A text that is too large is refused before there is room for it.
-        (1_024, Part::Text, 1_048_577, (TestEnd::TooLarge, false)),
-        (1_024, Part::Text, 0, (TestEnd::Full, false)),
-    ];
-    for (scripts, part, count, wanted) in rows {
-        let end = end_of(&rt, scripts, part, count)?;
-        assert_eq!(rt;
-            end,
-            wanted,
-            "at {scripts} scripts and {count} octets of {part:?}"
-        );
-    }
-    Ok(())
+fn each_part_of_a_job_has_its_limit(rt: HostRuntime) -> Result<(), AllocError> {
+    check_rows(
+        &rt,
+        &[
+            (1, Part::From, 1_024, TestEnd::Clean, true),
+            (1, Part::From, 1_025, TestEnd::TooLarge, false),
+            (1, Part::To, 1_024, TestEnd::Clean, true),
+            (1, Part::To, 1_025, TestEnd::TooLarge, false),
+            (1, Part::Mailbox, 255, TestEnd::Clean, true),
+            (1, Part::Mailbox, 256, TestEnd::TooLarge, false),
+            (1, Part::Name, 1_024, TestEnd::Clean, true),
+            (1, Part::Name, 1_025, TestEnd::TooLarge, false),
+            (1, Part::Text, 1_048_576, TestEnd::Faulty, true),
+            (1, Part::Text, 1_048_577, TestEnd::TooLarge, false),
+            (1, Part::Main, 1_024, TestEnd::Faulty, true),
+            (1, Part::Main, 1_025, TestEnd::TooLarge, false),
+            (1, Part::Id, 1_024, TestEnd::Clean, true),
+            (1, Part::Id, 1_025, TestEnd::TooLarge, false),
+            (1, Part::Message, 16_777_216, TestEnd::Clean, true),
+            (1, Part::Message, 16_777_217, TestEnd::TooLarge, false),
+        ],
+    )
+}
+
+#[test]
+fn the_first_refusal_is_told(rt: HostRuntime) -> Result<(), AllocError> {
+    check_rows(
+        &rt,
+        &[
+            // 1,024 scripts are as many as there may be.
+            (1_024, Part::Mailbox, 255, TestEnd::Clean, true),
+            (1_025, Part::Mailbox, 255, TestEnd::Full, false),
+            // The settings come before the scripts, and these before the main script's name and the message.
+            (1_025, Part::From, 1_025, TestEnd::TooLarge, false),
+            (1_025, Part::Mailbox, 256, TestEnd::TooLarge, false),
+            (1_025, Part::Main, 1_025, TestEnd::Full, false),
+            (1_025, Part::Id, 1_025, TestEnd::Full, false),
+            (1_025, Part::Text, 1_048_577, TestEnd::Full, false),
+            // A text that is too large is refused before there is room for it.
+            (1_024, Part::Text, 1_048_577, TestEnd::TooLarge, false),
+            (1_024, Part::Text, 0, TestEnd::Full, false),
+        ],
+    )
+}
+
+/// Makes a test of a job, with room for 7 octets, and compares.
+fn check_without_room(rt: &impl Abort, alloc: Global, job: &TestJob) {
+    let mut meter = Meter::new();
+    let mut room = [0; 7];
+    let mut writer = Counted::new(room.as_mut_slice());
+    let end = test_bench(alloc, job, &mut meter, &mut writer);
+    let at = ("no room", writer.faults(), meter.runs());
+    holds(rt, at, end == TestEnd::Write);
+    holds(rt, at, writer.faults() == 1 && meter.runs() == 1);
+    same(rt, at, &room, b"main pe");
 }
 
 /// A writer without room takes a front of the report.
 #[test]
-fn a_report_of_a_job_that_cannot_be_written_is_told(rt: HostRuntime) -> Result<(), Fail> {
-    for text in [b"discard;".as_slice(), b"kep;"] {
-        let job = job_of(rt.alloc(), &[(b"main", text)])?;
-        let mut meter = Meter::new();
-        let mut room = [0; 7];
-        let mut writer = Counted::new(room.as_mut_slice());
-        let end = test_bench(rt.alloc(), &job, &mut meter, &mut writer);
-        let counts = (writer.faults(), meter.runs());
-        assert_eq!(rt; (end, counts), (TestEnd::Write, (1, 1)));
-        assert_eq!(rt; room.as_slice(), b"main pe".as_slice());
-    }
+fn a_report_of_a_job_that_cannot_be_written_is_told(rt: HostRuntime) -> Result<(), AllocError> {
+    let sound = job_of(rt.alloc(), &[(b"main", b"discard;")])?;
+    check_without_room(&rt, rt.alloc(), &sound);
+    let faulty = job_of(rt.alloc(), &[(b"main", b"kep;")])?;
+    check_without_room(&rt, rt.alloc(), &faulty);
     Ok(())
 }

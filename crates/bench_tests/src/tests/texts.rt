@@ -1,9 +1,9 @@
 //! The dump of a text by itself.
 
-use super::{many, personal};
-use sievebench::{Counted, Faults, ScriptName, TestEnd, dump_text};
+use super::{holds, many, personal, same};
+use sievebench::{Counted, Faults, Place, ScriptName, TestEnd, dump_text};
+use std::alloc::{AllocError, Global};
 use std::process::Abort;
-use std::test::Fail;
 
 /// Dumps a text, and compares what is written and how it ends.
 fn check_dump(
@@ -15,11 +15,13 @@ fn check_dump(
 ) {
     let mut writer = Counted::new(Vec::new(rt.alloc()));
     let end = dump_text(rt.alloc(), name, text, &mut writer);
-    assert_eq!(rt; (end, writer.into_inner().as_slice()), (wanted, output));
+    let at = ("a text of so many octets", text.len() as u64, 0);
+    holds(rt, at, end == wanted);
+    same(rt, at, &writer.into_inner(), output);
 }
 
 #[test]
-fn texts_are_dumped(rt: HostRuntime) -> Result<(), Fail> {
+fn texts_are_dumped(rt: HostRuntime) -> Result<(), AllocError> {
     let script =
         b"if anyof (header :contains \"Subject\" \"[list]\", size :over 1M) {\nkeep;\n} else {\ndiscard;\n}\n";
     let code =
@@ -32,6 +34,13 @@ fn texts_are_dumped(rt: HostRuntime) -> Result<(), Fail> {
     Ok(())
 }
 
+/// So many spaces and a command.
+fn behind_spaces(alloc: Global, spaces: usize, command: &[u8]) -> Result<Vec<u8>, AllocError> {
+    let mut text = vec![in alloc; b' '; spaces]?;
+    text.extend_from_slice(command)?;
+    Ok(text)
+}
+
 /// Dumps a text of so many spaces and a command under a name of so many octets, and compares.
 fn check_sizes(
     rt: &(impl AllocGlobal + Abort),
@@ -40,32 +49,38 @@ fn check_sizes(
     command: &[u8],
     output: &[u8],
     wanted: TestEnd,
-) -> Result<(), Fail> {
-    let octets = many(rt.alloc(), name)?;
-    let name = personal(rt.alloc(), octets.as_slice())?;
-    let mut text = vec![in rt.alloc(); b' '; spaces]?;
-    text.extend_from_slice(command)?;
+) -> Result<(), AllocError> {
+    let name = ScriptName {
+        place: Place::Personal,
+        name: many(rt.alloc(), name)?,
+    };
+    let text = behind_spaces(rt.alloc(), spaces, command)?;
     check_dump(rt, &name, text.as_slice(), output, wanted);
     Ok(())
 }
 
 #[test]
-fn names_and_texts_have_their_limits(rt: HostRuntime) -> Result<(), Fail> {
+fn names_and_texts_have_their_limits(rt: HostRuntime) -> Result<(), AllocError> {
     let code = b"0: keep internal @1\n";
     check_sizes(&rt, 1_024, 1_048_571, b"keep;", code, TestEnd::Clean)?;
     check_sizes(&rt, 1_024, 1_048_573, b"kep;", b"", TestEnd::TooLarge)?;
     check_sizes(&rt, 1_025, 0, b"kep;", b"", TestEnd::TooLarge)
 }
 
+/// Dumps a text with room for 7 octets, and compares.
+fn check_without_room(rt: &impl Abort, alloc: Global, name: &ScriptName, text: &[u8]) {
+    let mut room = [0; 7];
+    let mut writer = Counted::new(room.as_mut_slice());
+    let end = dump_text(alloc, name, text, &mut writer);
+    let at = ("no room", text.len() as u64, writer.faults());
+    holds(rt, at, end == TestEnd::Write && writer.faults() == 1);
+}
+
 /// A writer without room takes a front of the dump.
 #[test]
-fn a_dump_that_cannot_be_written_is_told(rt: HostRuntime) -> Result<(), Fail> {
+fn a_dump_that_cannot_be_written_is_told(rt: HostRuntime) -> Result<(), AllocError> {
     let name = personal(rt.alloc(), b"a")?;
-    for text in [b"discard;".as_slice(), b"kep;"] {
-        let mut room = [0; 7];
-        let mut writer = Counted::new(room.as_mut_slice());
-        let end = dump_text(rt.alloc(), &name, text, &mut writer);
-        assert_eq!(rt; (end, writer.faults()), (TestEnd::Write, 1));
-    }
+    check_without_room(&rt, rt.alloc(), &name, b"discard;");
+    check_without_room(&rt, rt.alloc(), &name, b"kep;");
     Ok(())
 }

@@ -1,29 +1,37 @@
 //! The words of the command line, and the status of each end. What further words ask for stands in `examples/rows` and `examples/checks`.
 
+use super::holds;
 use sievebench::{Argument, End, Job, SessionEnd, TestEnd, UsageFault, command_of, status_of};
 use std::process::Abort;
 use std::test::Fail;
 
+/// Compares the status of each end.
+fn check_statuses(rt: &impl Abort, rows: &[(&str, End, u8)]) {
+    for (what, end, status) in rows {
+        holds(rt, (*what, *status as u64, 0), status_of(*end) == *status);
+    }
+}
+
 #[test]
 fn each_end_has_its_status(rt: HostRuntime) {
-    let rows = [
-        (End::Session(SessionEnd::Done), 0),
-        (End::Session(SessionEnd::Syntax), 2),
-        (End::Session(SessionEnd::Truncated), 2),
-        (End::Session(SessionEnd::Read), 3),
-        (End::Session(SessionEnd::Write), 3),
-        (End::Session(SessionEnd::NoMemory), 4),
-        (End::Session(SessionEnd::TurnLimit), 3),
-        (End::Test(TestEnd::Clean), 0),
-        (End::Test(TestEnd::Faulty), 1),
-        (End::Test(TestEnd::TooLarge), 2),
-        (End::Test(TestEnd::Full), 2),
-        (End::Test(TestEnd::Write), 3),
-        (End::Test(TestEnd::NoMemory), 4),
-    ];
-    for (end, status) in rows {
-        assert_eq!(rt; status_of(end), status, "at {end:?}");
-    }
+    check_statuses(
+        &rt,
+        &[
+            ("a session done", End::Session(SessionEnd::Done), 0),
+            ("no command", End::Session(SessionEnd::Syntax), 2),
+            ("a put that is cut", End::Session(SessionEnd::Truncated), 2),
+            ("a failing read", End::Session(SessionEnd::Read), 3),
+            ("a failing write", End::Session(SessionEnd::Write), 3),
+            ("no memory", End::Session(SessionEnd::NoMemory), 4),
+            ("too many reads", End::Session(SessionEnd::TurnLimit), 3),
+            ("a clean test", End::Test(TestEnd::Clean), 0),
+            ("a faulty test", End::Test(TestEnd::Faulty), 1),
+            ("too large a test", End::Test(TestEnd::TooLarge), 2),
+            ("too many scripts", End::Test(TestEnd::Full), 2),
+            ("a test's failing write", End::Test(TestEnd::Write), 3),
+            ("no memory for a test", End::Test(TestEnd::NoMemory), 4),
+        ],
+    );
 }
 
 /// The text of an option's value.
@@ -76,23 +84,38 @@ fn tests_have_their_words(rt: HostRuntime) -> Result<(), Fail> {
     Ok(())
 }
 
-/// A session, a dump, and words of which there are none.
-#[test]
-fn jobs_are_named(rt: HostRuntime) -> Result<(), Fail> {
+/// Compares what words for a session ask for.
+fn check_session(rt: &(impl AllocGlobal + Abort)) -> Result<(), Fail> {
     match command_of(rt.alloc(), &["sievebench", "session"])? {
-        Job::Session => {}
-        _ => panic!(rt; "another job"),
+        Job::Session => Ok(()),
+        _ => panic!(rt; "another job than a session"),
     }
+}
+
+/// Compares what words for a dump ask for.
+fn check_dump(rt: &(impl AllocGlobal + Abort)) -> Result<(), Fail> {
     match command_of(rt.alloc(), &["sievebench", "dump", "a.sieve"])? {
-        Job::Dump { script } => assert_eq!(rt; script.as_str(), "a.sieve"),
-        _ => panic!(rt; "another job"),
+        Job::Dump { script } => assert!(rt; script.as_str() == "a.sieve"),
+        _ => panic!(rt; "another job than a dump"),
     }
-    let none: [&str; 0] = [];
-    match command_of(rt.alloc(), &none) {
+    Ok(())
+}
+
+/// Compares what is told where there are no words.
+fn check_no_words(rt: &(impl AllocGlobal + Abort), words: &[&str]) {
+    match command_of(rt.alloc(), words) {
         Err(UsageFault::Usage { help: false, text }) => {
             assert!(rt; text.contains("Usage: sievebench <COMMAND>"));
         }
-        _ => panic!(rt; "another job"),
+        _ => panic!(rt; "another job than none"),
     }
+}
+
+/// A session, a dump, and words of which there are none.
+#[test]
+fn jobs_are_named(rt: HostRuntime) -> Result<(), Fail> {
+    check_session(&rt)?;
+    check_dump(&rt)?;
+    check_no_words(&rt, &[]);
     Ok(())
 }

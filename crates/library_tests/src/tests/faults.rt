@@ -2,19 +2,21 @@
 //!
 //! A refusal with fields has no number of its own: its variants are listed in the order of their numbers.
 
+use super::same;
 use message_text::MessageFault;
 use sieve_base::WriteFault;
 use sieve_check::{CheckFault, JudgeFault, Rule};
 use sieve_run::ErrorKind;
 use sieve_syntax::SyntaxFault;
+use std::alloc::AllocError;
 use std::fmt::Display;
 use std::process::Abort;
-use std::test::Fail;
 
 /// Compares rules with their numbers and words.
 fn check_rules(rt: &impl Abort, rows: &[(Rule, u8, &[u8])]) {
     for (rule, number, word) in rows {
-        assert_eq!(rt; (rule.number(), rule.word()), (*number, *word));
+        same(rt, "the word of a rule", rule.word(), *word);
+        same(rt, "its number", &[rule.number()], &[*number]);
     }
 }
 
@@ -52,34 +54,38 @@ fn later_rules_have_their_numbers_and_words(rt: HostRuntime) {
     );
 }
 
-#[test]
-fn errors_have_their_numbers_and_words(rt: HostRuntime) {
-    let rows: [(ErrorKind, u8, &[u8]); 9] = [
-        (ErrorKind::MissingScript, 1, b"missing-script"),
-        (ErrorKind::InvalidScript, 2, b"invalid-script"),
-        (ErrorKind::RecursiveInclude, 3, b"recursive-include"),
-        (ErrorKind::IncludeDepth, 4, b"include-depth"),
-        (ErrorKind::IncludeCount, 5, b"include-count"),
-        (ErrorKind::BadAddress, 6, b"bad-address"),
-        (ErrorKind::TooManyActions, 7, b"too-many-actions"),
-        (ErrorKind::TooManyGlobals, 8, b"too-many-globals"),
-        (ErrorKind::BadMailbox, 9, b"bad-mailbox"),
-    ];
+/// Compares errors with their numbers and words.
+fn check_errors(rt: &impl Abort, rows: &[(ErrorKind, u8, &[u8])]) {
     for (kind, number, word) in rows {
-        assert_eq!(rt; (kind as u8, kind.word()), (number, word));
+        same(rt, "the word of an error", kind.word(), *word);
+        same(rt, "its number", &[*kind as u8], &[*number]);
     }
 }
 
 #[test]
+fn errors_have_their_numbers_and_words(rt: HostRuntime) {
+    check_errors(
+        &rt,
+        &[
+            (ErrorKind::MissingScript, 1, b"missing-script"),
+            (ErrorKind::InvalidScript, 2, b"invalid-script"),
+            (ErrorKind::RecursiveInclude, 3, b"recursive-include"),
+            (ErrorKind::IncludeDepth, 4, b"include-depth"),
+            (ErrorKind::IncludeCount, 5, b"include-count"),
+            (ErrorKind::BadAddress, 6, b"bad-address"),
+            (ErrorKind::TooManyActions, 7, b"too-many-actions"),
+            (ErrorKind::TooManyGlobals, 8, b"too-many-globals"),
+            (ErrorKind::BadMailbox, 9, b"bad-mailbox"),
+        ],
+    );
+}
+
+#[test]
 fn refusals_have_their_numbers(rt: HostRuntime) {
-    assert_eq!(rt;
-        (MessageFault::TooLarge as u8, MessageFault::NoMemory as u8),
-        (1, 2)
-    );
-    assert_eq!(rt;
-        (JudgeFault::TooLarge as u8, JudgeFault::NoMemory as u8),
-        (1, 2)
-    );
+    let message = [MessageFault::TooLarge as u8, MessageFault::NoMemory as u8];
+    same(&rt, "of a message", &message, &[1, 2]);
+    let judge = [JudgeFault::TooLarge as u8, JudgeFault::NoMemory as u8];
+    same(&rt, "of a judgement", &judge, &[1, 2]);
 }
 
 /// Prints a refusal, and compares.
@@ -87,14 +93,14 @@ fn check_printed(
     rt: &(impl AllocGlobal + Abort),
     fault: impl Display + Drop,
     text: &str,
-) -> Result<(), Fail> {
+) -> Result<(), AllocError> {
     let printed = format!(in rt.alloc(); "{fault}")?;
-    assert_eq!(rt; printed.as_str(), text);
+    same(rt, "a refusal", printed.as_bytes(), text.as_bytes());
     Ok(())
 }
 
 #[test]
-fn refusals_print_their_texts(rt: HostRuntime) -> Result<(), Fail> {
+fn refusals_print_their_texts(rt: HostRuntime) -> Result<(), AllocError> {
     check_printed(&rt, WriteFault, "the writer failed")?;
     check_printed(&rt, MessageFault::TooLarge, "the message is too large")?;
     check_printed(&rt, MessageFault::NoMemory, "out of memory")?;

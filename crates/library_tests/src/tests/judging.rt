@@ -1,5 +1,6 @@
 //! Checked trees, and a breach. The faults of texts stand in `examples/rows`. What is expected was written by hand from RFC 5228.
 
+use super::{holds, same};
 use sieve_check::{
     Ask, CheckFault, Checked, Command, CommandKind, CommandReading, Leaf, MatchType, Part, Rule,
     Source, Test, TestReading, Tests, Text, check,
@@ -9,33 +10,45 @@ use std::alloc::Global;
 use std::process::Abort;
 use std::test::Fail;
 
+/// The name, the line and the kind of a command.
+fn check_named(rt: &impl Abort, command: &Command, name: &[u8], line: u64, kind: CommandKind) {
+    same(rt, "the name of a command", command.name.as_slice(), name);
+    holds(rt, "its line", command.line == line);
+    holds(rt, "its kind", command.kind() == Some(kind));
+}
+
+/// Whether a reading is that of `keep` without flags.
+fn is_plain_keep(reading: Option<CommandReading<'_>>) -> bool {
+    matches!(
+        reading,
+        Some(CommandReading::Acts(Leaf::Keep { flags: None }))
+    )
+}
+
 /// The first command of `keep;\nif NOT size :over 2K {\nStop; }`.
 fn check_keep(rt: &impl Abort, keep: &Command) {
-    assert_eq!(rt;
-        (keep.name.as_slice(), keep.line, keep.kind()),
-        (b"keep".as_slice(), 1, Some(CommandKind::Keep))
+    check_named(rt, keep, b"keep", 1, CommandKind::Keep);
+    holds(rt, "the reading of keep", is_plain_keep(keep.reading()));
+    holds(
+        rt,
+        "the rest of keep",
+        keep.args.is_empty() && keep.block.is_none(),
     );
-    assert!(rt;
-        matches!(
-            keep.reading(),
-            Some(CommandReading::Acts(Leaf::Keep { flags: None }))
-        )
-    );
-    assert!(rt; keep.args.is_empty() && keep.block.is_none());
 }
 
 /// Its test.
 fn check_negation(rt: &impl Abort, negation: &Test) {
-    assert!(rt; matches!(negation.reading(), Some(TestReading::Not)));
-    let Tests::One(size) = &negation.tests else {
-        panic!(rt; "not one test");
-    };
-    assert!(rt;
-        matches!(
-            size.reading(),
-            Some(TestReading::Asks(Ask::Over { limit: 2048 }))
-        )
-    );
+    let negates = matches!(negation.reading(), Some(TestReading::Not));
+    holds(rt, "the reading of not", negates);
+    match &negation.tests {
+        Tests::One(size) => holds(rt, "the reading of size", is_over(size.reading())),
+        _ => panic!(rt; "not one test"),
+    }
+}
+
+/// Whether a reading asks for more than 2,048 octets.
+fn is_over(reading: Option<TestReading<'_>>) -> bool {
+    matches!(reading, Some(TestReading::Asks(Ask::Over { limit: 2048 })))
 }
 
 /// Its block.
@@ -43,17 +56,17 @@ fn check_stop(rt: &impl Abort, block: &[Command]) {
     let [stop] = block else {
         panic!(rt; "not one command");
     };
-    assert_eq!(rt;
-        (stop.name.as_slice(), stop.line, stop.kind()),
-        (b"Stop".as_slice(), 3, Some(CommandKind::Stop))
-    );
-    assert!(rt; matches!(stop.reading(), Some(CommandReading::Stops)));
+    check_named(rt, stop, b"Stop", 3, CommandKind::Stop);
+    let stops = matches!(stop.reading(), Some(CommandReading::Stops));
+    holds(rt, "the reading of stop", stops);
 }
 
 /// Its second command.
 fn check_choice(rt: &impl Abort, choice: &Command) {
-    assert_eq!(rt; (choice.kind(), choice.line), (Some(CommandKind::If), 2));
-    assert!(rt; matches!(choice.reading(), Some(CommandReading::Opens)));
+    holds(rt, "the line of if", choice.line == 2);
+    holds(rt, "the kind of if", choice.kind() == Some(CommandKind::If));
+    let opens = matches!(choice.reading(), Some(CommandReading::Opens));
+    holds(rt, "the reading of if", opens);
     match (&choice.tests, &choice.block) {
         (Tests::One(negation), Some(block)) => {
             check_negation(rt, negation);
@@ -89,7 +102,8 @@ fn a_sound_script_has_its_tree(rt: HostRuntime) -> Result<(), Fail> {
 fn check_text(rt: &impl Abort, text: &Text, octets: &[u8], line: u64) {
     match text.parts.as_slice() {
         [Part::Literal(literal)] => {
-            assert_eq!(rt; (literal.as_slice(), text.line), (octets, line));
+            same(rt, "a literal", literal.as_slice(), octets);
+            holds(rt, "its line", text.line == line);
         }
         _ => panic!(rt; "another tree"),
     }
@@ -138,16 +152,18 @@ fn a_header_test_has_its_strings(rt: HostRuntime) -> Result<(), Fail> {
     Ok(())
 }
 
-/// Compares the rule that a script breaks first, its word and its line.
+/// Compares the rule that a script breaks first, and its line.
 fn check_breach(rt: &(impl AllocGlobal + Abort), script: &Script, line: u64, rule: Rule) {
-    let wanted = CheckFault::Breach { line, rule };
-    assert_eq!(rt; check(rt.alloc(), script).err(), Some(wanted));
+    match check(rt.alloc(), script) {
+        Err(fault) => holds(rt, "a breach", fault == CheckFault::Breach { line, rule }),
+        Ok(_) => panic!(rt; "no breach"),
+    }
 }
 
 #[test]
 fn a_breach_has_its_line_and_rule(rt: HostRuntime) -> Result<(), Fail> {
     let script = parse(rt.alloc(), b"keep;\nstop {}\nkep;")?;
     check_breach(&rt, &script, 2, Rule::BadArguments);
-    assert_eq!(rt; Rule::BadArguments.word(), b"bad-arguments".as_slice());
+    same(&rt, "its word", Rule::BadArguments.word(), b"bad-arguments");
     Ok(())
 }

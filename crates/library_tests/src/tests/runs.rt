@@ -3,6 +3,7 @@
 
 ghost use Rattle.std.specs.Prelude.{◌≤◌, IfOk, length};
 
+use super::{holds, same};
 use sieve_run::{
     Action, Envelope, ErrorKind, Message, Meter, Octets, Outcome, Place, ScriptName, Shelf, run,
 };
@@ -21,6 +22,15 @@ fn main_name(alloc: Global) -> Result<ScriptName, AllocError>
     Ok(ScriptName::new(Place::Personal, Vec::from_slice(alloc, b"main")?))
 }
 
+/// An envelope without addresses.
+fn envelope_of(alloc: Global) -> Result<Envelope, AllocError> {
+    Ok(Envelope {
+        from: Octets::from_vec(Vec::new(alloc)),
+        to: Octets::from_vec(Vec::new(alloc)),
+        mailbox: Octets::copied(alloc, b"INBOX")?,
+    })
+}
+
 /// The outcome of a main script on a message of no octets.
 fn outcome_of(
     alloc: Global,
@@ -28,11 +38,7 @@ fn outcome_of(
     main: Option<&ScriptName>,
     meter: &mut Meter,
 ) -> Result<Outcome, Fail> {
-    let envelope = Envelope {
-        from: Octets::from_vec(Vec::new(alloc)),
-        to: Octets::from_vec(Vec::new(alloc)),
-        mailbox: Octets::copied(alloc, b"INBOX")?,
-    };
+    let envelope = envelope_of(alloc)?;
     let message = Message::new(alloc, Vec::new(alloc))?;
     Ok(run(alloc, shelf, main, &envelope, &message, meter)?)
 }
@@ -45,12 +51,25 @@ fn check_actions(rt: &impl Abort, actions: &[Action]) {
             Action::Redirect { address },
             Action::Discard,
         ] => {
-            assert_eq!(rt; mailbox.as_slice(), b"A".as_slice());
-            assert_eq!(rt; flags.len(), 1);
-            assert_eq!(rt; address.as_slice(), b"a@b.example".as_slice());
+            same(rt, "the mailbox", mailbox.as_slice(), b"A");
+            holds(rt, "the flags", flags.len() == 1);
+            same(rt, "the address", address.as_slice(), b"a@b.example");
         }
         _ => panic!(rt; "another list of actions"),
     }
+}
+
+/// Runs the script of the next test, and compares what it comes to.
+fn check_acting_run(
+    rt: &(impl AllocGlobal + Abort),
+    shelf: &Shelf,
+    main: &ScriptName,
+) -> Result<(), Fail> {
+    let outcome = outcome_of(rt.alloc(), shelf, Some(main), &mut Meter::new())?;
+    check_actions(rt, outcome.actions());
+    holds(rt, "the implicit keep", outcome.implicit().is_none());
+    holds(rt, "the error", outcome.error().is_none());
+    Ok(())
 }
 
 /// Puts a script on a shelf, and compares what a run of it comes to.
@@ -65,10 +84,7 @@ fn check_acting(
         main,
         b"require [\"fileinto\", \"imap4flags\"];\nfileinto :flags \"a\" \"A\"; redirect \"Jane <a@b.example>\"; discard;",
     )?;
-    let outcome = outcome_of(rt.alloc(), shelf, Some(main), &mut Meter::new())?;
-    check_actions(rt, outcome.actions());
-    assert!(rt; outcome.implicit().is_none() && outcome.error().is_none());
-    Ok(())
+    check_acting_run(rt, shelf, main)
 }
 
 #[test]
@@ -81,21 +97,29 @@ fn a_run_has_its_actions(rt: HostRuntime) -> Result<(), Fail> {
 /// it looked up was there.
 type Told = (usize, bool, Option<(u64, ErrorKind)>, Option<bool>);
 
-fn told(outcome: &Outcome) -> Told {
-    let error = match outcome.error() {
+/// The line and the kind of the error of a run.
+fn error_of(outcome: &Outcome) -> Option<(u64, ErrorKind)> {
+    match outcome.error() {
         Some(error) => Some((error.line, error.kind)),
         None => None,
-    };
+    }
+}
+
+/// Whether the last name that a run looked up was there.
+fn last_read(outcome: &Outcome) -> Option<bool> {
     let mut found = None;
     for (_name, present) in outcome.reads() {
         found = Some(*present);
     }
-    (
-        outcome.actions().len(),
-        outcome.implicit().is_some(),
-        error,
-        found,
-    )
+    found
+}
+
+/// Compares what a run comes to.
+fn check_told(rt: &impl Abort, row: &str, outcome: &Outcome, wanted: Told) {
+    holds(rt, row, outcome.actions().len() == wanted.0);
+    holds(rt, row, outcome.implicit().is_some() == wanted.1);
+    holds(rt, row, error_of(outcome) == wanted.2);
+    holds(rt, row, last_read(outcome) == wanted.3);
 }
 
 /// Runs a main script, and compares what it comes to.
@@ -104,10 +128,10 @@ fn check_run(
     shelf: &Shelf,
     main: Option<&ScriptName>,
     meter: &mut Meter,
-    wanted: Told,
+    (row, wanted): (&str, Told),
 ) -> Result<(), Fail> {
     let outcome = outcome_of(rt.alloc(), shelf, main, meter)?;
-    assert_eq!(rt; told(&outcome), wanted);
+    check_told(rt, row, &outcome, wanted);
     Ok(())
 }
 
@@ -117,7 +141,7 @@ fn check_text(
     shelf: &mut Shelf,
     main: &ScriptName,
     text: &[u8],
-    wanted: Told,
+    wanted: (&str, Told),
 ) -> Result<(), Fail>
     requires { length main.now.name ≤ 1024 }
 {
@@ -137,11 +161,13 @@ fn check_texts(
     let kept = (0, true, None, Some(true));
     let invalid = (0, true, Some((0, ErrorKind::InvalidScript)), Some(true));
     let bad_address = (0, true, Some((2, ErrorKind::BadAddress)), Some(true));
-    check_text(rt, shelf, main, b"keep;\nredirect \"\";", bad_address)?;
-    check_text(rt, shelf, main, b"kep;", invalid)?;
-    check_text(rt, shelf, main, b"keep;\ndiscard\n", invalid)?;
-    check_text(rt, shelf, main, long, invalid)?;
-    check_text(rt, shelf, main, &long[..long.len().min(1_048_576)], kept)
+    let text = b"keep;\nredirect \"\";";
+    check_text(rt, shelf, main, text, ("a bad address", bad_address))?;
+    check_text(rt, shelf, main, b"kep;", ("no command", invalid))?;
+    check_text(rt, shelf, main, b"keep;\ndiscard\n", ("no end", invalid))?;
+    check_text(rt, shelf, main, long, ("too large", invalid))?;
+    let front = &long[..long.len().min(1_048_576)];
+    check_text(rt, shelf, main, front, ("at the limit", kept))
 }
 
 #[test]
@@ -158,11 +184,12 @@ fn check_missing(
     main: &ScriptName,
 ) -> Result<(), Fail> {
     let mut meter = Meter::new();
-    assert_eq!(rt; meter.runs(), 0);
-    check_run(rt, shelf, None, &mut meter, (0, true, None, None))?;
+    holds(rt, "no runs", meter.runs() == 0);
+    let none = ("no script", (0, true, None, None));
+    check_run(rt, shelf, None, &mut meter, none)?;
     let missing = (0, true, Some((0, ErrorKind::MissingScript)), Some(false));
-    check_run(rt, shelf, Some(main), &mut meter, missing)?;
-    assert_eq!(rt; meter.runs(), 2);
+    check_run(rt, shelf, Some(main), &mut meter, ("missing", missing))?;
+    holds(rt, "two runs", meter.runs() == 2);
     Ok(())
 }
 
@@ -182,9 +209,11 @@ fn check_shelf(
     requires { length main.now.name ≤ 1024 }
 {
     shelf.add(main, b"keep;")?;
-    check_text(rt, shelf, main, b"stop;", (0, true, None, Some(true)))?;
+    let stopped = ("put again", (0, true, None, Some(true)));
+    check_text(rt, shelf, main, b"stop;", stopped)?;
     let missing = (0, true, Some((0, ErrorKind::MissingScript)), Some(false));
-    check_run(rt, shelf, Some(other), &mut Meter::new(), missing)
+    let wanted = ("another place", missing);
+    check_run(rt, shelf, Some(other), &mut Meter::new(), wanted)
 }
 
 #[test]
@@ -198,6 +227,6 @@ fn shelves(rt: HostRuntime) -> Result<(), Fail> {
 fn a_name_equals_its_copy(rt: HostRuntime) -> Result<(), Fail> {
     let name = named(rt.alloc(), Place::Personal, b"a")?;
     let copy = name.copy(rt.alloc())?;
-    assert!(rt; copy == name);
+    holds(&rt, "a copy", copy == name);
     Ok(())
 }

@@ -1,7 +1,8 @@
 //! Files and folders that fail, and names that no file system has. What other files come to is made in `examples/checks`.
 
+use super::holds;
 use super::machine::{Given, Machine, Paths, Room, Written};
-use super::program::{check_kept, whole};
+use super::program::{check_written, whole};
 use crate::run;
 use std::alloc::{AllocError, Global};
 use std::io::ErrorKind;
@@ -41,9 +42,9 @@ fn check_failing(
 ) -> Result<(), Fail> {
     let written = Written::new(rt.alloc());
     let answer = failing_status(rt.alloc(), words, folders, files, missing, &written);
-    assert_eq!(rt; answer, status, "at {words:?}");
-    check_kept(rt, &written.output, b"")?;
-    check_kept(rt, &written.errors, errors)
+    let at = ("so many words", words.len());
+    holds(rt, at, answer == status);
+    check_written(rt, at, &written, b"", errors)
 }
 
 /// Octets that come at once, and then fail.
@@ -55,38 +56,42 @@ fn failing(octets: &[u8]) -> Given<'_> {
     }
 }
 
+/// Compares a dump whose script fails.
+fn check_failing_dump(rt: &(impl AllocGlobal + Abort)) -> Result<(), Fail> {
+    let words: [&[u8]; 3] = [b"sievebench", b"dump", b"c.sieve"];
+    let files = [("c.sieve", failing(b"keep;"))];
+    let told = b"sievebench: cannot read \"c.sieve\"\n";
+    check_failing(rt, &words, &[], &files, ErrorKind::NotFound, 3, told)
+}
+
+/// Compares a test with a folder of scripts, where something fails.
+fn check_failing_folder(
+    rt: &(impl AllocGlobal + Abort),
+    folders: Paths<'_>,
+    files: Paths<'_>,
+    errors: &[u8],
+) -> Result<(), Fail> {
+    let words: [&[u8]; 6] = [b"x", b"test", b"--personal", b"p", b"a.sieve", b"m"];
+    check_failing(rt, &words, folders, files, ErrorKind::NotFound, 3, errors)
+}
+
 #[test]
 fn a_file_that_fails_is_named(rt: HostRuntime) -> Result<(), Fail> {
+    check_failing_dump(&rt)?;
     let broken = failing(b"a.sieve\0");
-    let dump: [&[u8]; 3] = [b"sievebench", b"dump", b"c.sieve"];
-    let test: [&[u8]; 6] = [b"x", b"test", b"--personal", b"p", b"a.sieve", b"m"];
-    let text = ("c.sieve", failing(b"keep;"));
-    let script = ("p/a.sieve", broken);
-    let listing = ("p/", whole(b"b.sieve\0a.sieve\0"));
-    let rows: [(&[&[u8]], Paths<'_>, Paths<'_>, &[u8]); 3] = [
-        (
-            &dump,
-            &[],
-            &[text],
-            b"sievebench: cannot read \"c.sieve\"\n",
-        ),
-        (
-            &test,
-            &[("p/", broken)],
-            &[("", whole(b"stop;"))],
-            b"sievebench: cannot read \"p\"\n",
-        ),
-        (
-            &test,
-            &[listing],
-            &[script, ("", whole(b"stop;"))],
-            b"sievebench: cannot read \"p/a.sieve\"\n",
-        ),
-    ];
-    for (words, folders, files, errors) in rows {
-        check_failing(&rt, words, folders, files, ErrorKind::NotFound, 3, errors)?;
-    }
-    Ok(())
+    let stops = ("", whole(b"stop;"));
+    check_failing_folder(
+        &rt,
+        &[("p/", broken)],
+        &[stops],
+        b"sievebench: cannot read \"p\"\n",
+    )?;
+    check_failing_folder(
+        &rt,
+        &[("p/", whole(b"b.sieve\0a.sieve\0"))],
+        &[("p/a.sieve", broken), stops],
+        b"sievebench: cannot read \"p/a.sieve\"\n",
+    )
 }
 
 /// A file that is refused for want of memory is no file that can't be read.

@@ -1,7 +1,8 @@
 //! An output of which one write fails, and every other goes through.
 
+use super::holds;
 use super::machine::{Given, Machine, Room, Written};
-use super::program::{SESSION_WORDS, check_kept, status_with, whole};
+use super::program::{SESSION_WORDS, check_kept, check_written, lines_of, status_with, whole};
 use crate::run;
 use std::alloc::Global;
 use std::io::ErrorKind;
@@ -35,11 +36,11 @@ fn check_failure(
         failure: Some((before, ErrorKind::Other)),
     };
     let status = status_with(rt.alloc(), SESSION_WORDS, input, room, &written);
-    assert_eq!(rt; status, 3, "at {octets:?}, {before}");
-    check_kept(rt, &written.output, output)?;
-    check_kept(rt, &written.errors, COMPLAINT)?;
-    check_kept(rt, &written.writes, writes)?;
-    check_kept(rt, &written.before_reads, before_reads)
+    let at = ("the first write that fails, behind so many", before);
+    holds(rt, at, status == 3);
+    check_written(rt, at, &written, output, COMPLAINT)?;
+    check_kept(rt, at, &written.writes, writes)?;
+    check_kept(rt, at, &written.before_reads, before_reads)
 }
 
 /// The write that fails is the last one, and nothing is read behind it.
@@ -66,32 +67,42 @@ fn an_interrupted_write_goes_through(rt: HostRuntime) -> Result<(), Fail> {
     };
     let input = whole(b"report\n");
     let status = status_with(rt.alloc(), SESSION_WORDS, input, room, &written);
-    assert_eq!(rt; status, 0);
-    check_kept(&rt, &written.output, REPORT)?;
-    check_kept(&rt, &written.writes, &[0, 67])
+    let at = ("an interrupted write", 0);
+    holds(&rt, at, status == 0);
+    check_kept(&rt, at, &written.output, REPORT)?;
+    check_kept(&rt, at, &written.writes, &[0, 67])
 }
 
-/// More replies than are held, to an output of which the second write fails: those of the first one stay written.
-#[test]
-fn a_write_may_fail_among_the_replies(rt: HostRuntime) -> Result<(), Fail> {
-    let mut octets = Vec::new(rt.alloc());
-    let mut replies = Vec::new(rt.alloc());
-    for _line in 0..2_000 {
-        octets.extend_from_slice(b"report\n")?;
-        replies.extend_from_slice(REPORT)?;
-    }
+/// Compares what was written of replies of which the second write failed.
+fn check_front(rt: &impl Abort, written: &Written, replies: &[u8]) -> Result<(), Fail> {
+    let at = ("a write among the replies", 1);
+    holds(rt, at, written.writes.try_borrow()?.len() == 2);
+    let output = written.output.try_borrow()?;
+    holds(rt, at, replies.starts_with(output.as_slice()));
+    Ok(())
+}
+
+/// Runs a session whose replies are more than are held, to an output of which the second write fails, and compares.
+fn check_among(rt: &(impl AllocGlobal + Abort), octets: &[u8], replies: &[u8]) -> Result<(), Fail> {
+    let at = ("a write among the replies", 1);
     let written = Written::new(rt.alloc());
     let room = Room {
         octets: 1_000_000,
         failure: Some((1, ErrorKind::Other)),
     };
-    let input = whole(octets.as_slice());
+    let input = whole(octets);
     let status = status_with(rt.alloc(), SESSION_WORDS, input, room, &written);
-    assert_eq!(rt; (status, written.writes.try_borrow()?.len()), (3, 2));
-    check_kept(&rt, &written.errors, COMPLAINT)?;
-    let output = written.output.try_borrow()?;
-    assert!(rt; replies.as_slice().starts_with(output.as_slice()));
-    Ok(())
+    holds(rt, at, status == 3);
+    check_kept(rt, at, &written.errors, COMPLAINT)?;
+    check_front(rt, &written, replies)
+}
+
+/// More replies than are held, to an output of which the second write fails: those of the first one stay written.
+#[test]
+fn a_write_may_fail_among_the_replies(rt: HostRuntime) -> Result<(), Fail> {
+    let octets = lines_of(rt.alloc(), b"report\n", 2_000)?;
+    let replies = lines_of(rt.alloc(), REPORT, 2_000)?;
+    check_among(&rt, octets.as_slice(), replies.as_slice())
 }
 
 /// Dumps the script of a file to an output of which the first write fails: the status.
@@ -115,8 +126,8 @@ fn failing_dump(alloc: Global, files: &[(&str, Given<'_>)], written: &Written) -
 fn a_dump_is_written_once(rt: HostRuntime) -> Result<(), Fail> {
     let written = Written::new(rt.alloc());
     let status = failing_dump(rt.alloc(), &[("a.sieve", whole(b"discard;"))], &written);
-    assert_eq!(rt; status, 3);
-    check_kept(&rt, &written.output, b"")?;
-    check_kept(&rt, &written.errors, COMPLAINT)?;
-    check_kept(&rt, &written.writes, &[0])
+    let at = ("a dump", 0);
+    holds(&rt, at, status == 3);
+    check_written(&rt, at, &written, b"", COMPLAINT)?;
+    check_kept(&rt, at, &written.writes, &[0])
 }

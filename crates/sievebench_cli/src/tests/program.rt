@@ -1,9 +1,10 @@
 //! What the program writes, on standard error too, and its status.
 
 use super::machine::{Given, Machine, Room, Written};
+use super::{At, holds, same};
 use crate::{answer_usage, complaint_of, run};
 use sievebench::{SessionEnd, UsageFault};
-use std::alloc::Global;
+use std::alloc::{AllocError, Global};
 use std::cell::RefCell;
 use std::fmt::Debug;
 use std::io::ErrorKind;
@@ -50,11 +51,25 @@ pub(crate) fn status_with(
 /// Compares what is kept in a cell.
 pub(crate) fn check_kept<T: Debug + PartialEq>(
     rt: &impl Abort,
+    at: At<'_>,
     kept: &RefCell<Vec<T>>,
     wanted: &[T],
 ) -> Result<(), Fail> {
-    assert_eq!(rt; kept.try_borrow()?.as_slice(), wanted);
+    let held = kept.try_borrow()?;
+    same(rt, at, held.as_slice(), wanted);
     Ok(())
+}
+
+/// Compares what was written on standard output and on standard error.
+pub(crate) fn check_written(
+    rt: &impl Abort,
+    at: At<'_>,
+    written: &Written,
+    output: &[u8],
+    errors: &[u8],
+) -> Result<(), Fail> {
+    check_kept(rt, at, &written.output, output)?;
+    check_kept(rt, at, &written.errors, errors)
 }
 
 /// Runs a session, and compares what it writes and its status.
@@ -66,60 +81,83 @@ fn check_run(
     output: &[u8],
     errors: &[u8],
 ) -> Result<(), Fail> {
+    let at = ("an input of so many octets", input.octets.len());
     let written = Written::new(rt.alloc());
     let answer = status_with(rt.alloc(), SESSION_WORDS, input, Room::of(room), &written);
-    assert_eq!(rt; answer, status);
-    check_kept(rt, &written.output, output)?;
-    check_kept(rt, &written.errors, errors)
+    holds(rt, at, answer == status);
+    check_written(rt, at, &written, output, errors)
+}
+
+/// Runs a session whose input fails behind the octets, and compares.
+fn check_failing_input(
+    rt: &(impl AllocGlobal + Abort),
+    octets: &[u8],
+    output: &[u8],
+) -> Result<(), Fail> {
+    let errors = b"sievebench: cannot read standard input\n";
+    let input = Given {
+        octets,
+        piece: 65_536,
+        fails: true,
+    };
+    check_run(rt, input, 1_000, 3, output, errors)
 }
 
 #[test]
 fn an_input_that_fails_is_told(rt: HostRuntime) -> Result<(), Fail> {
-    let rows: [(&[u8], &[u8]); 2] = [(b"", b""), (b"message m 0\nreport", b"ok\n")];
-    for (octets, output) in rows {
-        let input = Given {
-            octets,
-            piece: 65_536,
-            fails: true,
-        };
-        check_run(
-            &rt,
-            input,
-            1_000,
-            3,
-            output,
-            b"sievebench: cannot read standard input\n",
-        )?;
+    check_failing_input(&rt, b"", b"")?;
+    check_failing_input(&rt, b"message m 0\nreport", b"ok\n")
+}
+
+/// Runs a session that may write so much, which is only its first replies, and compares.
+fn check_failing_output(
+    rt: &(impl AllocGlobal + Abort),
+    input: Given<'_>,
+    room: usize,
+    output: &[u8],
+) -> Result<(), Fail> {
+    check_run(rt, input, room, 3, output, b"sievebench: cannot write\n")
+}
+
+/// So many lines.
+pub(crate) fn lines_of(alloc: Global, line: &[u8], count: usize) -> Result<Vec<u8>, AllocError> {
+    let mut lines = Vec::new(alloc);
+    for _line in 0..count {
+        lines.extend_from_slice(line)?;
     }
-    Ok(())
+    Ok(lines)
 }
 
 #[test]
 fn an_output_that_fails_is_told(rt: HostRuntime) -> Result<(), Fail> {
-    let errors = b"sievebench: cannot write\n";
     // The first octets are written at the end alone.
-    check_run(&rt, whole(b"report"), 0, 3, b"", errors)?;
-    check_run(&rt, whole(b"frobnicate\n"), 0, 3, b"", errors)?;
-    // More replies than are held.
-    let mut many = Vec::new(rt.alloc());
-    for _line in 0..30_000 {
-        many.extend_from_slice(b"no-main\n")?;
-    }
-    check_run(&rt, whole(many.as_slice()), 0, 3, b"", errors)?;
+    check_failing_output(&rt, whole(b"report"), 0, b"")?;
+    check_failing_output(&rt, whole(b"frobnicate\n"), 0, b"")?;
     // Room for the first three replies alone.
     let lines = Given {
         octets: SESSION,
         piece: 8,
         fails: false,
     };
-    check_run(&rt, lines, 9, 3, b"ok\nok\nok\n", errors)
+    check_failing_output(&rt, lines, 9, b"ok\nok\nok\n")?;
+    // More replies than are held.
+    let many = lines_of(rt.alloc(), b"no-main\n", 30_000)?;
+    check_failing_output(&rt, whole(many.as_slice()), 0, b"")
+}
+
+/// A message of 3,000 octets, and a command.
+fn long_session(alloc: Global) -> Result<Vec<u8>, AllocError> {
+    let mut octets = Vec::from_slice(alloc, b"message m 3000\n")?;
+    for _octet in 0..3_000 {
+        octets.push(b'x')?;
+    }
+    octets.extend_from_slice(b"no-main\n")?;
+    Ok(octets)
 }
 
 #[test]
 fn a_session_may_make_many_reads(rt: HostRuntime) -> Result<(), Fail> {
-    let mut octets = Vec::from_slice(rt.alloc(), b"message m 3000\n")?;
-    octets.extend_from_slice(vec![in rt.alloc(); b'x'; 3_000]?.as_slice())?;
-    octets.extend_from_slice(b"no-main\n")?;
+    let octets = long_session(rt.alloc())?;
     let input = Given {
         octets: octets.as_slice(),
         piece: 1,
@@ -143,9 +181,10 @@ fn check_reads(
         fails: false,
     };
     let status = status_with(rt.alloc(), SESSION_WORDS, input, Room::of(1_000), &written);
-    assert_eq!(rt; status, 0);
-    check_kept(rt, &written.before_reads, before_reads)?;
-    check_kept(rt, &written.writes, writes)
+    let at = ("pieces of so many octets", piece);
+    holds(rt, at, status == 0);
+    check_kept(rt, at, &written.before_reads, before_reads)?;
+    check_kept(rt, at, &written.writes, writes)
 }
 
 /// Replies are written before the next read, those to what one read gave together.
@@ -156,20 +195,27 @@ fn replies_are_written_before_the_next_read(rt: HostRuntime) -> Result<(), Fail>
     check_reads(&rt, 100, &[0, 9], &[9])
 }
 
+/// Compares what is said of ends.
+fn check_complaints(rt: &impl Abort, rows: &[(&str, SessionEnd, Option<&str>)]) {
+    for (what, end, complaint) in rows {
+        holds(rt, (*what, 0), complaint_of(*end) == *complaint);
+    }
+}
+
 #[test]
 fn standard_error_says_what_went_wrong(rt: HostRuntime) {
-    let rows = [
-        (SessionEnd::Done, None),
-        (SessionEnd::Syntax, None),
-        (SessionEnd::Truncated, None),
-        (SessionEnd::Read, Some("cannot read standard input")),
-        (SessionEnd::Write, Some("cannot write")),
-        (SessionEnd::NoMemory, Some("out of memory")),
-        (SessionEnd::TurnLimit, Some("too many reads")),
-    ];
-    for (end, complaint) in rows {
-        assert!(rt; complaint_of(end) == complaint, "at {end:?}");
-    }
+    check_complaints(
+        &rt,
+        &[
+            ("done", SessionEnd::Done, None),
+            ("syntax", SessionEnd::Syntax, None),
+            ("truncated", SessionEnd::Truncated, None),
+            ("read", SessionEnd::Read, Some("cannot read standard input")),
+            ("write", SessionEnd::Write, Some("cannot write")),
+            ("memory", SessionEnd::NoMemory, Some("out of memory")),
+            ("turns", SessionEnd::TurnLimit, Some("too many reads")),
+        ],
+    );
 }
 
 /// Says that the words could not be read for want of memory: the status.
@@ -189,7 +235,8 @@ fn status_without_memory(alloc: Global, written: &Written) -> u8 {
 
 #[test]
 fn want_of_memory_is_told(rt: HostRuntime) -> Result<(), Fail> {
+    let at = ("no memory for the words", 0);
     let written = Written::new(rt.alloc());
-    assert_eq!(rt; status_without_memory(rt.alloc(), &written), 4);
-    check_kept(&rt, &written.errors, b"sievebench: out of memory\n")
+    holds(&rt, at, status_without_memory(rt.alloc(), &written) == 4);
+    check_kept(&rt, at, &written.errors, b"sievebench: out of memory\n")
 }

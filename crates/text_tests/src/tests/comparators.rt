@@ -1,7 +1,8 @@
 //! Rows of both comparators, and both ways of searching.
+use super::{holds, same_of};
 use match_text::{AsciiCasemap, Collation, Comparator, Octet, contains, contains_in, is};
+use std::alloc::AllocError;
 use std::process::Abort;
-use std::test::Fail;
 
 // i;ascii-casemap with nothing but its fold, so that the search is the trait's own.
 struct Plain;
@@ -19,62 +20,64 @@ impl Comparator for Plain {
     ghost settles = { λ b. Prim.search rules };
 }
 
-/// An octet, and what it folds to under i;ascii-casemap: under i;octet it is itself.
+/// Compares what an octet folds to under i;ascii-casemap: under i;octet it is itself.
+fn check_folds(rt: &impl Abort, rows: &[(u8, u8)]) {
+    for (octet, folded) in rows {
+        holds(rt, &[*octet], AsciiCasemap::fold(*octet) == *folded);
+        holds(rt, &[*octet], Octet::fold(*octet) == *octet);
+    }
+}
+
 #[test]
 fn folds_letters_alone(rt: HostRuntime) {
-    for (octet, folded) in [
-        (b'a', b'A'),
-        (b'z', b'Z'),
-        (b'A', b'A'),
-        (b'Z', b'Z'),
-        (b'`', b'`'),
-        (b'{', b'{'),
-        (b'[', b'['),
-        (0xe4, 0xe4),
-    ] {
-        let got = (AsciiCasemap::fold(octet), Octet::fold(octet));
-        assert_eq!(rt; got, (folded, octet), "at {octet}");
-    }
+    check_folds(
+        &rt,
+        &[
+            (b'a', b'A'),
+            (b'z', b'Z'),
+            (b'A', b'A'),
+            (b'Z', b'Z'),
+            (b'`', b'`'),
+            (b'{', b'{'),
+            (b'[', b'['),
+            (0xe4, 0xe4),
+        ],
+    );
 }
 
 /// A value, a key, and what is answered under i;octet and under i;ascii-casemap.
 type Row<'a> = (&'a [u8], &'a [u8], bool, bool);
 
-/// Whether a value equals a key under i;octet, under i;ascii-casemap, and under the fold of the latter.
-fn equals(value: &[u8], key: &[u8]) -> (bool, bool, bool) {
-    (
-        is::<Octet>(value, key),
-        is::<AsciiCasemap>(value, key),
-        is::<Plain>(value, key),
-    )
-}
-
-/// Whether a key is part of a value under the same three.
-fn holds(value: &[u8], key: &[u8]) -> (bool, bool, bool) {
-    (
-        contains::<Octet>(value, key),
-        contains::<AsciiCasemap>(value, key),
-        contains::<Plain>(value, key),
-    )
-}
-
-/// Compares each value with its key, in whole or in part.
-fn check_rows(rt: &impl Abort, is_whole: bool, rows: &[Row<'_>]) {
+/// Compares whether a value equals a key under i;octet, under i;ascii-casemap, and under the fold of the latter: 1, or else 0.
+fn check_whole(rt: &impl Abort, rows: &[Row<'_>]) {
     for (value, key, octet, casemap) in rows {
-        let got = if is_whole {
-            equals(*value, *key)
-        } else {
-            holds(*value, *key)
-        };
-        assert_eq!(rt; got, (*octet, *casemap, *casemap), "{value:?} {key:?}");
+        let got = [
+            is::<Octet>(*value, *key) as u8,
+            is::<AsciiCasemap>(*value, *key) as u8,
+            is::<Plain>(*value, *key) as u8,
+        ];
+        let wanted = [*octet as u8, *casemap as u8, *casemap as u8];
+        same_of(rt, (*value, *key), &got, &wanted);
+    }
+}
+
+/// Compares whether a key is part of a value under the same three.
+fn check_part(rt: &impl Abort, rows: &[Row<'_>]) {
+    for (value, key, octet, casemap) in rows {
+        let got = [
+            contains::<Octet>(*value, *key) as u8,
+            contains::<AsciiCasemap>(*value, *key) as u8,
+            contains::<Plain>(*value, *key) as u8,
+        ];
+        let wanted = [*octet as u8, *casemap as u8, *casemap as u8];
+        same_of(rt, (*value, *key), &got, &wanted);
     }
 }
 
 #[test]
 fn compares_and_searches(rt: HostRuntime) {
-    check_rows(
+    check_whole(
         &rt,
-        true,
         &[
             (b"", b"", true, true),
             (b"Subject", b"Subject", true, true),
@@ -85,9 +88,8 @@ fn compares_and_searches(rt: HostRuntime) {
             (b"\x00\xff\xe4", b"\x00\xff\xc4", false, false),
         ],
     );
-    check_rows(
+    check_part(
         &rt,
-        false,
         &[
             (b"", b"", true, true),
             (b"value", b"", true, true),
@@ -106,12 +108,21 @@ fn compares_and_searches(rt: HostRuntime) {
 }
 
 /// The other way of searching, once under each comparator.
+fn check_linear<C: Comparator>(
+    rt: &(impl AllocGlobal + Abort),
+    key: &[u8],
+    wanted: bool,
+) -> Result<(), AllocError> {
+    let found = contains_in::<C>(rt.alloc(), b"at the END", key)?;
+    holds(rt, key, found == wanted);
+    Ok(())
+}
+
 #[test]
-fn searches_in_linear_time(rt: HostRuntime) -> Result<(), Fail> {
-    let value = b"at the END";
-    assert!(rt; contains_in::<Octet>(rt.alloc(), value, b"END")?);
-    assert!(rt; !contains_in::<Octet>(rt.alloc(), value, b"end")?);
-    assert!(rt; contains_in::<AsciiCasemap>(rt.alloc(), value, b"end")?);
-    assert_ne!(rt; Collation::Octet, Collation::Casemap);
+fn searches_in_linear_time(rt: HostRuntime) -> Result<(), AllocError> {
+    check_linear::<Octet>(&rt, b"END", true)?;
+    check_linear::<Octet>(&rt, b"end", false)?;
+    check_linear::<AsciiCasemap>(&rt, b"end", true)?;
+    holds(&rt, b"collations", Collation::Octet != Collation::Casemap);
     Ok(())
 }

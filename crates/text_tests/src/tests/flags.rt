@@ -1,138 +1,244 @@
 //! Rows of lists of flags, by RFC 5232.
+use super::{Row, holds, push_ended, same};
 use match_text::{
     FlagList, flag_keys, flag_keys_of_texts, flag_text, flags_of, flags_of_texts, union, without,
 };
 use std::alloc::{AllocError, Global};
 use std::borrow::CowSlice;
-use std::test::Fail;
+use std::process::Abort;
 
-/// The keys, each in front of a bar.
-fn listed(alloc: Global, keys: &[CowSlice<'_, u8>]) -> Result<Vec<u8>, AllocError> {
-    let mut told = Vec::new(alloc);
-    for key in keys {
-        told.extend_from_slice(key.as_slice())?;
-        told.push(b'|')?;
+/// Compares the text of a list.
+fn check_flags(
+    rt: &(impl AllocGlobal + Abort),
+    row: &[u8],
+    flags: &FlagList,
+    wanted: &[u8],
+) -> Result<(), AllocError> {
+    same(rt, row, &flag_text(rt.alloc(), flags)?, wanted);
+    Ok(())
+}
+
+/// Compares the flags of a text.
+fn check_text(
+    rt: &(impl AllocGlobal + Abort),
+    text: &[u8],
+    wanted: &[u8],
+) -> Result<(), AllocError> {
+    check_flags(rt, text, &flags_of(rt.alloc(), text)?, wanted)
+}
+
+/// Compares the flags of each text.
+fn check_texts(rt: &(impl AllocGlobal + Abort), rows: &[Row<'_>]) -> Result<(), AllocError> {
+    for (text, wanted) in rows {
+        check_text(rt, *text, *wanted)?;
     }
-    Ok(told)
+    Ok(())
 }
 
 /// A text and its flags.
 #[test]
-fn a_text_has_each_of_its_flags_once(rt: HostRuntime) -> Result<(), Fail> {
-    for (text, flags) in [
-        ("", ""),
-        ("   ", ""),
-        ("\\Seen", "\\Seen"),
-        ("\\Seen \\seen", "\\Seen"),
-        (
-            "\\dRaFt  \\ANSWERED \\flagged \\Deleted",
-            "\\dRaFt \\ANSWERED \\flagged \\Deleted",
-        ),
-        (" b a B  c A ", "b a c"),
-        ("\\Recent a \\Junk \\ \\\\Seen \\Seenx", "a"),
-        ("$Junk $Forwarded $MDNSent", "$Junk $Forwarded $MDNSent"),
-        (
-            "( ) { % * \" \\ ] } [ a(b a)b a{b a%b a*b a\"b a\\b a]b",
-            "} [",
-        ),
-        ("a\tb c\rd e", "e"),
-        ("a\u{7f} \u{e9} ok", "ok"),
-    ] {
-        let got = flag_text(rt.alloc(), &flags_of(rt.alloc(), text.as_bytes())?)?;
-        assert_eq!(rt; got.as_slice(), flags.as_bytes(), "{text}");
-    }
-    Ok(())
+fn a_text_has_each_of_its_flags_once(rt: HostRuntime) -> Result<(), AllocError> {
+    check_texts(
+        &rt,
+        &[
+            (b"", b""),
+            (b"   ", b""),
+            (b"\\Seen", b"\\Seen"),
+            (b"\\Seen \\seen", b"\\Seen"),
+            (
+                b"\\dRaFt  \\ANSWERED \\flagged \\Deleted",
+                b"\\dRaFt \\ANSWERED \\flagged \\Deleted",
+            ),
+            (b" b a B  c A ", b"b a c"),
+            (b"\\Recent a \\Junk \\ \\\\Seen \\Seenx", b"a"),
+            (b"$Junk $Forwarded $MDNSent", b"$Junk $Forwarded $MDNSent"),
+            (
+                b"( ) { % * \" \\ ] } [ a(b a)b a{b a%b a*b a\"b a\\b a]b",
+                b"} [",
+            ),
+            (b"a\tb c\rd e", b"e"),
+            (b"a\x7f \xc3\xa9 ok", b"ok"),
+        ],
+    )
+}
+
+/// Two lists, in front of both joined, and of those of the first that aren't in the second.
+type Pair<'a> = (&'a [u8], &'a [u8], &'a [u8], &'a [u8]);
+
+/// Compares two lists joined.
+fn check_union(
+    rt: &(impl AllocGlobal + Abort),
+    first: &FlagList,
+    second: &FlagList,
+    wanted: &[u8],
+) -> Result<(), AllocError> {
+    let joined = union(rt.alloc(), first, second)?;
+    check_flags(rt, b"joined", &joined, wanted)
+}
+
+/// Compares those of the first that aren't in the second.
+fn check_without(
+    rt: &(impl AllocGlobal + Abort),
+    first: &FlagList,
+    second: &FlagList,
+    wanted: &[u8],
+) -> Result<(), AllocError> {
+    let left = without(rt.alloc(), first, second)?;
+    check_flags(rt, b"left", &left, wanted)
+}
+
+/// Compares both for a list and a text.
+fn check_second(
+    rt: &(impl AllocGlobal + Abort),
+    first: &FlagList,
+    (_, second, both, left): Pair<'_>,
+) -> Result<(), AllocError> {
+    let second = flags_of(rt.alloc(), second)?;
+    check_union(rt, first, &second, both)?;
+    check_without(rt, first, &second, left)
+}
+
+/// Compares both for two texts.
+fn check_pair(rt: &(impl AllocGlobal + Abort), pair: Pair<'_>) -> Result<(), AllocError> {
+    let first = flags_of(rt.alloc(), pair.0)?;
+    check_second(rt, &first, pair)
 }
 
 /// Two texts, their flags joined, and those of the first that aren't in the second.
 #[test]
-fn lists_are_joined_and_taken_from(rt: HostRuntime) -> Result<(), Fail> {
-    for (first, second, both, left) in [
-        ("a b c", "B", "a b c", "a c"),
+fn lists_are_joined_and_taken_from(rt: HostRuntime) -> Result<(), AllocError> {
+    check_pair(&rt, (b"a b c", b"B", b"a b c", b"a c"))?;
+    check_pair(
+        &rt,
         (
-            "\\Deleted",
-            "\\Answered \\DELETED",
-            "\\Deleted \\Answered",
-            "",
+            b"\\Deleted",
+            b"\\Answered \\DELETED",
+            b"\\Deleted \\Answered",
+            b"",
         ),
-        ("", "x X y", "x y", ""),
-        ("a b", "", "a b", "a b"),
-        ("a", "b c B", "a b c", "a"),
-    ] {
-        let first = flags_of(rt.alloc(), first.as_bytes())?;
-        let second = flags_of(rt.alloc(), second.as_bytes())?;
-        let joined = flag_text(rt.alloc(), &union(rt.alloc(), &first, &second)?)?;
-        assert_eq!(rt; joined.as_slice(), both.as_bytes());
-        let rest = flag_text(rt.alloc(), &without(rt.alloc(), &first, &second)?)?;
-        assert_eq!(rt; rest.as_slice(), left.as_bytes());
+    )?;
+    check_pair(&rt, (b"", b"x X y", b"x y", b""))?;
+    check_pair(&rt, (b"a b", b"", b"a b", b"a b"))?;
+    check_pair(&rt, (b"a", b"b c B", b"a b c", b"a"))
+}
+
+/// Compares keys, each in front of a bar.
+fn check_keys(
+    rt: &(impl AllocGlobal + Abort),
+    row: &[u8],
+    keys: &[CowSlice<'_, u8>],
+    wanted: &[u8],
+) -> Result<(), AllocError> {
+    let mut told = Vec::new(rt.alloc());
+    for key in keys {
+        push_ended(&mut told, key.as_slice(), b'|')?;
     }
+    same(rt, row, &told, wanted);
     Ok(())
+}
+
+/// Compares what a key of a test stands for.
+fn check_key(rt: &(impl AllocGlobal + Abort), key: &[u8], wanted: &[u8]) -> Result<(), AllocError> {
+    check_keys(rt, key, &flag_keys(rt.alloc(), key)?, wanted)
 }
 
 /// A key of a test, and what it stands for.
 #[test]
-fn keys_are_not_judged(rt: HostRuntime) -> Result<(), Fail> {
-    for (key, told) in [
-        ("", "|"),
-        (" ", ""),
-        ("a  b", "a|b|"),
-        (" \\Recent (* a A", "\\Recent|(*|a|A|"),
-    ] {
-        let keys = flag_keys(rt.alloc(), key.as_bytes())?;
-        let got = listed(rt.alloc(), &keys)?;
-        assert_eq!(rt; got.as_slice(), told.as_bytes(), "{key}");
-    }
-    Ok(())
+fn keys_are_not_judged(rt: HostRuntime) -> Result<(), AllocError> {
+    check_key(&rt, b"", b"|")?;
+    check_key(&rt, b" ", b"")?;
+    check_key(&rt, b"a  b", b"a|b|")?;
+    check_key(&rt, b" \\Recent (* a A", b"\\Recent|(*|a|A|")
+}
+
+/// Compares the flags of several texts.
+fn check_texts_as_flags(
+    rt: &(impl AllocGlobal + Abort),
+    texts: &[CowSlice<'_, u8>],
+) -> Result<(), AllocError> {
+    let flags = flags_of_texts(rt.alloc(), texts)?;
+    check_flags(rt, b"several texts", &flags, b"\\Seen a b")
+}
+
+/// Compares the keys of several texts.
+fn check_texts_as_keys<'a>(
+    rt: &(impl AllocGlobal + Abort),
+    texts: &'a [CowSlice<'a, u8>],
+) -> Result<(), AllocError> {
+    let keys = flag_keys_of_texts(rt.alloc(), texts)?;
+    check_keys(rt, b"several texts", &keys, b"\\Seen|a||A|b|")
+}
+
+/// Compares both of several texts.
+fn check_several<'a>(
+    rt: &(impl AllocGlobal + Abort),
+    texts: &'a [CowSlice<'a, u8>],
+) -> Result<(), AllocError> {
+    check_texts_as_flags(rt, texts)?;
+    check_texts_as_keys(rt, texts)
 }
 
 /// Several texts, as flags and as keys.
 #[test]
-fn texts_go_on_in_order(rt: HostRuntime) -> Result<(), Fail> {
-    let texts: [CowSlice<'_, u8>; 3] = [
-        CowSlice::Borrowed(b"\\Seen a"),
-        CowSlice::Borrowed(b""),
-        CowSlice::Borrowed(b"A b"),
-    ];
-    let flags = flag_text(rt.alloc(), &flags_of_texts(rt.alloc(), &texts)?)?;
-    assert_eq!(rt; flags.as_slice(), b"\\Seen a b".as_slice());
-    let keys = flag_keys_of_texts(rt.alloc(), &texts)?;
-    let told = listed(rt.alloc(), &keys)?;
-    assert_eq!(rt; told.as_slice(), b"\\Seen|a||A|b|".as_slice());
+fn texts_go_on_in_order(rt: HostRuntime) -> Result<(), AllocError> {
+    check_several(
+        &rt,
+        &[
+            CowSlice::Borrowed(b"\\Seen a"),
+            CowSlice::Borrowed(b""),
+            CowSlice::Borrowed(b"A b"),
+        ],
+    )
+}
+
+/// Compares a list of no flags.
+fn check_none(rt: &impl Abort, flags: &FlagList) {
+    holds(rt, b"no flags", flags.is_empty() && flags.len() == 0);
+}
+
+/// Compares a list of three flags.
+fn check_three(rt: &impl Abort, flags: &FlagList) {
+    assert!(rt; !flags.is_empty() && flags.len() == 3);
+    same(rt, b"the second of three", flags.get(1), b"Two");
+}
+
+/// Compares a copy of a list of three flags.
+fn check_copy(rt: &(impl AllocGlobal + Abort), flags: &FlagList) -> Result<(), AllocError> {
+    check_three(rt, &flags.copied(rt.alloc())?);
     Ok(())
 }
 
 /// What a list tells of its flags.
 #[test]
-fn a_list_gives_its_flags(rt: HostRuntime) -> Result<(), Fail> {
-    let none = FlagList::new(rt.alloc());
-    assert!(rt; none.is_empty() && none.len() == 0);
-    let flags = flags_of(rt.alloc(), b"one Two three")?.copied(rt.alloc())?;
-    assert!(rt; !flags.is_empty() && flags.len() == 3);
-    if flags.len() == 3 {
-        assert_eq!(rt; flags.get(1), b"Two".as_slice());
+fn a_list_gives_its_flags(rt: HostRuntime) -> Result<(), AllocError> {
+    check_none(&rt, &FlagList::new(rt.alloc()));
+    check_copy(&rt, &flags_of(rt.alloc(), b"one Two three")?)
+}
+
+/// Each text of three letters behind a space, where the first letter may be of either case.
+fn push_words(text: &mut Vec<u8>, first: u8) -> Result<(), AllocError> {
+    for second in b"abcdefghijklmnopqrstuvwxyz" {
+        for third in b"abcdefghijklmnopqrstuvwxyz" {
+            text.extend_from_slice(&[b' ', first, *second, *third])?;
+        }
     }
+    Ok(())
+}
+
+/// Compares how many flags there are, and how many octets in their text.
+fn check_many(rt: &(impl AllocGlobal + Abort), flags: &FlagList) -> Result<(), AllocError> {
+    holds(rt, b"flags", flags.len() == 17576);
+    let octets = flag_text(rt.alloc(), flags)?.len();
+    holds(rt, b"octets", octets == 17576 * 4 - 1);
     Ok(())
 }
 
 /// Thousands of flags, each twice.
 #[test]
-fn many_flags_are_told_apart(rt: HostRuntime) -> Result<(), Fail> {
+fn many_flags_are_told_apart(rt: HostRuntime) -> Result<(), AllocError> {
     let mut text = Vec::new(rt.alloc());
-    for case in [b'a', b'A'] {
-        for first in 0..26u8 {
-            for second in 0..26u8 {
-                for third in 0..26u8 {
-                    text.push(b' ')?;
-                    text.push(case + first)?;
-                    text.push(b'a' + second)?;
-                    text.push(b'a' + third)?;
-                }
-            }
-        }
+    for first in b"abcdefghijklmnopqrstuvwxyzABCDEFGHIJKLMNOPQRSTUVWXYZ" {
+        push_words(&mut text, *first)?;
     }
-    let flags = flags_of(rt.alloc(), &text)?;
-    assert_eq!(rt; flags.len(), 17576);
-    let held = flag_text(rt.alloc(), &flags)?;
-    assert_eq!(rt; held.len(), 17576 * 4 - 1);
-    Ok(())
+    check_many(&rt, &flags_of(rt.alloc(), &text)?)
 }

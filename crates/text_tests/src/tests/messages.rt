@@ -1,4 +1,5 @@
 //! Messages and their fields, row by row.
+use super::{Row, holds, push_ended, same};
 use message_text::{Message, MessageFault};
 use std::alloc::{AllocError, Global};
 use std::borrow::CowSlice;
@@ -9,24 +10,32 @@ fn read(alloc: Global, octets: &[u8]) -> Result<Message, Fail> {
     Ok(Message::new(alloc, Vec::from_slice(alloc, octets)?)?)
 }
 
-// Each field of the message on a line of its own, with a colon between name and value.
-fn listed(alloc: Global, octets: &[u8]) -> Result<Vec<u8>, Fail> {
-    let message = read(alloc, octets)?;
-    let mut text = Vec::new(alloc);
+/// Adds each field of the message on a line of its own, with a colon between name and value.
+fn push_fields(alloc: Global, text: &mut Vec<u8>, message: &Message) -> Result<(), AllocError> {
     for i in 0..message.fields() {
-        text.extend_from_slice(message.name(i))?;
-        text.push(b':')?;
-        text.extend_from_slice(message.value(alloc, i)?.as_slice())?;
-        text.push(b'\n')?;
+        push_ended(text, message.name(i), b':')?;
+        push_ended(text, message.value(alloc, i)?.as_slice(), b'\n')?;
     }
-    Ok(text)
+    Ok(())
+}
+
+/// Compares the fields of a message.
+fn check_fields(
+    rt: &(impl AllocGlobal + Abort),
+    message: &Message,
+    row: &[u8],
+    wanted: &[u8],
+) -> Result<(), AllocError> {
+    let mut text = Vec::new(rt.alloc());
+    push_fields(rt.alloc(), &mut text, message)?;
+    same(rt, row, &text, wanted);
+    Ok(())
 }
 
 /// Compares the fields of each message.
-fn check_listed(rt: &(impl AllocGlobal + Abort), rows: &[(&[u8], &[u8])]) -> Result<(), Fail> {
+fn check_listed(rt: &(impl AllocGlobal + Abort), rows: &[Row<'_>]) -> Result<(), Fail> {
     for (octets, wanted) in rows {
-        let text = listed(rt.alloc(), *octets)?;
-        assert_eq!(rt; text.as_slice(), *wanted, "in {octets:?}");
+        check_fields(rt, &read(rt.alloc(), *octets)?, *octets, *wanted)?;
     }
     Ok(())
 }
@@ -112,26 +121,37 @@ fn messages_of_the_standard_have_their_fields(rt: HostRuntime) -> Result<(), Fai
     )
 }
 
-// Whether the value of each field is borrowed.
-fn borrowed(alloc: Global, message: &Message) -> Result<Vec<bool>, AllocError> {
-    let mut out = Vec::new(alloc);
-    for i in 0..message.fields() {
-        out.push(matches!(message.value(alloc, i)?, CowSlice::Borrowed(_)))?;
+/// Whether a value is borrowed: 1, or else 0.
+fn borrowed(value: &CowSlice<'_, u8>) -> u8 {
+    match value {
+        CowSlice::Borrowed(_) => 1,
+        CowSlice::Owned(_) => 0,
     }
-    Ok(out)
+}
+
+/// Compares which values of fields are borrowed.
+fn check_borrowed(
+    rt: &(impl AllocGlobal + Abort),
+    message: &Message,
+    wanted: &[u8],
+) -> Result<(), AllocError> {
+    let mut found = Vec::new(rt.alloc());
+    for i in 0..message.fields() {
+        found.push(borrowed(&message.value(rt.alloc(), i)?))?;
+    }
+    same(rt, b"fields", &found, wanted);
+    Ok(())
 }
 
 // Whether a value is borrowed goes by its field's lines, and not by what is left of it. There are 4 fields.
 #[test]
 fn borrows_unfolded_values(rt: HostRuntime) -> Result<(), Fail> {
     let message = read(rt.alloc(), b"A: b\nC: d\n e\nF:\nG:\n \n\n f")?;
-    let got = borrowed(rt.alloc(), &message)?;
-    assert_eq!(rt; got.as_slice(), [true, false, true, false].as_slice());
-    Ok(())
+    Ok(check_borrowed(&rt, &message, &[1, 0, 1, 0])?)
 }
 
 // Why `size` octets were refused, and how many came back.
-fn refusal(alloc: Global, size: usize) -> Result<Option<(MessageFault, usize)>, Fail> {
+fn refusal(alloc: Global, size: usize) -> Result<Option<(MessageFault, usize)>, AllocError> {
     match Message::new(alloc, vec![in alloc; b'a'; size]?) {
         Ok(_) => Ok(None),
         Err((fault, bytes)) => Ok(Some((fault, bytes.len()))),
@@ -139,9 +159,14 @@ fn refusal(alloc: Global, size: usize) -> Result<Option<(MessageFault, usize)>, 
 }
 
 #[test]
-fn refuses_exactly_past_the_limit(rt: HostRuntime) -> Result<(), Fail> {
-    assert_eq!(rt; refusal(rt.alloc(), 16_777_216)?, None);
+fn refuses_exactly_past_the_limit(rt: HostRuntime) -> Result<(), AllocError> {
+    let none = refusal(rt.alloc(), 16_777_216)?;
+    holds(&rt, b"at the limit", none.is_none());
     let past = refusal(rt.alloc(), 16_777_217)?;
-    assert_eq!(rt; past, Some((MessageFault::TooLarge, 16_777_217)));
+    holds(
+        &rt,
+        b"past it",
+        past == Some((MessageFault::TooLarge, 16_777_217)),
+    );
     Ok(())
 }

@@ -1,9 +1,9 @@
 //! Trees and tokens as text.
 
+use super::same;
 use sieve_syntax::{Argument, Command, Test, Tests, Text, Token, parse, tokens};
 use std::alloc::{AllocError, Global};
 use std::process::Abort;
-use std::test::Fail;
 
 /// Octets as printed text: those outside 32 to 126 in hexadecimal.
 fn print_octets(out: &mut String, octets: &[u8]) -> Result<(), AllocError> {
@@ -159,11 +159,11 @@ fn print_tree(out: &mut String, alloc: Global, text: &[u8]) -> Result<(), AllocE
 pub(super) fn check_trees(
     rt: &(impl AllocGlobal + Abort),
     rows: &[(&[u8], &str)],
-) -> Result<(), Fail> {
+) -> Result<(), AllocError> {
     for (text, wanted) in rows {
         let mut out = String::new(rt.alloc());
         print_tree(&mut out, rt.alloc(), *text)?;
-        assert_eq!(rt; out.as_str(), *wanted, "at {text:?}");
+        same(rt, *text, out.as_bytes(), wanted.as_bytes());
     }
     Ok(())
 }
@@ -177,8 +177,9 @@ fn print_token(out: &mut String, alloc: Global, token: &Token) -> Result<(), All
     out.push_str(&printed)
 }
 
-fn print_tokens(out: &mut String, alloc: Global, tokens: &[Token]) -> Result<(), AllocError> {
-    for token in tokens {
+/// Prints the tokens of a text.
+fn print_tokens(out: &mut String, alloc: Global, text: &[u8]) -> Result<(), AllocError> {
+    for token in &tokens(alloc, text)? {
         print_token(out, alloc, token)?;
     }
     Ok(())
@@ -188,11 +189,11 @@ fn print_tokens(out: &mut String, alloc: Global, tokens: &[Token]) -> Result<(),
 pub(super) fn check_tokens(
     rt: &(impl AllocGlobal + Abort),
     rows: &[(&[u8], &str)],
-) -> Result<(), Fail> {
+) -> Result<(), AllocError> {
     for (text, wanted) in rows {
         let mut out = String::new(rt.alloc());
-        print_tokens(&mut out, rt.alloc(), &tokens(rt.alloc(), *text)?)?;
-        assert_eq!(rt; out.as_str(), *wanted, "at {text:?}");
+        print_tokens(&mut out, rt.alloc(), *text)?;
+        same(rt, *text, out.as_bytes(), wanted.as_bytes());
     }
     Ok(())
 }

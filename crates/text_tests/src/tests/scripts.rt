@@ -1,10 +1,10 @@
 //! Scripts with their trees. Texts with faults stand in `examples/rows`.
 
 use super::print::check_trees;
-use std::test::Fail;
+use std::alloc::AllocError;
 
 #[test]
-fn scripts_have_their_trees(rt: HostRuntime) -> Result<(), Fail> {
+fn scripts_have_their_trees(rt: HostRuntime) -> Result<(), AllocError> {
     check_trees(
         &rt,
         &[
@@ -36,7 +36,7 @@ fn scripts_have_their_trees(rt: HostRuntime) -> Result<(), Fail> {
 }
 
 #[test]
-fn scripts_of_the_standard_have_their_trees(rt: HostRuntime) -> Result<(), Fail> {
+fn scripts_of_the_standard_have_their_trees(rt: HostRuntime) -> Result<(), AllocError> {
     check_trees(
         &rt,
         &[
@@ -70,7 +70,7 @@ fn scripts_of_the_standard_have_their_trees(rt: HostRuntime) -> Result<(), Fail>
 }
 
 #[test]
-fn strings_have_their_values(rt: HostRuntime) -> Result<(), Fail> {
+fn strings_have_their_values(rt: HostRuntime) -> Result<(), AllocError> {
     check_trees(
         &rt,
         &[
@@ -102,7 +102,7 @@ fn strings_have_their_values(rt: HostRuntime) -> Result<(), Fail> {
 }
 
 #[test]
-fn numbers_and_tags_have_their_values(rt: HostRuntime) -> Result<(), Fail> {
+fn numbers_and_tags_have_their_values(rt: HostRuntime) -> Result<(), AllocError> {
     check_trees(
         &rt,
         &[

@@ -1,10 +1,10 @@
 //! What tokens are spelled like.
 
 use super::print::check_tokens;
-use std::test::Fail;
+use std::alloc::AllocError;
 
 #[test]
-fn white_space_and_comments(rt: HostRuntime) -> Result<(), Fail> {
+fn white_space_and_comments(rt: HostRuntime) -> Result<(), AllocError> {
     check_tokens(
         &rt,
         &[
@@ -27,7 +27,7 @@ fn white_space_and_comments(rt: HostRuntime) -> Result<(), Fail> {
 }
 
 #[test]
-fn identifiers_tags_and_numbers(rt: HostRuntime) -> Result<(), Fail> {
+fn identifiers_tags_and_numbers(rt: HostRuntime) -> Result<(), AllocError> {
     check_tokens(
         &rt,
         &[
@@ -47,7 +47,7 @@ fn identifiers_tags_and_numbers(rt: HostRuntime) -> Result<(), Fail> {
 }
 
 #[test]
-fn quoted_strings(rt: HostRuntime) -> Result<(), Fail> {
+fn quoted_strings(rt: HostRuntime) -> Result<(), AllocError> {
     check_tokens(
         &rt,
         &[
@@ -62,7 +62,7 @@ fn quoted_strings(rt: HostRuntime) -> Result<(), Fail> {
 }
 
 #[test]
-fn multi_line_strings(rt: HostRuntime) -> Result<(), Fail> {
+fn multi_line_strings(rt: HostRuntime) -> Result<(), AllocError> {
     check_tokens(
         &rt,
         &[
@@ -77,7 +77,7 @@ fn multi_line_strings(rt: HostRuntime) -> Result<(), Fail> {
 }
 
 #[test]
-fn what_begins_like_a_multi_line_string(rt: HostRuntime) -> Result<(), Fail> {
+fn what_begins_like_a_multi_line_string(rt: HostRuntime) -> Result<(), AllocError> {
     check_tokens(
         &rt,
         &[
@@ -98,7 +98,7 @@ fn what_begins_like_a_multi_line_string(rt: HostRuntime) -> Result<(), Fail> {
 }
 
 #[test]
-fn punctuation_and_octets_that_begin_nothing(rt: HostRuntime) -> Result<(), Fail> {
+fn punctuation_and_octets_that_begin_nothing(rt: HostRuntime) -> Result<(), AllocError> {
     check_tokens(
         &rt,
         &[

@@ -1,114 +1,157 @@
 //! Rows of `:matches`, and the fast way of matching against a slow one.
 ghost use Rattle.std.specs.Prelude.{◌<◌, length};
 
-use match_text::{AsciiCasemap, Comparator, Octet, matches};
+use super::{holds, same, same_of};
+use match_text::{AsciiCasemap, Captures, Comparator, Octet, matches};
 use std::alloc::{AllocError, Global};
-use std::test::Fail;
+use std::process::Abort;
 
-/// What is answered, as a text: the whole value, and a bar before what each wildcard took; `no` where the pattern does not
-/// match.
-fn answer<C: Comparator>(
-    alloc: Global,
-    value: &[u8],
-    pattern: &[u8],
-) -> Result<Vec<u8>, AllocError> {
-    let Some(captures) = matches::<C>(alloc, value, pattern)? else {
-        return Vec::from_slice(alloc, b"no");
-    };
-    let mut told = Vec::from_slice(alloc, captures.get(0))?;
+/// Adds what a match took: the whole value, and a bar before what each wildcard took.
+fn push_taken(told: &mut Vec<u8>, captures: &Captures<'_>) -> Result<(), AllocError> {
+    told.extend_from_slice(captures.get(0))?;
     for before in 0..captures.count() {
         told.push(b'|')?;
         told.extend_from_slice(captures.get(before + 1))?;
     }
-    Ok(told)
+    Ok(())
 }
 
-/// A value, a pattern and what is answered under i;octet. A `\` takes the meaning from the octet behind it, and stands for itself at the
-/// end.
-#[test]
-fn wildcards_take_as_little_as_they_can(rt: HostRuntime) -> Result<(), Fail> {
-    for (value, pattern, told) in [
-        ("abcbc", "a*b*c", "abcbc||cb"),
-        ("aab", "*?b", "aab|a|a"),
-        ("ab", "**", "ab||ab"),
-        ("ab", "?*", "ab|a|b"),
-        ("abb", "*b", "abb|ab"),
-        ("aba", "*b", "no"),
-        ("abab", "*ab", "abab|ab"),
-        ("abcabd", "a*?b*", "abcabd|bc|a|d"),
-        ("", "", ""),
-        ("", "*", "|"),
-        ("", "**", "||"),
-        ("", "?", "no"),
-        ("x", "", "no"),
-        ("a", "a*a", "no"),
-        ("aa", "a*a", "aa|"),
-        ("Frop", "Frop", "Frop"),
-        ("Frop", "frop", "no"),
-        ("Frop!", "Frop", "no"),
-        ("a*", "a\\*", "a*"),
-        ("ab", "a\\*", "no"),
-        ("a?", "a\\?", "a?"),
-        ("ab", "a\\?", "no"),
-        ("a\\b", "a\\\\?", "a\\b|b"),
-        ("ab", "\\a\\b", "ab"),
-        ("a\\", "a\\", "a\\"),
-        ("a\\", "*\\", "a\\|a"),
-        ("a\\", "a\\\\", "a\\"),
-        ("a", "a\\", "no"),
-    ] {
-        let got = answer::<Octet>(rt.alloc(), value.as_bytes(), pattern.as_bytes())?;
-        assert_eq!(rt; got.as_slice(), told.as_bytes(), "{value} {pattern}");
+/// Adds what is answered: what a match took, or `no` where the pattern does not match.
+fn push_answer<C: Comparator>(
+    alloc: Global,
+    told: &mut Vec<u8>,
+    value: &[u8],
+    pattern: &[u8],
+) -> Result<(), AllocError> {
+    match matches::<C>(alloc, value, pattern)? {
+        Some(captures) => push_taken(told, &captures),
+        None => told.extend_from_slice(b"no"),
+    }
+}
+
+/// A value, a pattern and what is answered.
+type Row<'a> = (&'a [u8], &'a [u8], &'a [u8]);
+
+/// Compares what is answered under a comparator.
+fn check_answers<C: Comparator>(
+    rt: &(impl AllocGlobal + Abort),
+    rows: &[Row<'_>],
+) -> Result<(), AllocError> {
+    for (value, pattern, wanted) in rows {
+        let mut told = Vec::new(rt.alloc());
+        push_answer::<C>(rt.alloc(), &mut told, *value, *pattern)?;
+        same_of(rt, (*value, *pattern), &told, *wanted);
     }
     Ok(())
+}
+
+/// A `\` takes the meaning from the octet behind it, and stands for itself at the end.
+#[test]
+fn wildcards_take_as_little_as_they_can(rt: HostRuntime) -> Result<(), AllocError> {
+    check_answers::<Octet>(
+        &rt,
+        &[
+            (b"abcbc", b"a*b*c", b"abcbc||cb"),
+            (b"aab", b"*?b", b"aab|a|a"),
+            (b"ab", b"**", b"ab||ab"),
+            (b"ab", b"?*", b"ab|a|b"),
+            (b"abb", b"*b", b"abb|ab"),
+            (b"aba", b"*b", b"no"),
+            (b"abab", b"*ab", b"abab|ab"),
+            (b"abcabd", b"a*?b*", b"abcabd|bc|a|d"),
+            (b"", b"", b""),
+            (b"", b"*", b"|"),
+            (b"", b"**", b"||"),
+            (b"", b"?", b"no"),
+            (b"x", b"", b"no"),
+            (b"a", b"a*a", b"no"),
+            (b"aa", b"a*a", b"aa|"),
+            (b"Frop", b"Frop", b"Frop"),
+            (b"Frop", b"frop", b"no"),
+            (b"Frop!", b"Frop", b"no"),
+            (b"a*", b"a\\*", b"a*"),
+            (b"ab", b"a\\*", b"no"),
+            (b"a?", b"a\\?", b"a?"),
+            (b"ab", b"a\\?", b"no"),
+            (b"a\\b", b"a\\\\?", b"a\\b|b"),
+            (b"ab", b"\\a\\b", b"ab"),
+            (b"a\\", b"a\\", b"a\\"),
+            (b"a\\", b"*\\", b"a\\|a"),
+            (b"a\\", b"a\\\\", b"a\\"),
+            (b"a", b"a\\", b"no"),
+        ],
+    )
 }
 
 /// Under i;ascii-casemap letters match in either case, and what is taken is as the value has it.
 #[test]
-fn captures_are_slices_of_the_value(rt: HostRuntime) -> Result<(), Fail> {
-    for (value, pattern, told) in [
-        ("bcd", "B*", "bcd|cd"),
-        ("BCD", "b*d", "BCD|C"),
-        ("Re: Hello", "re:*", "Re: Hello| Hello"),
-        ("[list] AbC", "[*] ?b*", "[list] AbC|list|A|C"),
-        ("a{", "A[", "no"),
-    ] {
-        let got = answer::<AsciiCasemap>(rt.alloc(), value.as_bytes(), pattern.as_bytes())?;
-        assert_eq!(rt; got.as_slice(), told.as_bytes(), "{value} {pattern}");
-    }
-    Ok(())
+fn captures_are_slices_of_the_value(rt: HostRuntime) -> Result<(), AllocError> {
+    check_answers::<AsciiCasemap>(
+        &rt,
+        &[
+            (b"bcd", b"B*", b"bcd|cd"),
+            (b"BCD", b"b*d", b"BCD|C"),
+            (b"Re: Hello", b"re:*", b"Re: Hello| Hello"),
+            (b"[list] AbC", b"[*] ?b*", b"[list] AbC|list|A|C"),
+            (b"a{", b"A[", b"no"),
+        ],
+    )
+}
+
+/// Compares what two wildcards took of `abc`.
+fn check_two(rt: &impl Abort, captures: &Captures<'_>) {
+    holds(rt, b"the count", captures.count() == 2);
+    same(rt, b"the whole value", captures.get(0), b"abc");
+    same(rt, b"the last wildcard", captures.get(2), b"bc");
+    same(rt, b"past the count", captures.get(3), b"");
+    same(rt, b"far past it", captures.get(usize::MAX), b"");
 }
 
 /// Past the count there are no octets.
 #[test]
-fn nothing_is_taken_past_the_count(rt: HostRuntime) -> Result<(), Fail> {
-    let captures = matches::<Octet>(rt.alloc(), b"abc", b"?*")?.ok_or("no match")?;
-    assert_eq!(rt; captures.count(), 2);
-    assert_eq!(rt; captures.get(0), b"abc".as_slice());
-    assert_eq!(rt; captures.get(2), b"bc".as_slice());
-    assert_eq!(rt; captures.get(3).len(), 0);
-    assert_eq!(rt; captures.get(usize::MAX).len(), 0);
+fn nothing_is_taken_past_the_count(rt: HostRuntime) -> Result<(), AllocError> {
+    match matches::<Octet>(rt.alloc(), b"abc", b"?*")? {
+        Some(captures) => check_two(&rt, &captures),
+        None => panic!(rt; "no match"),
+    }
+    Ok(())
+}
+
+/// Compares how many octets wildcards took of many.
+fn check_many(rt: &impl Abort, captures: &Captures<'_>) {
+    holds(rt, b"the count", captures.count() == 1_000);
+    holds(rt, b"the last but one", captures.get(999).is_empty());
+    holds(rt, b"the last", captures.get(1_000).len() == 99_000);
+}
+
+/// Compares whether a pattern matches so many octets, and what it takes.
+fn check_stars(
+    rt: &(impl AllocGlobal + Abort),
+    value: &[u8],
+    pattern: &[u8],
+    is_matched: bool,
+) -> Result<(), AllocError> {
+    match matches::<AsciiCasemap>(rt.alloc(), value, pattern)? {
+        Some(captures) => {
+            holds(rt, b"a match", is_matched);
+            check_many(rt, &captures);
+        }
+        None => holds(rt, b"no match", !is_matched),
+    }
     Ok(())
 }
 
 /// So many stars over so many octets take no time to speak of, whether they match or not.
 #[test]
-fn many_stars_are_matched_at_once(rt: HostRuntime) -> Result<(), Fail> {
-    let mut value = Vec::new(rt.alloc());
-    for _ in 0..100_000 {
-        value.push(b'a')?;
-    }
+fn many_stars_are_matched_at_once(rt: HostRuntime) -> Result<(), AllocError> {
+    let value = vec![in rt.alloc(); b'a'; 100_000]?;
     let mut pattern = Vec::new(rt.alloc());
     for _ in 0..1_000 {
         pattern.extend_from_slice(b"*a")?;
     }
-    let captures = matches::<AsciiCasemap>(rt.alloc(), &value, &pattern)?.ok_or("no match")?;
-    assert_eq!(rt; captures.count(), 1_000);
-    assert_eq!(rt; captures.get(999).len(), 0);
-    assert_eq!(rt; captures.get(1_000).len(), 99_000);
+    check_stars(&rt, &value, &pattern, true)?;
     pattern.extend_from_slice(b"*b")?;
-    assert!(rt; matches::<AsciiCasemap>(rt.alloc(), &value, &pattern)?.is_none());
-    Ok(())
+    check_stars(&rt, &value, &pattern, false)
 }
 
 /// What is taken by trying for each star all lengths from none up: a bar before what each wildcard takes, if the pattern
@@ -166,21 +209,51 @@ fn text_of(alloc: Global, alphabet: &[u8], number: usize) -> Result<Vec<u8>, All
     Ok(text)
 }
 
+/// Adds what the slow way takes, behind the value, or `no`.
+fn push_slow(
+    alloc: Global,
+    told: &mut Vec<u8>,
+    value: &[u8],
+    pattern: &[u8],
+) -> Result<(), AllocError> {
+    match slow(alloc, value, pattern)? {
+        Some(taken) => {
+            told.extend_from_slice(value)?;
+            told.extend_from_slice(&taken)
+        }
+        None => told.extend_from_slice(b"no"),
+    }
+}
+
+/// Compares both ways for a value and a pattern.
+fn check_ways(
+    rt: &(impl AllocGlobal + Abort),
+    value: &[u8],
+    pattern: &[u8],
+) -> Result<(), AllocError> {
+    let mut got = Vec::new(rt.alloc());
+    push_answer::<Octet>(rt.alloc(), &mut got, value, pattern)?;
+    let mut told = Vec::new(rt.alloc());
+    push_slow(rt.alloc(), &mut told, value, pattern)?;
+    same_of(rt, (value, pattern), &got, &told);
+    Ok(())
+}
+
+/// Compares both ways for a value and all patterns of up to four octets.
+fn check_patterns(rt: &(impl AllocGlobal + Abort), value: &[u8]) -> Result<(), AllocError> {
+    for number in 0..781 {
+        let pattern = text_of(rt.alloc(), b"ab*?\\", number)?;
+        check_ways(rt, value, &pattern)?;
+    }
+    Ok(())
+}
+
 /// Both ways answer the same for all values of up to five octets and all patterns of up to four.
 #[test]
-fn both_ways_of_matching_agree(rt: HostRuntime) -> Result<(), Fail> {
-    for of_value in 0..63 {
-        let value = text_of(rt.alloc(), b"ab", of_value)?;
-        for of_pattern in 0..781 {
-            let pattern = text_of(rt.alloc(), b"ab*?\\", of_pattern)?;
-            let got = answer::<Octet>(rt.alloc(), &value, &pattern)?;
-            let mut told = Vec::from_slice(rt.alloc(), &value)?;
-            match slow(rt.alloc(), &value, &pattern)? {
-                Some(taken) => told.extend_from_slice(&taken)?,
-                None => told = Vec::from_slice(rt.alloc(), b"no")?,
-            }
-            assert_eq!(rt; got.as_slice(), told.as_slice(), "{of_value} {of_pattern}");
-        }
+fn both_ways_of_matching_agree(rt: HostRuntime) -> Result<(), AllocError> {
+    for number in 0..63 {
+        let value = text_of(rt.alloc(), b"ab", number)?;
+        check_patterns(&rt, &value)?;
     }
     Ok(())
 }

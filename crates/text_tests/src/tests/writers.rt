@@ -1,5 +1,6 @@
 //! What the writers print, and what they do at writers that take little, interrupt or give up.
 
+use super::{holds, same};
 use sieve_base::{
     Counted, Faults, Piece, Sink, Source, WriteFault, write_out, write_pieces, write_quoted,
 };
@@ -62,26 +63,36 @@ impl Read for Broken {
     }
 }
 
-#[test]
-fn prints_octets_between_quotes(rt: HostRuntime) -> Result<(), Fail> {
-    let rows: [(&[u8], &[u8]); 10] = [
-        (b"", b"\"\""),
-        (b"a", b"\"a\""),
-        (b"a\"b\\", b"\"a\\\"b\\\\\""),
-        (b"\x00", b"\"\\x00\""),
-        (b"\n", b"\"\\x0a\""),
-        (b"\x1f", b"\"\\x1f\""),
-        (b" ", b"\" \""),
-        (b"~", b"\"~\""),
-        (b"\x7f", b"\"\\x7f\""),
-        (b"ab\xffcd", b"\"ab\\xffcd\""),
-    ];
+/// Compares what each row of octets prints between quotes.
+fn check_quoted(
+    rt: &(impl AllocGlobal + Abort),
+    rows: &[super::Row<'_>],
+) -> Result<(), WriteFault> {
     for (octets, text) in rows {
         let mut writer = Counted::new(Vec::new(rt.alloc()));
-        write_quoted(octets, &mut writer)?;
-        assert_eq!(rt; writer.into_inner().as_slice(), text);
+        write_quoted(*octets, &mut writer)?;
+        same(rt, *octets, &writer.into_inner(), *text);
     }
     Ok(())
+}
+
+#[test]
+fn prints_octets_between_quotes(rt: HostRuntime) -> Result<(), Fail> {
+    Ok(check_quoted(
+        &rt,
+        &[
+            (b"", b"\"\""),
+            (b"a", b"\"a\""),
+            (b"a\"b\\", b"\"a\\\"b\\\\\""),
+            (b"\x00", b"\"\\x00\""),
+            (b"\n", b"\"\\x0a\""),
+            (b"\x1f", b"\"\\x1f\""),
+            (b" ", b"\" \""),
+            (b"~", b"\"~\""),
+            (b"\x7f", b"\"\\x7f\""),
+            (b"ab\xffcd", b"\"ab\\xffcd\""),
+        ],
+    )?)
 }
 
 /// Prints pieces and an end.
@@ -101,17 +112,30 @@ fn print_pieces<W: Sink>(writer: &mut W) -> Result<(), WriteFault> {
 #[test]
 fn prints_pieces_in_order(rt: HostRuntime) {
     let mut writer = Counted::new(Vec::new(rt.alloc()));
-    let result = print_pieces(&mut writer);
-    assert_eq!(rt; (result.is_ok(), writer.faults()), (true, 0));
+    let is_ok = print_pieces(&mut writer).is_ok();
+    holds(&rt, b"pieces", is_ok && writer.faults() == 0);
     let text = b"main \"a b\"\n0 18446744073709551615 end";
-    assert_eq!(rt; writer.into_inner().as_slice(), text.as_slice());
+    same(&rt, b"pieces", &writer.into_inner(), text);
 }
 
 /// The room, what is answered without, the interruptions before each octet, whether printing `abc` between quotes
 /// succeeds, what is taken then, and the faults.
 type Row<'a> = (usize, Full, u32, bool, &'a [u8], u64);
 
-fn check_row(rt: &(impl AllocGlobal + Abort), row: &Row<'_>) {
+/// Prints to a writer, and compares whether that succeeds, and the faults.
+fn check_printing(
+    rt: &impl Abort,
+    writer: &mut Counted<Slow>,
+    row: &[u8],
+    is_ok: bool,
+    faults: u64,
+) {
+    let result = write_quoted(b"abc", writer);
+    holds(rt, row, result.is_ok() == is_ok);
+    holds(rt, row, writer.faults() == faults);
+}
+
+fn check_row(rt: &(impl AllocGlobal + Abort), number: u8, row: &Row<'_>) {
     let (room, full, interruptions, is_ok, text, faults) = *row;
     let mut writer = Counted::new(Slow {
         taken: Vec::new(rt.alloc()),
@@ -120,42 +144,55 @@ fn check_row(rt: &(impl AllocGlobal + Abort), row: &Row<'_>) {
         interruptions,
         interrupted: 0,
     });
-    let result = write_quoted(b"abc", &mut writer);
-    assert_eq!(rt;
-        (result.is_ok(), writer.faults()),
-        (is_ok, faults),
-        "room {room}, {interruptions} interruptions"
-    );
-    assert_eq!(rt; writer.into_inner().taken.as_slice(), text);
+    check_printing(rt, &mut writer, &[number], is_ok, faults);
+    same(rt, &[number], &writer.into_inner().taken, text);
 }
 
 #[test]
 fn tries_an_interrupted_write_a_thousand_times(rt: HostRuntime) {
-    let rows: [Row<'_>; 6] = [
-        (9, Full::Zero, 0, true, b"\"abc\"", 0),
-        (3, Full::Zero, 0, false, b"\"ab", 1),
-        (4, Full::Broken, 0, false, b"\"abc", 1),
-        (0, Full::Broken, 0, false, b"", 1),
-        (9, Full::Broken, 1_000, true, b"\"abc\"", 5_000),
-        (9, Full::Broken, 1_001, false, b"", 1_001),
-    ];
-    for row in &rows {
-        check_row(&rt, row);
-    }
+    check_row(&rt, 1, &(9, Full::Zero, 0, true, b"\"abc\"", 0));
+    check_row(&rt, 2, &(3, Full::Zero, 0, false, b"\"ab", 1));
+    check_row(&rt, 3, &(4, Full::Broken, 0, false, b"\"abc", 1));
+    check_row(&rt, 4, &(0, Full::Broken, 0, false, b"", 1));
+    check_row(&rt, 5, &(9, Full::Broken, 1_000, true, b"\"abc\"", 5_000));
+    check_row(&rt, 6, &(9, Full::Broken, 1_001, false, b"", 1_001));
+}
+
+/// Reads twice from a reader that fails, and compares.
+fn check_broken(rt: &impl Abort) {
+    let mut buf = [0u8; 2];
+    let mut reader = Counted::new(Broken);
+    let first = reader.read_some(&mut buf).is_err();
+    let second = reader.read_some(&mut buf).is_err();
+    holds(rt, b"failing reads", first && second);
+    holds(
+        rt,
+        b"their counts",
+        reader.calls() == 2 && reader.faults() == 2,
+    );
+}
+
+/// Reads three octets to their end, two at a time, and compares.
+fn check_reads(rt: &impl Abort) {
+    let mut buf = [0u8; 2];
+    let mut reader = Counted::new(b"abc".as_slice());
+    holds(
+        rt,
+        b"two octets",
+        reader.read_some(&mut buf).ok() == Some(2),
+    );
+    holds(rt, b"the third", reader.read_some(&mut buf).ok() == Some(1));
+    holds(rt, b"the end", reader.read_some(&mut buf).ok() == Some(0));
+    holds(
+        rt,
+        b"the counts",
+        reader.calls() == 3 && reader.faults() == 0,
+    );
+    same(rt, b"what is left", reader.into_inner(), b"");
 }
 
 #[test]
 fn counts_reads_and_faults(rt: HostRuntime) {
-    let mut buf = [0u8; 2];
-    let mut reader = Counted::new(b"abc".as_slice());
-    for wanted in [Some(2), Some(1), Some(0)] {
-        assert_eq!(rt; reader.read_some(&mut buf).ok(), wanted);
-    }
-    assert_eq!(rt; (reader.calls(), reader.faults()), (3, 0));
-    assert_eq!(rt; reader.into_inner(), b"".as_slice());
-    let mut broken = Counted::new(Broken);
-    let first = broken.read_some(&mut buf).is_err();
-    let second = broken.read_some(&mut buf).is_err();
-    assert_eq!(rt; (first, second), (true, true));
-    assert_eq!(rt; (broken.calls(), broken.faults()), (2, 2));
+    check_reads(&rt);
+    check_broken(&rt);
 }
