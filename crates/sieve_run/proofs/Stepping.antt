@@ -1,6 +1,7 @@
 -- What single operations do of what is left to do.
-use Rattle.std.proofs.Common.{◌≡◌, ℕ, ◌+◌, ◌<◌, ◌≤◌, ◌-◌, zero, suc, Bool, true, false, Option, Some, None, List, length, refl, ap, sym, ◌∙◌, arith}
+use Rattle.std.proofs.Common.{◌≡◌, ℕ, ◌+◌, ◌<◌, ◌≤◌, ◌-◌, zero, suc, Bool, true, false, Option, Some, None, Result, IfOk, List, length, refl, ap, sym, ◌∙◌, arith, subst}
 use Rattle.std.proofs.lemmas.Option.{slice_get_past}
+use Rattle.std.proofs.lemmas.Result.{IfOk-at_ok, IfOk-weaker}
 use Rattle.std.specs.Prelude.{nat_lt, slice_get}
 use Rattle.sieve_check.specs.Reading.{Ask, Leaf, exists_ask, over_ask, under_ask}
 use Rattle.sieve_code.specs.Operation.{Operation, asks, acts, stops, returns}
@@ -19,7 +20,7 @@ use Rattle.sieve_action.specs.declared.flow.Flow.TheVariants.{GoesOn}
 use Rattle.sieve_run.specs.declared.steps.Step.{Step}
 use Rattle.sieve_run.specs.declared.steps.Step.TheVariants.{Next, Ended}
 use Rattle.sieve_action.specs.view.Flow.{ending_by}
-use Rattle.sieve_run.specs.view.Step.{step_after, Acts, StepsTo, doing, doing_after}
+use Rattle.sieve_run.specs.view.Step.{step_after, Acts, Follows, StepsTo, doing, doing_after}
 
 left_over : {n turn : ℕ} → n ≤ turn → n - turn ≡ 0
 left_over all = omega arith
@@ -75,6 +76,34 @@ module _ (act : Acts) (delivery : Delivery) where
         ∙ by_flow flow go behind place register new at
         ∙ sym (ap (λ s. doing_after act delivery go s new) to);
   }
+
+  -- WHERE A CALL MAY RUN OUT OF MEMORY
+
+  pub asks_follow : {E : Type 0} (ask : Ask) (op : Operation) (called : Result Bool E) (step : Result Step E) (behind : ℕ) (register : Bool) (old new : RunState) → op ≡ asks ask
+      → IfOk called (λ truth. truth ≡ truth_of delivery old ask) → IfOk called (λ _. new ≡ behind_test delivery ask old) → IfOk step (Follows called (λ truth. Next behind truth))
+      → IfOk step (λ taken. StepsTo act delivery op behind register old taken new)
+  asks_follow ask op called step behind register old new is truth moves follows = IfOk-weaker step (Follows called (λ truth. Next behind truth)) _
+      (λ taken f. subst (λ o. StepsTo act delivery o behind register old taken new) (sym is)
+      (subst (λ r. StepsTo act delivery (asks ask) behind register old r new) (sym f.2)
+      (asks_steps ask f.0 behind register old new (IfOk-at_ok (λ t. t ≡ truth_of delivery old ask) f.1 truth) (IfOk-at_ok (λ _. new ≡ behind_test delivery ask old) f.1 moves))))
+      follows
+
+  pub exists_follow : {E : Type 0} (names : List (List Part)) (op : Operation) (called : Result Bool E) (step : Result Step E) (behind : ℕ) (register : Bool) (s : RunState) → op ≡ asks (exists_ask names)
+      → IfOk called (λ truth. truth ≡ truth_of delivery s (exists_ask names)) → IfOk step (Follows called (λ truth. Next behind truth))
+      → IfOk step (λ taken. StepsTo act delivery op behind register s taken s)
+  exists_follow names op called step behind register s is truth follows = IfOk-weaker step (Follows called (λ truth. Next behind truth)) _
+      (λ taken f. subst (λ o. StepsTo act delivery o behind register s taken s) (sym is)
+      (subst (λ r. StepsTo act delivery (asks (exists_ask names)) behind register s r s) (sym f.2)
+      (exists_steps names f.0 behind register s (IfOk-at_ok (λ t. t ≡ truth_of delivery s (exists_ask names)) f.1 truth))))
+      follows
+
+  pub acts_follow : {E : Type 0} (leaf : Leaf) (line : ℕ) (op : Operation) (called : Result Flow E) (step : Result Step E) (behind : ℕ) (register : Bool) (old new : RunState) → op ≡ acts leaf line
+      → IfOk called (λ flow. ending_by flow new ≡ act leaf line old) → IfOk step (Follows called (λ flow. step_after flow behind register))
+      → IfOk step (λ taken. StepsTo act delivery op behind register old taken new)
+  acts_follow leaf line op called step behind register old new is does follows = IfOk-weaker step (Follows called (λ flow. step_after flow behind register)) _
+      (λ taken f. subst (λ o. StepsTo act delivery o behind register old taken new) (sym is)
+      (acts_steps leaf line behind register f.0 taken old new f.2 (IfOk-at_ok (λ flow. ending_by flow new ≡ act leaf line old) f.1 does)))
+      follows
 
   pub stop_steps : (behind : ℕ) (register : Bool) (s : RunState) → StepsTo act delivery stops behind register s (Ended flow.Stopped) s
   unfolding perform

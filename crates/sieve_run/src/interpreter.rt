@@ -82,10 +82,12 @@ fn ended(alloc: Global, flow: Flow, state: State) -> Outcome
         actions,
         cancelled,
         reads,
-        entered: _,
-        values: _,
+        entered,
+        values,
         flags,
     } = state;
+    drop(entered);
+    drop(values);
     match flow {
         Flow::Failed(error) => Outcome {
             actions: Vec::new(alloc),

@@ -7,7 +7,7 @@ ghost use Rattle.sieve_run.specs.Library.{lookup_of};
 ghost use Rattle.sieve_run.specs.Run.{act_of, included};
 ghost use Rattle.sieve_delivery.specs.view.Delivery.{delivery_as};
 ghost use Rattle.sieve_action.specs.view.Flow.{ending_by};
-ghost use Rattle.sieve_run.specs.view.Step.{step_after, StepsTo, doing};
+ghost use Rattle.sieve_run.specs.view.Step.{step_after, Follows, StepsTo, doing};
 ghost use Rattle.sieve_run.specs.view.Include.{enters, looks_up};
 ghost use Rattle.sieve_delivery.specs.view.State.{state_of};
 ghost use Rattle.sieve_run.specs.declared.steps.Step.TheVariants.{Next};
@@ -78,7 +78,7 @@ pub(crate) fn execute<L: Library>(
 
 /// Carries out an operation, where this is the place behind it.
 #[cycle(execute)]
-#[tactic(auto, using(crate::proofs::Stepping::asks_steps, crate::proofs::Stepping::exists_steps, crate::proofs::Stepping::over_steps, crate::proofs::Stepping::under_steps, crate::proofs::Stepping::acts_steps, crate::proofs::Stepping::stop_steps, crate::proofs::Stepping::return_steps))]
+#[tactic(auto, using(crate::proofs::Stepping::over_steps, crate::proofs::Stepping::under_steps, crate::proofs::Stepping::stop_steps, crate::proofs::Stepping::return_steps))]
 fn carry_out<L: Library>(
     lib: &L,
     depth: usize,
@@ -101,8 +101,8 @@ fn carry_out<L: Library>(
             names,
             keys,
         } => {
-            let truth = fields_hold(delivery, None, *match_type, *collation, names, keys, state)?;
-            Ok(proceed(truth, behind))
+            let truth = fields_hold(delivery, None, *match_type, *collation, names, keys, state);
+            tested(truth, behind)
         }
         Op::Address {
             match_type,
@@ -112,8 +112,8 @@ fn carry_out<L: Library>(
             keys,
         } => {
             let part = Some(*part);
-            let truth = fields_hold(delivery, part, *match_type, *collation, names, keys, state)?;
-            Ok(proceed(truth, behind))
+            let truth = fields_hold(delivery, part, *match_type, *collation, names, keys, state);
+            tested(truth, behind)
         }
         Op::Envelope {
             match_type,
@@ -130,8 +130,8 @@ fn carry_out<L: Library>(
                 names,
                 keys,
                 state,
-            )?;
-            Ok(proceed(truth, behind))
+            );
+            tested(truth, behind)
         }
         Op::String {
             match_type,
@@ -139,8 +139,8 @@ fn carry_out<L: Library>(
             texts,
             keys,
         } => {
-            let truth = strings_hold(delivery, *match_type, *collation, texts, keys, state)?;
-            Ok(proceed(truth, behind))
+            let truth = strings_hold(delivery, *match_type, *collation, texts, keys, state);
+            tested(truth, behind)
         }
         Op::HasFlag {
             match_type,
@@ -148,12 +148,12 @@ fn carry_out<L: Library>(
             variables,
             keys,
         } => {
-            let truth = flags_hold(delivery, *match_type, *collation, variables, keys, state)?;
-            Ok(proceed(truth, behind))
+            let truth = flags_hold(delivery, *match_type, *collation, variables, keys, state);
+            tested(truth, behind)
         }
         Op::Exists { names } => {
-            let truth = exists(delivery, &*state, names)?;
-            Ok(proceed(truth, behind))
+            let truth = exists(delivery, &*state, names);
+            tested(truth, behind)
         }
         Op::SizeOver(limit) => Ok(proceed(is_over(delivery, *limit), behind)),
         Op::SizeUnder(limit) => Ok(proceed(is_under(delivery, *limit), behind)),
@@ -161,24 +161,24 @@ fn carry_out<L: Library>(
         Op::JumpIfFalse(target) => Ok(proceed(register, chosen(register, behind, *target))),
         Op::JumpIfTrue(target) => Ok(proceed(register, chosen(register, *target, behind))),
         Op::Keep { flags, line } => {
-            let flow = keep(delivery, flags, *line, state)?;
-            Ok(step_after(flow, behind, register))
+            let flow = keep(delivery, flags, *line, state);
+            acted(flow, behind, register)
         }
         Op::Fileinto {
             mailbox,
             flags,
             line,
         } => {
-            let flow = file_into(delivery, mailbox, flags, *line, state)?;
-            Ok(step_after(flow, behind, register))
+            let flow = file_into(delivery, mailbox, flags, *line, state);
+            acted(flow, behind, register)
         }
         Op::Redirect { address, line } => {
-            let flow = redirect(delivery, address, *line, state)?;
-            Ok(step_after(flow, behind, register))
+            let flow = redirect(delivery, address, *line, state);
+            acted(flow, behind, register)
         }
         Op::Discard(line) => {
-            let flow = discard(delivery, *line, state)?;
-            Ok(step_after(flow, behind, register))
+            let flow = discard(delivery, *line, state);
+            acted(flow, behind, register)
         }
         Op::Set {
             variable,
@@ -186,8 +186,8 @@ fn carry_out<L: Library>(
             value,
             line,
         } => {
-            let flow = set(delivery, variable, *modifiers, value, *line, state)?;
-            Ok(step_after(flow, behind, register))
+            let flow = set(delivery, variable, *modifiers, value, *line, state);
+            acted(flow, behind, register)
         }
         Op::Flags {
             change: how,
@@ -195,8 +195,8 @@ fn carry_out<L: Library>(
             flags,
             line,
         } => {
-            let flow = change(delivery, *how, variable, flags, *line, state)?;
-            Ok(step_after(flow, behind, register))
+            let flow = change(delivery, *how, variable, flags, *line, state);
+            acted(flow, behind, register)
         }
         Op::Include {
             place,
@@ -210,8 +210,8 @@ fn carry_out<L: Library>(
                 place: *place,
                 name: octets,
             };
-            let flow = include(lib, depth, delivery, &name, *once, *optional, *line, state)?;
-            Ok(step_after(flow, behind, register))
+            let flow = include(lib, depth, delivery, &name, *once, *optional, *line, state);
+            acted(flow, behind, register)
         }
         Op::Stop => Ok(Step::Ended(Flow::Stopped)),
         Op::Return => Ok(Step::Ended(Flow::Returned)),
@@ -314,6 +314,20 @@ fn proceed(register: bool, place: usize) -> Step
     ensures { result ≡ Next place register }
 {
     Step::Next { place, register }
+}
+
+/// The step after a test, where its call gave its truth.
+fn tested(truth: Result<bool, AllocError>, behind: usize) -> Result<Step, AllocError>
+    ensures { IfOk result (Follows truth (λ truth. Next behind truth)) }
+{
+    Ok(proceed(truth?, behind))
+}
+
+/// The step after a command, where its call says how it ended.
+fn acted(flow: Result<Flow, AllocError>, behind: usize, register: bool) -> Result<Step, AllocError>
+    ensures { IfOk result (Follows flow (λ flow. step_after flow behind register)) }
+{
+    Ok(step_after(flow?, behind, register))
 }
 
 /// The step after a command that ended so, where this is the place behind its operation's.

@@ -1,5 +1,5 @@
 -- What is left to do after an operation.
-use Rattle.std.specs.Prelude.{◌≡◌, ◌+◌, ℕ, Bool, Some}
+use Rattle.std.specs.Prelude.{◌≡◌, ◌+◌, ℕ, Bool, Some, Result, Ok}
 use Rattle.sieve_check.specs.Reading.{Leaf}
 use Rattle.sieve_code.specs.Operation.{Operation}
 use Rattle.sieve_code.specs.Walk as walk
@@ -38,3 +38,7 @@ step_after flow.GoesOn behind register = Next behind register
 step_after flow.Returned behind register = Ended flow.Returned
 step_after flow.Stopped behind register = Ended flow.Stopped
 step_after (flow.Failed error) behind register = Ended (flow.Failed error)
+
+-- the step is the one after what a call gave
+abbrev pub Follows : {T E : Type 0} → Result T E → (T → Step) → Step → Type 0
+Follows {T = T} called after step = (given : T) × (called ≡ Ok given) × (step ≡ after given)

@@ -1,11 +1,14 @@
-use Rattle.std.proofs.Common.{◌≡◌, ◌&&◌, ◌∙◌, ◌<◌, ◌≤◌, ◌+◌, ◌-◌, true, false, List, length, map, nat_lt, sym, ap, subst, arith, Bor}
+use Rattle.std.proofs.Common.{◌≡◌, ◌&&◌, ◌∙◌, ◌<◌, ◌≤◌, ◌+◌, ◌-◌, true, false, List, length, map, nat_lt, sym, ap, ap₂, subst, arith, Bor}
 use Rattle.std.proofs.lemmas.Bool.Decides.{nat_tests}
 use Rattle.std.proofs.lemmas.Result.{IfOk-weaker}
 use Rattle.sieve_code.specs.Walk.{walk_from}
 use Rattle.sieve_code.specs.view.Code.{ops_of}
-use Rattle.sieve_code.specs.view.Op.{op_as}
+use Rattle.sieve_code.specs.view.Op.{given_strings, op_as}
+use Rattle.sieve_code.specs.Operation.{acts, asks}
+use Rattle.sieve_variables.specs.view.Part.{part_of, strings_of, variable_of}
+use Rattle.std.specs.Option.{option_map}
 use Rattle.sieve_base.specs.Limits.{include_limit}
-use Rattle.sieve_check.specs.Reading.{include_leaf}
+use Rattle.sieve_check.specs.Reading.{address_values, compares, discard_leaf, envelope_values, exists_ask, fileinto_leaf, flag_leaf, flag_values, header_values, include_leaf, keep_leaf, redirect_leaf, set_leaf, string_values}
 use Rattle.sieve_run.specs.Library.{Lookup, found_at, lookup_of}
 use Rattle.sieve_run.specs.Run.{act_of, included, is_script}
 use Rattle.sieve_action.specs.declared.flow.Flow.{Flow}
@@ -17,23 +20,129 @@ use Rattle.sieve_action.specs.view.Flow.{ending_by}
 use Rattle.sieve_run.specs.view.Found.{FoundAs}
 use Rattle.sieve_run.specs.view.Include.{looks_up, there_as}
 use Rattle.sieve_delivery.specs.view.State.{state_of}
-use Rattle.sieve_run.specs.view.Step.{StepsTo, doing_after}
+use Rattle.sieve_run.specs.view.Step.{doing_after}
 use Rattle.sieve_variables.specs.Value.{with_own}
 use Rattle.sieve_run.proofs.Includes.{entering_by, enters_by, fails_deep, fails_many, fails_running, looks_included, looks_present, not_entered, not_once, skips_included}
-use Rattle.sieve_run.proofs.Stepping.{acts_steps, past_end, runs_out, turns}
+use Rattle.sieve_run.proofs.Stepping.{acts_follow, asks_follow, exists_follow, past_end, runs_out, turns}
 use Rattle.sieve_run.proofs.steps.+execute.Goals as goal
 use Rattle.sieve_run.proofs.steps.+execute.Goals.{include-else-once-via-then-once+else-is_script, include-else-once-via-else-once}
 
-pub carry_out-returns-in_ok-flow-in-Include : goal.carry_out-returns-in_ok-flow-in-Include
-carry_out-returns-in_ok-flow-in-Include g t c =
+pub carry_out-returns-in-Header : goal.carry_out-returns-in-Header
+carry_out-returns-in-Header g t c =
     let find : ScriptName → Lookup = λ name. lookup_of (g.L.Library.texts c.args.lib.now name) in
     let d = delivery_as c.args.delivery.now in
-    let s = state_of c.args.state.now in
+    let i = c.in-Header in
+    asks_follow (act_of find c.args.depth d) d (compares (header_values (strings_of c.deref.result.now)) i.match_type i.collation (strings_of c.deref-in-Header.result.now)) _ _ _ _ _ _ _
+    (ap op_as i.is ∙ ap₂ (λ names keys. asks (compares (header_values (strings_of names)) i.match_type i.collation (strings_of keys))) (sym c.deref.ensures.value) (sym c.deref-in-Header.ensures.value))
+    c.fields_hold-truth.ensures.truth c.fields_hold-truth.ensures.behind c.tested.ensures
+
+pub carry_out-returns-in-Address : goal.carry_out-returns-in-Address
+carry_out-returns-in-Address g t c =
+    let find : ScriptName → Lookup = λ name. lookup_of (g.L.Library.texts c.args.lib.now name) in
+    let d = delivery_as c.args.delivery.now in
+    let i = c.in-Address in
+    asks_follow (act_of find c.args.depth d) d (compares (address_values i.part (strings_of c.deref-in-Address.result.now)) i.match_type i.collation (strings_of c.deref-in-Address-2.result.now)) _ _ _ _ _ _ _
+    (ap op_as i.is ∙ ap₂ (λ names keys. asks (compares (address_values i.part (strings_of names)) i.match_type i.collation (strings_of keys))) (sym c.deref-in-Address.ensures.value) (sym c.deref-in-Address-2.ensures.value))
+    c.fields_hold-truth-in-Address.ensures.truth c.fields_hold-truth-in-Address.ensures.behind c.tested-in-Address.ensures
+
+pub carry_out-returns-in-Envelope : goal.carry_out-returns-in-Envelope
+carry_out-returns-in-Envelope g t c =
+    let find : ScriptName → Lookup = λ name. lookup_of (g.L.Library.texts c.args.lib.now name) in
+    let d = delivery_as c.args.delivery.now in
+    let i = c.in-Envelope in
+    asks_follow (act_of find c.args.depth d) d (compares (envelope_values i.part (strings_of c.deref-in-Envelope.result.now)) i.match_type i.collation (strings_of c.deref-in-Envelope-2.result.now)) _ _ _ _ _ _ _
+    (ap op_as i.is ∙ ap₂ (λ names keys. asks (compares (envelope_values i.part (strings_of names)) i.match_type i.collation (strings_of keys))) (sym c.deref-in-Envelope.ensures.value) (sym c.deref-in-Envelope-2.ensures.value))
+    c.envelope_holds-truth.ensures.truth c.envelope_holds-truth.ensures.behind c.tested-in-Envelope.ensures
+
+pub carry_out-returns-in-String : goal.carry_out-returns-in-String
+carry_out-returns-in-String g t c =
+    let find : ScriptName → Lookup = λ name. lookup_of (g.L.Library.texts c.args.lib.now name) in
+    let d = delivery_as c.args.delivery.now in
+    let i = c.in-String in
+    asks_follow (act_of find c.args.depth d) d (compares (string_values (strings_of c.deref-in-String.result.now)) i.match_type i.collation (strings_of c.deref-in-String-2.result.now)) _ _ _ _ _ _ _
+    (ap op_as i.is ∙ ap₂ (λ texts keys. asks (compares (string_values (strings_of texts)) i.match_type i.collation (strings_of keys))) (sym c.deref-in-String.ensures.value) (sym c.deref-in-String-2.ensures.value))
+    c.strings_hold-truth.ensures.truth c.strings_hold-truth.ensures.behind c.tested-in-String.ensures
+
+pub carry_out-returns-in-HasFlag : goal.carry_out-returns-in-HasFlag
+carry_out-returns-in-HasFlag g t c =
+    let find : ScriptName → Lookup = λ name. lookup_of (g.L.Library.texts c.args.lib.now name) in
+    let d = delivery_as c.args.delivery.now in
+    let i = c.in-HasFlag in
+    asks_follow (act_of find c.args.depth d) d (compares (flag_values (given_strings i.variables)) i.match_type i.collation (strings_of c.deref-in-HasFlag.result.now)) _ _ _ _ _ _ _
+    (ap op_as i.is ∙ ap (λ keys. asks (compares (flag_values (given_strings i.variables)) i.match_type i.collation (strings_of keys))) (sym c.deref-in-HasFlag.ensures.value))
+    c.flags_hold-truth.ensures.truth c.flags_hold-truth.ensures.behind c.tested-in-HasFlag.ensures
+
+pub carry_out-returns-in-Exists : goal.carry_out-returns-in-Exists
+carry_out-returns-in-Exists g t c =
+    let find : ScriptName → Lookup = λ name. lookup_of (g.L.Library.texts c.args.lib.now name) in
+    let d = delivery_as c.args.delivery.now in
+    let i = c.in-Exists in
+    exists_follow (act_of find c.args.depth d) d (strings_of c.deref-in-Exists.result.now) _ _ _ _ _ _
+    (ap op_as i.is ∙ ap (λ names. asks (exists_ask (strings_of names))) (sym c.deref-in-Exists.ensures.value))
+    c.exists-truth.ensures c.tested-in-Exists.ensures
+
+pub carry_out-returns-in-Keep : goal.carry_out-returns-in-Keep
+carry_out-returns-in-Keep g t c =
+    let find : ScriptName → Lookup = λ name. lookup_of (g.L.Library.texts c.args.lib.now name) in
+    let d = delivery_as c.args.delivery.now in
+    let i = c.in-Keep in
+    acts_follow (act_of find c.args.depth d) d (keep_leaf (given_strings i.flags)) i.line _ _ _ _ _ _ _
+    (ap op_as i.is)
+    c.keep-flow.ensures c.acted.ensures
+
+pub carry_out-returns-in-Fileinto : goal.carry_out-returns-in-Fileinto
+carry_out-returns-in-Fileinto g t c =
+    let find : ScriptName → Lookup = λ name. lookup_of (g.L.Library.texts c.args.lib.now name) in
+    let d = delivery_as c.args.delivery.now in
+    let i = c.in-Fileinto in
+    acts_follow (act_of find c.args.depth d) d (fileinto_leaf (map part_of c.deref-in-Fileinto.result.now) (given_strings i.flags)) i.line _ _ _ _ _ _ _
+    (ap op_as i.is ∙ ap (λ mailbox. acts (fileinto_leaf (map part_of mailbox) (given_strings i.flags)) i.line) (sym c.deref-in-Fileinto.ensures))
+    c.file_into-flow.ensures c.acted-in-Fileinto.ensures
+
+pub carry_out-returns-in-Redirect : goal.carry_out-returns-in-Redirect
+carry_out-returns-in-Redirect g t c =
+    let find : ScriptName → Lookup = λ name. lookup_of (g.L.Library.texts c.args.lib.now name) in
+    let d = delivery_as c.args.delivery.now in
+    let i = c.in-Redirect in
+    acts_follow (act_of find c.args.depth d) d (redirect_leaf (map part_of c.deref-in-Redirect.result.now)) i.line _ _ _ _ _ _ _
+    (ap op_as i.is ∙ ap (λ address. acts (redirect_leaf (map part_of address)) i.line) (sym c.deref-in-Redirect.ensures))
+    c.redirect-flow.ensures c.acted-in-Redirect.ensures
+
+pub carry_out-returns-in-Discard : goal.carry_out-returns-in-Discard
+carry_out-returns-in-Discard g t c =
+    let find : ScriptName → Lookup = λ name. lookup_of (g.L.Library.texts c.args.lib.now name) in
+    let d = delivery_as c.args.delivery.now in
+    let i = c.in-Discard in
+    acts_follow (act_of find c.args.depth d) d (discard_leaf) i.line _ _ _ _ _ _ _
+    (ap op_as i.is)
+    c.discard-flow.ensures c.acted-in-Discard.ensures
+
+pub carry_out-returns-in-Set : goal.carry_out-returns-in-Set
+carry_out-returns-in-Set g t c =
+    let find : ScriptName → Lookup = λ name. lookup_of (g.L.Library.texts c.args.lib.now name) in
+    let d = delivery_as c.args.delivery.now in
+    let i = c.in-Set in
+    acts_follow (act_of find c.args.depth d) d (set_leaf (variable_of i.variable) i.modifiers (map part_of c.deref-in-Set.result.now)) i.line _ _ _ _ _ _ _
+    (ap op_as i.is ∙ ap (λ value. acts (set_leaf (variable_of i.variable) i.modifiers (map part_of value)) i.line) (sym c.deref-in-Set.ensures))
+    c.set-flow.ensures c.acted-in-Set.ensures
+
+pub carry_out-returns-in-Flags : goal.carry_out-returns-in-Flags
+carry_out-returns-in-Flags g t c =
+    let find : ScriptName → Lookup = λ name. lookup_of (g.L.Library.texts c.args.lib.now name) in
+    let d = delivery_as c.args.delivery.now in
+    let i = c.in-Flags in
+    acts_follow (act_of find c.args.depth d) d (flag_leaf i.how (option_map variable_of i.variable) (strings_of c.deref-in-Flags.result.now)) i.line _ _ _ _ _ _ _
+    (ap op_as i.is ∙ ap (λ flags. acts (flag_leaf i.how (option_map variable_of i.variable) (strings_of flags)) i.line) (sym c.deref-in-Flags.ensures.value))
+    c.change-flow.ensures c.acted-in-Flags.ensures
+
+pub carry_out-returns-in_ok-octets-in-Include : goal.carry_out-returns-in_ok-octets-in-Include
+carry_out-returns-in_ok-octets-in-Include g t c =
+    let find : ScriptName → Lookup = λ name. lookup_of (g.L.Library.texts c.args.lib.now name) in
+    let d = delivery_as c.args.delivery.now in
     let i = c.in-Include in
-    let new = state_of c.include.new.state in
-    subst (λ op. StepsTo (act_of find c.args.depth d) d (op_as op) c.args.behind c.args.register s c.step_after-in-Include.result new) (sym i.is)
-    (acts_steps (act_of find c.args.depth d) d (include_leaf i.place i.once i.optional i.name.items) i.line c.args.behind c.args.register c.in_ok-flow-in-Include.flow c.step_after-in-Include.result s new c.step_after-in-Include.ensures
-    (c.in_ok-flow-in-Include.ensures ∙ ap (λ octets. included find c.args.depth d (record { place = i.place; name = octets }) i.once i.optional i.line s) (c.in_ok-octets-in-Include.ensures ∙ c.deref-in-Include.ensures)))
+    acts_follow (act_of find c.args.depth d) d (include_leaf i.place i.once i.optional c.in_ok-octets-in-Include.octets) i.line _ _ _ _ _ _ _
+    (ap op_as i.is ∙ ap (λ name. acts (include_leaf i.place i.once i.optional name) i.line) (sym (c.in_ok-octets-in-Include.ensures ∙ c.deref-in-Include.ensures)))
+    c.include-flow.ensures c.acted-in-Include.ensures
 
 pub enter-returns : goal.enter-returns
 enter-returns g t c =
