@@ -49,7 +49,7 @@ fn check_session_runs(
         &mut writer,
         TURNS,
     );
-    let at = ("a session", runs, meter.runs());
+    let at = ("a session of so many octets", input.len() as u64, runs);
     holds(rt, at, end == SessionEnd::Done && meter.runs() == runs);
     Ok(())
 }

@@ -61,7 +61,8 @@ fn check_job(
     let mut meter = Meter::new();
     let mut writer = Counted::new(Vec::new(rt.alloc()));
     let end = test_bench(rt.alloc(), job, &mut meter, &mut writer);
-    let at = ("a job with so many scripts", job.scripts.len() as u64, runs);
+    let counts = (job.scripts.len() as u64, text.len() as u64);
+    let at = ("a job of so many scripts", counts.0, counts.1);
     holds(rt, at, end == wanted);
     holds(rt, at, meter.runs() == runs);
     same(rt, at, &writer.into_inner(), text);

@@ -38,13 +38,13 @@ fn check_failing(
     files: &[(&str, Given<'_>)],
     missing: ErrorKind,
     status: u8,
-    errors: &[u8],
+    errors: &str,
 ) -> Result<(), Fail> {
     let written = Written::new(rt.alloc());
     let answer = failing_status(rt.alloc(), words, folders, files, missing, &written);
-    let at = ("so many words", words.len());
+    let at = (errors, words.len());
     holds(rt, at, answer == status);
-    check_written(rt, at, &written, b"", errors)
+    check_written(rt, at, &written, b"", errors.as_bytes())
 }
 
 /// Octets that come at once, and then fail.
@@ -60,7 +60,7 @@ fn failing(octets: &[u8]) -> Given<'_> {
 fn check_failing_dump(rt: &(impl AllocGlobal + Abort)) -> Result<(), Fail> {
     let words: [&[u8]; 3] = [b"sievebench", b"dump", b"c.sieve"];
     let files = [("c.sieve", failing(b"keep;"))];
-    let told = b"sievebench: cannot read \"c.sieve\"\n";
+    let told = "sievebench: cannot read \"c.sieve\"\n";
     check_failing(rt, &words, &[], &files, ErrorKind::NotFound, 3, told)
 }
 
@@ -69,7 +69,7 @@ fn check_failing_folder(
     rt: &(impl AllocGlobal + Abort),
     folders: Paths<'_>,
     files: Paths<'_>,
-    errors: &[u8],
+    errors: &str,
 ) -> Result<(), Fail> {
     let words: [&[u8]; 6] = [b"x", b"test", b"--personal", b"p", b"a.sieve", b"m"];
     check_failing(rt, &words, folders, files, ErrorKind::NotFound, 3, errors)
@@ -84,13 +84,13 @@ fn a_file_that_fails_is_named(rt: HostRuntime) -> Result<(), Fail> {
         &rt,
         &[("p/", broken)],
         &[stops],
-        b"sievebench: cannot read \"p\"\n",
+        "sievebench: cannot read \"p\"\n",
     )?;
     check_failing_folder(
         &rt,
         &[("p/", whole(b"b.sieve\0a.sieve\0"))],
         &[("p/a.sieve", broken), stops],
-        b"sievebench: cannot read \"p/a.sieve\"\n",
+        "sievebench: cannot read \"p/a.sieve\"\n",
     )
 }
 
@@ -98,7 +98,7 @@ fn a_file_that_fails_is_named(rt: HostRuntime) -> Result<(), Fail> {
 #[test]
 fn a_read_without_memory_is_told(rt: HostRuntime) -> Result<(), Fail> {
     let words: [&[u8]; 4] = [b"x", b"test", b"a.sieve", b"m"];
-    let told = b"sievebench: out of memory\n";
+    let told = "sievebench: out of memory\n";
     check_failing(&rt, &words, &[], &[], ErrorKind::OutOfMemory, 4, told)
 }
 
@@ -108,7 +108,7 @@ fn large_files_are_refused(rt: HostRuntime) -> Result<(), Fail> {
     let large = vec![in rt.alloc(); b' '; 1_048_577]?;
     let words: [&[u8]; 3] = [b"x", b"dump", b"a"];
     let files = [("a", failing(large.as_slice()))];
-    let told = b"sievebench: too large \"a\"\n";
+    let told = "sievebench: too large \"a\"\n";
     check_failing(&rt, &words, &[], &files, ErrorKind::NotFound, 2, told)
 }
 
@@ -139,7 +139,7 @@ fn check_large(
         &files,
         ErrorKind::NotFound,
         2,
-        errors.as_bytes(),
+        errors.as_str(),
     )
 }
 

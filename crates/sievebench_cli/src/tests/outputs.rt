@@ -23,6 +23,7 @@ type Row<'a> = (&'a [u8], usize, usize, &'a [u8], &'a [usize], &'a [usize]);
 /// Runs a session of which one write fails, and compares what it writes and when, and its status.
 fn check_failure(
     rt: &(impl AllocGlobal + Abort),
+    what: &str,
     (octets, piece, before, output, writes, before_reads): Row<'_>,
 ) -> Result<(), Fail> {
     let written = Written::new(rt.alloc());
@@ -36,7 +37,7 @@ fn check_failure(
         failure: Some((before, ErrorKind::Other)),
     };
     let status = status_with(rt.alloc(), SESSION_WORDS, input, room, &written);
-    let at = ("the first write that fails, behind so many", before);
+    let at = (what, before);
     holds(rt, at, status == 3);
     check_written(rt, at, &written, output, COMPLAINT)?;
     check_kept(rt, at, &written.writes, writes)?;
@@ -49,12 +50,28 @@ fn the_first_write_that_fails_ends_the_session(rt: HostRuntime) -> Result<(), Fa
     let lines = b"no-main\nno-main\nno-main\n";
     let refused = b"no-main\nfrobnicate\n";
     // Before a read, at the end of the input, and behind the last reply.
-    check_failure(&rt, (lines, 8, 0, b"", &[0], &[0]))?;
-    check_failure(&rt, (lines, 8, 1, b"ok\n", &[3, 0], &[0, 3]))?;
-    check_failure(&rt, (lines, 8, 2, b"ok\nok\n", &[3, 3, 0], &[0, 3, 6]))?;
-    check_failure(&rt, (lines, 100, 0, b"", &[0], &[0]))?;
-    check_failure(&rt, (refused, 100, 0, b"", &[0], &[0]))?;
-    check_failure(&rt, (refused, 8, 1, b"ok\n", &[3, 0], &[0, 3, 3]))
+    check_failure(
+        &rt,
+        "three lines one by one",
+        (lines, 8, 0, b"", &[0], &[0]),
+    )?;
+    check_failure(
+        &rt,
+        "three lines one by one",
+        (lines, 8, 1, b"ok\n", &[3, 0], &[0, 3]),
+    )?;
+    check_failure(
+        &rt,
+        "three lines one by one",
+        (lines, 8, 2, b"ok\nok\n", &[3, 3, 0], &[0, 3, 6]),
+    )?;
+    check_failure(&rt, "three lines at once", (lines, 100, 0, b"", &[0], &[0]))?;
+    check_failure(&rt, "a refusal at once", (refused, 100, 0, b"", &[0], &[0]))?;
+    check_failure(
+        &rt,
+        "a refusal line by line",
+        (refused, 8, 1, b"ok\n", &[3, 0], &[0, 3, 3]),
+    )
 }
 
 /// A write that is interrupted is tried again.
