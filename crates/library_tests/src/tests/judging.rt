@@ -17,18 +17,21 @@ fn check_named(rt: &impl Abort, command: &Command, name: &[u8], line: u64, kind:
     holds(rt, "its kind", command.kind() == Some(kind));
 }
 
-/// Whether a reading is that of `keep` without flags.
-fn is_plain_keep(reading: Option<CommandReading<'_>>) -> bool {
-    matches!(
-        reading,
-        Some(CommandReading::Acts(Leaf::Keep { flags: None }))
-    )
+/// Whether a command reads as `keep` without flags.
+fn is_plain_keep(command: &Command) -> bool {
+    match command.reading() {
+        Some(CommandReading::Acts(leaf)) => match leaf {
+            Leaf::Keep { flags } => flags.is_none(),
+            _ => false,
+        },
+        _ => false,
+    }
 }
 
 /// The first command of `keep;\nif NOT size :over 2K {\nStop; }`.
 fn check_keep(rt: &impl Abort, keep: &Command) {
     check_named(rt, keep, b"keep", 1, CommandKind::Keep);
-    holds(rt, "the reading of keep", is_plain_keep(keep.reading()));
+    holds(rt, "the reading of keep", is_plain_keep(keep));
     holds(
         rt,
         "the rest of keep",
@@ -41,14 +44,20 @@ fn check_negation(rt: &impl Abort, negation: &Test) {
     let negates = matches!(negation.reading(), Some(TestReading::Not));
     holds(rt, "the reading of not", negates);
     match &negation.tests {
-        Tests::One(size) => holds(rt, "the reading of size", is_over(size.reading())),
+        Tests::One(size) => holds(rt, "the reading of size", is_over(size)),
         _ => panic!(rt; "not one test"),
     }
 }
 
-/// Whether a reading asks for more than 2,048 octets.
-fn is_over(reading: Option<TestReading<'_>>) -> bool {
-    matches!(reading, Some(TestReading::Asks(Ask::Over { limit: 2048 })))
+/// Whether a test asks for more than 2,048 octets.
+fn is_over(test: &Test) -> bool {
+    match test.reading() {
+        Some(TestReading::Asks(ask)) => match ask {
+            Ask::Over { limit } => limit == 2048,
+            _ => false,
+        },
+        _ => false,
+    }
 }
 
 /// Its block.
