@@ -263,12 +263,12 @@ fn a_put_that_is_cut_puts_nothing(rt: HostRuntime) -> Result<(), Fail> {
 }
 
 /// Serves octets that come at once, where the read behind so many fails, and compares.
-fn check_at_once(
+fn check_at_once<'a>(
     rt: &(impl AllocGlobal + Abort),
     octets: &[u8],
     before: u64,
-    text: &[u8],
-    report: &[u8],
+    text: &'a [u8],
+    report: &'a [u8],
 ) -> Result<(), Fail> {
     let input = Faltering {
         octets,

@@ -1,16 +1,19 @@
 //! Calls that no clause keeps from saying that memory is refused, or reads are spent: here there is enough of both.
 
 use super::{TURNS, check_report, holds, personal, same};
-use sievebench::{Bench, Counted, Meter, Octets, SessionEnd, session};
+use sievebench::{Bench, Counted, Meter, Octets, ScriptName, SessionEnd, session};
 use std::process::Abort;
 use std::test::Fail;
 
+/// Puts a script on a new bench.
+fn put_on_new(rt: &impl AllocGlobal, name: &ScriptName) -> Result<(), Fail> {
+    let mut bench = Bench::new(rt.alloc())?;
+    Ok(bench.put_script(name, b"keep;")?)
+}
+
 #[test]
 fn put_script_always_out_of_memory(rt: HostRuntime) -> Result<(), Fail> {
-    let name = personal(rt.alloc(), b"main")?;
-    let mut bench = Bench::new(rt.alloc())?;
-    bench.put_script(&name, b"keep;")?;
-    Ok(())
+    put_on_new(&rt, &personal(rt.alloc(), b"main")?)
 }
 
 /// Puts messages of no octets.
