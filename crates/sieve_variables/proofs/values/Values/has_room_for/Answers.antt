@@ -1,0 +1,5 @@
+use Rattle.std.proofs.Common.{rules}
+use Rattle.sieve_variables.proofs.values.Values.has_room_for.Goals as goal
+
+pub returns-in-Global : goal.returns-in-Global
+returns-in-Global c = search rules
