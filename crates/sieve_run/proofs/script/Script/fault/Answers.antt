@@ -1,0 +1,5 @@
+use Rattle.std.proofs.Common.{rules}
+use Rattle.sieve_run.proofs.script.Script.fault.Goals as goal
+
+pub returns-in-Faulty : goal.returns-in-Faulty
+returns-in-Faulty c = search rules
