@@ -524,19 +524,20 @@ fn asking(ask: Option<Ask<'_>>) -> Option<TestReading<'_>>
 fn test_reading_by(kind: TestKind, args: &[Argument]) -> Option<TestReading<'_>>
     ensures { option_map test_reading_as result ≡ test_reading_by (Some kind) (map argument_of args.now) }
 {
+    let row = &kind.row();
     match kind {
-        TestKind::Header => asking(header_ask(&kind.row(), args)),
-        TestKind::Address => asking(address_ask(&kind.row(), args)),
-        TestKind::Envelope => asking(envelope_ask(&kind.row(), args)),
-        TestKind::Exists => asking(exists_ask(&kind.row(), args)),
-        TestKind::Size => asking(size_ask(&kind.row(), args)),
+        TestKind::Header => asking(header_ask(row, args)),
+        TestKind::Address => asking(address_ask(row, args)),
+        TestKind::Envelope => asking(envelope_ask(row, args)),
+        TestKind::Exists => asking(exists_ask(row, args)),
+        TestKind::Size => asking(size_ask(row, args)),
         TestKind::AllOf => Some(TestReading::AllOf),
         TestKind::AnyOf => Some(TestReading::AnyOf),
         TestKind::Not => Some(TestReading::Not),
         TestKind::True => Some(TestReading::Always),
         TestKind::False => Some(TestReading::Never),
-        TestKind::String => asking(string_ask(&kind.row(), args)),
-        TestKind::HasFlag => asking(flag_ask(&kind.row(), args)),
+        TestKind::String => asking(string_ask(row, args)),
+        TestKind::HasFlag => asking(flag_ask(row, args)),
     }
 }
 
@@ -663,21 +664,22 @@ fn include_leaf<'a>(row: &Row, args: &'a [Argument]) -> Option<CommandReading<'a
 fn command_reading_by(kind: CommandKind, args: &[Argument]) -> Option<CommandReading<'_>>
     ensures { option_map command_reading_as result ≡ command_reading_by (Some kind) (map argument_of args.now) }
 {
+    let row = &kind.row();
     match kind {
         CommandKind::Require => Some(CommandReading::Nothing),
         CommandKind::If => Some(CommandReading::Opens),
         CommandKind::Elsif => Some(CommandReading::Continues),
         CommandKind::Else => Some(CommandReading::Otherwise),
-        CommandKind::Keep => keep_leaf(&kind.row(), args),
-        CommandKind::Fileinto => fileinto_leaf(&kind.row(), args),
-        CommandKind::Redirect => redirect_leaf(&kind.row(), args),
+        CommandKind::Keep => keep_leaf(row, args),
+        CommandKind::Fileinto => fileinto_leaf(row, args),
+        CommandKind::Redirect => redirect_leaf(row, args),
         CommandKind::Discard => Some(CommandReading::Acts(Leaf::Discard)),
         CommandKind::Stop => Some(CommandReading::Stops),
-        CommandKind::Set => set_leaf(&kind.row(), args),
-        CommandKind::SetFlag => flag_leaf(FlagChange::Set, &kind.row(), args),
-        CommandKind::AddFlag => flag_leaf(FlagChange::Add, &kind.row(), args),
-        CommandKind::RemoveFlag => flag_leaf(FlagChange::Remove, &kind.row(), args),
-        CommandKind::Include => include_leaf(&kind.row(), args),
+        CommandKind::Set => set_leaf(row, args),
+        CommandKind::SetFlag => flag_leaf(FlagChange::Set, row, args),
+        CommandKind::AddFlag => flag_leaf(FlagChange::Add, row, args),
+        CommandKind::RemoveFlag => flag_leaf(FlagChange::Remove, row, args),
+        CommandKind::Include => include_leaf(row, args),
         CommandKind::Return => Some(CommandReading::Returns),
         CommandKind::Global => Some(CommandReading::Nothing),
     }

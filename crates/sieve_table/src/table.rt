@@ -1,6 +1,6 @@
 //! The table: a row for each command, test and tag that there is.
 ghost use Rattle.std.specs.Prelude.{◌≡◌, find};
-ghost use Rattle.sieve_table.specs.Table.{command_named, command_row, is_named, tag_named, tag_row, test_named, test_row};
+ghost use Rattle.sieve_table.specs.Table.{bare_tag, command_named, command_row, is_named, tag_named, tag_row, test_named, test_row};
 ghost use Rattle.sieve_table.specs.view.Row.{row_as, tag_row_as};
 
 use crate::capability::Capability;
@@ -154,20 +154,24 @@ const TESTS: [TestKind; 12] = [
     TestKind::HasFlag,
 ];
 
-/// A tag that takes nothing, and has no name yet.
-const BARE_TAG: TagRow = TagRow {
-    name: b"",
-    kind: TagKind::MatchType,
-    takes: None,
-    needs: None,
-};
-
 /// A comparator's name.
 const COMPARATOR_NAME: Slot = Slot {
     form: Form::One,
     role: Role::ComparatorName,
     needs: None,
 };
+
+/// The row of a tag that takes nothing.
+fn bare_tag(name: &'static [u8], kind: TagKind) -> TagRow
+    ensures { tag_row_as result ≡ bare_tag name.entry.now kind }
+{
+    TagRow {
+        name,
+        kind,
+        takes: None,
+        needs: None,
+    }
+}
 
 impl Tag {
     /// The tag's row.
@@ -176,107 +180,32 @@ impl Tag {
     {
         match self {
             Tag::Comparator => TagRow {
-                name: b"comparator",
-                kind: TagKind::Comparator,
                 takes: Some(COMPARATOR_NAME),
-                ..BARE_TAG
+                ..bare_tag(b"comparator", TagKind::Comparator)
             },
-            Tag::Is => TagRow {
-                name: b"is",
-                kind: TagKind::MatchType,
-                ..BARE_TAG
-            },
-            Tag::Contains => TagRow {
-                name: b"contains",
-                kind: TagKind::MatchType,
-                ..BARE_TAG
-            },
-            Tag::Matches => TagRow {
-                name: b"matches",
-                kind: TagKind::MatchType,
-                ..BARE_TAG
-            },
-            Tag::All => TagRow {
-                name: b"all",
-                kind: TagKind::AddressPart,
-                ..BARE_TAG
-            },
-            Tag::LocalPart => TagRow {
-                name: b"localpart",
-                kind: TagKind::AddressPart,
-                ..BARE_TAG
-            },
-            Tag::Domain => TagRow {
-                name: b"domain",
-                kind: TagKind::AddressPart,
-                ..BARE_TAG
-            },
-            Tag::Over => TagRow {
-                name: b"over",
-                kind: TagKind::Bound,
-                ..BARE_TAG
-            },
-            Tag::Under => TagRow {
-                name: b"under",
-                kind: TagKind::Bound,
-                ..BARE_TAG
-            },
-            Tag::Lower => TagRow {
-                name: b"lower",
-                kind: TagKind::Case,
-                ..BARE_TAG
-            },
-            Tag::Upper => TagRow {
-                name: b"upper",
-                kind: TagKind::Case,
-                ..BARE_TAG
-            },
-            Tag::LowerFirst => TagRow {
-                name: b"lowerfirst",
-                kind: TagKind::FirstLetter,
-                ..BARE_TAG
-            },
-            Tag::UpperFirst => TagRow {
-                name: b"upperfirst",
-                kind: TagKind::FirstLetter,
-                ..BARE_TAG
-            },
-            Tag::QuoteWildcard => TagRow {
-                name: b"quotewildcard",
-                kind: TagKind::QuoteWildcard,
-                ..BARE_TAG
-            },
-            Tag::Length => TagRow {
-                name: b"length",
-                kind: TagKind::Length,
-                ..BARE_TAG
-            },
+            Tag::Is => bare_tag(b"is", TagKind::MatchType),
+            Tag::Contains => bare_tag(b"contains", TagKind::MatchType),
+            Tag::Matches => bare_tag(b"matches", TagKind::MatchType),
+            Tag::All => bare_tag(b"all", TagKind::AddressPart),
+            Tag::LocalPart => bare_tag(b"localpart", TagKind::AddressPart),
+            Tag::Domain => bare_tag(b"domain", TagKind::AddressPart),
+            Tag::Over => bare_tag(b"over", TagKind::Bound),
+            Tag::Under => bare_tag(b"under", TagKind::Bound),
+            Tag::Lower => bare_tag(b"lower", TagKind::Case),
+            Tag::Upper => bare_tag(b"upper", TagKind::Case),
+            Tag::LowerFirst => bare_tag(b"lowerfirst", TagKind::FirstLetter),
+            Tag::UpperFirst => bare_tag(b"upperfirst", TagKind::FirstLetter),
+            Tag::QuoteWildcard => bare_tag(b"quotewildcard", TagKind::QuoteWildcard),
+            Tag::Length => bare_tag(b"length", TagKind::Length),
             Tag::Flags => TagRow {
-                name: b"flags",
-                kind: TagKind::Flags,
                 takes: Some(FLAGS),
                 needs: Some(Capability::Imap4flags),
+                ..bare_tag(b"flags", TagKind::Flags)
             },
-            Tag::Personal => TagRow {
-                name: b"personal",
-                kind: TagKind::Location,
-                ..BARE_TAG
-            },
-            Tag::Global => TagRow {
-                name: b"global",
-                kind: TagKind::Location,
-                ..BARE_TAG
-            },
-            Tag::Once => TagRow {
-                name: b"once",
-                kind: TagKind::Once,
-                ..BARE_TAG
-            },
-            Tag::Optional => TagRow {
-                name: b"optional",
-                kind: TagKind::Optional,
-                ..BARE_TAG
-            },
+            Tag::Personal => bare_tag(b"personal", TagKind::Location),
+            Tag::Global => bare_tag(b"global", TagKind::Location),
+            Tag::Once => bare_tag(b"once", TagKind::Once),
+            Tag::Optional => bare_tag(b"optional", TagKind::Optional),
         }
     }
 }
