@@ -70,6 +70,19 @@ fn held_flags(alloc: Global, flags: &FlagList) -> Result<Octets, AllocError>
     Ok(Octets::from_vec(text))
 }
 
+/// The flags of a value after a command that names some.
+fn changed_list(
+    alloc: Global,
+    change: FlagChange,
+    value: &[u8],
+    named: FlagList,
+) -> Result<FlagList, AllocError>
+    ensures { IfOk result (λ list. list ≡ changed_flags change (flag_list value.now) named) }
+{
+    let flags = flags_of(alloc, value)?;
+    changed_flags(alloc, change, &flags, named)
+}
+
 /// What a variable holds after a command that names some flags.
 fn changed_value(
     alloc: Global,
@@ -79,8 +92,7 @@ fn changed_value(
 ) -> Result<Octets, AllocError>
     ensures { IfOk result (λ octets. octets ≡ held_flags (changed_flags change (flag_list value.now) named)) }
 {
-    let flags = flags_of(alloc, value)?;
-    let flags = changed_flags(alloc, change, &flags, named)?;
+    let flags = changed_list(alloc, change, value, named)?;
     held_flags(alloc, &flags)
 }
 

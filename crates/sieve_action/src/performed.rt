@@ -1,5 +1,5 @@
 //! The actions that are performed (RFC 5228, section 2.10).
-ghost use Rattle.std.specs.Prelude.{◌≡◌, IfOk, false, map};
+ghost use Rattle.std.specs.Prelude.{◌≡◌, IfOk, OnOk, false, map};
 ghost use Rattle.std.specs.List.{list_any};
 ghost use Rattle.sieve_action.specs.Act.{joined_with, same_action, with_action};
 ghost use Rattle.sieve_action.specs.view.Performed.{performed_as};
@@ -70,6 +70,15 @@ fn all_joined(
     Ok(joined)
 }
 
+/// Joins each of the actions that are there with one that is performed.
+fn join_all(alloc: Global, actions: &mut Vec<Action>, action: &Action) -> Result<(), AllocError>
+    ensures { OnOk result (actions.new.items ≡ map (joined_with action.now) actions.old.items) }
+{
+    let held = mem::replace(actions, Vec::new(alloc));
+    *actions = all_joined(alloc, action, held)?;
+    Ok(())
+}
+
 /// Adds an action, or joins it with the one that is there already. Answers whether there is room for it.
 pub(crate) fn add_action(
     alloc: Global,
@@ -80,8 +89,7 @@ pub(crate) fn add_action(
     ensures value { IfOk result (λ has_room. performed_as has_room actions.new.items ≡ with_action action actions.old.items) }
 {
     if has_action(&action, actions) {
-        let held = mem::replace(actions, Vec::new(alloc));
-        *actions = all_joined(alloc, &action, held)?;
+        join_all(alloc, actions, &action)?;
         return Ok(true);
     }
     if actions.len() >= MAX_ACTIONS {
