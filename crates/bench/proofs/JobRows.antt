@@ -4,7 +4,7 @@ use Rattle.sieve_base.specs.Limits.{address_limit}
 use Rattle.sieve_base.specs.Octet.{octet_of}
 use Rattle.sieve_base.specs.declared.place.Place.TheVariants.{Personal}
 use Rattle.sieve_check.specs.Judgement.{judgement_of, sound, faulty}
-use Rattle.sieve_check.specs.Tree.{Node}
+use Rattle.sieve_reading.specs.Tree.{Node}
 use Rattle.sieve_check.specs.declared.judged.FaultKind.{FaultKind}
 use Rattle.sieve_run.specs.Run.{outcome_of}
 use Rattle.sieve_delivery.specs.declared.name.ScriptName.{ScriptName}

@@ -4,9 +4,9 @@ use lib.Pointwise.{pointwise}
 use Rattle.sieve_base.specs.Limits.{text_limit}
 use Rattle.sieve_base.specs.declared.place.Place.TheVariants.{Personal, Global}
 use Rattle.sieve_check.specs.Judgement.{judgement_of, sound, faulty}
-use Rattle.sieve_check.specs.Reading.{keep_leaf}
-use Rattle.sieve_check.specs.Script.{acts, no_commands, script_of}
-use Rattle.sieve_check.specs.Tree.{Node}
+use Rattle.sieve_reading.specs.Reading.{keep_leaf}
+use Rattle.sieve_reading.specs.Script.{acts, no_commands, script_of}
+use Rattle.sieve_reading.specs.Tree.{Node}
 use Rattle.sieve_check.specs.declared.judged.FaultKind.{FaultKind}
 use Rattle.sieve_run.specs.Run.{outcome_of, exec}
 use Rattle.sieve_delivery.specs.declared.name.ScriptName.{ScriptName}

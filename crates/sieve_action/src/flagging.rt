@@ -13,8 +13,8 @@ use crate::flow::Flow;
 use match_text::{FlagList, flag_text, flags_of, flags_of_texts, union, without};
 use sieve_base::Octets;
 use sieve_base::limits::MAX_VALUE;
-use sieve_check::FlagChange;
 use sieve_delivery::{Delivery, State};
+use sieve_reading::FlagChange;
 use sieve_variables::{Parts, Variable};
 use std::alloc::{AllocError, Global};
 

@@ -9,19 +9,19 @@ use Rattle.sieve_syntax.specs.Tree as syntax
 use Rattle.sieve_check.specs.Breach.{test_breaks, breaches_in}
 use Rattle.sieve_check.specs.Context.{Context}
 use Rattle.sieve_check.specs.Element.{test_arguments}
-use Rattle.sieve_check.specs.Label.{expecting, fills, is_unfit, labels_from, no_slots, slots_left, slots_of, slots_with}
+use Rattle.sieve_reading.specs.Label.{expecting, fills, is_unfit, labels_from, no_slots, slots_left, slots_of, slots_with}
 use Rattle.sieve_check.specs.Parted.{Cutting, parted_labelled, parted_test, parted_test_list, parted_tests, test_labels}
 use Rattle.sieve_check.specs.Readable.{Joins, test_takes}
-use Rattle.sieve_check.specs.Reading.{Ask, Source, address_part_of, address_source, address_values, all_tags, collation_by, compares_by, compares_from, envelope_source, envelope_values, exists_ask, exists_by, flag_source, flag_values, given_texts, given_variable, has_tag, header_source, header_values, in_role, is_tagged, labels_in, literal_in, match_type_of, number_in, over_ask, part_shape, reads_ask, size_by, size_from, string_source, string_values, tag_number, test_reading_by, text_in, texts_in, under_ask, variable_in}
-use Rattle.sieve_check.specs.Role.{same_role}
+use Rattle.sieve_reading.specs.Reading.{Ask, Source, address_part_of, address_source, address_values, all_tags, collation_by, compares_by, compares_from, envelope_source, envelope_values, exists_ask, exists_by, flag_source, flag_values, given_texts, given_variable, has_tag, header_source, header_values, in_role, is_tagged, labels_in, literal_in, match_type_of, number_in, over_ask, part_shape, reads_ask, size_by, size_from, string_source, string_values, tag_number, test_reading_by, text_in, texts_in, under_ask, variable_in}
+use Rattle.sieve_reading.specs.Role.{same_role}
 use Rattle.sieve_table.specs.Table.{naming_slot, tag_row, test_row}
 use Rattle.sieve_variables.specs.Part.{Part}
-use Rattle.sieve_check.specs.Tree.{Argument, Test, Tests, TestList, no_tests, one_test, test_list}
+use Rattle.sieve_reading.specs.Tree.{Argument, Test, Tests, TestList, no_tests, one_test, test_list}
 use Rattle.sieve_check.specs.Use.{has_repeated, is_of_kind, same_kind, tests_fit}
-use Rattle.sieve_check.specs.declared.label.Label.{Label}
-use Rattle.sieve_check.specs.declared.label.Label.TheVariants.{Tagged, OtherTag, Own, InSlot, Unfit}
-use Rattle.sieve_check.specs.declared.label.Shape.{Shape}
-use Rattle.sieve_check.specs.declared.reading.MatchType.{MatchType}
+use Rattle.sieve_reading.specs.declared.label.Label.{Label}
+use Rattle.sieve_reading.specs.declared.label.Label.TheVariants.{Tagged, OtherTag, Own, InSlot, Unfit}
+use Rattle.sieve_reading.specs.declared.label.Shape.{Shape}
+use Rattle.sieve_reading.specs.declared.reading.MatchType.{MatchType}
 use Rattle.sieve_table.specs.declared.row.Form.{Form}
 use Rattle.sieve_table.specs.declared.row.Form.TheVariants as form
 use Rattle.sieve_table.specs.declared.row.Inner.TheVariants as inner

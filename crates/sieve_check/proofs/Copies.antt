@@ -15,16 +15,16 @@ use Rattle.sieve_syntax.specs.declared.tree.Tests.TheOpen as syntax_test_layers
 use Rattle.sieve_syntax.specs.declared.tree.Tests.TheVariants as syntax_test_variants
 use Rattle.sieve_check.specs.view.Head.{block_as}
 use Rattle.sieve_check.proofs.Views.{seen_command}
-use Rattle.sieve_check.specs.Tree.{Argument, Node, node, Nodes, end_nodes, items, Block, no_block, block, nodes, more_nodes, Test, Tests, test_list, tests, more_tests}
-use Rattle.sieve_check.specs.view.Tree.{tests_of, test_of, tests_step, test_step, node_of, command_step, argument_of}
-use Rattle.sieve_check.specs.declared.tree.Argument as arguments
-use Rattle.sieve_check.specs.declared.tree.Command as commands
-use Rattle.sieve_check.specs.declared.tree.Command.TheFolds as command_folds
-use Rattle.sieve_check.specs.declared.tree.Command.TheViews as command_views
-use Rattle.sieve_check.specs.declared.tree.Test as one_tests
-use Rattle.sieve_check.specs.declared.tree.Tests.TheFolds as test_folds
-use Rattle.sieve_check.specs.declared.tree.Tests.TheOpen as test_layers
-use Rattle.sieve_check.specs.declared.tree.Tests.TheVariants as test_variants
+use Rattle.sieve_reading.specs.Tree.{Argument, Node, node, Nodes, end_nodes, items, Block, no_block, block, nodes, more_nodes, Test, Tests, test_list, tests, more_tests}
+use Rattle.sieve_reading.specs.view.Tree.{tests_of, test_of, tests_step, test_step, node_of, command_step, argument_of}
+use Rattle.sieve_reading.specs.declared.tree.Argument as arguments
+use Rattle.sieve_reading.specs.declared.tree.Command as commands
+use Rattle.sieve_reading.specs.declared.tree.Command.TheFolds as command_folds
+use Rattle.sieve_reading.specs.declared.tree.Command.TheViews as command_views
+use Rattle.sieve_reading.specs.declared.tree.Test as one_tests
+use Rattle.sieve_reading.specs.declared.tree.Tests.TheFolds as test_folds
+use Rattle.sieve_reading.specs.declared.tree.Tests.TheOpen as test_layers
+use Rattle.sieve_reading.specs.declared.tree.Tests.TheVariants as test_variants
 
 test_list_parted : (cutting : Cutting) (ts : List syntax.Test) → parted_test_list cutting (syntax.tests ts) ≡ tests (map (parted_test cutting) ts)
 test_list_parted cutting [] = refl

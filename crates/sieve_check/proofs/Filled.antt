@@ -10,18 +10,18 @@ use Rattle.sieve_syntax.specs.Tree as syntax
 use Rattle.sieve_check.specs.Breach.{breaches_at, breaches_in, is_comparator_name}
 use Rattle.sieve_check.specs.Context.{Context}
 use Rattle.sieve_check.specs.Element.{argument_elements, judged_labels, labelled_elements, row_elements, text_elements, the_text, the_number}
-use Rattle.sieve_check.specs.Label.{fits, is_filled, labels_of}
+use Rattle.sieve_reading.specs.Label.{fits, is_filled, labels_of}
 use Rattle.sieve_check.specs.Parted.{Cutting, parted_argument, parted_labelled, parted_text, parts_in}
 use Rattle.sieve_check.specs.Readable.{row_takes}
-use Rattle.sieve_check.specs.Reading.{collation_by, given_texts, given_variable, literal_in, literal_in_parts, number_in, part_shape, plain_text, text_in, texts_in, variable_in, variable_in_parts}
-use Rattle.sieve_check.specs.Role.{first_role, has_role}
-use Rattle.sieve_check.specs.Shape.{row_labels, shape_of, shapes_of, texts_shape}
+use Rattle.sieve_reading.specs.Reading.{collation_by, given_texts, given_variable, literal_in, literal_in_parts, number_in, part_shape, plain_text, text_in, texts_in, variable_in, variable_in_parts}
+use Rattle.sieve_reading.specs.Role.{first_role, has_role}
+use Rattle.sieve_reading.specs.Shape.{row_labels, shape_of, shapes_of, texts_shape}
 use Rattle.sieve_table.specs.Table.{Row}
-use Rattle.sieve_check.specs.Tree.{Argument, strings, number, tag}
+use Rattle.sieve_reading.specs.Tree.{Argument, strings, number, tag}
 use Rattle.sieve_check.specs.Use.{block_fits, has_bad_arguments, has_bad_tag, lacks_kind, lacks_own, tests_fit}
-use Rattle.sieve_check.specs.declared.label.Label.{Label}
-use Rattle.sieve_check.specs.declared.label.Shape.{Shape}
-use Rattle.sieve_check.specs.declared.label.Shape.TheVariants as shape
+use Rattle.sieve_reading.specs.declared.label.Label.{Label}
+use Rattle.sieve_reading.specs.declared.label.Shape.{Shape}
+use Rattle.sieve_reading.specs.declared.label.Shape.TheVariants as shape
 use Rattle.sieve_table.specs.declared.row.Form.TheVariants as form
 use Rattle.sieve_table.specs.declared.row.Role.{Role}
 use Rattle.sieve_table.specs.declared.row.Role.TheVariants as role

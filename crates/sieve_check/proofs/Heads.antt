@@ -17,7 +17,7 @@ use Rattle.sieve_table.specs.Table as table
 use Rattle.sieve_table.specs.Table.{Row, command_row, test_row}
 use Rattle.sieve_check.specs.Use.{has_block}
 use Rattle.sieve_check.specs.view.Finds.{Finds, FindsIn}
-use Rattle.sieve_check.specs.Shape.{row_labels}
+use Rattle.sieve_reading.specs.Shape.{row_labels}
 use Rattle.sieve_check.specs.view.Context.{at_spot}
 use Rattle.sieve_check.specs.view.Head.{behind_front, block_as, test_head, command_front, command_head, kind_found}
 use Rattle.sieve_check.specs.view.Use.{row_found, use_breaks}
@@ -25,7 +25,7 @@ use Rattle.sieve_table.specs.declared.rule.Rule.TheVariants.{RequirePlace, Unkno
 use Rattle.sieve_table.specs.declared.table.CommandKind.{CommandKind}
 use Rattle.sieve_table.specs.declared.table.TestKind.{TestKind}
 use Rattle.sieve_check.specs.declared.context.Spot.{Spot}
-use Rattle.sieve_check.specs.declared.label.Label.{Label}
+use Rattle.sieve_reading.specs.declared.label.Label.{Label}
 use Rattle.sieve_check.specs.declared.validator.CheckFault.{CheckFault}
 use Rattle.sieve_check.specs.declared.validator.CheckFault.TheVariants as faults
 use Rattle.sieve_check.proofs.Searches.{first_stops, front_stops, front_passes, finds_past, none_in, cons_in}

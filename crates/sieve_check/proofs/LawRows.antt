@@ -8,10 +8,10 @@ use Rattle.sieve_check.specs.Element.{block_elements, elements_of, node_elements
 use Rattle.sieve_check.specs.Order.{written_by}
 use Rattle.sieve_check.specs.Parted.{parted}
 use Rattle.sieve_check.specs.Readable.{IsReadable, ReadsBlock, ReadsNode, ReadsNodes, act_mark, block_marks, choice_mark, marks, node_marks, nodes_marks, return_mark, stop_mark}
-use Rattle.sieve_check.specs.Reading.{discard_leaf, keep_leaf}
-use Rattle.sieve_check.specs.Script.{always, block_commands, chain_of, condition_of, conditions_in, never, node_before, script_of}
+use Rattle.sieve_reading.specs.Reading.{discard_leaf, keep_leaf}
+use Rattle.sieve_reading.specs.Script.{always, block_commands, chain_of, condition_of, conditions_in, never, node_before, script_of}
 use Rattle.sieve_table.specs.Table.{command_named, test_named}
-use Rattle.sieve_check.specs.Tree.{nodes}
+use Rattle.sieve_reading.specs.Tree.{nodes}
 use Rattle.sieve_check.proofs.Readable.{is_readable}
 use Rattle.sieve_check.proofs.Roles.{not_both}
 

@@ -2,10 +2,10 @@
 use Rattle.std.proofs.Common.{◌≡◌, ℕ, Bool, true, false, List, [], ◌∷◌, ◌++◌, Option, Some, None, refl, sym, ap, ◌∙◌}
 use Rattle.std.proofs.lemmas.List.{append-nil, append_assoc}
 use Rattle.sieve_check.specs.Readable.{Mark, marks, own_marks, node_marks, block_marks, nodes_marks, choice_mark, stop_mark, return_mark, act_mark, may_go_on, Stands, ReadsNode, ReadsBlock, ReadsNodes, IsReadable, DoesAll}
-use Rattle.sieve_check.specs.Reading as reading
-use Rattle.sieve_check.specs.Reading.{CommandReading, command_reading}
-use Rattle.sieve_check.specs.Script.{no_commands, Chain, Condition, branch_condition, command_before, node_before, block_commands, chain_of, conditions_in}
-use Rattle.sieve_check.specs.Tree.{Tests, Node, node, Block, no_block, block, Nodes, end_nodes, more_nodes, nodes}
+use Rattle.sieve_reading.specs.Reading as reading
+use Rattle.sieve_reading.specs.Reading.{CommandReading, command_reading}
+use Rattle.sieve_reading.specs.Script.{no_commands, Chain, Condition, branch_condition, command_before, node_before, block_commands, chain_of, conditions_in}
+use Rattle.sieve_reading.specs.Tree.{Tests, Node, node, Block, no_block, block, Nodes, end_nodes, more_nodes, nodes}
 
 -- Commands from some place on do what these marks say. Where no branch may go on there, no branch does.
 record Agrees (follows_if : Bool) (chain : Chain) (all : List Mark) : Type 0 where

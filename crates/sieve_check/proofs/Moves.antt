@@ -3,7 +3,7 @@ use Rattle.std.proofs.Common.{◌≡◌, Bool, ◌&&◌, List, Some, ap, ◌∙�
 use Rattle.sieve_syntax.specs.Tree.{Argument}
 use Rattle.sieve_check.specs.Context.{Context, Required, allows_else, behind_kind, is_require, required_behind}
 use Rattle.sieve_check.specs.Scope.{Scope, naming_arguments}
-use Rattle.sieve_check.specs.Shape.{row_labels}
+use Rattle.sieve_reading.specs.Shape.{row_labels}
 use Rattle.sieve_check.specs.view.Context.{at_spot, required_as}
 use Rattle.sieve_check.specs.declared.context.Required as requireds
 use Rattle.sieve_check.specs.declared.context.Spot.{Spot}

@@ -2,8 +2,8 @@
 use Rattle.std.proofs.Common.{◌≡◌, ◌-◌, Some, refl, slice_get}
 use Rattle.sieve_check.specs.Breach.{all_rules}
 use Rattle.sieve_table.specs.Rule.{rule_number}
-use Rattle.sieve_check.specs.Reading.{all_tags, tag_number}
-use Rattle.sieve_check.specs.Role.{all_roles, role_number}
+use Rattle.sieve_reading.specs.Reading.{all_tags, tag_number}
+use Rattle.sieve_reading.specs.Role.{all_roles, role_number}
 use Rattle.sieve_check.specs.Use.{all_kinds, kind_number}
 use Rattle.sieve_table.specs.declared.row.Role.{Role}
 use Rattle.sieve_table.specs.declared.row.Role.TheVariants as role

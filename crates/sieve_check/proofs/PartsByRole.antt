@@ -3,7 +3,7 @@ use Rattle.std.proofs.Common.{◌≡◌, ℕ, Bool, true, false, ◌&&◌, ◌||
 use Rattle.std.specs.Prelude.{if◌then◌else◌}
 use Rattle.sieve_check.specs.Context.{takes_references}
 use Rattle.sieve_check.specs.Parted.{Cutting, parts_in}
-use Rattle.sieve_check.specs.Role.{names_variable}
+use Rattle.sieve_reading.specs.Role.{names_variable}
 use Rattle.sieve_table.specs.declared.row.Role.{Role}
 use Rattle.sieve_table.specs.declared.row.Role.TheVariants.{NameToSet, NamesToRead}
 use Rattle.sieve_variables.specs.Part.{Part, grouped, literal, scoped_part, variable_part}

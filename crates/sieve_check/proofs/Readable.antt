@@ -7,14 +7,14 @@ use Rattle.sieve_check.specs.Context.{Context, behind, behind_block, behind_kind
 use Rattle.sieve_check.specs.Element.{block_elements, command_arguments, node_elements, nodes_elements, test_arguments, test_elements, test_list_elements, tests_elements, the_command, the_test}
 use Rattle.sieve_check.specs.Parted.{Cutting, command_labels, cutting_at_start, declared_behind, declaring_command, parted, parted_block, parted_labelled, parted_node, parted_nodes, parted_test, parted_test_list, parted_tests}
 use Rattle.sieve_check.specs.Readable.{IsReadable, ReadsBlock, ReadsNode, ReadsNodes, ReadsTest, ReadsTestList, ReadsTests, Stands, command_takes, may_go_on}
-use Rattle.sieve_check.specs.Reading as reading
-use Rattle.sieve_check.specs.Reading.{Leaf, command_reading, command_reading_by, fileinto_from, flags_by, flags_from, has_tag, include_leaf, keep_leaf, labels_in, part_shape, place_of, redirect_leaf, set_from}
-use Rattle.sieve_check.specs.Label.{slots_of}
+use Rattle.sieve_reading.specs.Reading as reading
+use Rattle.sieve_reading.specs.Reading.{Leaf, command_reading, command_reading_by, fileinto_from, flags_by, flags_from, has_tag, include_leaf, keep_leaf, labels_in, part_shape, place_of, redirect_leaf, set_from}
+use Rattle.sieve_reading.specs.Label.{slots_of}
 use Rattle.sieve_table.specs.Table.{command_named, command_row, flag_command, naming_slot, test_named}
-use Rattle.sieve_check.specs.Tree.{Argument, Block, Tests, no_tests, Nodes, end_nodes, more_nodes, no_block, block, items, nodes}
+use Rattle.sieve_reading.specs.Tree.{Argument, Block, Tests, no_tests, Nodes, end_nodes, more_nodes, no_block, block, items, nodes}
 use Rattle.sieve_check.specs.Use.{block_fits, has_block}
-use Rattle.sieve_check.specs.declared.reading.FlagChange.{FlagChange}
-use Rattle.sieve_check.specs.declared.reading.FlagChange.TheVariants as change
+use Rattle.sieve_reading.specs.declared.reading.FlagChange.{FlagChange}
+use Rattle.sieve_reading.specs.declared.reading.FlagChange.TheVariants as change
 use Rattle.sieve_table.specs.declared.row.Form.TheVariants as form
 use Rattle.sieve_table.specs.declared.row.Role.TheVariants as role
 use Rattle.sieve_table.specs.declared.rule.Rule.{Rule}

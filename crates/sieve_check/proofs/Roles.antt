@@ -4,15 +4,15 @@ use Rattle.std.proofs.lemmas.Bool.{or_parts}
 use Rattle.std.specs.List.{list_any}
 use Rattle.std.specs.Prelude.{if◌then◌else◌, is_none}
 use Rattle.sieve_check.specs.Breach.{is_comparator_name}
-use Rattle.sieve_check.specs.Label.{Expected, expected_behind, fits, is_unfit, label_at, labels_from, no_slots, slot_label, slots_left, value_label, value_slots}
-use Rattle.sieve_check.specs.Reading.{in_role, literal_in_parts, part_shape, plain_text, variable_in_parts}
-use Rattle.sieve_check.specs.Role.{first_role, has_role, role_of, same_role}
+use Rattle.sieve_reading.specs.Label.{Expected, expected_behind, fits, is_unfit, label_at, labels_from, no_slots, slot_label, slots_left, value_label, value_slots}
+use Rattle.sieve_reading.specs.Reading.{in_role, literal_in_parts, part_shape, plain_text, variable_in_parts}
+use Rattle.sieve_reading.specs.Role.{first_role, has_role, role_of, same_role}
 use Rattle.sieve_table.specs.Table.{tag_row}
-use Rattle.sieve_check.specs.Tree.{Text, Argument, strings, number, tag}
-use Rattle.sieve_check.specs.declared.label.Label.{Label}
-use Rattle.sieve_check.specs.declared.label.Label.TheVariants.{Own, InSlot, Unfit}
-use Rattle.sieve_check.specs.declared.label.Shape.{Shape}
-use Rattle.sieve_check.specs.declared.label.Shape.TheVariants as shape
+use Rattle.sieve_reading.specs.Tree.{Text, Argument, strings, number, tag}
+use Rattle.sieve_reading.specs.declared.label.Label.{Label}
+use Rattle.sieve_reading.specs.declared.label.Label.TheVariants.{Own, InSlot, Unfit}
+use Rattle.sieve_reading.specs.declared.label.Shape.{Shape}
+use Rattle.sieve_reading.specs.declared.label.Shape.TheVariants as shape
 use Rattle.sieve_table.specs.declared.row.Form.{Form}
 use Rattle.sieve_table.specs.declared.row.Role.{Role}
 use Rattle.sieve_table.specs.declared.row.Role.TheVariants as role

@@ -6,20 +6,20 @@ use Rattle.sieve_syntax.specs.Tree as syntax
 use Rattle.sieve_check.specs.Breach.{breaches_of, breaches_in, breaches_at}
 use Rattle.sieve_check.specs.Context.{behind}
 use Rattle.sieve_check.specs.Element.{nodes_elements, node_elements, block_elements, tests_elements, test_elements}
-use Rattle.sieve_check.specs.Label.{labels_of}
+use Rattle.sieve_reading.specs.Label.{labels_of}
 use Rattle.sieve_check.specs.Parted.{parted}
-use Rattle.sieve_check.specs.Reading.{keep_leaf, redirect_leaf, discard_leaf, set_leaf, flag_leaf, include_leaf, flag_values, header_values, compares}
+use Rattle.sieve_reading.specs.Reading.{keep_leaf, redirect_leaf, discard_leaf, set_leaf, flag_leaf, include_leaf, flag_values, header_values, compares}
 use Rattle.sieve_check.specs.Scope.{assigning}
-use Rattle.sieve_check.specs.Script.{no_commands, stops, returns, acts, chooses, always, asks, script_of, chain_of, node_before, block_commands, condition_of, conditions_in}
+use Rattle.sieve_reading.specs.Script.{no_commands, stops, returns, acts, chooses, always, asks, script_of, chain_of, node_before, block_commands, condition_of, conditions_in}
 use Rattle.sieve_table.specs.Table.{Row, naming_slot, slot, command_named, test_named, test_row}
-use Rattle.sieve_check.specs.declared.label.Label.TheVariants as label
-use Rattle.sieve_check.specs.declared.label.Shape.TheVariants as shape
+use Rattle.sieve_reading.specs.declared.label.Label.TheVariants as label
+use Rattle.sieve_reading.specs.declared.label.Shape.TheVariants as shape
 use Rattle.sieve_table.specs.declared.row.Form.TheVariants as form
 use Rattle.sieve_table.specs.declared.row.Role.TheVariants as role
 use Rattle.sieve_table.specs.declared.table.Tag.TheVariants as tag
 use Rattle.sieve_table.specs.declared.table.TestKind.TheVariants as test
-use Rattle.sieve_check.specs.declared.reading.FlagChange.TheVariants.{Add}
-use Rattle.sieve_check.specs.declared.reading.MatchType.TheVariants.{Is, Contains}
+use Rattle.sieve_reading.specs.declared.reading.FlagChange.TheVariants.{Add}
+use Rattle.sieve_reading.specs.declared.reading.MatchType.TheVariants.{Is, Contains}
 use Rattle.sieve_variables.specs.Part.{literal, local_part, global_part}
 use Rattle.sieve_variables.specs.Scan.{before_brace, pieces_from, inside_at}
 use Rattle.sieve_variables.specs.Variable.{local_variable, global_variable}

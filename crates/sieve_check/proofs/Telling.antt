@@ -2,8 +2,8 @@
 use Rattle.std.proofs.Common.{◌≡◌, ℕ, zero, suc, Bool, true, false, ◌&&◌, nat_eq, List, [], ◌∷◌, Option, None, Some, slice_get, refl, sym, ap, ◌∙◌, subst, arith}
 use Rattle.std.proofs.lemmas.Bool.Decides.{nat_tests}
 use Rattle.std.specs.List.{list_all}
-use Rattle.sieve_check.specs.Reading.{all_tags, tag_number}
-use Rattle.sieve_check.specs.Role.{all_roles, has_role, role_number, same_role}
+use Rattle.sieve_reading.specs.Reading.{all_tags, tag_number}
+use Rattle.sieve_reading.specs.Role.{all_roles, has_role, role_number, same_role}
 use Rattle.sieve_check.specs.Use.{all_kinds, kind_number, same_kind}
 use Rattle.sieve_table.specs.declared.row.Role.{Role}
 use Rattle.sieve_table.specs.declared.row.TagKind.{TagKind}

@@ -10,11 +10,11 @@ use Rattle.sieve_syntax.specs.declared.token.Token.{Token}
 use Rattle.sieve_check.specs.Context.{Context, behind, behind_kind, inside, script_start}
 use Rattle.sieve_check.specs.Element.{Element, argument_elements, block_elements, command_arguments, elements_of, judged_labels, labelled_elements, node_elements, nodes_elements, test_arguments, test_elements, test_list_elements, tests_elements, text_elements}
 use Rattle.sieve_check.specs.Order.{writes_element, written_by}
-use Rattle.sieve_check.specs.Role.{first_role}
-use Rattle.sieve_check.specs.Shape.{shapes_of}
+use Rattle.sieve_reading.specs.Role.{first_role}
+use Rattle.sieve_reading.specs.Shape.{shapes_of}
 use Rattle.sieve_table.specs.Table.{command_named, command_row, test_named, test_row}
 use Rattle.sieve_check.specs.Use.{has_block, is_well_used}
-use Rattle.sieve_check.specs.declared.label.Label.{Label}
+use Rattle.sieve_reading.specs.declared.label.Label.{Label}
 use Rattle.sieve_table.specs.declared.row.Role.{Role}
 use Rattle.sieve_table.specs.declared.table.CommandKind.{CommandKind}
 use Rattle.sieve_table.specs.declared.table.TestKind.{TestKind}

@@ -10,9 +10,9 @@ use Rattle.sieve_variables.specs.Scan.{has_reference, has_namespace, has_foreign
 use Rattle.sieve_table.specs.Capability.{is_capability}
 use Rattle.sieve_check.specs.Context.{Context, Required, takes_references, is_require, continues_if}
 use Rattle.sieve_check.specs.Element.{Element, the_command, the_test, the_text, the_number, elements_of}
-use Rattle.sieve_check.specs.Role.{has_role, names_variable}
+use Rattle.sieve_reading.specs.Role.{has_role, names_variable}
 use Rattle.sieve_check.specs.Scope.{Scope, is_assigned, is_new_local}
-use Rattle.sieve_check.specs.Shape.{row_labels, shapes_of}
+use Rattle.sieve_reading.specs.Shape.{row_labels, shapes_of}
 use Rattle.sieve_table.specs.Table.{Row, command_named, test_named, command_row, test_row}
 use Rattle.sieve_check.specs.Use.{has_bad_tag, has_bad_arguments, has_block, lacks_required}
 use Rattle.sieve_table.specs.declared.row.Role.{Role}

@@ -3,7 +3,7 @@ use Rattle.std.specs.Prelude.{◌≡◌, List, []}
 use Rattle.sieve_syntax.specs.Tree as syntax
 use Rattle.sieve_check.specs.Breach.{breaches_of}
 use Rattle.sieve_check.specs.Parted.{parted}
-use Rattle.sieve_check.specs.Tree.{Node}
+use Rattle.sieve_reading.specs.Tree.{Node}
 
 -- they are those of a text's tree without a breach
 abbrev pub AreFaultless : List Node → Type 0

@@ -6,7 +6,7 @@ use Rattle.sieve_syntax.specs.Syntax.{syntax_of}
 use Rattle.sieve_check.specs.Breach as breaches
 use Rattle.sieve_check.specs.Breach.{first_breach}
 use Rattle.sieve_check.specs.Parted.{parted}
-use Rattle.sieve_check.specs.Tree.{Node}
+use Rattle.sieve_reading.specs.Tree.{Node}
 use Rattle.sieve_table.specs.Rule.{rule_word}
 use Rattle.sieve_check.specs.declared.judged.FaultKind.{FaultKind}
 use Rattle.sieve_check.specs.declared.judged.FaultKind.TheVariants.{Syntax, Breach}

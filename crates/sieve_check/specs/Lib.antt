@@ -4,15 +4,9 @@ pub mod Context
 pub mod Element
 pub mod Faultless
 pub mod Judgement
-pub mod Label
 pub mod Order
 pub mod Parted
 pub mod Readable
-pub mod Reading
-pub mod Role
 pub mod Scope
-pub mod Script
-pub mod Shape
-pub mod Tree
 pub mod Use
 pub mod view

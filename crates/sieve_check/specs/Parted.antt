@@ -4,12 +4,12 @@
 use Rattle.std.specs.Prelude.{ℕ, List, [], ◌∷◌, Option, Some, None, map, drop, if◌then◌else◌}
 use Rattle.sieve_syntax.specs.Tree as syntax
 use Rattle.sieve_check.specs.Context.{Required, nothing_required, required_from, takes_references}
-use Rattle.sieve_check.specs.Role.{first_role, names_variable}
+use Rattle.sieve_reading.specs.Role.{first_role, names_variable}
 use Rattle.sieve_check.specs.Scope.{declaring_arguments}
-use Rattle.sieve_check.specs.Shape.{row_labels}
+use Rattle.sieve_reading.specs.Shape.{row_labels}
 use Rattle.sieve_table.specs.Table.{command_named, test_named, command_row, test_row}
-use Rattle.sieve_check.specs.Tree.{Text, Argument, strings, number, tag, Test, test, Tests, no_tests, one_test, test_list, TestList, end_tests, more_tests, Node, node, Block, no_block, block, Nodes, end_nodes, more_nodes, items}
-use Rattle.sieve_check.specs.declared.label.Label.{Label}
+use Rattle.sieve_reading.specs.Tree.{Text, Argument, strings, number, tag, Test, test, Tests, no_tests, one_test, test_list, TestList, end_tests, more_tests, Node, node, Block, no_block, block, Nodes, end_nodes, more_nodes, items}
+use Rattle.sieve_reading.specs.declared.label.Label.{Label}
 use Rattle.sieve_table.specs.declared.row.Role.{Role}
 use Rattle.sieve_table.specs.declared.table.CommandKind.{CommandKind}
 use Rattle.sieve_table.specs.declared.table.TestKind.{TestKind}

@@ -1,14 +1,14 @@
 -- A tree of which each command and each test is read as something: it has a row, its arguments are what the row says, and it
 -- stands where it may. Nothing of such a tree vanishes from the abstract script.
 use Rattle.std.specs.Prelude.{◌≡◌, ℕ, Bool, true, false, not, ◌&&◌, List, [], ◌∷◌, ◌++◌, map, Option, Some, None}
-use Rattle.sieve_check.specs.Label.{labels_of, is_filled}
-use Rattle.sieve_check.specs.Reading as reading
-use Rattle.sieve_check.specs.Reading.{TestReading, reads_always, reads_never, reads_ask, reads_all, reads_any, reads_not, CommandReading, Leaf, part_shape, test_reading, command_reading}
-use Rattle.sieve_check.specs.Script.{Commands, no_commands, stops, returns, acts, chooses, Condition, branch_condition, conditions_in, script_of}
+use Rattle.sieve_reading.specs.Label.{labels_of, is_filled}
+use Rattle.sieve_reading.specs.Reading as reading
+use Rattle.sieve_reading.specs.Reading.{TestReading, reads_always, reads_never, reads_ask, reads_all, reads_any, reads_not, CommandReading, Leaf, part_shape, test_reading, command_reading}
+use Rattle.sieve_reading.specs.Script.{Commands, no_commands, stops, returns, acts, chooses, Condition, branch_condition, conditions_in, script_of}
 use Rattle.sieve_table.specs.Table.{Row, command_named, test_named, command_row, test_row}
-use Rattle.sieve_check.specs.Tree.{Argument, Test, test, Tests, no_tests, one_test, test_list, TestList, end_tests, more_tests, Node, node, Block, no_block, block, Nodes, end_nodes, more_nodes, nodes}
+use Rattle.sieve_reading.specs.Tree.{Argument, Test, test, Tests, no_tests, one_test, test_list, TestList, end_tests, more_tests, Node, node, Block, no_block, block, Nodes, end_nodes, more_nodes, nodes}
 use Rattle.sieve_check.specs.Use.{has_bad_tag, lacks_own, lacks_kind}
-use Rattle.sieve_check.specs.declared.label.Shape.{Shape}
+use Rattle.sieve_reading.specs.declared.label.Shape.{Shape}
 use Rattle.sieve_table.specs.declared.table.CommandKind.{CommandKind}
 use Rattle.sieve_table.specs.declared.table.TestKind.{TestKind}
 

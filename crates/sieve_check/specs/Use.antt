@@ -3,11 +3,11 @@ use Rattle.std.specs.Prelude.{ℕ, Bool, true, false, not, ◌||◌, ◌&&◌, L
 use Rattle.std.specs.List.{list_any}
 use Rattle.sieve_syntax.specs.Tree.{Tests, no_tests, one_test, test_list, Block, no_block, block}
 use Rattle.sieve_check.specs.Context.{Required, is_required}
-use Rattle.sieve_check.specs.Label.{labels_of, is_filled}
+use Rattle.sieve_reading.specs.Label.{labels_of, is_filled}
 use Rattle.sieve_table.specs.Table.{Row, tag_row}
-use Rattle.sieve_check.specs.declared.label.Label.{Label}
-use Rattle.sieve_check.specs.declared.label.Label.TheVariants.{Tagged, OtherTag, Own, InSlot, Unfit}
-use Rattle.sieve_check.specs.declared.label.Shape.{Shape}
+use Rattle.sieve_reading.specs.declared.label.Label.{Label}
+use Rattle.sieve_reading.specs.declared.label.Label.TheVariants.{Tagged, OtherTag, Own, InSlot, Unfit}
+use Rattle.sieve_reading.specs.declared.label.Shape.{Shape}
 use Rattle.sieve_table.specs.declared.capability.Capability.{Capability}
 use Rattle.sieve_table.specs.declared.row.Inner.{Inner}
 use Rattle.sieve_table.specs.declared.row.Inner.TheVariants as inner

@@ -1,11 +1,8 @@
 pub mod Checked
 pub mod Context
 pub mod Copy
-pub mod Expected
 pub mod Finds
 pub mod Head
 pub mod Judged
-pub mod Reading
 pub mod Scope
-pub mod Tree
 pub mod Use

@@ -1,8 +1,8 @@
 ghost use Rattle.std.specs.Prelude.{◌≡◌, map};
 ghost use Rattle.sieve_check.specs.Faultless.{AreFaultless};
-ghost use Rattle.sieve_check.specs.view.Tree.{node_of};
+ghost use Rattle.sieve_reading.specs.view.Tree.{node_of};
 
-use crate::tree::Command;
+use sieve_reading::Command;
 
 /// A script that breaks no rule. Only the validator makes one.
 #[derive(Drop)]

@@ -5,7 +5,7 @@ ghost use Rattle.sieve_syntax.specs.view.Tree.{argument_of, node_of};
 ghost use Rattle.sieve_syntax.specs.declared.tree.Command.{out-Command};
 ghost use Rattle.sieve_check.specs.Context.{behind, behind_nodes, continues_if, is_require};
 ghost use Rattle.sieve_check.specs.Element.{node_elements, nodes_elements};
-ghost use Rattle.sieve_check.specs.Shape.{row_labels};
+ghost use Rattle.sieve_reading.specs.Shape.{row_labels};
 ghost use Rattle.sieve_table.specs.Table.{command_named, command_row};
 ghost use Rattle.sieve_check.specs.view.Context.{at_spot, context_as};
 ghost use Rattle.sieve_check.specs.view.Finds.{Finds, FindsIn};
@@ -13,10 +13,10 @@ ghost use Rattle.sieve_check.specs.view.Head.{behind_front, command_front, comma
 
 use crate::arguments::check_use;
 use crate::context::{Context, Spot, continues_if, is_require};
-use crate::label::Label;
 use crate::scope::Scope;
 use crate::test_rules::check_tests;
 use crate::validator::CheckFault;
+use sieve_reading::Label;
 use sieve_syntax::Command;
 use sieve_table::{CommandKind, Rule, command_named};
 use std::alloc::Global;

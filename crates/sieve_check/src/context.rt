@@ -4,7 +4,7 @@ ghost use Rattle.sieve_syntax.specs.Tree.{nodes};
 ghost use Rattle.sieve_syntax.specs.view.Tree.{argument_of, node_of, text_of};
 ghost use Rattle.sieve_check.specs.Context.{allows_else, behind_kind, continues_if, inside, is_require, is_required, nothing_required, required_behind, required_from, requiring, requiring_argument, requiring_arguments, requiring_texts, script_start, takes_references};
 ghost use Rattle.sieve_check.specs.Scope.{naming_arguments, no_names};
-ghost use Rattle.sieve_check.specs.Shape.{row_labels};
+ghost use Rattle.sieve_reading.specs.Shape.{row_labels};
 ghost use Rattle.sieve_check.specs.view.Context.{at_spot, required_as};
 ghost use Rattle.sieve_check.specs.view.Scope.{ScopeState};
 ghost use Rattle.sieve_table.specs.Table.{command_row};

@@ -6,10 +6,10 @@ ghost use Rattle.sieve_variables.specs.Variable.{is_among, with_name};
 ghost use Rattle.sieve_check.specs.Breach.{is_past_locals};
 ghost use Rattle.sieve_check.specs.Scope.{assigning, assigning_argument, assigning_arguments, assigning_texts, declaring_argument, declaring_arguments, declaring_texts, is_assigned, is_new_local, naming_arguments, no_names};
 
-use crate::label::Label;
-use crate::role::{behind_first, first_role, has_role};
+use crate::role::{behind_first, first_role};
 use sieve_base::Octets;
 use sieve_base::limits::MAX_LOCALS;
+use sieve_reading::{Label, has_role};
 use sieve_syntax::{Argument, Text};
 use sieve_table::Role;
 use sieve_variables::{Names, folded, is_identifier};

@@ -2,15 +2,14 @@
 ghost use Rattle.std.specs.Prelude.{◌≡◌, map};
 ghost use Rattle.std.specs.List.{list_any};
 ghost use Rattle.sieve_syntax.specs.view.Tree.{argument_of, tests_of};
-ghost use Rattle.sieve_check.specs.Label.{is_filled};
-ghost use Rattle.sieve_check.specs.Shape.{shapes_of};
+ghost use Rattle.sieve_reading.specs.Label.{is_filled};
+ghost use Rattle.sieve_reading.specs.Shape.{shapes_of};
 ghost use Rattle.sieve_check.specs.Use.{are_bad, awaits, begins_own, has_bad_tag, has_late_tag, has_repeated, is_of_kind, is_other_tag, is_positional, is_repeated, is_tag, is_lacking, lacks_kind, lacks_needed, lacks_own, lacks_required, needed_by, same_kind, tests_fit};
 ghost use Rattle.sieve_check.specs.view.Context.{required_as};
 ghost use Rattle.sieve_table.specs.view.Row.{row_as};
 
 use crate::context::Required;
-use crate::label::Label;
-use crate::shape::row_is_filled;
+use sieve_reading::{Label, row_is_filled};
 use sieve_syntax::{Argument, Tests};
 use sieve_table::{Capability, Inner, Row, TagKind};
 

@@ -1,10 +1,10 @@
 -- The code of commands does what the abstract script does.
 use Rattle.std.proofs.Common.{◌≡◌, ℕ, Bool, true, false, ◌∷◌, length, Option, Some, None, refl, sym, subst}
-use Rattle.sieve_check.specs.Reading as reading
-use Rattle.sieve_check.specs.Reading.{CommandReading, command_reading}
-use Rattle.sieve_check.specs.Script as script
-use Rattle.sieve_check.specs.Script.{Condition, Commands, no_commands, chooses, Chain, branch_condition, conditions_in, block_commands, chain_of}
-use Rattle.sieve_check.specs.Tree.{Node, node, Block, no_block, block, Nodes, end_nodes, more_nodes}
+use Rattle.sieve_reading.specs.Reading as reading
+use Rattle.sieve_reading.specs.Reading.{CommandReading, command_reading}
+use Rattle.sieve_reading.specs.Script as script
+use Rattle.sieve_reading.specs.Script.{Condition, Commands, no_commands, chooses, Chain, branch_condition, conditions_in, block_commands, chain_of}
+use Rattle.sieve_reading.specs.Tree.{Node, node, Block, no_block, block, Nodes, end_nodes, more_nodes}
 use Rattle.sieve_code.specs.Choice.{Tail, Branches, no_branch, past_branches, branch_before, command_before, node_before, block_before, nodes_before, first_before}
 use Rattle.sieve_code.specs.Operation.{jumps, jumps_if, acts, stops, returns}
 use Rattle.sieve_code.specs.Walk.{Walk, by_stop, by_return, acted, condition_walk, commands_walk}

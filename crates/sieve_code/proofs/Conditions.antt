@@ -1,9 +1,9 @@
 -- The code of tests asks what their conditions ask.
 use Rattle.std.proofs.Common.{◌≡◌, Bool, true, false, not, List, [], ◌∷◌, length, Option, Some, None, refl, ◌∙◌}
-use Rattle.sieve_check.specs.Reading.{Ask, TestReading, reads_always, reads_never, reads_ask, reads_all, reads_any, reads_not, test_reading}
-use Rattle.sieve_check.specs.Script as script
-use Rattle.sieve_check.specs.Script.{Condition, always, never, negated, both, either, all_of, any_of, negation_of, joined, branch_condition, condition_of, conditions_in, conditions}
-use Rattle.sieve_check.specs.Tree.{Test, test, Tests, no_tests, one_test, test_list, TestList, end_tests, more_tests}
+use Rattle.sieve_reading.specs.Reading.{Ask, TestReading, reads_always, reads_never, reads_ask, reads_all, reads_any, reads_not, test_reading}
+use Rattle.sieve_reading.specs.Script as script
+use Rattle.sieve_reading.specs.Script.{Condition, always, never, negated, both, either, all_of, any_of, negation_of, joined, branch_condition, condition_of, conditions_in, conditions}
+use Rattle.sieve_reading.specs.Tree.{Test, test, Tests, no_tests, one_test, test_list, TestList, end_tests, more_tests}
 use Rattle.sieve_code.specs.Choice.{Tail, reading_before, test_before, tests_before, list_before, first_before}
 use Rattle.sieve_code.specs.Operation.{sets, inverts, asks, jumps_if}
 use Rattle.sieve_code.specs.Walk.{Walk, condition_walk}

@@ -2,7 +2,7 @@
 use Rattle.std.proofs.Common.{◌≡◌, ℕ, zero, suc, ◌+◌, ◌-◌, ◌<◌, ◌≤◌, Bool, true, false, not, List, [], ◌∷◌, ◌++◌, length, take, drop, map, Some, None, refl, sym, ap, ◌∙◌, arith, append_assoc, length-append, length-take-le, take-append-drop}
 use Rattle.std.proofs.lemmas.List.{length-map}
 use Rattle.std.specs.Prelude.{slice_get}
-use Rattle.sieve_check.specs.Tree.{Node, nodes}
+use Rattle.sieve_reading.specs.Tree.{Node, nodes}
 use Rattle.sieve_code.specs.Choice.{Tail, AllGoForward, code_of, placed, tail_of}
 use Rattle.sieve_code.specs.Operation.{Operation, sets, inverts, asks, jumps, jumps_if, acts, stops, returns, target_of, targeting}
 use Rattle.sieve_code.specs.Walk.{at_end, asked, acted, at_limit, step, walk_from, code_walk, tree_walk}

@@ -5,13 +5,13 @@ use borrow.Author.Tests.{ltb-true, ltb-false}
 use Rattle.std.specs.declared.alloc.Global.{Global}
 use Rattle.std.specs.declared.boxed.Box.{Box}
 use Rattle.std.specs.declared.vec.Vec.{Vec}
-use Rattle.sieve_check.specs.Reading.{TestReading, CommandReading, test_reading, command_reading}
-use Rattle.sieve_check.specs.Tree.{TestList, test_list, tests, Node, node, nodes}
-use Rattle.sieve_check.specs.view.Tree.{node_of, test_of, tests_of}
-use Rattle.sieve_check.specs.declared.tree.Command as commands
-use Rattle.sieve_check.specs.declared.tree.Command.TheViews as command_views
-use Rattle.sieve_check.specs.declared.tree.Test as one_tests
-use Rattle.sieve_check.specs.declared.tree.Tests.TheVariants as test_variants
+use Rattle.sieve_reading.specs.Reading.{TestReading, CommandReading, test_reading, command_reading}
+use Rattle.sieve_reading.specs.Tree.{TestList, test_list, tests, Node, node, nodes}
+use Rattle.sieve_reading.specs.view.Tree.{node_of, test_of, tests_of}
+use Rattle.sieve_reading.specs.declared.tree.Command as commands
+use Rattle.sieve_reading.specs.declared.tree.Command.TheViews as command_views
+use Rattle.sieve_reading.specs.declared.tree.Test as one_tests
+use Rattle.sieve_reading.specs.declared.tree.Tests.TheVariants as test_variants
 use Rattle.sieve_code.specs.Choice.{Tail, Branches, no_branch, past_branches, joint, reading_before, test_before, tests_before, list_before, first_before, command_before, node_before, block_before, nodes_before}
 use Rattle.sieve_code.specs.Operation.{Operation, sets, jumps, jumps_if}
 use Rattle.sieve_code.specs.view.Branches.{block_at, branch_at, branches_as, first_at, last}

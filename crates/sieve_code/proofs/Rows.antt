@@ -4,16 +4,16 @@ use Rattle.match_text.specs.declared.comparators.Collation.TheVariants.{Casemap,
 use Rattle.std.specs.Fmt.{digits}
 use Rattle.sieve_base.specs.Writers.{quoted}
 use Rattle.message_text.specs.declared.addressing.AddressPart.TheVariants as part
-use Rattle.sieve_check.specs.Reading.{Ask, header_values, address_values, envelope_values, string_values, flag_values, compares, over_ask, keep_leaf, fileinto_leaf, redirect_leaf, discard_leaf, set_leaf, flag_leaf, include_leaf}
-use Rattle.sieve_check.specs.Script as script
-use Rattle.sieve_check.specs.Script.{chain_of, condition_of, conditions_in, conditions, block_commands}
+use Rattle.sieve_reading.specs.Reading.{Ask, header_values, address_values, envelope_values, string_values, flag_values, compares, over_ask, keep_leaf, fileinto_leaf, redirect_leaf, discard_leaf, set_leaf, flag_leaf, include_leaf}
+use Rattle.sieve_reading.specs.Script as script
+use Rattle.sieve_reading.specs.Script.{chain_of, condition_of, conditions_in, conditions, block_commands}
 use Rattle.sieve_table.specs.Table.{command_named, test_named}
 use Rattle.sieve_variables.specs.Part.{Part, literal, global_part, local_part, match_part}
 use Rattle.sieve_variables.specs.Variable.{local_variable, global_variable}
 use Rattle.sieve_variables.specs.declared.modifier.LetterCase.TheVariants as letter_case
-use Rattle.sieve_check.specs.Tree.{Argument, strings, number, tag, Test, test, no_tests, one_test, test_list, tests, Node, node, Block, no_block, block, nodes}
-use Rattle.sieve_check.specs.declared.reading.FlagChange.TheVariants.{Set, Add}
-use Rattle.sieve_check.specs.declared.reading.MatchType.TheVariants.{Contains, Is, Matches}
+use Rattle.sieve_reading.specs.Tree.{Argument, strings, number, tag, Test, test, no_tests, one_test, test_list, tests, Node, node, Block, no_block, block, nodes}
+use Rattle.sieve_reading.specs.declared.reading.FlagChange.TheVariants.{Set, Add}
+use Rattle.sieve_reading.specs.declared.reading.MatchType.TheVariants.{Contains, Is, Matches}
 use Rattle.sieve_code.specs.Choice.{code_of, placed, test_before, tests_before, list_before, first_before, node_before, block_before, nodes_before}
 use Rattle.sieve_code.specs.Dump.{address_words, ask_text, changing_words, comparing_words, flag_lists, further_list, include_words, internal_list, line_text, list_text, modifier_words, operation_text, set_words, stored_flags, string_text, two_lists, worded_flags, worded_text, worded_variable}
 use Rattle.sieve_code.specs.Operation.{Operation, sets, inverts, asks, jumps, jumps_if, acts, stops, returns}

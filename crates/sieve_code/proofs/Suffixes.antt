@@ -1,8 +1,8 @@
 -- What is put in front of a tail ends with the tail.
 use Rattle.std.proofs.Common.{ℕ, Bool, true, false, ◌∷◌, length, Option, Some, None}
-use Rattle.sieve_check.specs.Reading as reading
-use Rattle.sieve_check.specs.Reading.{CommandReading, command_reading}
-use Rattle.sieve_check.specs.Tree.{Node, node, Block, no_block, block, Nodes, end_nodes, more_nodes}
+use Rattle.sieve_reading.specs.Reading as reading
+use Rattle.sieve_reading.specs.Reading.{CommandReading, command_reading}
+use Rattle.sieve_reading.specs.Tree.{Node, node, Block, no_block, block, Nodes, end_nodes, more_nodes}
 use Rattle.sieve_code.specs.Choice.{Tail, Branches, no_branch, past_branches, branch_before, command_before, node_before, block_before, nodes_before, first_before}
 use Rattle.sieve_code.specs.Operation.{jumps, jumps_if, acts, stops, returns}
 use Rattle.sieve_code.proofs.Tails.{Ends, ends_self, ends_more, ends_trans}

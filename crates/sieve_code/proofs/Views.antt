@@ -4,16 +4,16 @@ use Rattle.std.specs.declared.alloc.Global.{Global}
 use Rattle.std.specs.declared.boxed.Box.{Box}
 use Rattle.std.specs.declared.vec.Vec.{Vec}
 use Rattle.smallvec.specs.SmallVec.{SmallVec}
-use Rattle.sieve_check.specs.Tree.{Block, Node, Test, Tests, block, no_block, no_tests, node, nodes, one_test, test, test_list, tests}
-use Rattle.sieve_check.specs.view.Tree.{argument_of, command_step, node_of, test_of, test_step, tests_of, tests_step}
-use Rattle.sieve_check.specs.declared.tree.Argument as arguments
-use Rattle.sieve_check.specs.declared.tree.Command as commands
-use Rattle.sieve_check.specs.declared.tree.Command.TheFolds as command_folds
-use Rattle.sieve_check.specs.declared.tree.Command.TheViews as command_views
-use Rattle.sieve_check.specs.declared.tree.Test as one_tests
-use Rattle.sieve_check.specs.declared.tree.Tests.TheFolds as test_folds
-use Rattle.sieve_check.specs.declared.tree.Tests.TheOpen as test_layers
-use Rattle.sieve_check.specs.declared.tree.Tests.TheVariants as test_variants
+use Rattle.sieve_reading.specs.Tree.{Block, Node, Test, Tests, block, no_block, no_tests, node, nodes, one_test, test, test_list, tests}
+use Rattle.sieve_reading.specs.view.Tree.{argument_of, command_step, node_of, test_of, test_step, tests_of, tests_step}
+use Rattle.sieve_reading.specs.declared.tree.Argument as arguments
+use Rattle.sieve_reading.specs.declared.tree.Command as commands
+use Rattle.sieve_reading.specs.declared.tree.Command.TheFolds as command_folds
+use Rattle.sieve_reading.specs.declared.tree.Command.TheViews as command_views
+use Rattle.sieve_reading.specs.declared.tree.Test as one_tests
+use Rattle.sieve_reading.specs.declared.tree.Tests.TheFolds as test_folds
+use Rattle.sieve_reading.specs.declared.tree.Tests.TheOpen as test_layers
+use Rattle.sieve_reading.specs.declared.tree.Tests.TheVariants as test_variants
 
 -- TESTS
 

@@ -1,8 +1,8 @@
 -- No part of a tree's walk is cut off.
 use Rattle.std.proofs.Common.{List}
-use Rattle.sieve_check.specs.Script as script
-use Rattle.sieve_check.specs.Script.{Condition, always, never, negated, both, either, Commands, no_commands, chooses, script_of}
-use Rattle.sieve_check.specs.Tree.{Node}
+use Rattle.sieve_reading.specs.Script as script
+use Rattle.sieve_reading.specs.Script.{Condition, always, never, negated, both, either, Commands, no_commands, chooses, script_of}
+use Rattle.sieve_reading.specs.Tree.{Node}
 use Rattle.sieve_code.specs.Walk.{Walk, IsWhole, at_end, condition_walk, commands_walk, tree_walk}
 
 condition_whole : (c : Condition) (held failed : Walk) → IsWhole held → IsWhole failed → IsWhole (condition_walk c held failed)

@@ -1,9 +1,9 @@
 -- Which operations the code of a checked tree has: those of its tests (RFC 5228, sections 5.2 to 5.10) and commands (sections
 -- 3.1, 3.3 and 4) in the order of the text, with jumps between them.
 use Rattle.std.specs.Prelude.{ℕ, ◌-◌, ◌<◌, ◌≤◌, ◌≡◌, Bool, true, false, not, if◌then◌else◌, List, [], ◌∷◌, length, map, Option, Some, None, slice_get}
-use Rattle.sieve_check.specs.Reading as reading
-use Rattle.sieve_check.specs.Reading.{TestReading, reads_always, reads_never, reads_ask, reads_all, reads_any, reads_not, CommandReading, test_reading, command_reading}
-use Rattle.sieve_check.specs.Tree.{Test, test, Tests, no_tests, one_test, test_list, TestList, end_tests, more_tests, Node, node, Block, no_block, block, Nodes, end_nodes, more_nodes, nodes}
+use Rattle.sieve_reading.specs.Reading as reading
+use Rattle.sieve_reading.specs.Reading.{TestReading, reads_always, reads_never, reads_ask, reads_all, reads_any, reads_not, CommandReading, test_reading, command_reading}
+use Rattle.sieve_reading.specs.Tree.{Test, test, Tests, no_tests, one_test, test_list, TestList, end_tests, more_tests, Node, node, Block, no_block, block, Nodes, end_nodes, more_nodes, nodes}
 use Rattle.sieve_code.specs.Operation.{Operation, sets, inverts, asks, jumps, jumps_if, acts, stops, returns, target_of, targeting}
 
 -- Operations up to the end of the code. Here a jump has for its target how many operations there are from the target to the

@@ -1,6 +1,6 @@
 -- What it is for operations to be the code of a tree.
 use Rattle.std.specs.Prelude.{◌≡◌, List, length}
-use Rattle.sieve_check.specs.Tree.{Node}
+use Rattle.sieve_reading.specs.Tree.{Node}
 use Rattle.sieve_code.specs.Choice.{code_of}
 use Rattle.sieve_code.specs.Operation.{Operation}
 use Rattle.sieve_code.specs.Walk.{code_walk, tree_walk}

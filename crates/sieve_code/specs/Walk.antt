@@ -1,9 +1,9 @@
 -- What a script and its code do, apart from what the message answers: a tree of decisions.
 use Rattle.std.specs.Prelude.{ℕ, zero, suc, ◌+◌, Bool, true, false, not, List, [], ◌∷◌, Option, Some, None, slice_get, if◌then◌else◌}
-use Rattle.sieve_check.specs.Reading.{Ask, Leaf}
-use Rattle.sieve_check.specs.Script as script
-use Rattle.sieve_check.specs.Script.{Condition, always, never, negated, both, either, Commands, no_commands, chooses, script_of}
-use Rattle.sieve_check.specs.Tree.{Node}
+use Rattle.sieve_reading.specs.Reading.{Ask, Leaf}
+use Rattle.sieve_reading.specs.Script as script
+use Rattle.sieve_reading.specs.Script.{Condition, always, never, negated, both, either, Commands, no_commands, chooses, script_of}
+use Rattle.sieve_reading.specs.Tree.{Node}
 use Rattle.sieve_code.specs.Operation.{Operation, sets, inverts, asks, jumps, jumps_if, acts, stops, returns}
 
 -- A walk: it has come to the end, it was ended by `stop` (RFC 5228, section 3.3) or by `return` (RFC 6609, section 3.3), or its

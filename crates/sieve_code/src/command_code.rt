@@ -1,7 +1,7 @@
 //! The operations of commands (RFC 5228, sections 3 and 4).
 ghost use Rattle.std.specs.Prelude.{◌≡◌, ◌≤◌, false, length, map, OnOk, IfOk};
-ghost use Rattle.sieve_check.specs.Tree.{nodes};
-ghost use Rattle.sieve_check.specs.view.Tree.{node_of};
+ghost use Rattle.sieve_reading.specs.Tree.{nodes};
+ghost use Rattle.sieve_reading.specs.view.Tree.{node_of};
 ghost use Rattle.sieve_code.specs.Choice.{node_before, nodes_before, past_branches};
 ghost use Rattle.sieve_code.specs.view.Branches.{block_at, branch_at, branches_as};
 
@@ -9,7 +9,7 @@ use crate::op::Op;
 use crate::strings::leaf_op;
 use crate::tail::Tail;
 use crate::test_code::put_first;
-use sieve_check::{Command, CommandReading};
+use sieve_reading::{Command, CommandReading};
 use std::alloc::{AllocError, Global};
 
 /// What stands at the front of a tail.

@@ -12,7 +12,7 @@ use crate::op::Op;
 use match_text::Collation;
 use message_text::AddressPart;
 use sieve_base::{Piece, Place, Sink, WriteFault, write_out, write_pieces};
-use sieve_check::{FlagChange, MatchType};
+use sieve_reading::{FlagChange, MatchType};
 use sieve_variables::{LetterCase, Modifiers, Part, Parts, Variable};
 
 /// The word of a match type.

@@ -1,6 +1,6 @@
 //! Laws over the definitions. Each of these functions does nothing: its contract is the law.
 ghost use Rattle.std.specs.Prelude.{◌≡◌, List, length};
-ghost use Rattle.sieve_check.specs.Tree.{Node};
+ghost use Rattle.sieve_reading.specs.Tree.{Node};
 ghost use Rattle.sieve_code.specs.Choice.{AllGoForward, code_of};
 ghost use Rattle.sieve_code.specs.Walk.{IsWhole, code_walk, tree_walk};
 

@@ -3,7 +3,7 @@
 use match_text::Collation;
 use message_text::AddressPart;
 use sieve_base::Place;
-use sieve_check::{FlagChange, MatchType};
+use sieve_reading::{FlagChange, MatchType};
 use sieve_variables::{Modifiers, Parts, SmallOctets, Variable};
 
 /// An operation. Code has one truth register, which tests set. A string is its parts in order.

@@ -1,16 +1,16 @@
 //! Copies of the strings of tests, and the operations of tests and commands that stand alone.
 ghost use Rattle.std.specs.Prelude.{◌≡◌, map, IfOk};
 ghost use Rattle.std.specs.Option.{option_map};
-ghost use Rattle.sieve_check.specs.Reading.{compares};
-ghost use Rattle.sieve_check.specs.view.Reading.{ask_as, leaf_as, source_as, texts_as};
-ghost use Rattle.sieve_check.specs.view.Tree.{text_of};
+ghost use Rattle.sieve_reading.specs.Reading.{compares};
+ghost use Rattle.sieve_reading.specs.view.Reading.{ask_as, leaf_as, source_as, texts_as};
+ghost use Rattle.sieve_reading.specs.view.Tree.{text_of};
 ghost use Rattle.sieve_code.specs.Operation.{asks, acts};
 ghost use Rattle.sieve_code.specs.view.Op.{given_strings, op_as, parts_of};
 ghost use Rattle.sieve_variables.specs.view.Part.{part_of, strings_of, variable_of};
 
 use crate::op::Op;
 use match_text::Collation;
-use sieve_check::{Ask, Leaf, MatchType, Source, Text};
+use sieve_reading::{Ask, Leaf, MatchType, Source, Text};
 use sieve_variables::{Part, Parts, SmallOctets, Variable};
 use std::alloc::{AllocError, Global};
 

@@ -1,7 +1,7 @@
 //! The operations of tests (RFC 5228, section 5).
 ghost use Rattle.std.specs.Prelude.{◌≡◌, ◌∷◌, if◌then◌else◌, map, not, OnOk};
-ghost use Rattle.sieve_check.specs.Tree.{test_list, tests};
-ghost use Rattle.sieve_check.specs.view.Tree.{test_of, tests_of};
+ghost use Rattle.sieve_reading.specs.Tree.{test_list, tests};
+ghost use Rattle.sieve_reading.specs.view.Tree.{test_of, tests_of};
 ghost use Rattle.sieve_code.specs.Choice.{first_before, test_before, tests_before};
 ghost use Rattle.sieve_code.specs.Operation.{jumps_if, sets};
 ghost use Rattle.sieve_code.specs.view.Op.{op_as};
@@ -9,7 +9,7 @@ ghost use Rattle.sieve_code.specs.view.Op.{op_as};
 use crate::op::Op;
 use crate::strings::ask_op;
 use crate::tail::Tail;
-use sieve_check::{Test, TestReading, Tests};
+use sieve_reading::{Test, TestReading, Tests};
 use std::alloc::{AllocError, Global};
 
 /// The operation that sets the register.

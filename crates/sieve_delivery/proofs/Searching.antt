@@ -8,10 +8,10 @@ use Rattle.match_text.specs.declared.comparators.Collation.{Collation}
 use Rattle.message_text.specs.Addresses.{AddrSpec, addresses_of, envelope_address_of, part_of}
 use Rattle.message_text.specs.Fields.{Field, fields_of}
 use Rattle.message_text.specs.declared.addressing.AddressPart.{AddressPart}
-use Rattle.sieve_check.specs.Reading.{envelope_values, flag_values, string_values}
+use Rattle.sieve_reading.specs.Reading.{envelope_values, flag_values, string_values}
 use Rattle.sieve_variables.specs.Part.{Part}
 use Rattle.sieve_variables.specs.Value.{text_value}
-use Rattle.sieve_check.specs.declared.reading.MatchType.{MatchType}
+use Rattle.sieve_reading.specs.declared.reading.MatchType.{MatchType}
 use Rattle.sieve_table.specs.Address.{is_address_field}
 use Rattle.sieve_delivery.specs.Delivery.{Delivery}
 use Rattle.match_text.specs.Flags.{flag_keys_of_texts, flag_list}

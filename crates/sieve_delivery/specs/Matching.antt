@@ -12,9 +12,9 @@ use Rattle.match_text.specs.declared.comparators.Collation.TheVariants.{Octet, C
 use Rattle.message_text.specs.Addresses.{AddrSpec, part_of, addresses_of, envelope_address_of}
 use Rattle.message_text.specs.Fields.{Field, fields_of}
 use Rattle.message_text.specs.declared.addressing.AddressPart.{AddressPart}
-use Rattle.sieve_check.specs.Reading.{Source, header_values, address_values, envelope_values, string_values, flag_values, Ask, compares, exists_ask, over_ask, under_ask}
-use Rattle.sieve_check.specs.declared.reading.MatchType.{MatchType}
-use Rattle.sieve_check.specs.declared.reading.MatchType.TheVariants.{Is, Contains, Matches}
+use Rattle.sieve_reading.specs.Reading.{Source, header_values, address_values, envelope_values, string_values, flag_values, Ask, compares, exists_ask, over_ask, under_ask}
+use Rattle.sieve_reading.specs.declared.reading.MatchType.{MatchType}
+use Rattle.sieve_reading.specs.declared.reading.MatchType.TheVariants.{Is, Contains, Matches}
 use Rattle.sieve_table.specs.Address.{is_address_field}
 use Rattle.sieve_delivery.specs.Delivery.{Delivery}
 use Rattle.sieve_delivery.specs.State.{RunState}

@@ -10,7 +10,7 @@ use match_text::{
     AsciiCasemap, Captures, Collation, Comparator, Octet, contains, contains_in, is, matches,
 };
 use sieve_base::Octets;
-use sieve_check::MatchType;
+use sieve_reading::MatchType;
 use std::alloc::{AllocError, Global};
 use std::borrow::CowSlice;
 use std::marker::Model;

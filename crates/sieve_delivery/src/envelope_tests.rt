@@ -2,7 +2,7 @@
 ghost use Rattle.std.specs.Prelude.{◌≡◌, None, IfOk};
 ghost use Rattle.std.specs.Option.{option_map};
 ghost use Rattle.message_text.specs.Addresses.{envelope_address_of, is_null_path, part_of};
-ghost use Rattle.sieve_check.specs.Reading.{compares, envelope_values};
+ghost use Rattle.sieve_reading.specs.Reading.{compares, envelope_values};
 ghost use Rattle.sieve_delivery.specs.Matching.{behind_test, envelope_text, first_match, first_some, fold_of, match_found, pairs_with, truth_of};
 ghost use Rattle.sieve_delivery.specs.view.Delivery.{delivery_as};
 ghost use Rattle.sieve_delivery.specs.view.FieldTests.{found_with, path_found, path_name_found};
@@ -17,7 +17,7 @@ use crate::matching::find_in_part;
 use crate::state::State;
 use match_text::Collation;
 use message_text::{AddressPart, addresses};
-use sieve_check::MatchType;
+use sieve_reading::MatchType;
 use sieve_variables::Parts;
 use std::alloc::{AllocError, Global};
 use std::borrow::CowSlice;

@@ -2,7 +2,7 @@
 ghost use Rattle.std.specs.Prelude.{◌≡◌, IfOk, None, Some};
 ghost use Rattle.std.specs.Option.{option_map};
 ghost use Rattle.match_text.specs.Flags.{flag_list};
-ghost use Rattle.sieve_check.specs.Reading.{compares, flag_values};
+ghost use Rattle.sieve_reading.specs.Reading.{compares, flag_values};
 ghost use Rattle.sieve_delivery.specs.Matching.{behind_test, first_match, first_some, fold_of, match_found, pairs_with, truth_of};
 ghost use Rattle.sieve_delivery.specs.view.Delivery.{delivery_as};
 ghost use Rattle.sieve_delivery.specs.view.FieldTests.{found_with};
@@ -14,7 +14,7 @@ use crate::comparison::{Comparison, MatchValues, keep_found};
 use crate::delivery::Delivery;
 use crate::state::State;
 use match_text::{Collation, FlagList, flag_keys_of_texts, flags_of};
-use sieve_check::MatchType;
+use sieve_reading::MatchType;
 use sieve_variables::Parts;
 use std::alloc::{AllocError, Global};
 use std::borrow::CowSlice;

@@ -3,7 +3,7 @@ ghost use Rattle.std.specs.Prelude.{◌≡◌, ◌<◌, length, map, nat_lt, Som
 ghost use Rattle.std.specs.List.{list_all};
 ghost use Rattle.std.specs.Option.{option_and_then, option_map};
 ghost use Rattle.message_text.specs.Fields.{fields_of};
-ghost use Rattle.sieve_check.specs.Reading.{compares, exists_ask};
+ghost use Rattle.sieve_reading.specs.Reading.{compares, exists_ask};
 ghost use Rattle.sieve_delivery.specs.Matching.{behind_test, first_match, first_some, fold_of, has_field, is_field_named, match_found, pairs_with, truth_of};
 ghost use Rattle.sieve_delivery.specs.view.Delivery.{delivery_as};
 ghost use Rattle.sieve_delivery.specs.view.FieldTests.{field_found, field_source, found_with, is_looked_at, name_found, part_found, value_found};
@@ -16,7 +16,7 @@ use crate::delivery::Delivery;
 use crate::state::State;
 use match_text::{AsciiCasemap, Collation, is};
 use message_text::{Address, AddressPart, Message, addresses};
-use sieve_check::MatchType;
+use sieve_reading::MatchType;
 use sieve_table::is_address_field;
 use sieve_variables::Parts;
 use std::alloc::{AllocError, Global};

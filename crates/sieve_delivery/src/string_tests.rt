@@ -1,6 +1,6 @@
 //! What tests find in strings themselves (RFC 5229, section 5).
 ghost use Rattle.std.specs.Prelude.{◌≡◌, IfOk};
-ghost use Rattle.sieve_check.specs.Reading.{compares, string_values};
+ghost use Rattle.sieve_reading.specs.Reading.{compares, string_values};
 ghost use Rattle.sieve_delivery.specs.Matching.{behind_test, first_match, first_some, fold_of, match_found, pairs_with, truth_of};
 ghost use Rattle.sieve_delivery.specs.view.Delivery.{delivery_as};
 ghost use Rattle.sieve_delivery.specs.view.FieldTests.{found_with};
@@ -12,7 +12,7 @@ use crate::comparison::{Comparison, MatchValues, keep_found};
 use crate::delivery::Delivery;
 use crate::state::State;
 use match_text::Collation;
-use sieve_check::MatchType;
+use sieve_reading::MatchType;
 use sieve_variables::Parts;
 use std::alloc::{AllocError, Global};
 use std::borrow::CowSlice;

@@ -6,10 +6,10 @@ use Rattle.std.specs.Prelude.{if◌then◌else◌}
 use Rattle.std.specs.List.{list_any}
 use Rattle.message_text.specs.Addresses.{addresses_of}
 use Rattle.sieve_base.specs.Limits.{action_limit, include_depth, include_limit}
-use Rattle.sieve_check.specs.Reading.{Leaf, keep_leaf, fileinto_leaf, redirect_leaf, discard_leaf, set_leaf, flag_leaf, include_leaf}
-use Rattle.sieve_check.specs.declared.reading.FlagChange.{FlagChange}
-use Rattle.sieve_check.specs.Script.{script_of}
-use Rattle.sieve_check.specs.Tree.{Node}
+use Rattle.sieve_reading.specs.Reading.{Leaf, keep_leaf, fileinto_leaf, redirect_leaf, discard_leaf, set_leaf, flag_leaf, include_leaf}
+use Rattle.sieve_reading.specs.declared.reading.FlagChange.{FlagChange}
+use Rattle.sieve_reading.specs.Script.{script_of}
+use Rattle.sieve_reading.specs.Tree.{Node}
 use Rattle.sieve_code.specs.Walk.{Walk, at_end, by_stop, by_return, cut_off, asked, acted, tree_walk}
 use Rattle.sieve_delivery.specs.Delivery.{Delivery, inside}
 use Rattle.sieve_run.specs.Library.{Lookup, missing, invalid, present, found_at}

@@ -9,10 +9,10 @@ use Rattle.match_text.specs.Flags.{flag_list}
 use Rattle.sieve_base.specs.Limits.{action_limit, include_depth, include_limit, name_limit}
 use Rattle.sieve_base.specs.declared.place.Place.{Place}
 use Rattle.sieve_base.specs.declared.place.Place.TheVariants.{Personal, Global}
-use Rattle.sieve_check.specs.Reading.{Leaf, keep_leaf, fileinto_leaf, redirect_leaf, discard_leaf, set_leaf, flag_leaf, include_leaf}
-use Rattle.sieve_check.specs.declared.reading.FlagChange.{FlagChange}
-use Rattle.sieve_check.specs.Script.{Condition, Commands, no_commands, stops, returns, acts, chooses, script_of}
-use Rattle.sieve_check.specs.Tree.{Node}
+use Rattle.sieve_reading.specs.Reading.{Leaf, keep_leaf, fileinto_leaf, redirect_leaf, discard_leaf, set_leaf, flag_leaf, include_leaf}
+use Rattle.sieve_reading.specs.declared.reading.FlagChange.{FlagChange}
+use Rattle.sieve_reading.specs.Script.{Condition, Commands, no_commands, stops, returns, acts, chooses, script_of}
+use Rattle.sieve_reading.specs.Tree.{Node}
 use Rattle.sieve_delivery.specs.Delivery.{Delivery, inside}
 use Rattle.sieve_run.specs.Frame.{Agree, Texts, outcome_over}
 use Rattle.sieve_run.specs.Library.{Lookup, missing, invalid, present, found_at, lookup_of}

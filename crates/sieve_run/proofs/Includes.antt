@@ -2,8 +2,8 @@
 use Rattle.std.proofs.Common.{◌≡◌, ℕ, zero, suc, Bool, true, false, ◌&&◌, Option, None, Some, List, [], ◌∷◌, ◌++◌, ◌-◌, nat_lt, length, refl, sym, ap, ◌∙◌, arith}
 use Rattle.std.specs.Prelude.{if◌then◌else◌}
 use Rattle.sieve_base.specs.Limits.{include_limit}
-use Rattle.sieve_check.specs.Script.{script_of}
-use Rattle.sieve_check.specs.Tree.{Node}
+use Rattle.sieve_reading.specs.Script.{script_of}
+use Rattle.sieve_reading.specs.Tree.{Node}
 use Rattle.sieve_code.specs.Operation.{Operation}
 use Rattle.sieve_code.specs.Walk.{code_walk}
 use Rattle.sieve_delivery.specs.Delivery.{Delivery, inside}

@@ -1,8 +1,8 @@
 -- Doing the leaves of a script's walk is what running the script is.
 use Rattle.std.proofs.Common.{◌≡◌, ℕ, Bool, true, false, not, List, ◌∷◌, length, refl, ap, sym, ◌∙◌}
-use Rattle.sieve_check.specs.Reading.{Ask, Leaf}
-use Rattle.sieve_check.specs.Script.{Condition, always, never, asks, negated, both, either, Commands, no_commands, stops, returns, acts, chooses, script_of}
-use Rattle.sieve_check.specs.Tree.{Node}
+use Rattle.sieve_reading.specs.Reading.{Ask, Leaf}
+use Rattle.sieve_reading.specs.Script.{Condition, always, never, asks, negated, both, either, Commands, no_commands, stops, returns, acts, chooses, script_of}
+use Rattle.sieve_reading.specs.Tree.{Node}
 use Rattle.sieve_code.specs.Walk.{Walk, at_end, by_stop, by_return, cut_off, asked, acted, code_walk, condition_walk, gone, commands_walk, tree_walk}
 use Rattle.sieve_code.specs.Operation.{Operation}
 use Rattle.sieve_base.specs.Limits.{include_depth}

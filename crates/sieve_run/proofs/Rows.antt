@@ -3,18 +3,18 @@ use Rattle.std.proofs.Common.{◌≡◌, ℕ, Bool, true, false, List, [], ◌�
 use Rattle.match_text.specs.declared.comparators.Collation.{Collation}
 use Rattle.match_text.specs.declared.comparators.Collation.TheVariants.{Octet, Casemap}
 use Rattle.message_text.specs.Fields.{fields_of, field_groups}
-use Rattle.sieve_check.specs.Reading.{Ask, header_values, address_values, envelope_values, string_values, flag_values, compares, exists_ask, over_ask, under_ask, keep_leaf, fileinto_leaf, redirect_leaf, discard_leaf, set_leaf, flag_leaf, include_leaf}
-use Rattle.sieve_check.specs.Script.{Condition, always, never, asks, negated, both, either, Commands, no_commands, stops, acts, chooses, chain_of, node_before, block_commands, conditions_in}
+use Rattle.sieve_reading.specs.Reading.{Ask, header_values, address_values, envelope_values, string_values, flag_values, compares, exists_ask, over_ask, under_ask, keep_leaf, fileinto_leaf, redirect_leaf, discard_leaf, set_leaf, flag_leaf, include_leaf}
+use Rattle.sieve_reading.specs.Script.{Condition, always, never, asks, negated, both, either, Commands, no_commands, stops, acts, chooses, chain_of, node_before, block_commands, conditions_in}
 use Rattle.sieve_table.specs.Table.{command_named}
 use Rattle.sieve_variables.specs.Part.{Part, literal, local_part, match_part}
 use Rattle.sieve_variables.specs.Modifier.{modified}
 use Rattle.sieve_variables.specs.Value.{Values, begun_values, no_values, resumed_values, variable_value, with_matched, with_variable}
 use Rattle.sieve_variables.specs.Variable.{global_variable, local_variable}
 use Rattle.sieve_variables.specs.declared.modifier.Modifiers.{Modifiers}
-use Rattle.sieve_check.specs.Tree.{Node, node, no_tests, no_block, strings}
-use Rattle.sieve_check.specs.declared.reading.FlagChange.TheVariants.{Set, Add, Remove}
-use Rattle.sieve_check.specs.declared.reading.MatchType.{MatchType}
-use Rattle.sieve_check.specs.declared.reading.MatchType.TheVariants.{Is, Contains, Matches}
+use Rattle.sieve_reading.specs.Tree.{Node, node, no_tests, no_block, strings}
+use Rattle.sieve_reading.specs.declared.reading.FlagChange.TheVariants.{Set, Add, Remove}
+use Rattle.sieve_reading.specs.declared.reading.MatchType.{MatchType}
+use Rattle.sieve_reading.specs.declared.reading.MatchType.TheVariants.{Is, Contains, Matches}
 use Rattle.sieve_base.specs.declared.place.Place.TheVariants.{Personal}
 use Rattle.sieve_base.specs.Limits.{include_depth, include_limit, name_limit}
 use Rattle.message_text.specs.Addresses.{addresses_of, envelope_address_of, marks_from}

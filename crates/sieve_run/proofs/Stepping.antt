@@ -3,7 +3,7 @@ use Rattle.std.proofs.Common.{◌≡◌, ℕ, ◌+◌, ◌<◌, ◌≤◌, ◌-�
 use Rattle.std.proofs.lemmas.Option.{slice_get_past}
 use Rattle.std.proofs.lemmas.Result.{IfOk-at_ok, IfOk-weaker}
 use Rattle.std.specs.Prelude.{nat_lt, slice_get}
-use Rattle.sieve_check.specs.Reading.{Ask, Leaf, exists_ask, over_ask, under_ask}
+use Rattle.sieve_reading.specs.Reading.{Ask, Leaf, exists_ask, over_ask, under_ask}
 use Rattle.sieve_code.specs.Operation.{Operation, asks, acts, stops, returns}
 use Rattle.sieve_code.specs.Walk as walk
 use Rattle.sieve_code.specs.Walk.{Walk, at_limit, code_walk, walk_from}

@@ -1,9 +1,9 @@
 -- Laws of what tests and commands do to the state of a run.
 use Rattle.std.proofs.Common.{◌≡◌, ℕ, Bool, true, false, List, Option, None, Some, refl, ap, ◌∙◌}
-use Rattle.sieve_check.specs.Reading.{Ask, Leaf, compares, exists_ask, over_ask, under_ask}
-use Rattle.sieve_check.specs.declared.reading.MatchType.{MatchType}
-use Rattle.sieve_check.specs.declared.reading.MatchType.TheVariants.{Is, Contains, Matches}
-use Rattle.sieve_check.specs.Script.{Condition, always, never, asks, negated, both, either, Commands, stops, returns}
+use Rattle.sieve_reading.specs.Reading.{Ask, Leaf, compares, exists_ask, over_ask, under_ask}
+use Rattle.sieve_reading.specs.declared.reading.MatchType.{MatchType}
+use Rattle.sieve_reading.specs.declared.reading.MatchType.TheVariants.{Is, Contains, Matches}
+use Rattle.sieve_reading.specs.Script.{Condition, always, never, asks, negated, both, either, Commands, stops, returns}
 use Rattle.sieve_delivery.specs.Delivery.{Delivery}
 use Rattle.sieve_delivery.specs.Matching.{behind_test, match_found, values_behind, with_found}
 use Rattle.sieve_action.specs.Act.{Ending}

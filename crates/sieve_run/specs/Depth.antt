@@ -1,7 +1,7 @@
 -- How deep scripts include one another, counted by those that include the running one (RFC 6609, section 3.1).
 use Rattle.std.specs.Prelude.{ℕ, ◌-◌, ◌≤◌, List, length, Option, None, Some, if◌then◌else◌, nat_lt}
 use Rattle.sieve_base.specs.Limits.{include_depth}
-use Rattle.sieve_check.specs.Tree.{Node}
+use Rattle.sieve_reading.specs.Tree.{Node}
 use Rattle.sieve_delivery.specs.Delivery.{Delivery, inside}
 use Rattle.sieve_run.specs.Library.{Lookup}
 use Rattle.sieve_action.specs.Act.{Ending}

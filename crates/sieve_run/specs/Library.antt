@@ -2,7 +2,7 @@
 use Rattle.std.specs.Prelude.{ℕ, List, length, Option, None, Some, if◌then◌else◌, nat_lt}
 use Rattle.sieve_base.specs.Limits.{text_limit, name_limit}
 use Rattle.sieve_check.specs.Judgement.{Judgement, judgement_of, sound, faulty}
-use Rattle.sieve_check.specs.Tree.{Node}
+use Rattle.sieve_reading.specs.Tree.{Node}
 use Rattle.sieve_code.specs.Compiles.{Compiles}
 use Rattle.sieve_code.specs.Operation.{Operation}
 use Rattle.sieve_delivery.specs.declared.name.ScriptName.{ScriptName}

@@ -1,6 +1,6 @@
 -- What doing the leaves of a walk in turn gives, up to the first that ends the run.
 use Rattle.std.specs.Prelude.{ℕ, Bool, true, false, List, [], ◌∷◌}
-use Rattle.sieve_check.specs.Reading.{Ask, Leaf}
+use Rattle.sieve_reading.specs.Reading.{Ask, Leaf}
 use Rattle.sieve_code.specs.Walk.{Walk, at_end, by_stop, by_return, cut_off, asked, acted, Met, met_ask, met_leaf, End, ended, unanswered, unfinished, Gone, gone}
 use Rattle.sieve_code.specs.Walk as walk
 use Rattle.sieve_action.specs.Act.{Ending, goes_on, returned, stopped, failed}

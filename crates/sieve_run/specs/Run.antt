@@ -2,9 +2,9 @@
 use Rattle.std.specs.Prelude.{◌≡◌, ℕ, List, [], ◌∷◌, ◌++◌, zero, suc, length, Bool, true, false, not, ◌&&◌, ◌||◌, Option, None, Some, if◌then◌else◌, nat_lt}
 use Rattle.std.specs.List.{list_any}
 use Rattle.sieve_base.specs.Limits.{include_depth, include_limit}
-use Rattle.sieve_check.specs.Reading.{Ask, Leaf}
-use Rattle.sieve_check.specs.Script.{Condition, always, never, asks, negated, both, either, Commands, no_commands, stops, returns, acts, chooses, script_of}
-use Rattle.sieve_check.specs.Tree.{Node}
+use Rattle.sieve_reading.specs.Reading.{Ask, Leaf}
+use Rattle.sieve_reading.specs.Script.{Condition, always, never, asks, negated, both, either, Commands, no_commands, stops, returns, acts, chooses, script_of}
+use Rattle.sieve_reading.specs.Tree.{Node}
 use Rattle.sieve_delivery.specs.declared.name.ScriptName.{ScriptName}
 use Rattle.sieve_delivery.specs.declared.envelope.Envelope.{Envelope}
 use Rattle.sieve_action.specs.Act.{Ending, goes_on, returned, stopped, failed, fails_at, act_by}

@@ -1,9 +1,9 @@
 //! Laws over the definitions. Each of these functions does nothing: its contract is the law.
 
 ghost use Rattle.std.specs.Prelude.{◌≡◌, ◌≤◌, ℕ, suc, Bool, List, Option, length};
-ghost use Rattle.sieve_check.specs.Reading.{Ask, Leaf};
-ghost use Rattle.sieve_check.specs.Script.{Commands, Condition, returns, script_of, stops};
-ghost use Rattle.sieve_check.specs.Tree.{Node};
+ghost use Rattle.sieve_reading.specs.Reading.{Ask, Leaf};
+ghost use Rattle.sieve_reading.specs.Script.{Commands, Condition, returns, script_of, stops};
+ghost use Rattle.sieve_reading.specs.Tree.{Node};
 ghost use Rattle.sieve_code.specs.Walk.{gone, tree_walk};
 ghost use Rattle.sieve_base.specs.Limits.{action_limit, include_limit};
 ghost use Rattle.sieve_delivery.specs.Delivery.{Delivery};

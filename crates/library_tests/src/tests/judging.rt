@@ -1,9 +1,10 @@
 //! Checked trees, and a breach. The faults of texts stand in `examples/rows`. What is expected was written by hand from RFC 5228.
 
 use super::{holds, same};
-use sieve_check::{
-    Ask, CheckFault, Checked, Command, CommandKind, CommandReading, Leaf, MatchType, Part, Rule,
-    Source, Test, TestReading, Tests, Text, check,
+use sieve_check::{CheckFault, Checked, Rule, check};
+use sieve_reading::{
+    Ask, Command, CommandKind, CommandReading, Leaf, MatchType, Part, Source, Test, TestReading,
+    Tests, Text,
 };
 use sieve_syntax::{Script, parse};
 use std::alloc::Global;

@@ -4,7 +4,7 @@ use Rattle.sieve_syntax.specs.view.Tree as seen
 use Rattle.sieve_syntax.specs.declared.tree.Command as syntax_commands
 use Rattle.sieve_check.specs.Parted.{Cutting, command_labels, declaring_command, parted_labelled, parted_tests}
 use Rattle.sieve_check.specs.view.Context.{required_as}
-use Rattle.sieve_check.specs.view.Tree.{argument_of, tests_of}
+use Rattle.sieve_reading.specs.view.Tree.{argument_of, tests_of}
 use Rattle.sieve_check.specs.declared.context.Required as requireds
 use Rattle.sieve_check.specs.declared.copying.Front as fronts
 use Rattle.sieve_table.specs.Table.{command_named}

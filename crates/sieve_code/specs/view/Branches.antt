@@ -1,6 +1,6 @@
 -- What the compiler knows of the branches at the front of a tail.
 use Rattle.std.specs.Prelude.{ℕ, ◌-◌, length, drop}
-use Rattle.sieve_check.specs.Tree.{Node, node}
+use Rattle.sieve_reading.specs.Tree.{Node, node}
 use Rattle.sieve_code.specs.Choice.{Tail, Branches, block_before, branch_before, first_before}
 use Rattle.sieve_code.specs.declared.command_code.Front.{Front}
 

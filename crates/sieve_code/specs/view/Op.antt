@@ -4,7 +4,7 @@ use Rattle.std.specs.Option.{option_map}
 use Rattle.std.specs.declared.alloc.Global.{Global}
 use Rattle.std.specs.declared.vec.Vec.{Vec}
 use Rattle.smallvec.specs.SmallVec.{SmallVec}
-use Rattle.sieve_check.specs.Reading.{header_values, address_values, envelope_values, string_values, flag_values, compares, exists_ask, over_ask, under_ask, keep_leaf, fileinto_leaf, redirect_leaf, discard_leaf, set_leaf, flag_leaf, include_leaf}
+use Rattle.sieve_reading.specs.Reading.{header_values, address_values, envelope_values, string_values, flag_values, compares, exists_ask, over_ask, under_ask, keep_leaf, fileinto_leaf, redirect_leaf, discard_leaf, set_leaf, flag_leaf, include_leaf}
 use Rattle.sieve_variables.specs.Part as part
 use Rattle.sieve_variables.specs.view.Part.{part_of, strings_of, variable_of}
 use Rattle.sieve_variables.specs.declared.part.Part.{Part}

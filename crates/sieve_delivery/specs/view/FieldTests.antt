@@ -4,7 +4,7 @@ use Rattle.std.specs.Option.{option_and_then}
 use Rattle.message_text.specs.Addresses.{AddrSpec, addresses_of, envelope_address_of, part_of}
 use Rattle.message_text.specs.Fields.{Field}
 use Rattle.message_text.specs.declared.addressing.AddressPart.{AddressPart}
-use Rattle.sieve_check.specs.Reading.{Source, address_values, header_values}
+use Rattle.sieve_reading.specs.Reading.{Source, address_values, header_values}
 use Rattle.sieve_variables.specs.Part.{Part}
 use Rattle.sieve_variables.specs.view.Value.{octets_of_each}
 use Rattle.sieve_table.specs.Address.{is_address_field}

@@ -1,6 +1,6 @@
 -- What the interpreter does where a script is included.
 use Rattle.std.specs.Prelude.{ℕ, Bool, true, false, List, length}
-use Rattle.sieve_check.specs.Script.{script_of}
+use Rattle.sieve_reading.specs.Script.{script_of}
 use Rattle.sieve_code.specs.Operation.{Operation}
 use Rattle.sieve_code.specs.Walk.{code_walk}
 use Rattle.sieve_delivery.specs.Delivery.{Delivery, inside}

@@ -1,6 +1,6 @@
 -- What is left to do after an operation.
 use Rattle.std.specs.Prelude.{◌≡◌, ◌+◌, ℕ, Bool, Some, Result, Ok}
-use Rattle.sieve_check.specs.Reading.{Leaf}
+use Rattle.sieve_reading.specs.Reading.{Leaf}
 use Rattle.sieve_code.specs.Operation.{Operation}
 use Rattle.sieve_code.specs.Walk as walk
 use Rattle.sieve_code.specs.Walk.{Walk}

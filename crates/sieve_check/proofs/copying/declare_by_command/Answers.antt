@@ -2,7 +2,7 @@ use Rattle.std.proofs.Common.{◌≡◌, map, OnOk, ap, sym, ◌∙◌, subst}
 use Rattle.sieve_syntax.specs.view.Tree as seen
 use Rattle.sieve_check.specs.Parted.{command_labels}
 use Rattle.sieve_check.specs.Scope.{declaring_arguments}
-use Rattle.sieve_check.specs.Shape.{row_labels}
+use Rattle.sieve_reading.specs.Shape.{row_labels}
 use Rattle.sieve_check.proofs.Declares.{unlabelled}
 use Rattle.sieve_check.proofs.copying.declare_by_command.Goals as goal
 

@@ -1,12 +1,12 @@
 use Rattle.std.proofs.Common.{◌≡◌, ◌++◌, drop, map}
 use Rattle.sieve_syntax.specs.view.Tree as seen
-use Rattle.sieve_check.specs.Label.{labels_from}
+use Rattle.sieve_reading.specs.Label.{labels_from}
 use Rattle.sieve_check.specs.Parted.{parted_labelled}
-use Rattle.sieve_check.specs.Shape.{row_labels, shapes_of}
+use Rattle.sieve_reading.specs.Shape.{row_labels, shapes_of}
 use Rattle.sieve_check.specs.view.Context.{cutting_as}
-use Rattle.sieve_check.specs.view.Expected.{expected_as}
+use Rattle.sieve_reading.specs.view.Expected.{expected_as}
 use Rattle.sieve_table.specs.view.Row.{row_as}
-use Rattle.sieve_check.specs.view.Tree.{argument_of}
+use Rattle.sieve_reading.specs.view.Tree.{argument_of}
 use Rattle.sieve_check.proofs.copying.parted_by_row.Given as goal
 
 -- the copies so far, and then those of the arguments that are left

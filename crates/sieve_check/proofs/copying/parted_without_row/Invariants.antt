@@ -2,7 +2,7 @@ use Rattle.std.proofs.Common.{◌≡◌, [], ◌++◌, drop, map}
 use Rattle.sieve_syntax.specs.view.Tree as seen
 use Rattle.sieve_check.specs.Parted.{parted_labelled}
 use Rattle.sieve_check.specs.view.Context.{cutting_as}
-use Rattle.sieve_check.specs.view.Tree.{argument_of}
+use Rattle.sieve_reading.specs.view.Tree.{argument_of}
 use Rattle.sieve_check.proofs.copying.parted_without_row.Given as goal
 
 -- the copies so far, and then those of the arguments that are left

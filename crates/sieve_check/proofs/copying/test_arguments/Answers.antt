@@ -1,9 +1,9 @@
 use Rattle.std.proofs.Common.{◌≡◌, map, IfOk, ap, ◌∙◌, subst}
 use Rattle.sieve_syntax.specs.view.Tree as seen
 use Rattle.sieve_check.specs.Parted.{parted_labelled, test_labels}
-use Rattle.sieve_check.specs.Shape.{row_labels}
+use Rattle.sieve_reading.specs.Shape.{row_labels}
 use Rattle.sieve_check.specs.view.Context.{cutting_as}
-use Rattle.sieve_check.specs.view.Tree.{argument_of}
+use Rattle.sieve_reading.specs.view.Tree.{argument_of}
 use Rattle.sieve_check.proofs.copying.test_arguments.Goals as goal
 
 pub returns-in-Some : goal.returns-in-Some

@@ -1,7 +1,7 @@
 use Rattle.std.proofs.Common.{◌≡◌, ◌+◌, ◌-◌, ◌<◌, true, false, Some, None, ◌∷◌, drop, length, ap, sym, ◌∙◌, arith}
-use Rattle.sieve_check.specs.Reading as reading
-use Rattle.sieve_check.specs.view.Reading.{command_reading_as, leaf_as}
-use Rattle.sieve_check.specs.view.Tree.{node_of}
+use Rattle.sieve_reading.specs.Reading as reading
+use Rattle.sieve_reading.specs.view.Reading.{command_reading_as, leaf_as}
+use Rattle.sieve_reading.specs.view.Tree.{node_of}
 use Rattle.sieve_code.specs.Choice.{no_branch}
 use Rattle.sieve_code.specs.Operation.{acts, jumps_if, stops, returns}
 use Rattle.sieve_code.specs.view.Branches.{block_at, branch_at, branches_as, first_at, last}

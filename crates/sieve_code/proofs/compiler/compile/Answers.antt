@@ -1,7 +1,7 @@
 use Rattle.std.proofs.Common.{length, map, sym, ap, ◌∙◌, subst}
-use Rattle.sieve_check.specs.Tree.{nodes}
+use Rattle.sieve_reading.specs.Tree.{nodes}
 use Rattle.sieve_check.specs.view.Checked.{tree_of}
-use Rattle.sieve_check.specs.view.Tree.{node_of}
+use Rattle.sieve_reading.specs.view.Tree.{node_of}
 use Rattle.sieve_code.specs.Choice.{AllGoForward, nodes_before, tail_of}
 use Rattle.sieve_code.specs.Walk.{code_walk, gone}
 use Rattle.sieve_code.proofs.Law.{code_forward, code_walks}

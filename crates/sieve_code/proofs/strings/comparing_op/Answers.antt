@@ -1,7 +1,7 @@
 -- Each operation asks what the test asks: the strings of what is copied are the same.
 use Rattle.std.proofs.Common.{ap, sym, ◌∙◌}
-use Rattle.sieve_check.specs.Reading.{address_values, compares, envelope_values, flag_values, header_values, string_values}
-use Rattle.sieve_check.specs.view.Reading.{source_as}
+use Rattle.sieve_reading.specs.Reading.{address_values, compares, envelope_values, flag_values, header_values, string_values}
+use Rattle.sieve_reading.specs.view.Reading.{source_as}
 use Rattle.sieve_variables.specs.view.Part.{strings_of}
 use Rattle.sieve_code.specs.Operation.{asks}
 use Rattle.sieve_code.proofs.strings.comparing_op.Goals as goal

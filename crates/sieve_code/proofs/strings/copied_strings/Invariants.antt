@@ -1,5 +1,5 @@
 use Rattle.std.proofs.Common.{◌≡◌, take}
-use Rattle.sieve_check.specs.view.Reading.{texts_as}
+use Rattle.sieve_reading.specs.view.Reading.{texts_as}
 use Rattle.sieve_variables.specs.view.Part.{strings_of}
 use Rattle.sieve_code.proofs.strings.copied_strings.Given as goal
 

@@ -1,7 +1,7 @@
 -- What each operation does is what its command does: the parts of what is copied are the same.
 use Rattle.std.proofs.Common.{ap, ap₂, sym, ◌∙◌}
-use Rattle.sieve_check.specs.Reading.{fileinto_leaf, flag_leaf, include_leaf, keep_leaf, redirect_leaf, set_leaf}
-use Rattle.sieve_check.specs.view.Reading.{leaf_as}
+use Rattle.sieve_reading.specs.Reading.{fileinto_leaf, flag_leaf, include_leaf, keep_leaf, redirect_leaf, set_leaf}
+use Rattle.sieve_reading.specs.view.Reading.{leaf_as}
 use Rattle.sieve_code.specs.Operation.{acts}
 use Rattle.sieve_code.proofs.strings.leaf_op.Goals as goal
 

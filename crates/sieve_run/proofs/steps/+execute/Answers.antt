@@ -8,7 +8,7 @@ use Rattle.sieve_code.specs.Operation.{acts, asks}
 use Rattle.sieve_variables.specs.view.Part.{part_of, strings_of, variable_of}
 use Rattle.std.specs.Option.{option_map}
 use Rattle.sieve_base.specs.Limits.{include_limit}
-use Rattle.sieve_check.specs.Reading.{address_values, compares, discard_leaf, envelope_values, exists_ask, fileinto_leaf, flag_leaf, flag_values, header_values, include_leaf, keep_leaf, redirect_leaf, set_leaf, string_values}
+use Rattle.sieve_reading.specs.Reading.{address_values, compares, discard_leaf, envelope_values, exists_ask, fileinto_leaf, flag_leaf, flag_values, header_values, include_leaf, keep_leaf, redirect_leaf, set_leaf, string_values}
 use Rattle.sieve_run.specs.Library.{Lookup, found_at, lookup_of}
 use Rattle.sieve_run.specs.Run.{act_of, included, is_script}
 use Rattle.sieve_action.specs.declared.flow.Flow.{Flow}

@@ -1,0 +1,2 @@
+mod Fusing
+mod Readings

@@ -1,0 +1,11 @@
+use Rattle.std.proofs.Common.{◌≡◌, drop, map}
+use Rattle.sieve_reading.specs.Label.{labels_from}
+use Rattle.sieve_reading.specs.Reading.{has_tag, labels_in, part_shape}
+use Rattle.sieve_reading.specs.view.Expected.{expected_as}
+use Rattle.sieve_table.specs.view.Row.{row_as}
+use Rattle.sieve_reading.specs.view.Tree.{argument_of}
+use Rattle.sieve_reading.proofs.labelled.has_tag.Given as goal
+
+-- the arguments that are left decide
+abbrev pub invariant-loop-argument : goal.invariant-loop-argument
+invariant-loop-argument l = has_tag l.wanted (labels_from (expected_as l.expected) (map (part_shape l.row.tags.now) (map argument_of (drop l.argument-index l.args)))) ≡ has_tag l.wanted (labels_in (row_as l.row) (map argument_of l.args))

@@ -1,0 +1,7 @@
+pub mod Label
+pub mod Reading
+pub mod Role
+pub mod Script
+pub mod Shape
+pub mod Tree
+pub mod view

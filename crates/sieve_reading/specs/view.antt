@@ -1,0 +1,3 @@
+pub mod Expected
+pub mod Reading
+pub mod Tree

@@ -1,0 +1,61 @@
+-- The program's readings of commands and tests.
+use Rattle.std.specs.Prelude.{List, map}
+use Rattle.std.specs.Option.{option_map}
+use Rattle.sieve_reading.specs.Reading as reading
+use Rattle.sieve_reading.specs.view.Tree.{text_of}
+use Rattle.sieve_variables.specs.Part.{Part}
+use Rattle.sieve_variables.specs.view.Part.{part_of, variable_of}
+use Rattle.sieve_reading.specs.declared.reading.Ask.{Ask}
+use Rattle.sieve_reading.specs.declared.reading.Ask.TheVariants.{Compares, Exists, Over, Under}
+use Rattle.sieve_reading.specs.declared.reading.CommandReading.{CommandReading}
+use Rattle.sieve_reading.specs.declared.reading.CommandReading.TheVariants.{Opens, Continues, Otherwise, Stops, Returns, Nothing, Acts}
+use Rattle.sieve_reading.specs.declared.reading.Leaf.{Leaf}
+use Rattle.sieve_reading.specs.declared.reading.Leaf.TheVariants.{Keep, Fileinto, Redirect, Discard, Set, Flags, Include}
+use Rattle.sieve_reading.specs.declared.reading.Source.{Source}
+use Rattle.sieve_reading.specs.declared.reading.Source.TheVariants as source
+use Rattle.sieve_reading.specs.declared.reading.TestReading.{TestReading}
+use Rattle.sieve_reading.specs.declared.reading.TestReading.TheVariants.{Always, Never, Asks, AllOf, AnyOf, Not}
+use Rattle.sieve_reading.specs.declared.tree.Text.{Text}
+
+-- strings, each as its parts
+abbrev pub texts_as : List Text → List (List Part)
+texts_as texts = map (λ t. t.parts) (map text_of texts)
+
+abbrev pub source_as : Source → reading.Source
+source_as (source.Header names) = reading.header_values (texts_as names.now)
+source_as (source.Address part names) = reading.address_values part (texts_as names.now)
+source_as (source.Envelope part names) = reading.envelope_values part (texts_as names.now)
+source_as (source.String texts) = reading.string_values (texts_as texts.now)
+source_as (source.Flags variables) = reading.flag_values (option_map (λ texts. texts_as texts.now) variables)
+
+abbrev pub ask_as : Ask → reading.Ask
+ask_as (Compares source match_type collation keys) = reading.compares (source_as source) match_type collation (texts_as keys.now)
+ask_as (Exists names) = reading.exists_ask (texts_as names.now)
+ask_as (Over limit) = reading.over_ask limit
+ask_as (Under limit) = reading.under_ask limit
+
+abbrev pub test_reading_as : TestReading → reading.TestReading
+test_reading_as Always = reading.reads_always
+test_reading_as Never = reading.reads_never
+test_reading_as (Asks ask) = reading.reads_ask (ask_as ask)
+test_reading_as AllOf = reading.reads_all
+test_reading_as AnyOf = reading.reads_any
+test_reading_as Not = reading.reads_not
+
+abbrev pub leaf_as : Leaf → reading.Leaf
+leaf_as (Keep flags) = reading.keep_leaf (option_map (λ texts. texts_as texts.now) flags)
+leaf_as (Fileinto mailbox flags) = reading.fileinto_leaf (map part_of mailbox.now) (option_map (λ texts. texts_as texts.now) flags)
+leaf_as (Redirect address) = reading.redirect_leaf (map part_of address.now)
+leaf_as Discard = reading.discard_leaf
+leaf_as (Set variable modifiers value) = reading.set_leaf (variable_of variable.now) modifiers (map part_of value.now)
+leaf_as (Flags change variable flags) = reading.flag_leaf change (option_map (λ one. variable_of one.now) variable) (texts_as flags.now)
+leaf_as (Include place once optional name) = reading.include_leaf place once optional name.now
+
+abbrev pub command_reading_as : CommandReading → reading.CommandReading
+command_reading_as Opens = reading.opens
+command_reading_as Continues = reading.continues
+command_reading_as Otherwise = reading.otherwise
+command_reading_as Stops = reading.stops
+command_reading_as Returns = reading.returns
+command_reading_as Nothing = reading.nothing
+command_reading_as (Acts leaf) = reading.acts (leaf_as leaf)

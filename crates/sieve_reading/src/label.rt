@@ -1,0 +1,250 @@
+//! What each argument is to its command or test (RFC 5228, section 2.6).
+ghost use Rattle.std.specs.Prelude.{◌≡◌, None, Some, IfOk, drop, map, slice_get};
+ghost use Rattle.sieve_reading.specs.Label.{expected_behind, expecting, fills, fits, label_at, labels_from, labels_of, slot_label, slots_of, value_label, value_slots, is_filled, is_unfit};
+ghost use Rattle.sieve_reading.specs.view.Expected.{expected_as, in_front, own_slot};
+ghost use Rattle.sieve_table.specs.view.Row.{row_as};
+
+use sieve_table::{Form, Row, Slot, Tag, tag_named};
+use std::alloc::{AllocError, Global};
+
+/// What an argument looks like, where some tags are taken (RFC 5228, section 2.6).
+#[derive(Clone, Copy)]
+pub enum Shape {
+    /// A tag: which of those that are taken, or another.
+    Tag(Option<Tag>),
+    /// One string without brackets.
+    Text,
+    /// A list of strings.
+    Texts,
+    /// A number.
+    Number,
+}
+
+/// What an argument is (RFC 5228, sections 2.6.1 and 2.6.2).
+#[derive(Clone, Copy)]
+pub enum Label {
+    /// A tag that is taken.
+    Tagged(Tag),
+    /// Another tag.
+    OtherTag,
+    /// What the tag before it takes.
+    Own(Slot),
+    /// The positional argument of this slot.
+    InSlot(Slot),
+    /// Nothing that fits.
+    Unfit,
+}
+
+/// What is expected at an argument.
+#[derive(Clone, Copy)]
+pub struct Expected<'a> {
+    /// What the tag before it takes itself.
+    awaited: Option<Slot>,
+    /// A positional argument before those of `slots`.
+    front: Option<Slot>,
+    /// The positional arguments still to come.
+    slots: &'a [Slot],
+}
+
+/// Whether an argument of that shape can stand where that form is taken.
+fn fits(form: Form, shape: Shape) -> bool
+    ensures { result ≡ fits form shape }
+{
+    match (form, shape) {
+        (Form::One, Shape::Text) => true,
+        (Form::List, Shape::Text | Shape::Texts) => true,
+        (Form::Number, Shape::Number) => true,
+        _ => false,
+    }
+}
+
+impl<'a> Expected<'a> {
+    /// These positional arguments are expected.
+    fn new(front: Option<Slot>, slots: &'a [Slot]) -> Expected<'a>
+        ensures { expected_as result ≡ expecting (in_front front slots.now) }
+    {
+        Expected {
+            awaited: None,
+            front,
+            slots,
+        }
+    }
+
+    /// The next positional argument.
+    fn next_slot(self) -> Option<Slot>
+        ensures { result ≡ slice_get (expected_as self.entry).slots 0 }
+    {
+        match self.front {
+            Some(front) => Some(front),
+            None => self.slots.first().copied(),
+        }
+    }
+
+    /// What a positional argument of that shape is.
+    fn slot_label(self, shape: Shape) -> Label
+        ensures { result ≡ slot_label (expected_as self.entry).slots shape }
+    {
+        match self.next_slot() {
+            Some(slot) => {
+                if fits(slot.form, shape) {
+                    Label::InSlot(slot)
+                } else {
+                    Label::Unfit
+                }
+            }
+            None => Label::Unfit,
+        }
+    }
+
+    /// Whether the tag before an argument of that shape takes it.
+    fn own_slot(self, shape: Shape) -> Option<Slot>
+        ensures { result ≡ own_slot (expected_as self.entry).awaited shape }
+    {
+        match self.awaited {
+            Some(own) => {
+                if fits(own.form, shape) {
+                    Some(own)
+                } else {
+                    None
+                }
+            }
+            None => None,
+        }
+    }
+
+    /// What an argument of that shape is (RFC 5228, section 2.6): a tag, what the tag before it takes, or else a positional one.
+    pub fn label(self, shape: Shape) -> Label
+        ensures { result ≡ label_at (expected_as self.entry) shape }
+    {
+        match shape {
+            Shape::Tag(None) => Label::OtherTag,
+            Shape::Tag(Some(tag)) => Label::Tagged(tag),
+            Shape::Text | Shape::Texts | Shape::Number => match self.own_slot(shape) {
+                Some(own) => Label::Own(own),
+                None => self.slot_label(shape),
+            },
+        }
+    }
+
+    /// What is expected behind the next positional argument.
+    fn past_slot(self) -> Expected<'a>
+        ensures { expected_as result ≡ record { awaited = None; slots = drop 1 (expected_as self.entry).slots } }
+    {
+        match (self.front, self.slots) {
+            (Some(_), slots) => Expected::new(None, slots),
+            (None, [_, rest @ ..]) => Expected::new(None, rest),
+            (None, []) => Expected::new(None, &[]),
+        }
+    }
+
+    /// What is expected behind an argument of that shape (RFC 5228, section 2.6).
+    pub fn behind(self, shape: Shape) -> Expected<'a>
+        ensures { expected_as result ≡ expected_behind (expected_as self.entry) shape }
+    {
+        match shape {
+            Shape::Tag(None) => Expected {
+                awaited: None,
+                ..self
+            },
+            Shape::Tag(Some(tag)) => Expected {
+                awaited: tag.row().takes,
+                ..self
+            },
+            Shape::Text | Shape::Texts | Shape::Number => match self.own_slot(shape) {
+                Some(_) => Expected {
+                    awaited: None,
+                    ..self
+                },
+                None => self.past_slot(),
+            },
+        }
+    }
+}
+
+/// An argument of a tree: that of a text, or that of a checked script.
+pub trait Shaped {
+    ghost use Rattle.std.specs.Prelude.{◌≡◌, List};
+    ghost use Rattle.sieve_reading.specs.declared.label.Shape.{Shape};
+    ghost use Rattle.sieve_table.specs.declared.table.Tag.{Tag};
+
+    // its shape, where some tags are taken
+    ghost shape_in: { List Tag → Self → Shape };
+
+    /// What it looks like, where these tags are taken.
+    fn shape(&self, tags: &[Tag]) -> Shape
+        ensures { result ≡ shape_in tags.now self.now };
+}
+
+/// What arguments are where these tags are taken.
+fn labels_from<A: Shaped>(
+    alloc: Global,
+    start: Expected<'_>,
+    tags: &[Tag],
+    args: &[A],
+) -> Result<Vec<Label>, AllocError>
+    ensures { IfOk result (λ labels. labels.items ≡ labels_from (expected_as start.entry) (map (A.shape_in tags.now) args.now)) }
+{
+    let mut labels = Vec::new(alloc);
+    let mut expected = start;
+    for argument in args {
+        let shape = argument.shape(tags);
+        labels.push(expected.label(shape))?;
+        expected = expected.behind(shape);
+    }
+    Ok(labels)
+}
+
+/// Whether the positional arguments are exactly those that are expected.
+fn fills<A: Shaped>(start: Expected<'_>, tags: &[Tag], args: &[A]) -> bool
+    ensures { result ≡ fills (expected_as start.entry) (map (A.shape_in tags.now) args.now) }
+{
+    let mut expected = start;
+    for argument in args {
+        let shape = argument.shape(tags);
+        if is_unfit(expected.label(shape)) {
+            return false;
+        }
+        expected = expected.behind(shape);
+    }
+    expected.next_slot().is_none()
+}
+
+/// Whether an argument is nothing that fits.
+fn is_unfit(label: Label) -> bool
+    ensures { result ≡ is_unfit label }
+{
+    match label {
+        Label::Unfit => true,
+        Label::Tagged(_) | Label::OtherTag | Label::Own(_) | Label::InSlot(_) => false,
+    }
+}
+
+/// What is expected of a row's arguments: the positional argument in front too, where they are then exactly those.
+pub(crate) fn expected_of<'a, A: Shaped>(row: &Row, args: &[A]) -> Expected<'a>
+    ensures { expected_as result ≡ expecting (slots_of (row_as row.now) (map (A.shape_in row.now.tags.now) args.now)) }
+{
+    let longer = Expected::new(row.front, row.slots);
+    if row.front.is_some() && fills(longer, row.tags, args) {
+        longer
+    } else {
+        Expected::new(None, row.slots)
+    }
+}
+
+/// What a row's arguments are.
+pub(crate) fn labels_of<A: Shaped>(
+    alloc: Global,
+    row: &Row,
+    args: &[A],
+) -> Result<Vec<Label>, AllocError>
+    ensures { IfOk result (λ labels. labels.items ≡ labels_of (row_as row.now) (map (A.shape_in row.now.tags.now) args.now)) }
+{
+    labels_from(alloc, expected_of(row, args), row.tags, args)
+}
+
+/// Whether a row's positional arguments are there and no others.
+pub(crate) fn is_filled<A: Shaped>(row: &Row, args: &[A]) -> bool
+    ensures { result ≡ is_filled (row_as row.now) (map (A.shape_in row.now.tags.now) args.now) }
+{
+    fills(expected_of(row, args), row.tags, args)
+}
