@@ -1,5 +1,5 @@
 -- What single steps of the compiler put in front of a tail.
-use Rattle.std.proofs.Common.{◌≡◌, ℕ, suc, ◌+◌, ◌-◌, ◌<◌, ◌≤◌, Bool, true, false, not, nat_lt, List, [], ◌∷◌, ◌++◌, length, length-append, length-drop, map, get_or, drop, if◌then◌else◌, Option, Some, None, Result, OnOk, refl, sym, ap, ◌∙◌, subst, arith}
+use Rattle.std.proofs.Common.{◌≡◌, ℕ, suc, ◌+◌, ◌-◌, ◌<◌, ◌≤◌, Bool, true, false, not, nat_lt, List, [], ◌∷◌, ◌++◌, length, length-append, length-drop, map, get_or, drop, if◌then◌else◌, Option, Some, None, Result, IfOk, OnOk, refl, sym, ap, ◌∙◌, subst, arith}
 use Rattle.std.proofs.lemmas.List.{at_drop_all, at_drop_more}
 use borrow.Author.Tests.{ltb-true, ltb-false}
 use Rattle.std.specs.declared.alloc.Global.{Global}
@@ -24,6 +24,10 @@ use Rattle.sieve_code.proofs.Views.{block_of, seen_command, seen_list, seen_none
 -- what is put may be said otherwise
 pub on_ok_along : {T E X : Type 0} (r : Result T E) (a b c : X) → b ≡ c → OnOk r (a ≡ b) → OnOk r (a ≡ c)
 on_ok_along r a b c same h = subst (λ x. OnOk r (a ≡ x)) same h
+
+-- so may the branches behind a front
+pub fronts_along : {E : Type 0} (r : Result Front E) (tail : Tail) (b c : Branches) → b ≡ c → IfOk r (λ front. branches_as front tail ≡ b) → IfOk r (λ front. branches_as front tail ≡ c)
+fronts_along r tail b c same h = subst (λ (x : Branches). IfOk r (λ (front : Front). branches_as front tail ≡ x)) same h
 
 -- DROPPING
 

@@ -1,9 +1,10 @@
 //! The operations of commands (RFC 5228, sections 3 and 4).
-ghost use Rattle.std.specs.Prelude.{◌≡◌, ◌≤◌, false, length, map, OnOk, IfOk};
+ghost use Rattle.std.specs.Prelude.{◌≡◌, ◌≤◌, ◌∷◌, false, length, map, OnOk, IfOk};
 ghost use Rattle.sieve_reading.specs.Tree.{nodes};
 ghost use Rattle.sieve_reading.specs.view.Tree.{node_of};
-ghost use Rattle.sieve_code.specs.Choice.{node_before, nodes_before, past_branches};
-ghost use Rattle.sieve_code.specs.view.Branches.{block_at, branch_at, branches_as};
+ghost use Rattle.sieve_code.specs.Choice.{no_branch, node_before, nodes_before, past_branches};
+ghost use Rattle.sieve_code.specs.view.Branches.{block_at, branch_at, branches_as, last};
+ghost use Rattle.sieve_code.specs.view.Op.{op_as};
 
 use crate::op::Op;
 use crate::strings::leaf_op;
@@ -30,6 +31,25 @@ fn without_branch(tail: &Tail) -> Front
         has_branch: false,
         behind: tail.len(),
     }
+}
+
+/// Drops the branches at the front of a tail, which no `if` opens.
+fn drop_branches(front: Front, tail: &mut Tail) -> Front
+    ensures within { result.behind ≤ length tail.new }
+    ensures value { branches_as result tail.new ≡ no_branch (last front.behind tail.old) }
+{
+    tail.keep_last(front.behind);
+    without_branch(tail)
+}
+
+/// Puts an operation in front of a tail, in the place of the branches there, which no `if` opens.
+fn put_alone(op: Op, front: Front, tail: &mut Tail) -> Result<Front, AllocError>
+    ensures within { IfOk result (λ new. new.behind ≤ length tail.new) }
+    ensures value { IfOk result (λ new. branches_as new tail.new ≡ no_branch (op_as op ∷ last front.behind tail.old)) }
+{
+    tail.keep_last(front.behind);
+    tail.put(op)?;
+    Ok(without_branch(tail))
 }
 
 /// Puts a jump past the branches in front of a tail where a branch stands there.
@@ -96,28 +116,13 @@ fn put_command(
             })
         }
         Some(CommandReading::Acts(leaf)) => {
-            tail.keep_last(front.behind);
-            tail.put(leaf_op(alloc, leaf, command.line)?)?;
-            Ok(without_branch(tail))
+            let op = leaf_op(alloc, leaf, command.line)?;
+            put_alone(op, front, tail)
         }
-        Some(CommandReading::Stops) => {
-            tail.keep_last(front.behind);
-            tail.put(Op::Stop)?;
-            Ok(without_branch(tail))
-        }
-        Some(CommandReading::Returns) => {
-            tail.keep_last(front.behind);
-            tail.put(Op::Return)?;
-            Ok(without_branch(tail))
-        }
-        Some(CommandReading::Nothing) => {
-            tail.keep_last(front.behind);
-            Ok(without_branch(tail))
-        }
-        None => {
-            tail.keep_last(front.behind);
-            Ok(without_branch(tail))
-        }
+        Some(CommandReading::Stops) => put_alone(Op::Stop, front, tail),
+        Some(CommandReading::Returns) => put_alone(Op::Return, front, tail),
+        Some(CommandReading::Nothing) => Ok(drop_branches(front, tail)),
+        None => Ok(drop_branches(front, tail)),
     }
 }
 

@@ -107,14 +107,13 @@ resumes before Stopped s = refl
 resumes before (Failed error) s = refl
 
 -- running an included script, and going on behind it
-pub enters_by : (find : ScriptName → Lookup) (depth : ℕ) (delivery inner : Delivery) (name : ScriptName) (ops : List Operation) (old begun ended after : RunState) (flow back : Flow) → inner ≡ inside name delivery → begun ≡ entering name old
-    → doing (act_of find depth inner) inner (code_walk ops (length ops)) begun ≡ ending_by flow ended → back ≡ resumed_by flow → after ≡ resuming old.values ended → ending_by back after ≡ enters find depth delivery name ops old
-enters_by find depth delivery inner name ops old begun ended after flow back is_inner is_begun runs is_back is_after =
+pub enters_by : (find : ScriptName → Lookup) (depth : ℕ) (delivery : Delivery) (name : ScriptName) (ops : List Operation) (old begun ended after : RunState) (flow back : Flow) → begun ≡ entering name old
+    → doing (act_of find depth (inside name delivery)) (inside name delivery) (code_walk ops (length ops)) begun ≡ ending_by flow ended → back ≡ resumed_by flow → after ≡ resuming old.values ended → ending_by back after ≡ enters find depth delivery name ops old
+enters_by find depth delivery name ops old begun ended after flow back is_begun runs is_back is_after =
     ap (λ f. ending_by f after) is_back
     ∙ ap (ending_by (resumed_by flow)) is_after
     ∙ resumes old.values flow ended
     ∙ ap (resumed old.values) (sym runs)
-    ∙ ap (λ d. resumed old.values (doing (act_of find depth d) d (code_walk ops (length ops)) begun)) is_inner
     ∙ ap (λ t. resumed old.values (doing (act_of find depth (inside name delivery)) (inside name delivery) (code_walk ops (length ops)) t)) is_begun
 
 -- the state in which it begins

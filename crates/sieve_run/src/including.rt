@@ -1,16 +1,19 @@
 //! What an include looks at and looks up (RFC 6609, section 3).
-ghost use Rattle.std.specs.Prelude.{◌≡◌, ◌++◌, [], ◌∷◌, map, IfOk};
+ghost use Rattle.std.specs.Prelude.{◌≡◌, ◌++◌, [], ◌∷◌, map, IfOk, OnOk};
 ghost use Rattle.sieve_run.specs.Library.{found_at, lookup_of};
-ghost use Rattle.sieve_run.specs.Run.{is_running, is_script};
+ghost use Rattle.sieve_run.specs.Run.{entering, is_running, is_script};
 ghost use Rattle.sieve_delivery.specs.view.Delivery.{delivery_as};
+ghost use Rattle.sieve_delivery.specs.view.State.{state_of};
+ghost use Rattle.sieve_variables.specs.Value.{own_of};
 ghost use Rattle.sieve_run.specs.view.Found.{FoundAs};
 ghost use Rattle.sieve_run.specs.view.Include.{resumed_by, there_as};
 
 use crate::library::{Found, Library};
 use sieve_action::Flow;
 use sieve_base::limits::MAX_NAME;
-use sieve_delivery::{Delivery, ScriptName};
-use std::alloc::AllocError;
+use sieve_delivery::{Delivery, ScriptName, State};
+use sieve_variables::Own;
+use std::alloc::{AllocError, Global};
 
 /// What a library has at a name, where that isn't too long.
 pub(crate) fn find<'a, L: Library>(lib: &'a L, name: &ScriptName) -> Found<'a>
@@ -59,6 +62,19 @@ pub(crate) fn including_next<'a>(delivery: &Delivery<'a>) -> Result<Vec<&'a Scri
     }
     names.push(delivery.script)?;
     Ok(names)
+}
+
+/// Enters a script that another one includes: it is noted, and has no variables of its own. Answers what the other one has.
+pub(crate) fn begin_included(
+    alloc: Global,
+    name: &ScriptName,
+    state: &mut State,
+) -> Result<Own, AllocError>
+    ensures state { OnOk result (state_of state.new ≡ entering name.now (state_of state.old)) }
+    ensures own { IfOk result (λ own. own ≡ own_of (state_of state.old).values) }
+{
+    state.entered.push(name.copy(alloc)?)?;
+    Ok(state.values.begin(alloc))
 }
 
 /// Whether there is a text at a name.

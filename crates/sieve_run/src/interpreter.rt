@@ -120,6 +120,30 @@ fn begun(alloc: Global, main: &ScriptName) -> Result<State, AllocError>
     })
 }
 
+/// Runs the main script's code in a state.
+fn execute_main<L: Library>(
+    alloc: Global,
+    lib: &L,
+    main: &ScriptName,
+    code: &Code,
+    envelope: &Envelope,
+    message: &Message,
+    state: &mut State,
+) -> Result<Flow, AllocError>
+    ensures { IfOk result (λ flow.
+        doing (act_of (λ name. lookup_of (L.texts lib.now name)) include_depth (delivery_to envelope.now message.now main.now)) (delivery_to envelope.now message.now main.now) (code_walk (ops_of code.now) (length (ops_of code.now))) (state_of state.old)
+        ≡ ending_by flow (state_of state.new)) }
+{
+    let delivery = Delivery {
+        alloc,
+        message,
+        envelope,
+        script: main,
+        including: &[],
+    };
+    execute(lib, MAX_INCLUDE_DEPTH, &delivery, code, state)
+}
+
 /// Runs the main script's code from the start.
 fn run_main<L: Library>(
     alloc: Global,
@@ -132,14 +156,7 @@ fn run_main<L: Library>(
     ensures { IfOk result (λ outcome. outcome ≡ verdict_of (doing (act_of (λ name. lookup_of (L.texts lib.now name)) include_depth (delivery_to envelope.now message.now main.now)) (delivery_to envelope.now message.now main.now) (code_walk (ops_of code.now) (length (ops_of code.now))) (begun main.now))) }
 {
     let mut state = begun(alloc, main)?;
-    let delivery = Delivery {
-        alloc,
-        message,
-        envelope,
-        script: main,
-        including: &[],
-    };
-    let flow = execute(lib, MAX_INCLUDE_DEPTH, &delivery, code, &mut state)?;
+    let flow = execute_main(alloc, lib, main, code, envelope, message, &mut state)?;
     Ok(ended(alloc, flow, state))
 }
 

@@ -5,6 +5,7 @@ ghost use Rattle.sieve_code.specs.view.Code.{ops_of};
 ghost use Rattle.sieve_code.specs.view.Op.{op_as};
 ghost use Rattle.sieve_run.specs.Library.{lookup_of};
 ghost use Rattle.sieve_run.specs.Run.{act_of, included};
+ghost use Rattle.sieve_delivery.specs.Delivery.{inside};
 ghost use Rattle.sieve_delivery.specs.view.Delivery.{delivery_as};
 ghost use Rattle.sieve_action.specs.view.Flow.{ending_by};
 ghost use Rattle.sieve_run.specs.view.Step.{step_after, Follows, StepsTo, doing};
@@ -12,7 +13,9 @@ ghost use Rattle.sieve_run.specs.view.Include.{enters, looks_up};
 ghost use Rattle.sieve_delivery.specs.view.State.{state_of};
 ghost use Rattle.sieve_run.specs.declared.steps.Step.TheVariants.{Next};
 
-use crate::including::{find, including_next, is_running, is_script, is_there, resumed};
+use crate::including::{
+    begin_included, find, including_next, is_running, is_script, is_there, resumed,
+};
 use crate::library::{Found, Library};
 use crate::reads::note_read;
 use sieve_action::{ErrorKind, Flow, change, discard, fail, file_into, keep, redirect, set};
@@ -218,6 +221,31 @@ fn carry_out<L: Library>(
     }
 }
 
+/// Runs code in a script that the running one includes.
+#[cycle(execute)]
+fn execute_inside<L: Library>(
+    lib: &L,
+    depth: usize,
+    delivery: &Delivery<'_>,
+    name: &ScriptName,
+    code: &Code,
+    state: &mut State,
+) -> Result<Flow, AllocError>
+    ensures { IfOk result (λ flow.
+        doing (act_of (λ name. lookup_of (L.texts lib.now name)) depth (inside name.now (delivery_as delivery.now))) (inside name.now (delivery_as delivery.now)) (code_walk (ops_of code.now) (length (ops_of code.now))) (state_of state.old)
+        ≡ ending_by flow (state_of state.new)) }
+{
+    let including = including_next(delivery)?;
+    let inner = Delivery {
+        alloc: delivery.alloc,
+        message: delivery.message,
+        envelope: delivery.envelope,
+        script: name,
+        including: including.as_slice(),
+    };
+    execute(lib, depth, &inner, code, state)
+}
+
 /// Runs the code of a script that is included.
 #[cycle(execute)]
 fn enter<L: Library>(
@@ -230,17 +258,8 @@ fn enter<L: Library>(
 ) -> Result<Flow, AllocError>
     ensures { IfOk result (λ flow. ending_by flow (state_of state.new) ≡ enters (λ name. lookup_of (L.texts lib.now name)) depth (delivery_as delivery.now) name.now (ops_of code.now) (state_of state.old)) }
 {
-    state.entered.push(name.copy(delivery.alloc)?)?;
-    let own = state.values.begin(delivery.alloc);
-    let including = including_next(delivery)?;
-    let inner = Delivery {
-        alloc: delivery.alloc,
-        message: delivery.message,
-        envelope: delivery.envelope,
-        script: name,
-        including: including.as_slice(),
-    };
-    let flow = execute(lib, depth, &inner, code, &mut *state)?;
+    let own = begin_included(delivery.alloc, name, state)?;
+    let flow = execute_inside(lib, depth, delivery, name, code, state)?;
     state.values.resume(own);
     Ok(resumed(flow))
 }

@@ -3,10 +3,10 @@ use Rattle.sieve_reading.specs.Reading as reading
 use Rattle.sieve_reading.specs.view.Reading.{command_reading_as, leaf_as}
 use Rattle.sieve_reading.specs.view.Tree.{node_of}
 use Rattle.sieve_code.specs.Choice.{no_branch}
-use Rattle.sieve_code.specs.Operation.{acts, jumps_if, stops, returns}
+use Rattle.sieve_code.specs.Operation.{acts, jumps_if}
 use Rattle.sieve_code.specs.view.Branches.{block_at, branch_at, branches_as, first_at, last}
 use Rattle.sieve_code.proofs.Tails.{ends_below}
-use Rattle.sieve_code.proofs.Putting.{alone, block_at_ends, block_none, block_some, branch_at_ends, branches_on, command_listed, command_put, commands_none, first_seen, last_branch, length_last, line_at, line_seen, made, on_ok_along, with_front}
+use Rattle.sieve_code.proofs.Putting.{alone, block_at_ends, block_none, block_some, branch_at_ends, branches_on, command_listed, command_put, commands_none, first_seen, fronts_along, last_branch, length_last, line_at, line_seen, made, on_ok_along, with_front}
 use Rattle.sieve_code.proofs.command_code.+command_code.Goals as goal
 
 pub put_block-returns-in-Some : goal.put_block-returns-in-Some
@@ -67,47 +67,44 @@ put_command-returns-in_ok-put_block-in-Some-Otherwise-clause-value t c =
     ∙ command_put n (Some reading.otherwise) (branches_as c.args.front c.args.tail.now)
     (ap (λ r. Some (command_reading_as r)) (sym c.in-Some-Otherwise.field-0-is) ∙ c.in-Some-Otherwise.ensures)
 
-pub put_command-returns-in_ok-put-in-Some-Acts-clause-value :
-    goal.put_command-returns-in_ok-put-in-Some-Acts-clause-value
-put_command-returns-in_ok-put-in-Some-Acts-clause-value t c =
+pub put_command-returns-in_ok-op-in-Some-Acts-clause-value :
+    goal.put_command-returns-in_ok-op-in-Some-Acts-clause-value
+put_command-returns-in_ok-op-in-Some-Acts-clause-value t c =
+    let b = branches_as c.args.front c.args.tail.now in
     let leaf = leaf_as c.in-Some-Acts.leaf in
-    alone c.without_branch-in-Some-Acts.result c.put.new.self c.without_branch-in-Some-Acts.ensures.branches c.without_branch-in-Some-Acts.ensures.behind
-    ∙ ap no_branch
-    (c.in_ok-put-in-Some-Acts.ensures
-    ∙ ap (λ op. op ∷ c.keep_last-in-Some-Acts.new.self) c.in_ok-leaf_op-in-Some-Acts.ensures
-    ∙ ap (λ line. acts leaf line ∷ c.keep_last-in-Some-Acts.new.self) (sym (line_seen c.args.command.now))
-    ∙ ap (λ tail. acts leaf (line_at (node_of c.args.command.now)) ∷ tail) c.keep_last-in-Some-Acts.ensures)
-    ∙ command_put (node_of c.args.command.now) (Some (reading.acts leaf)) (branches_as c.args.front c.args.tail.now)
-    (ap (λ r. Some (command_reading_as r)) (sym c.in-Some-Acts.field-0-is) ∙ c.in-Some-Acts.ensures)
+    fronts_along _ _ _ _
+    (ap (λ op. no_branch (op ∷ b.behind_branches)) c.in_ok-op-in-Some-Acts.ensures
+    ∙ ap (λ line. no_branch (acts leaf line ∷ b.behind_branches)) (sym (line_seen c.args.command.now))
+    ∙ command_put (node_of c.args.command.now) (Some (reading.acts leaf)) b
+    (ap (λ r. Some (command_reading_as r)) (sym c.in-Some-Acts.field-0-is) ∙ c.in-Some-Acts.ensures))
+    c.put_alone.ensures.value
 
-pub put_command-returns-in_ok-put-in-Some-Stops-clause-value :
-    goal.put_command-returns-in_ok-put-in-Some-Stops-clause-value
-put_command-returns-in_ok-put-in-Some-Stops-clause-value t c =
-    alone c.without_branch-in-Some-Stops.result c.put-in-Some-Stops.new.self c.without_branch-in-Some-Stops.ensures.branches c.without_branch-in-Some-Stops.ensures.behind
-    ∙ ap no_branch (c.in_ok-put-in-Some-Stops.ensures ∙ ap (λ tail. stops ∷ tail) c.keep_last-in-Some-Stops.ensures)
-    ∙ command_put (node_of c.args.command.now) (Some reading.stops) (branches_as c.args.front c.args.tail.now)
-    (ap (λ r. Some (command_reading_as r)) (sym c.in-Some-Stops.field-0-is) ∙ c.in-Some-Stops.ensures)
+pub put_command-returns-in-Some-Stops-clause-value :
+    goal.put_command-returns-in-Some-Stops-clause-value
+put_command-returns-in-Some-Stops-clause-value t c =
+    fronts_along _ _ _ _
+    (command_put (node_of c.args.command.now) (Some reading.stops) (branches_as c.args.front c.args.tail.now)
+    (ap (λ r. Some (command_reading_as r)) (sym c.in-Some-Stops.field-0-is) ∙ c.in-Some-Stops.ensures))
+    c.put_alone-in-Some-Stops.ensures.value
 
-pub put_command-returns-in_ok-put-in-Some-Returns-clause-value :
-    goal.put_command-returns-in_ok-put-in-Some-Returns-clause-value
-put_command-returns-in_ok-put-in-Some-Returns-clause-value t c =
-    alone c.without_branch-in-Some-Returns.result c.put-in-Some-Returns.new.self c.without_branch-in-Some-Returns.ensures.branches c.without_branch-in-Some-Returns.ensures.behind
-    ∙ ap no_branch (c.in_ok-put-in-Some-Returns.ensures ∙ ap (λ tail. returns ∷ tail) c.keep_last-in-Some-Returns.ensures)
-    ∙ command_put (node_of c.args.command.now) (Some reading.returns) (branches_as c.args.front c.args.tail.now)
-    (ap (λ r. Some (command_reading_as r)) (sym c.in-Some-Returns.field-0-is) ∙ c.in-Some-Returns.ensures)
+pub put_command-returns-in-Some-Returns-clause-value :
+    goal.put_command-returns-in-Some-Returns-clause-value
+put_command-returns-in-Some-Returns-clause-value t c =
+    fronts_along _ _ _ _
+    (command_put (node_of c.args.command.now) (Some reading.returns) (branches_as c.args.front c.args.tail.now)
+    (ap (λ r. Some (command_reading_as r)) (sym c.in-Some-Returns.field-0-is) ∙ c.in-Some-Returns.ensures))
+    c.put_alone-in-Some-Returns.ensures.value
 
 pub put_command-returns-in-Some-Nothing-clause-value :
     goal.put_command-returns-in-Some-Nothing-clause-value
 put_command-returns-in-Some-Nothing-clause-value t c =
-    alone c.without_branch-in-Some-Nothing.result c.keep_last-in-Some-Nothing.new.self c.without_branch-in-Some-Nothing.ensures.branches c.without_branch-in-Some-Nothing.ensures.behind
-    ∙ ap no_branch c.keep_last-in-Some-Nothing.ensures
+    c.drop_branches.ensures.value
     ∙ command_put (node_of c.args.command.now) (Some reading.nothing) (branches_as c.args.front c.args.tail.now)
     (ap (λ r. Some (command_reading_as r)) (sym c.in-Some-Nothing.field-0-is) ∙ c.in-Some-Nothing.ensures)
 
 pub put_command-returns-in-None-clause-value : goal.put_command-returns-in-None-clause-value
 put_command-returns-in-None-clause-value t c =
-    alone c.without_branch-in-None.result c.keep_last-in-None.new.self c.without_branch-in-None.ensures.branches c.without_branch-in-None.ensures.behind
-    ∙ ap no_branch c.keep_last-in-None.ensures
+    c.drop_branches-in-None.ensures.value
     ∙ command_put (node_of c.args.command.now) None (branches_as c.args.front c.args.tail.now) c.in-None.ensures
 
 pub put_commands-loop-i-init : goal.put_commands-loop-i-init

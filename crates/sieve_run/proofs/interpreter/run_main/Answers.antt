@@ -16,7 +16,7 @@ ended-requires g c =
     let find : ScriptName → Lookup = λ name. lookup_of (g.L.Library.texts c.args.lib.now name) in
     let d = delivery_to c.args.envelope.now c.args.message.now c.args.main.now in
     let ops = ops_of c.args.code.now in
-    run_bounded find include_depth d (code_walk ops (length ops)) c.in_ok-flow.flow (state_of c.in_ok-state.state) (state_of c.execute.new.state) (ap (λ (s : RunState). s.actions) c.in_ok-state.ensures) c.in_ok-flow.ensures
+    run_bounded find include_depth d (code_walk ops (length ops)) c.in_ok-flow.flow (state_of c.in_ok-state.state) (state_of c.execute_main.new.state) (ap (λ (s : RunState). s.actions) c.in_ok-state.ensures) c.in_ok-flow.ensures
 
 pub returns : goal.returns
 returns g c =

@@ -1,7 +1,7 @@
-use Rattle.std.proofs.Common.{◌≡◌, ◌&&◌, ◌∙◌, ◌<◌, ◌≤◌, ◌+◌, ◌-◌, true, false, List, length, map, nat_lt, sym, ap, ap₂, subst, arith, Bor}
+use Rattle.std.proofs.Common.{◌≡◌, ◌&&◌, ◌∙◌, ◌<◌, ◌≤◌, ◌+◌, ◌-◌, true, false, IfOk, List, length, map, nat_lt, sym, ap, ap₂, subst, arith, Bor}
 use Rattle.std.proofs.lemmas.Bool.Decides.{nat_tests}
 use Rattle.std.proofs.lemmas.Result.{IfOk-weaker}
-use Rattle.sieve_code.specs.Walk.{walk_from}
+use Rattle.sieve_code.specs.Walk.{code_walk, walk_from}
 use Rattle.sieve_code.specs.view.Code.{ops_of}
 use Rattle.sieve_code.specs.view.Op.{given_strings, op_as}
 use Rattle.sieve_code.specs.Operation.{acts, asks}
@@ -15,14 +15,15 @@ use Rattle.sieve_action.specs.declared.flow.Flow.{Flow}
 use Rattle.sieve_action.specs.declared.flow.Flow.TheVariants.{Failed}
 use Rattle.sieve_delivery.specs.declared.name.ScriptName.{ScriptName}
 use Rattle.sieve_action.specs.declared.error.ErrorKind.TheVariants.{IncludeCount, IncludeDepth, RecursiveInclude}
+use Rattle.sieve_delivery.specs.Delivery.{Delivery}
 use Rattle.sieve_delivery.specs.view.Delivery.{delivery_as}
 use Rattle.sieve_action.specs.view.Flow.{ending_by}
 use Rattle.sieve_run.specs.view.Found.{FoundAs}
 use Rattle.sieve_run.specs.view.Include.{looks_up, there_as}
 use Rattle.sieve_delivery.specs.view.State.{state_of}
-use Rattle.sieve_run.specs.view.Step.{doing_after}
+use Rattle.sieve_run.specs.view.Step.{doing, doing_after}
 use Rattle.sieve_variables.specs.Value.{with_own}
-use Rattle.sieve_run.proofs.Includes.{entering_by, enters_by, fails_deep, fails_many, fails_running, looks_included, looks_present, not_entered, not_once, skips_included}
+use Rattle.sieve_run.proofs.Includes.{enters_by, fails_deep, fails_many, fails_running, looks_included, looks_present, not_entered, not_once, skips_included}
 use Rattle.sieve_run.proofs.Stepping.{acts_follow, asks_follow, exists_follow, past_end, runs_out, turns}
 use Rattle.sieve_run.proofs.steps.+execute.Goals as goal
 use Rattle.sieve_run.proofs.steps.+execute.Goals.{include-else-once-via-then-once+else-is_script, include-else-once-via-else-once}
@@ -144,18 +145,26 @@ carry_out-returns-in_ok-octets-in-Include g t c =
     (ap op_as i.is ∙ ap (λ name. acts (include_leaf i.place i.once i.optional name) i.line) (sym (c.in_ok-octets-in-Include.ensures ∙ c.deref-in-Include.ensures)))
     c.include-flow.ensures c.acted-in-Include.ensures
 
+pub execute_inside-returns : goal.execute_inside-returns
+execute_inside-returns g t c =
+    let find : ScriptName → Lookup = λ name. lookup_of (g.L.Library.texts c.args.lib.now name) in
+    let d = delivery_as c.args.delivery.now in
+    let ops = ops_of c.args.code.now in
+    subst (λ (inner : Delivery). IfOk c.execute.result (λ (flow : Flow). doing (act_of find c.args.depth inner) inner (code_walk ops (length ops)) (state_of c.args.state.now) ≡ ending_by flow (state_of c.execute.new.state)))
+    (ap (λ (names : List ScriptName). record d { script = c.args.name.now; including = names }) (ap (map (λ (name : Bor ScriptName). name.now)) c.as_slice.ensures.value ∙ c.in_ok-including.ensures))
+    c.execute.ensures
+
 pub enter-returns : goal.enter-returns
 enter-returns g t c =
     let find : ScriptName → Lookup = λ name. lookup_of (g.L.Library.texts c.args.lib.now name) in
     let d = delivery_as c.args.delivery.now in
     let s = state_of c.args.state.now in
-    let ended = state_of c.execute.new.state in
-    enters_by find c.args.depth d _ c.args.name.now (ops_of c.args.code.now) s _ ended _ c.in_ok-flow.flow c.resumed.result
-    (ap (λ (names : List ScriptName). record d { script = c.args.name.now; including = names }) (ap (map (λ (name : Bor ScriptName). name.now)) c.as_slice.ensures.value ∙ c.in_ok-including.ensures))
-    (entering_by s c.args.name.now c.in_ok-copy.field-0 _ _ c.in_ok-push.ensures.items c.in_ok-copy.ensures c.begin-own.ensures.begun)
+    let ended = state_of c.execute_inside.new.state in
+    enters_by find c.args.depth d c.args.name.now (ops_of c.args.code.now) s _ ended _ c.in_ok-flow.flow c.resumed.result
+    c.in_ok-own.ensures.state
     c.in_ok-flow.ensures
     c.resumed.ensures
-    (ap (λ values. record ended { values = values }) (c.resume.ensures ∙ ap (λ own. with_own own ended.values) c.begin-own.ensures.own))
+    (ap (λ values. record ended { values = values }) (c.resume.ensures ∙ ap (λ own. with_own own ended.values) c.in_ok-own.ensures.own))
 
 pub execute-returns-then-place-len : goal.execute-returns-then-place-len
 execute-returns-then-place-len g t c =
