@@ -9,7 +9,6 @@ mod failing_reads;
 mod failing_writes;
 mod faults;
 mod limits;
-mod memory;
 mod meters;
 mod test_jobs;
 mod texts;

@@ -41,16 +41,21 @@ fn end_with(rt: &(impl AllocGlobal + Eprint), path: &str, end: TestEnd) -> u8 {
     status_of(End::Test(end))
 }
 
-/// Writes the dump of a text, and writes out what is left of it.
+/// Writes the dump of a text.
 fn dump_over<W: Write + Drop>(alloc: Global, path: &str, text: &[u8], output: W) -> TestEnd {
-    let Ok(name) = named(alloc, path) else {
-        return TestEnd::NoMemory;
-    };
+    match named(alloc, path) {
+        Ok(name) => dump_on(alloc, &name, text, output),
+        Err(_) => TestEnd::NoMemory,
+    }
+}
+
+/// Writes the dump of a text under a name, and writes out what is left of it.
+fn dump_on<W: Write + Drop>(alloc: Global, name: &ScriptName, text: &[u8], output: W) -> TestEnd {
     let Ok(held) = Output::held(alloc, output) else {
         return TestEnd::NoMemory;
     };
     let mut writer = Counted::new(held);
-    let end = dump_text(alloc, &name, text, &mut writer);
+    let end = dump_text(alloc, name, text, &mut writer);
     match writer.into_inner().flush() {
         Ok(()) => end,
         Err(_) => TestEnd::Write,

@@ -1,9 +1,9 @@
 //! The scripts of a folder.
 
 use crate::files::{ReadFault, SCRIPT_END, octets_at};
-use crate::test_files::TestFiles;
+use crate::test_files::TestInput;
 use sieve_base::limits::MAX_TEXT;
-use sievebench::{Place, ScriptName};
+use sievebench::Place;
 use std::alloc::{AllocError, Global};
 use std::fs::Metadata;
 use std::io::{BufReader, ErrorKind, Read};
@@ -19,21 +19,41 @@ pub(crate) fn read_folder<R: Files + AllocGlobal>(
     rt: &R,
     place: Place,
     folder: &str,
-    files: &mut TestFiles,
+    input: &mut TestInput,
 ) -> Result<(), ReadFault> {
-    let listing = match listing_of(rt, folder) {
-        Ok(listing) => listing,
-        Err(e) => return Err(ReadFault::at(rt.alloc(), folder.as_bytes(), &e)),
-    };
-    let names = file_names(rt.alloc(), listing.as_slice())?;
+    match listing_of(rt, folder) {
+        Ok(listing) => read_listed(rt, (place, folder), listing.as_slice(), input),
+        Err(e) => Err(ReadFault::at(rt.alloc(), folder.as_bytes(), &e)),
+    }
+}
+
+/// Adds the scripts that are listed.
+fn read_listed<R: Files + AllocGlobal>(
+    rt: &R,
+    (place, folder): (Place, &str),
+    listing: &[u8],
+    input: &mut TestInput,
+) -> Result<(), ReadFault> {
+    let names = file_names(rt.alloc(), listing)?;
     for file in names.iter() {
         let path = path_in(rt.alloc(), folder, file)?;
-        if is_plain(rt, path.as_slice())? {
-            let name = file.strip_suffix(SCRIPT_END.as_bytes()).unwrap_or(file);
-            let name = ScriptName::new(place, Vec::from_slice(rt.alloc(), name)?);
-            let text = octets_at(rt, path.as_slice(), MAX_TEXT)?;
-            files.add(name, text, path)?;
-        }
+        read_script(rt, place, file, path.as_slice(), input)?;
+    }
+    Ok(())
+}
+
+/// Adds the script in a file at a path, if it is a plain one.
+fn read_script<R: Files + AllocGlobal>(
+    rt: &R,
+    place: Place,
+    file: &[u8],
+    path: &[u8],
+    input: &mut TestInput,
+) -> Result<(), ReadFault> {
+    if is_plain(rt, path)? {
+        let text = octets_at(rt, path, MAX_TEXT)?;
+        let name = file.strip_suffix(SCRIPT_END.as_bytes()).unwrap_or(file);
+        input.add(rt.alloc(), (place, name), path, text)?;
     }
     Ok(())
 }

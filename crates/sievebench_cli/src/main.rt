@@ -21,7 +21,7 @@ use std::io::{ErrorKind, Read, Write};
 use std::process::ExitCode;
 use std::rt::{Env, Files};
 use std::{env, io};
-use streams::{Output, Replies, Requests};
+use streams::{Held, Output, Replies, Requests};
 use test_files::TestWords;
 use test_run::run_test;
 
@@ -121,22 +121,39 @@ fn run_session(rt: &(impl AllocGlobal + Input + Print)) -> SessionEnd {
     run_over(rt.alloc(), rt.reader(), io::writer(rt))
 }
 
-// Runs a session over a reader and a writer, and writes out what is left of its replies. An output that has failed, be it before
-// a read, fails here too.
+// Runs a session over a reader and a writer.
 fn run_over<R: Read + Drop, W: Write + Drop>(alloc: Global, input: R, output: W) -> SessionEnd {
-    let Ok(mut bench) = Bench::new(alloc) else {
-        return SessionEnd::NoMemory;
-    };
-    let Ok(held) = Output::held(alloc, output) else {
-        return SessionEnd::NoMemory;
-    };
-    let held = RefCell::new(held);
-    let mut reader = Counted::new(Requests::new(input, &held));
-    let mut writer = Counted::new(Replies::new(&held));
-    let mut meter = Meter::new();
+    match Bench::new(alloc) {
+        Ok(mut bench) => run_on(alloc, &mut bench, input, output),
+        Err(_) => SessionEnd::NoMemory,
+    }
+}
+
+// Runs a session on a bench, whose replies are held.
+fn run_on<R: Read + Drop, W: Write + Drop>(
+    alloc: Global,
+    bench: &mut Bench,
+    input: R,
+    output: W,
+) -> SessionEnd {
+    match Output::held(alloc, output) {
+        Ok(held) => run_held(bench, input, &RefCell::new(held)),
+        Err(_) => SessionEnd::NoMemory,
+    }
+}
+
+// Runs a session on a bench, and writes out what is left of its replies. An output that has failed, be it before a read, fails here
+// too.
+fn run_held<R: Read + Drop, W: Write + Drop>(
+    bench: &mut Bench,
+    input: R,
+    held: &RefCell<Held<W>>,
+) -> SessionEnd {
+    let mut reader = Counted::new(Requests::new(input, held));
+    let mut writer = Counted::new(Replies::new(held));
     let end = session(
-        &mut bench,
-        &mut meter,
+        bench,
+        &mut Meter::new(),
         &mut reader,
         &mut writer,
         SESSION_TURNS,

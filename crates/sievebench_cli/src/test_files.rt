@@ -22,37 +22,7 @@ pub(crate) struct TestWords {
     pub mail: Argument,
 }
 
-/// Scripts that were read, and the path of each.
-#[derive(Drop)]
-pub(crate) struct TestFiles {
-    pub scripts: Vec<TestScript>,
-    pub paths: Vec<Vec<u8>>,
-}
-
-impl TestFiles {
-    fn new(alloc: Global) -> TestFiles {
-        TestFiles {
-            scripts: Vec::new(alloc),
-            paths: Vec::new(alloc),
-        }
-    }
-
-    /// Adds a script that was read at a path.
-    pub(crate) fn add(
-        &mut self,
-        name: ScriptName,
-        text: Vec<u8>,
-        path: Vec<u8>,
-    ) -> Result<(), AllocError> {
-        self.scripts.push(TestScript {
-            name,
-            text: Octets::from_vec(text),
-        })?;
-        Ok(self.paths.push(path)?)
-    }
-}
-
-/// A test whose files were read.
+/// A test of which files were read.
 #[derive(Drop)]
 pub(crate) struct TestInput {
     pub job: TestJob,
@@ -66,59 +36,105 @@ pub(crate) fn read_test<R: Files + AllocGlobal>(
     rt: &R,
     words: &TestWords,
 ) -> Result<TestInput, ReadFault> {
-    let mut files = TestFiles::new(rt.alloc());
+    let mut input = TestInput::new(rt.alloc());
+    read_files(rt, words, &mut input)?;
+    Ok(input)
+}
+
+/// Reads the files of a test, and adds the other words.
+fn read_files<R: Files + AllocGlobal>(
+    rt: &R,
+    words: &TestWords,
+    input: &mut TestInput,
+) -> Result<(), ReadFault> {
     if let Some(folder) = &words.personal {
-        read_folder(rt, Place::Personal, folder.as_str(), &mut files)?;
+        read_folder(rt, Place::Personal, folder.as_str(), input)?;
     }
     if let Some(folder) = &words.global {
-        read_folder(rt, Place::Global, folder.as_str(), &mut files)?;
+        read_folder(rt, Place::Global, folder.as_str(), input)?;
     }
-    let script = words.script.as_str();
-    let text = octets_at(rt, script.as_bytes(), MAX_TEXT)?;
-    let message = octets_at(rt, words.mail.as_str().as_bytes(), MAX_MESSAGE)?;
-    let main = named(rt.alloc(), script)?;
-    let path = Vec::from_slice(rt.alloc(), script.as_bytes())?;
-    files.add(main.copy(rt.alloc())?, text, path)?;
-    Ok(input_of(rt.alloc(), words, files, main, message)?)
+    read_main(rt, words.script.as_str(), input)?;
+    let mail = words.mail.as_str().as_bytes();
+    input.job.message = Octets::from_vec(octets_at(rt, mail, MAX_MESSAGE)?);
+    Ok(fill(rt.alloc(), words, &mut input.job)?)
 }
 
-/// The name of the main script at a path.
-fn named(alloc: Global, path: &str) -> Result<ScriptName, AllocError> {
-    let name = Vec::from_slice(alloc, script_name(path).as_bytes())?;
-    Ok(ScriptName::new(Place::Personal, name))
+/// Reads the main script at a path.
+fn read_main<R: Files + AllocGlobal>(
+    rt: &R,
+    path: &str,
+    input: &mut TestInput,
+) -> Result<(), ReadFault> {
+    let text = octets_at(rt, path.as_bytes(), MAX_TEXT)?;
+    let name = script_name(path).as_bytes();
+    input.add(rt.alloc(), (Place::Personal, name), path.as_bytes(), text)?;
+    input.job.main.name = Octets::copied(rt.alloc(), name)?;
+    Ok(())
 }
 
-/// The test of a message with these scripts.
-fn input_of(
-    alloc: Global,
-    words: &TestWords,
-    files: TestFiles,
-    main: ScriptName,
-    message: Vec<u8>,
-) -> Result<TestInput, AllocError> {
-    let TestFiles { scripts, paths } = files;
-    let job = TestJob {
-        from: octets_or(alloc, &words.from, "")?,
-        to: octets_or(alloc, &words.to, "")?,
-        mailbox: octets_or(alloc, &words.mailbox, DEFAULT_MAILBOX)?,
-        scripts,
-        main,
-        id: Octets::copied(alloc, words.mail.as_str().as_bytes())?,
-        message: Octets::from_vec(message),
-    };
-    Ok(TestInput { job, paths })
+/// Adds the words of a test that name no file, and the message's path.
+fn fill(alloc: Global, words: &TestWords, job: &mut TestJob) -> Result<(), AllocError> {
+    set(alloc, &mut job.from, text_or(&words.from, ""))?;
+    set(alloc, &mut job.to, text_or(&words.to, ""))?;
+    set(
+        alloc,
+        &mut job.mailbox,
+        text_or(&words.mailbox, DEFAULT_MAILBOX),
+    )?;
+    set(alloc, &mut job.id, words.mail.as_str())
 }
 
-/// The octets of an option's value, or those of another text where it is not given.
-fn octets_or(alloc: Global, value: &Option<Argument>, other: &str) -> Result<Octets, AllocError> {
-    let text = match value {
+/// Copies a text to a place.
+fn set(alloc: Global, place: &mut Octets, text: &str) -> Result<(), AllocError> {
+    *place = Octets::copied(alloc, text.as_bytes())?;
+    Ok(())
+}
+
+/// An option's value, or another text where it is not given.
+fn text_or<'a>(value: &'a Option<Argument>, other: &'a str) -> &'a str {
+    match value {
         Some(value) => value.as_str(),
         None => other,
-    };
-    Octets::copied(alloc, text.as_bytes())
+    }
+}
+
+/// No octets.
+fn empty(alloc: Global) -> Octets {
+    Octets::from_vec(Vec::new(alloc))
 }
 
 impl TestInput {
+    /// A test of nothing.
+    fn new(alloc: Global) -> TestInput {
+        let job = TestJob {
+            from: empty(alloc),
+            to: empty(alloc),
+            mailbox: empty(alloc),
+            scripts: Vec::new(alloc),
+            main: ScriptName::new(Place::Personal, Vec::new(alloc)),
+            id: empty(alloc),
+            message: empty(alloc),
+        };
+        TestInput {
+            job,
+            paths: Vec::new(alloc),
+        }
+    }
+
+    /// Adds a script that was read at a path.
+    pub(crate) fn add(
+        &mut self,
+        alloc: Global,
+        (place, name): (Place, &[u8]),
+        path: &[u8],
+        text: Vec<u8>,
+    ) -> Result<(), AllocError> {
+        self.paths.push(Vec::from_slice(alloc, path)?)?;
+        let name = ScriptName::new(place, Vec::from_slice(alloc, name)?);
+        let text = Octets::from_vec(text);
+        Ok(self.job.scripts.push(TestScript { name, text })?)
+    }
+
     /// The first word or path that names something past its limit: the values of the options stand before all paths, and these in the order in
     /// which they are read. Where nothing else is past its limit, the message's.
     pub(crate) fn first_too_large(&self) -> &[u8] {

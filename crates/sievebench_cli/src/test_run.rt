@@ -15,11 +15,18 @@ use std::rt::Files;
 pub(crate) fn run_test(rt: &(impl AllocGlobal + Files + Print + Eprint), words: &TestWords) -> u8 {
     match read_test(rt, words) {
         Ok(input) => report_test(rt, &input),
-        Err(ReadFault::Unreadable(path)) => {
+        Err(fault) => answer_fault(rt, &fault),
+    }
+}
+
+/// Says on standard error which file could not be read, and answers the status.
+fn answer_fault(rt: &(impl AllocGlobal + Eprint), fault: &ReadFault) -> u8 {
+    match fault {
+        ReadFault::Unreadable(path) => {
             complain_of(rt, "cannot read", path.as_slice());
             status_of(End::Session(SessionEnd::Read))
         }
-        Err(ReadFault::NoMemory) => {
+        ReadFault::NoMemory => {
             complain(rt, "out of memory");
             status_of(End::Test(TestEnd::NoMemory))
         }

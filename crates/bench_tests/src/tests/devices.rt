@@ -48,7 +48,23 @@ impl Read for Dripping<'_> {
     }
 }
 
-/// Serves a session on a new bench, and compares what it writes and how it ends.
+/// Serves a session on a bench, and compares what it writes and how it ends.
+fn check_served<R: Source>(
+    rt: &(impl AllocGlobal + Abort),
+    bench: &mut Bench,
+    reader: &mut R,
+    turns: u64,
+    text: &[u8],
+    wanted: SessionEnd,
+) {
+    let mut writer = Counted::new(Vec::new(rt.alloc()));
+    let end = session(bench, &mut Meter::new(), reader, &mut writer, turns);
+    let at = ("so many reads", turns, reader.calls());
+    holds(rt, at, end == wanted);
+    same(rt, at, &writer.into_inner(), text);
+}
+
+/// Serves a session on a new bench, and compares.
 fn check_ended<R: Source>(
     rt: &(impl AllocGlobal + Abort),
     reader: &mut R,
@@ -57,11 +73,7 @@ fn check_ended<R: Source>(
     wanted: SessionEnd,
 ) -> Result<(), AllocError> {
     let mut bench = Bench::new(rt.alloc())?;
-    let mut writer = Counted::new(Vec::new(rt.alloc()));
-    let end = session(&mut bench, &mut Meter::new(), reader, &mut writer, turns);
-    let at = ("so many reads", turns, reader.calls());
-    holds(rt, at, end == wanted);
-    same(rt, at, &writer.into_inner(), text);
+    check_served(rt, &mut bench, reader, turns, text, wanted);
     Ok(())
 }
 

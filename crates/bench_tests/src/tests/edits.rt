@@ -7,7 +7,7 @@ use sievebench::{Bench, Octets, ScriptName};
 use std::process::Abort;
 use std::test::Fail;
 
-/// Scripts and messages are put, renamed and removed, with a report after each.
+/// Scripts and messages are put, renamed and removed, with a report after each; and then settings are edited.
 fn edit_content(
     rt: &(impl AllocGlobal + Abort),
     bench: &mut Bench,
@@ -30,7 +30,8 @@ fn edit_content(
         b"main none\nenvelope \"\" \"\" mailbox \"INBOX\"\nscript personal \"b\" ok\ntotal 0 messages 0 errors\n",
     )?;
     bench.remove_script(other)?;
-    check_report(rt, bench, REPORT)
+    check_report(rt, bench, REPORT)?;
+    edit_settings(rt, bench, main)
 }
 
 /// All that can be set is set, and then no script is main, with a report after each.
@@ -63,8 +64,7 @@ fn edit_all(
     id: &Octets,
 ) -> Result<(), Fail> {
     let mut bench = Bench::new(rt.alloc())?;
-    edit_content(rt, &mut bench, main, other, id)?;
-    edit_settings(rt, &mut bench, main)
+    edit_content(rt, &mut bench, main, other, id)
 }
 
 #[test]

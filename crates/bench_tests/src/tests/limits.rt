@@ -49,16 +49,26 @@ fn check_message(
     Ok(())
 }
 
-/// Makes edits on a new bench with a name, a text and a message of so many octets, and compares what each answers.
-fn check_sizes(
+/// Makes edits with a name, a text and a message of so many octets, and compares what each answers.
+fn check_edits(
     rt: &(impl AllocGlobal + Abort),
+    bench: &mut Bench,
     (name, text, message): (usize, usize, usize),
     wanted: &Result<(), EditFault>,
 ) -> Result<(), AllocError> {
+    check_names(rt, bench, name, wanted)?;
+    check_text(rt, bench, text, wanted)?;
+    check_message(rt, bench, message, wanted)
+}
+
+/// Makes such edits on a new bench, and compares.
+fn check_sizes(
+    rt: &(impl AllocGlobal + Abort),
+    sizes: (usize, usize, usize),
+    wanted: &Result<(), EditFault>,
+) -> Result<(), AllocError> {
     let mut bench = Bench::new(rt.alloc())?;
-    check_names(rt, &mut bench, name, wanted)?;
-    check_text(rt, &mut bench, text, wanted)?;
-    check_message(rt, &mut bench, message, wanted)
+    check_edits(rt, &mut bench, sizes, wanted)
 }
 
 #[test]

@@ -1,8 +1,8 @@
 //! How many runs reports and sessions make.
 
-use super::memory::put_messages;
 use super::{TURNS, holds};
-use sievebench::{Bench, Counted, Meter, SessionEnd, session};
+use sievebench::{Bench, Counted, Meter, Octets, SessionEnd, session};
+use std::alloc::{AllocError, Global};
 use std::process::Abort;
 use std::test::Fail;
 
@@ -19,10 +19,16 @@ fn check_runs(
     Ok(())
 }
 
+/// Puts a message of no octets.
+fn put_message(alloc: Global, bench: &mut Bench, id: &[u8]) -> Result<(), Fail> {
+    Ok(bench.put_message(&Octets::copied(alloc, id)?, b"")?)
+}
+
 /// Reports twice on a bench of two messages, and compares.
 fn check_two_reports(rt: &(impl AllocGlobal + Abort), bench: &mut Bench) -> Result<(), Fail> {
     let mut meter = Meter::new();
-    put_messages(rt, bench, &[b"a", b"b"])?;
+    put_message(rt.alloc(), bench, b"a")?;
+    put_message(rt.alloc(), bench, b"b")?;
     check_runs(rt, bench, &mut meter, 2)?;
     check_runs(rt, bench, &mut meter, 4)
 }
@@ -33,29 +39,34 @@ fn a_report_counts_its_runs(rt: HostRuntime) -> Result<(), Fail> {
     check_two_reports(&rt, &mut bench)
 }
 
+/// Serves a session on a bench, and compares how many runs it makes.
+fn check_served(rt: &impl Abort, bench: &mut Bench, writer: Vec<u8>, input: &[u8], runs: u64) {
+    let mut meter = Meter::new();
+    let mut reader = Counted::new(input);
+    let end = session(
+        bench,
+        &mut meter,
+        &mut reader,
+        &mut Counted::new(writer),
+        TURNS,
+    );
+    let at = ("a session of so many octets", input.len() as u64, runs);
+    holds(rt, at, end == SessionEnd::Done && meter.runs() == runs);
+}
+
 /// Serves a session on a new bench, and compares how many runs it makes.
 fn check_session_runs(
     rt: &(impl AllocGlobal + Abort),
     input: &[u8],
     runs: u64,
-) -> Result<(), Fail> {
+) -> Result<(), AllocError> {
     let mut bench = Bench::new(rt.alloc())?;
-    let mut meter = Meter::new();
-    let mut writer = Counted::new(Vec::new(rt.alloc()));
-    let end = session(
-        &mut bench,
-        &mut meter,
-        &mut Counted::new(input),
-        &mut writer,
-        TURNS,
-    );
-    let at = ("a session of so many octets", input.len() as u64, runs);
-    holds(rt, at, end == SessionEnd::Done && meter.runs() == runs);
+    check_served(rt, &mut bench, Vec::new(rt.alloc()), input, runs);
     Ok(())
 }
 
 #[test]
-fn a_session_counts_the_runs_of_its_reports(rt: HostRuntime) -> Result<(), Fail> {
+fn a_session_counts_the_runs_of_its_reports(rt: HostRuntime) -> Result<(), AllocError> {
     check_session_runs(
         &rt,
         b"script personal main 9\ndiscard;\nmessage m1 0\nmain personal main\nreport\n",

@@ -31,16 +31,27 @@ fn bare(alloc: Global, main: ScriptName) -> TestJob {
     }
 }
 
-/// Gives a job a sender, a mailbox, a message and scripts.
-fn fill(alloc: Global, job: &mut TestJob, texts: Texts<'_>) -> Result<(), AllocError> {
-    job.from = Octets::copied(alloc, b"a@b.example")?;
-    job.mailbox = Octets::copied(alloc, b"INBOX")?;
-    job.id = Octets::copied(alloc, b"mail.txt")?;
-    job.message = Octets::copied(alloc, b"Subject: one\n\n")?;
+/// Copies a text to a place.
+fn set(alloc: Global, place: &mut Octets, text: &[u8]) -> Result<(), AllocError> {
+    *place = Octets::copied(alloc, text)?;
+    Ok(())
+}
+
+/// Gives a job scripts.
+fn add_scripts(alloc: Global, job: &mut TestJob, texts: Texts<'_>) -> Result<(), AllocError> {
     for (name, text) in texts {
         job.scripts.push(script_of(alloc, *name, *text)?)?;
     }
     Ok(())
+}
+
+/// Gives a job a sender, a mailbox, a message and scripts.
+fn fill(alloc: Global, job: &mut TestJob, texts: Texts<'_>) -> Result<(), AllocError> {
+    set(alloc, &mut job.from, b"a@b.example")?;
+    set(alloc, &mut job.mailbox, b"INBOX")?;
+    set(alloc, &mut job.id, b"mail.txt")?;
+    set(alloc, &mut job.message, b"Subject: one\n\n")?;
+    add_scripts(alloc, job, texts)
 }
 
 /// A job with a sender and one message, on which the personal script `main` is run.
@@ -167,8 +178,8 @@ fn lengthen(alloc: Global, job: &mut TestJob, part: Part, count: usize) -> Resul
         Part::From => job.from = octets,
         Part::To => job.to = octets,
         Part::Mailbox => job.mailbox = octets,
-        Part::Name => add_name(alloc, job, octets)?,
-        Part::Text => add_text(alloc, job, octets)?,
+        Part::Name => return add_name(alloc, job, octets),
+        Part::Text => return add_text(alloc, job, octets),
         Part::Main => job.main.name = octets,
         Part::Id => job.id = octets,
         Part::Message => job.message = octets,
@@ -179,35 +190,40 @@ fn lengthen(alloc: Global, job: &mut TestJob, part: Part, count: usize) -> Resul
 /// Gives a job so many scripts, of which it has one.
 fn crowd(alloc: Global, job: &mut TestJob, count: u64) -> Result<(), AllocError> {
     for number in 1..count {
-        let name = format!(in alloc; "{number}")?;
-        job.scripts.push(script_of(alloc, name.as_bytes(), b"")?)?;
+        let script = script_of(alloc, &number.to_be_bytes(), b"")?;
+        job.scripts.push(script)?;
     }
     Ok(())
-}
-
-/// A job with so many scripts, `main` among them, of which a part is so many octets long.
-fn crowded(alloc: Global, scripts: u64, part: Part, count: usize) -> Result<TestJob, AllocError> {
-    let mut job = job_of(alloc, &[(b"main", b"stop;")])?;
-    crowd(alloc, &mut job, scripts)?;
-    lengthen(alloc, &mut job, part, count)?;
-    Ok(job)
 }
 
 /// How many scripts there are, which part is how many octets long, how the test ends, and whether something is written.
 type Row = (u64, Part, usize, TestEnd, bool);
 
-/// Makes a test of a job with so many scripts, of which a part is changed, and compares.
-fn check_row(
-    rt: &(impl AllocGlobal + Abort),
-    (scripts, part, count, wanted, is_written): Row,
-) -> Result<(), AllocError> {
-    let job = crowded(rt.alloc(), scripts, part, count)?;
+/// Makes a test of a job, and compares how it ends and whether something is written.
+fn check_written(rt: &(impl AllocGlobal + Abort), job: &TestJob, row: Row) {
     let mut writer = Counted::new(Vec::new(rt.alloc()));
-    let end = test_bench(rt.alloc(), &job, &mut Meter::new(), &mut writer);
-    let at = (name_of(part), scripts, count as u64);
-    holds(rt, at, end == wanted);
-    holds(rt, at, writer.into_inner().is_empty() != is_written);
+    let end = test_bench(rt.alloc(), job, &mut Meter::new(), &mut writer);
+    let at = (name_of(row.1), row.0, row.2 as u64);
+    holds(rt, at, end == row.3);
+    holds(rt, at, writer.into_inner().is_empty() != row.4);
+}
+
+/// Gives a job of one script so many, changes a part of it, and makes the test.
+fn check_changed(
+    rt: &(impl AllocGlobal + Abort),
+    job: &mut TestJob,
+    row: Row,
+) -> Result<(), AllocError> {
+    crowd(rt.alloc(), job, row.0)?;
+    lengthen(rt.alloc(), job, row.1, row.2)?;
+    check_written(rt, job, row);
     Ok(())
+}
+
+/// Makes a test of a job with so many scripts, `main` among them, of which a part is changed, and compares.
+fn check_row(rt: &(impl AllocGlobal + Abort), row: Row) -> Result<(), AllocError> {
+    let mut job = job_of(rt.alloc(), &[(b"main", b"stop;")])?;
+    check_changed(rt, &mut job, row)
 }
 
 fn check_rows(rt: &(impl AllocGlobal + Abort), rows: &[Row]) -> Result<(), AllocError> {
@@ -275,12 +291,16 @@ fn check_without_room(rt: &impl Abort, alloc: Global, job: &TestJob) {
     same(rt, at, &room, b"main pe");
 }
 
+/// Makes a test of one script, with room for 7 octets, and compares.
+fn check_unwritten(rt: &(impl AllocGlobal + Abort), text: &[u8]) -> Result<(), AllocError> {
+    let job = job_of(rt.alloc(), &[(b"main", text)])?;
+    check_without_room(rt, rt.alloc(), &job);
+    Ok(())
+}
+
 /// A writer without room takes a front of the report.
 #[test]
 fn a_report_of_a_job_that_cannot_be_written_is_told(rt: HostRuntime) -> Result<(), AllocError> {
-    let sound = job_of(rt.alloc(), &[(b"main", b"discard;")])?;
-    check_without_room(&rt, rt.alloc(), &sound);
-    let faulty = job_of(rt.alloc(), &[(b"main", b"kep;")])?;
-    check_without_room(&rt, rt.alloc(), &faulty);
-    Ok(())
+    check_unwritten(&rt, b"discard;")?;
+    check_unwritten(&rt, b"kep;")
 }

@@ -20,6 +20,18 @@ fn check_dump(
     same(rt, at, &writer.into_inner(), output);
 }
 
+/// Dumps a text under the name `a`, and compares.
+fn check_named(
+    rt: &(impl AllocGlobal + Abort),
+    text: &[u8],
+    output: &[u8],
+    wanted: TestEnd,
+) -> Result<(), AllocError> {
+    let name = personal(rt.alloc(), b"a")?;
+    check_dump(rt, &name, text, output, wanted);
+    Ok(())
+}
+
 #[test]
 fn texts_are_dumped(rt: HostRuntime) -> Result<(), AllocError> {
     let script =
@@ -27,11 +39,9 @@ fn texts_are_dumped(rt: HostRuntime) -> Result<(), AllocError> {
     let code =
         b"0: header contains casemap [\"Subject\"] [\"[list]\"]\n1: jump-if-true 3\n2: size over 1048576\n3: jump-if-false 6\n4: keep internal @2\n5: jump 7\n6: discard @4\n";
     let line = b"script personal \"a\" line 1 unknown-command\n";
-    let name = personal(rt.alloc(), b"a")?;
-    check_dump(&rt, &name, script, code, TestEnd::Clean);
-    check_dump(&rt, &name, b"", b"", TestEnd::Clean);
-    check_dump(&rt, &name, b"kep;", line, TestEnd::Faulty);
-    Ok(())
+    check_named(&rt, script, code, TestEnd::Clean)?;
+    check_named(&rt, b"", b"", TestEnd::Clean)?;
+    check_named(&rt, b"kep;", line, TestEnd::Faulty)
 }
 
 /// So many spaces and a command.

@@ -3,7 +3,6 @@
 use super::holds;
 use super::machine::{Given, Machine, Paths, Room, Written};
 use super::program::{check_written, whole};
-use crate::run;
 use std::alloc::{AllocError, Global};
 use std::io::ErrorKind;
 use std::process::Abort;
@@ -18,7 +17,7 @@ fn failing_status(
     missing: ErrorKind,
     written: &Written,
 ) -> u8 {
-    run(&Machine {
+    let machine = Machine {
         alloc,
         words,
         input: whole(b""),
@@ -27,7 +26,8 @@ fn failing_status(
         missing,
         room: Room::of(1_000),
         written,
-    })
+    };
+    machine.status()
 }
 
 /// Compares what such a run says on standard error and its status: on standard output it writes nothing.

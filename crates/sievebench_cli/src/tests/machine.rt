@@ -1,6 +1,7 @@
 //! A system whose words, input, output and standard error are made.
 ghost use Rattle.std.specs.Io.{ReadsAtMost};
 
+use crate::run;
 use std::alloc::{Allocator, Global};
 use std::cell::RefCell;
 use std::env::FillError;
@@ -98,6 +99,13 @@ pub(crate) struct Machine<'a> {
     pub missing: ErrorKind,
     pub room: Room,
     pub written: &'a Written,
+}
+
+impl Machine<'_> {
+    /// Runs the program: its status.
+    pub(crate) fn status(&self) -> u8 {
+        run(self)
+    }
 }
 
 impl Env for Machine<'_> {

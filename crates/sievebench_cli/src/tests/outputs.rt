@@ -1,9 +1,10 @@
 //! An output of which one write fails, and every other goes through.
 
-use super::holds;
 use super::machine::{Given, Machine, Room, Written};
-use super::program::{SESSION_WORDS, check_kept, check_written, lines_of, status_with, whole};
-use crate::run;
+use super::program::{
+    SESSION_WORDS, check_kept, check_steps, check_written, lines_of, status_with, whole,
+};
+use super::{At, holds};
 use std::alloc::Global;
 use std::io::ErrorKind;
 use std::process::Abort;
@@ -19,6 +20,18 @@ const REPORT: &[u8] =
 /// An input, in pieces of so many octets; how many writes go before the one that fails; what is written then, how much by each write,
 /// and how much before each read.
 type Row<'a> = (&'a [u8], usize, usize, &'a [u8], &'a [usize], &'a [usize]);
+
+/// Compares what a session wrote of which one write failed, and when.
+fn check_front_written(
+    rt: &impl Abort,
+    at: At<'_>,
+    written: &Written,
+    output: &[u8],
+    (writes, before_reads): (&[usize], &[usize]),
+) -> Result<(), Fail> {
+    check_written(rt, at, written, output, COMPLAINT)?;
+    check_steps(rt, at, written, before_reads, writes)
+}
 
 /// Runs a session of which one write fails, and compares what it writes and when, and its status.
 fn check_failure(
@@ -39,39 +52,56 @@ fn check_failure(
     let status = status_with(rt.alloc(), SESSION_WORDS, input, room, &written);
     let at = (what, before);
     holds(rt, at, status == 3);
-    check_written(rt, at, &written, output, COMPLAINT)?;
-    check_kept(rt, at, &written.writes, writes)?;
-    check_kept(rt, at, &written.before_reads, before_reads)
+    check_front_written(rt, at, &written, output, (writes, before_reads))
 }
 
-/// The write that fails is the last one, and nothing is read behind it.
+/// Compares each such session.
+fn check_failures(
+    rt: &(impl AllocGlobal + Abort),
+    what: &str,
+    rows: &[Row<'_>],
+) -> Result<(), Fail> {
+    for row in rows {
+        check_failure(rt, what, *row)?;
+    }
+    Ok(())
+}
+
+/// The write that fails is the last one, and nothing is read behind it: before a read, at the end of the input, and behind the last reply.
 #[test]
 fn the_first_write_that_fails_ends_the_session(rt: HostRuntime) -> Result<(), Fail> {
     let lines = b"no-main\nno-main\nno-main\n";
+    check_failures(
+        &rt,
+        "three lines",
+        &[
+            (lines, 8, 0, b"", &[0], &[0]),
+            (lines, 8, 1, b"ok\n", &[3, 0], &[0, 3]),
+            (lines, 8, 2, b"ok\nok\n", &[3, 3, 0], &[0, 3, 6]),
+            (lines, 100, 0, b"", &[0], &[0]),
+        ],
+    )?;
     let refused = b"no-main\nfrobnicate\n";
-    // Before a read, at the end of the input, and behind the last reply.
-    check_failure(
+    check_failures(
         &rt,
-        "three lines one by one",
-        (lines, 8, 0, b"", &[0], &[0]),
-    )?;
-    check_failure(
-        &rt,
-        "three lines one by one",
-        (lines, 8, 1, b"ok\n", &[3, 0], &[0, 3]),
-    )?;
-    check_failure(
-        &rt,
-        "three lines one by one",
-        (lines, 8, 2, b"ok\nok\n", &[3, 3, 0], &[0, 3, 6]),
-    )?;
-    check_failure(&rt, "three lines at once", (lines, 100, 0, b"", &[0], &[0]))?;
-    check_failure(&rt, "a refusal at once", (refused, 100, 0, b"", &[0], &[0]))?;
-    check_failure(
-        &rt,
-        "a refusal line by line",
-        (refused, 8, 1, b"ok\n", &[3, 0], &[0, 3, 3]),
+        "a refusal",
+        &[
+            (refused, 100, 0, b"", &[0], &[0]),
+            (refused, 8, 1, b"ok\n", &[3, 0], &[0, 3, 3]),
+        ],
     )
+}
+
+/// Compares what was written on standard output and on standard error, and how much by each write.
+fn check_written_by(
+    rt: &impl Abort,
+    at: At<'_>,
+    written: &Written,
+    (output, errors): (&[u8], &[u8]),
+    writes: &[usize],
+) -> Result<(), Fail> {
+    check_written(rt, at, written, output, errors)?;
+    check_kept(rt, at, &written.writes, writes)
 }
 
 /// A write that is interrupted is tried again.
@@ -86,13 +116,13 @@ fn an_interrupted_write_goes_through(rt: HostRuntime) -> Result<(), Fail> {
     let status = status_with(rt.alloc(), SESSION_WORDS, input, room, &written);
     let at = ("an interrupted write", 0);
     holds(&rt, at, status == 0);
-    check_kept(&rt, at, &written.output, REPORT)?;
-    check_kept(&rt, at, &written.writes, &[0, 67])
+    check_written_by(&rt, at, &written, (REPORT, b""), &[0, 67])
 }
 
 /// Compares what was written of replies of which the second write failed.
 fn check_front(rt: &impl Abort, written: &Written, replies: &[u8]) -> Result<(), Fail> {
     let at = ("a write among the replies", 1);
+    check_kept(rt, at, &written.errors, COMPLAINT)?;
     holds(rt, at, written.writes.try_borrow()?.len() == 2);
     let output = written.output.try_borrow()?;
     holds(rt, at, replies.starts_with(output.as_slice()));
@@ -110,7 +140,6 @@ fn check_among(rt: &(impl AllocGlobal + Abort), octets: &[u8], replies: &[u8]) -
     let input = whole(octets);
     let status = status_with(rt.alloc(), SESSION_WORDS, input, room, &written);
     holds(rt, at, status == 3);
-    check_kept(rt, at, &written.errors, COMPLAINT)?;
     check_front(rt, &written, replies)
 }
 
@@ -124,7 +153,7 @@ fn a_write_may_fail_among_the_replies(rt: HostRuntime) -> Result<(), Fail> {
 
 /// Dumps the script of a file to an output of which the first write fails: the status.
 fn failing_dump(alloc: Global, files: &[(&str, Given<'_>)], written: &Written) -> u8 {
-    run(&Machine {
+    let machine = Machine {
         alloc,
         words: &[b"sievebench", b"dump", b"a.sieve"],
         input: whole(b""),
@@ -136,7 +165,8 @@ fn failing_dump(alloc: Global, files: &[(&str, Given<'_>)], written: &Written) -
             failure: Some((0, ErrorKind::Other)),
         },
         written,
-    })
+    };
+    machine.status()
 }
 
 #[test]
@@ -145,6 +175,5 @@ fn a_dump_is_written_once(rt: HostRuntime) -> Result<(), Fail> {
     let status = failing_dump(rt.alloc(), &[("a.sieve", whole(b"discard;"))], &written);
     let at = ("a dump", 0);
     holds(&rt, at, status == 3);
-    check_written(&rt, at, &written, b"", COMPLAINT)?;
-    check_kept(&rt, at, &written.writes, &[0])
+    check_written_by(&rt, at, &written, (b"", COMPLAINT), &[0])
 }

@@ -2,7 +2,7 @@
 
 use super::machine::{Given, Machine, Room, Written};
 use super::{At, holds, same};
-use crate::{answer_usage, complaint_of, run};
+use crate::{answer_usage, complaint_of};
 use sievebench::{SessionEnd, UsageFault};
 use std::alloc::{AllocError, Global};
 use std::cell::RefCell;
@@ -45,7 +45,7 @@ pub(crate) fn status_with(
         room,
         written,
     };
-    run(&machine)
+    machine.status()
 }
 
 /// Compares what is kept in a cell.
@@ -139,31 +139,45 @@ fn an_output_that_fails_is_told(rt: HostRuntime) -> Result<(), Fail> {
         piece: 8,
         fails: false,
     };
-    check_failing_output(&rt, lines, 9, b"ok\nok\nok\n")?;
-    // More replies than are held.
+    check_failing_output(&rt, lines, 9, b"ok\nok\nok\n")
+}
+
+/// More replies than are held.
+#[test]
+fn an_output_that_fails_among_many_replies_is_told(rt: HostRuntime) -> Result<(), Fail> {
     let many = lines_of(rt.alloc(), b"no-main\n", 30_000)?;
     check_failing_output(&rt, whole(many.as_slice()), 0, b"")
 }
 
 /// A message of 3,000 octets, and a command.
-fn long_session(alloc: Global) -> Result<Vec<u8>, AllocError> {
-    let mut octets = Vec::from_slice(alloc, b"message m 3000\n")?;
-    for _octet in 0..3_000 {
-        octets.push(b'x')?;
-    }
-    octets.extend_from_slice(b"no-main\n")?;
-    Ok(octets)
+fn push_long_session(octets: &mut Vec<u8>) -> Result<(), AllocError> {
+    octets.extend_from_slice(b"message m 3000\n")?;
+    octets.extend_from_slice(&[b'x'; 3_000])?;
+    octets.extend_from_slice(b"no-main\n")
 }
 
 #[test]
 fn a_session_may_make_many_reads(rt: HostRuntime) -> Result<(), Fail> {
-    let octets = long_session(rt.alloc())?;
+    let mut octets = Vec::new(rt.alloc());
+    push_long_session(&mut octets)?;
     let input = Given {
         octets: octets.as_slice(),
         piece: 1,
         fails: false,
     };
     check_run(&rt, input, 1_000, 0, b"ok\nok\n", b"")
+}
+
+/// Compares how much was written before each read, and by each write.
+pub(crate) fn check_steps(
+    rt: &impl Abort,
+    at: At<'_>,
+    written: &Written,
+    before_reads: &[usize],
+    writes: &[usize],
+) -> Result<(), Fail> {
+    check_kept(rt, at, &written.before_reads, before_reads)?;
+    check_kept(rt, at, &written.writes, writes)
 }
 
 /// Runs a session of three lines that come in such pieces, and compares how much was written before each read, and by
@@ -183,8 +197,7 @@ fn check_reads(
     let status = status_with(rt.alloc(), SESSION_WORDS, input, Room::of(1_000), &written);
     let at = ("pieces of so many octets", piece);
     holds(rt, at, status == 0);
-    check_kept(rt, at, &written.before_reads, before_reads)?;
-    check_kept(rt, at, &written.writes, writes)
+    check_steps(rt, at, &written, before_reads, writes)
 }
 
 /// Replies are written before the next read, those to what one read gave together.
@@ -195,27 +208,13 @@ fn replies_are_written_before_the_next_read(rt: HostRuntime) -> Result<(), Fail>
     check_reads(&rt, 100, &[0, 9], &[9])
 }
 
-/// Compares what is said of ends.
-fn check_complaints(rt: &impl Abort, rows: &[(&str, SessionEnd, Option<&str>)]) {
-    for (what, end, complaint) in rows {
-        holds(rt, (*what, 0), complaint_of(*end) == *complaint);
-    }
-}
-
+/// What is said where memory or reads run out. What is said of other ends is compared where they are made.
 #[test]
 fn standard_error_says_what_went_wrong(rt: HostRuntime) {
-    check_complaints(
-        &rt,
-        &[
-            ("done", SessionEnd::Done, None),
-            ("syntax", SessionEnd::Syntax, None),
-            ("truncated", SessionEnd::Truncated, None),
-            ("read", SessionEnd::Read, Some("cannot read standard input")),
-            ("write", SessionEnd::Write, Some("cannot write")),
-            ("memory", SessionEnd::NoMemory, Some("out of memory")),
-            ("turns", SessionEnd::TurnLimit, Some("too many reads")),
-        ],
-    );
+    let memory = complaint_of(SessionEnd::NoMemory);
+    holds(&rt, ("memory", 0), memory == Some("out of memory"));
+    let turns = complaint_of(SessionEnd::TurnLimit);
+    holds(&rt, ("turns", 0), turns == Some("too many reads"));
 }
 
 /// Says that the words could not be read for want of memory: the status.

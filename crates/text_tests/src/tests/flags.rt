@@ -7,30 +7,21 @@ use std::alloc::{AllocError, Global};
 use std::borrow::CowSlice;
 use std::process::Abort;
 
-/// Compares the text of a list.
+/// Compares the text of a list that was made.
 fn check_flags(
     rt: &(impl AllocGlobal + Abort),
     row: &[u8],
-    flags: &FlagList,
+    flags: Result<FlagList, AllocError>,
     wanted: &[u8],
 ) -> Result<(), AllocError> {
-    same(rt, row, &flag_text(rt.alloc(), flags)?, wanted);
+    same(rt, row, &flag_text(rt.alloc(), &flags?)?, wanted);
     Ok(())
-}
-
-/// Compares the flags of a text.
-fn check_text(
-    rt: &(impl AllocGlobal + Abort),
-    text: &[u8],
-    wanted: &[u8],
-) -> Result<(), AllocError> {
-    check_flags(rt, text, &flags_of(rt.alloc(), text)?, wanted)
 }
 
 /// Compares the flags of each text.
 fn check_texts(rt: &(impl AllocGlobal + Abort), rows: &[Row<'_>]) -> Result<(), AllocError> {
     for (text, wanted) in rows {
-        check_text(rt, *text, *wanted)?;
+        check_flags(rt, *text, flags_of(rt.alloc(), *text), *wanted)?;
     }
     Ok(())
 }
@@ -65,43 +56,29 @@ fn a_text_has_each_of_its_flags_once(rt: HostRuntime) -> Result<(), AllocError> 
 /// Two lists, in front of both joined, and of those of the first that aren't in the second.
 type Pair<'a> = (&'a [u8], &'a [u8], &'a [u8], &'a [u8]);
 
-/// Compares two lists joined.
-fn check_union(
+/// Compares both for two lists.
+fn check_lists(
     rt: &(impl AllocGlobal + Abort),
     first: &FlagList,
     second: &FlagList,
-    wanted: &[u8],
+    (_, _, both, left): Pair<'_>,
 ) -> Result<(), AllocError> {
-    let joined = union(rt.alloc(), first, second)?;
-    check_flags(rt, b"joined", &joined, wanted)
-}
-
-/// Compares those of the first that aren't in the second.
-fn check_without(
-    rt: &(impl AllocGlobal + Abort),
-    first: &FlagList,
-    second: &FlagList,
-    wanted: &[u8],
-) -> Result<(), AllocError> {
-    let left = without(rt.alloc(), first, second)?;
-    check_flags(rt, b"left", &left, wanted)
+    check_flags(rt, b"joined", union(rt.alloc(), first, second), both)?;
+    check_flags(rt, b"left", without(rt.alloc(), first, second), left)
 }
 
 /// Compares both for a list and a text.
 fn check_second(
     rt: &(impl AllocGlobal + Abort),
     first: &FlagList,
-    (_, second, both, left): Pair<'_>,
+    pair: Pair<'_>,
 ) -> Result<(), AllocError> {
-    let second = flags_of(rt.alloc(), second)?;
-    check_union(rt, first, &second, both)?;
-    check_without(rt, first, &second, left)
+    check_lists(rt, first, &flags_of(rt.alloc(), pair.1)?, pair)
 }
 
 /// Compares both for two texts.
 fn check_pair(rt: &(impl AllocGlobal + Abort), pair: Pair<'_>) -> Result<(), AllocError> {
-    let first = flags_of(rt.alloc(), pair.0)?;
-    check_second(rt, &first, pair)
+    check_second(rt, &flags_of(rt.alloc(), pair.0)?, pair)
 }
 
 /// Two texts, their flags joined, and those of the first that aren't in the second.
@@ -151,15 +128,6 @@ fn keys_are_not_judged(rt: HostRuntime) -> Result<(), AllocError> {
     check_key(&rt, b" \\Recent (* a A", b"\\Recent|(*|a|A|")
 }
 
-/// Compares the flags of several texts.
-fn check_texts_as_flags(
-    rt: &(impl AllocGlobal + Abort),
-    texts: &[CowSlice<'_, u8>],
-) -> Result<(), AllocError> {
-    let flags = flags_of_texts(rt.alloc(), texts)?;
-    check_flags(rt, b"several texts", &flags, b"\\Seen a b")
-}
-
 /// Compares the keys of several texts.
 fn check_texts_as_keys<'a>(
     rt: &(impl AllocGlobal + Abort),
@@ -174,7 +142,8 @@ fn check_several<'a>(
     rt: &(impl AllocGlobal + Abort),
     texts: &'a [CowSlice<'a, u8>],
 ) -> Result<(), AllocError> {
-    check_texts_as_flags(rt, texts)?;
+    let flags = flags_of_texts(rt.alloc(), texts);
+    check_flags(rt, b"several texts", flags, b"\\Seen a b")?;
     check_texts_as_keys(rt, texts)
 }
 
@@ -192,7 +161,8 @@ fn texts_go_on_in_order(rt: HostRuntime) -> Result<(), AllocError> {
 }
 
 /// Compares a list of no flags.
-fn check_none(rt: &impl Abort, flags: &FlagList) {
+fn check_none(rt: &(impl AllocGlobal + Abort)) {
+    let flags = FlagList::new(rt.alloc());
     holds(rt, b"no flags", flags.is_empty() && flags.len() == 0);
 }
 
@@ -211,15 +181,17 @@ fn check_copy(rt: &(impl AllocGlobal + Abort), flags: &FlagList) -> Result<(), A
 /// What a list tells of its flags.
 #[test]
 fn a_list_gives_its_flags(rt: HostRuntime) -> Result<(), AllocError> {
-    check_none(&rt, &FlagList::new(rt.alloc()));
+    check_none(&rt);
     check_copy(&rt, &flags_of(rt.alloc(), b"one Two three")?)
 }
 
 /// Each text of three letters behind a space, where the first letter may be of either case.
-fn push_words(text: &mut Vec<u8>, first: u8) -> Result<(), AllocError> {
-    for second in b"abcdefghijklmnopqrstuvwxyz" {
-        for third in b"abcdefghijklmnopqrstuvwxyz" {
-            text.extend_from_slice(&[b' ', first, *second, *third])?;
+fn push_words(text: &mut Vec<u8>) -> Result<(), AllocError> {
+    for first in b"abcdefghijklmnopqrstuvwxyzABCDEFGHIJKLMNOPQRSTUVWXYZ" {
+        for second in b"abcdefghijklmnopqrstuvwxyz" {
+            for third in b"abcdefghijklmnopqrstuvwxyz" {
+                text.extend_from_slice(&[b' ', *first, *second, *third])?;
+            }
         }
     }
     Ok(())
@@ -237,8 +209,6 @@ fn check_many(rt: &(impl AllocGlobal + Abort), flags: &FlagList) -> Result<(), A
 #[test]
 fn many_flags_are_told_apart(rt: HostRuntime) -> Result<(), AllocError> {
     let mut text = Vec::new(rt.alloc());
-    for first in b"abcdefghijklmnopqrstuvwxyzABCDEFGHIJKLMNOPQRSTUVWXYZ" {
-        push_words(&mut text, *first)?;
-    }
+    push_words(&mut text)?;
     check_many(&rt, &flags_of(rt.alloc(), &text)?)
 }
