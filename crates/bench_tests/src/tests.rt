@@ -9,6 +9,7 @@ mod failing_reads;
 mod failing_writes;
 mod faults;
 mod limits;
+mod memory;
 mod meters;
 mod test_jobs;
 mod texts;

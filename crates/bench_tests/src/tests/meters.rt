@@ -20,7 +20,7 @@ fn check_runs(
 }
 
 /// Puts a message of no octets.
-fn put_message(alloc: Global, bench: &mut Bench, id: &[u8]) -> Result<(), Fail> {
+pub(super) fn put_message(alloc: Global, bench: &mut Bench, id: &[u8]) -> Result<(), Fail> {
     Ok(bench.put_message(&Octets::copied(alloc, id)?, b"")?)
 }
 

@@ -1,0 +1,35 @@
+//! Calls that no clause keeps from saying that memory is refused: here there is enough.
+
+use super::meters::put_message;
+use super::{check_report, personal};
+use sievebench::Bench;
+use std::alloc::Global;
+use std::process::Abort;
+use std::test::Fail;
+
+/// Puts a script.
+fn put_main(alloc: Global, bench: &mut Bench) -> Result<(), Fail> {
+    Ok(bench.put_script(&personal(alloc, b"main")?, b"keep;")?)
+}
+
+#[test]
+fn put_script_always_out_of_memory(rt: HostRuntime) -> Result<(), Fail> {
+    let mut bench = Bench::new(rt.alloc())?;
+    put_main(rt.alloc(), &mut bench)
+}
+
+/// Puts a message, and compares the report.
+fn check_message(rt: &(impl AllocGlobal + Abort), bench: &mut Bench) -> Result<(), Fail> {
+    put_message(rt.alloc(), bench, b"m")?;
+    check_report(
+        rt,
+        bench,
+        b"main none\nenvelope \"\" \"\" mailbox \"INBOX\"\nmessage \"m\"\n  implicit \"INBOX\"\ntotal 1 messages 0 errors\n",
+    )
+}
+
+#[test]
+fn report_out_of_memory_when_stale(rt: HostRuntime) -> Result<(), Fail> {
+    let mut bench = Bench::new(rt.alloc())?;
+    check_message(&rt, &mut bench)
+}
