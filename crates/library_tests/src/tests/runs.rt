@@ -76,34 +76,6 @@ fn check_actions(rt: &impl Abort, actions: &[Action]) {
     }
 }
 
-/// Runs the script of `check_acting`, and compares what it comes to.
-fn check_acting_run(
-    rt: &(impl AllocGlobal + Abort),
-    shelf: &Shelf,
-    main: &ScriptName,
-) -> Result<(), Fail> {
-    let outcome = outcome_of(rt.alloc(), shelf, Some(main), &mut Meter::new())?;
-    check_actions(rt, outcome.actions());
-    holds(rt, "the implicit keep", outcome.implicit().is_none());
-    holds(rt, "the error", outcome.error().is_none());
-    Ok(())
-}
-
-/// Puts a script on a shelf, and compares what a run of it comes to.
-fn check_acting(
-    rt: &(impl AllocGlobal + Abort),
-    shelf: &mut Shelf,
-    main: &ScriptName,
-) -> Result<(), Fail>
-    requires { length main.now.name ≤ 1024 }
-{
-    shelf.add(
-        main,
-        b"require [\"fileinto\", \"imap4flags\"];\nfileinto :flags \"a\" \"A\"; redirect \"Jane <a@b.example>\"; discard;",
-    )?;
-    check_acting_run(rt, shelf, main)
-}
-
 /// How many actions a run comes to, whether the implicit keep stands, the line and the kind of its error, and whether the last name that
 /// it looked up was there.
 type Told = (usize, bool, Option<(u64, ErrorKind)>, Option<bool>);
@@ -125,9 +97,12 @@ fn last_read(outcome: &Outcome) -> Option<bool> {
     found
 }
 
-/// Compares what a run comes to.
+/// Compares what a run comes to. One that has actions is that of `check_acting`.
 fn check_told(rt: &impl Abort, row: &str, outcome: &Outcome, wanted: Told) {
     holds(rt, row, outcome.actions().len() == wanted.0);
+    if wanted.0 > 0 {
+        check_actions(rt, outcome.actions());
+    }
     holds(rt, row, outcome.implicit().is_some() == wanted.1);
     holds(rt, row, error_of(outcome) == wanted.2);
     holds(rt, row, last_read(outcome) == wanted.3);
@@ -158,6 +133,20 @@ fn check_text(
 {
     shelf.add(main, text)?;
     check_run(rt, shelf, Some(main), &mut Meter::new(), wanted)
+}
+
+/// Runs a script with actions, and compares them.
+fn check_acting(
+    rt: &(impl AllocGlobal + Abort),
+    shelf: &mut Shelf,
+    main: &ScriptName,
+) -> Result<(), Fail>
+    requires { length main.now.name ≤ 1024 }
+{
+    let text =
+        b"require [\"fileinto\", \"imap4flags\"];\nfileinto :flags \"a\" \"A\"; redirect \"Jane <a@b.example>\"; discard;";
+    let wanted = (3, false, None, Some(true));
+    check_text(rt, shelf, main, text, ("three actions", wanted))
 }
 
 /// Runs on one shelf, where each text takes the place of the one before.
