@@ -1,24 +1,25 @@
 //! Texts that are judged and compiled, and their code as it is printed. What codes further texts have stands in `examples/rows`.
 
 use super::{holds, same};
-use sieve_base::{Counted, WriteFault};
+use sieve_base::{Counted, Sink, WriteFault};
 use sieve_check::{Checked, Judged, judge};
 use sieve_code::{Code, compile};
 use std::process::Abort;
 use std::test::Fail;
 
-/// Compares code as it is printed.
-fn check_code(
-    rt: &(impl AllocGlobal + Abort),
-    code: &Code,
-    lines: &[u8],
-) -> Result<(), WriteFault> {
-    let mut writer = Counted::new(Vec::new(rt.alloc()));
+/// Prints code.
+fn print_code<W: Sink>(code: &Code, writer: &mut W) -> Result<(), WriteFault> {
     for i in 0..code.len() {
-        code.dump_line(i, &mut writer)?;
+        code.dump_line(i, writer)?;
     }
-    same(rt, "code", &writer.into_inner(), lines);
     Ok(())
+}
+
+/// Compares code as it is printed.
+fn check_code(rt: &(impl AllocGlobal + Abort), code: &Code, lines: &[u8]) {
+    let mut writer = Counted::new(Vec::new(rt.alloc()));
+    holds(rt, "printing", print_code(code, &mut writer).is_ok());
+    same(rt, "code", &writer.into_inner(), lines);
 }
 
 /// Compiles a text, and compares its code.
@@ -27,15 +28,30 @@ fn check_compiled(
     checked: &Checked,
     lines: &[u8],
 ) -> Result<(), Fail> {
-    let code = compile(rt.alloc(), checked)?;
-    Ok(check_code(rt, &code, lines)?)
+    check_code(rt, &compile(rt.alloc(), checked)?, lines);
+    Ok(())
+}
+
+/// Compares the code of a sound text.
+fn check_sound(rt: &(impl AllocGlobal + Abort), judged: &Judged, lines: &[u8]) -> Result<(), Fail> {
+    match judged {
+        Judged::Sound(checked) => check_compiled(rt, checked, lines),
+        _ => panic!(rt; "another judgement"),
+    }
 }
 
 #[test]
 fn a_sound_text_is_compiled(rt: HostRuntime) -> Result<(), Fail> {
-    match judge(rt.alloc(), b"stop;\nkeep;")? {
-        Judged::Sound(checked) => {
-            check_compiled(&rt, &checked, b"0: stop\n1: keep internal @2\n")
+    let judged = judge(rt.alloc(), b"stop;\nkeep;")?;
+    check_sound(&rt, &judged, b"0: stop\n1: keep internal @2\n")
+}
+
+/// Compares the fault of a text on line 1.
+fn check_faulty(rt: &impl Abort, judged: &Judged, word: &[u8]) {
+    match judged {
+        Judged::Faulty { line, kind } => {
+            holds(rt, "the line", *line == 1);
+            same(rt, "the fault", kind.word(), word);
         }
         _ => panic!(rt; "another judgement"),
     }
@@ -43,12 +59,7 @@ fn a_sound_text_is_compiled(rt: HostRuntime) -> Result<(), Fail> {
 
 #[test]
 fn a_faulty_text_has_its_first_fault(rt: HostRuntime) -> Result<(), Fail> {
-    match judge(rt.alloc(), b"kep;\nrequire \"x\";")? {
-        Judged::Faulty { line, kind } => {
-            holds(&rt, "the line", line == 1);
-            same(&rt, "the fault", kind.word(), b"unknown-command");
-            Ok(())
-        }
-        _ => panic!(rt; "another judgement"),
-    }
+    let judged = judge(rt.alloc(), b"kep;\nrequire \"x\";")?;
+    check_faulty(&rt, &judged, b"unknown-command");
+    Ok(())
 }

@@ -96,10 +96,14 @@ fn check_both(rt: &impl Abort, commands: &[Command]) {
     }
 }
 
+/// The tree of a script that breaks no rule.
+fn checked_script(alloc: Global, script: &Script) -> Result<Checked, Fail> {
+    Ok(check(alloc, script)?)
+}
+
 /// The tree of a text that breaks no rule.
 fn checked_text(alloc: Global, text: &[u8]) -> Result<Checked, Fail> {
-    let script = parse(alloc, text)?;
-    Ok(check(alloc, &script)?)
+    checked_script(alloc, &parse(alloc, text)?)
 }
 
 #[test]

@@ -24,11 +24,28 @@ fn main_name(alloc: Global) -> Result<ScriptName, AllocError>
 
 /// An envelope without addresses.
 fn envelope_of(alloc: Global) -> Result<Envelope, AllocError> {
+    let mailbox = Octets::copied(alloc, b"INBOX")?;
     Ok(Envelope {
         from: Octets::from_vec(Vec::new(alloc)),
         to: Octets::from_vec(Vec::new(alloc)),
-        mailbox: Octets::copied(alloc, b"INBOX")?,
+        mailbox,
     })
+}
+
+/// A message of no octets.
+fn empty_message(alloc: Global) -> Result<Message, Fail> {
+    Ok(Message::new(alloc, Vec::new(alloc))?)
+}
+
+/// The outcome of a main script on a message.
+fn outcome_on(
+    alloc: Global,
+    shelf: &Shelf,
+    main: Option<&ScriptName>,
+    (envelope, message): (&Envelope, &Message),
+    meter: &mut Meter,
+) -> Result<Outcome, Fail> {
+    Ok(run(alloc, shelf, main, envelope, message, meter)?)
 }
 
 /// The outcome of a main script on a message of no octets.
@@ -39,11 +56,11 @@ fn outcome_of(
     meter: &mut Meter,
 ) -> Result<Outcome, Fail> {
     let envelope = envelope_of(alloc)?;
-    let message = Message::new(alloc, Vec::new(alloc))?;
-    Ok(run(alloc, shelf, main, &envelope, &message, meter)?)
+    let message = empty_message(alloc)?;
+    outcome_on(alloc, shelf, main, (&envelope, &message), meter)
 }
 
-/// The actions of the script of the next test.
+/// The actions of the script of `check_acting`.
 fn check_actions(rt: &impl Abort, actions: &[Action]) {
     match actions {
         [
@@ -57,40 +74,6 @@ fn check_actions(rt: &impl Abort, actions: &[Action]) {
         }
         _ => panic!(rt; "another list of actions"),
     }
-}
-
-/// Runs the script of the next test, and compares what it comes to.
-fn check_acting_run(
-    rt: &(impl AllocGlobal + Abort),
-    shelf: &Shelf,
-    main: &ScriptName,
-) -> Result<(), Fail> {
-    let outcome = outcome_of(rt.alloc(), shelf, Some(main), &mut Meter::new())?;
-    check_actions(rt, outcome.actions());
-    holds(rt, "the implicit keep", outcome.implicit().is_none());
-    holds(rt, "the error", outcome.error().is_none());
-    Ok(())
-}
-
-/// Puts a script on a shelf, and compares what a run of it comes to.
-fn check_acting(
-    rt: &(impl AllocGlobal + Abort),
-    shelf: &mut Shelf,
-    main: &ScriptName,
-) -> Result<(), Fail>
-    requires { length main.now.name ≤ 1024 }
-{
-    shelf.add(
-        main,
-        b"require [\"fileinto\", \"imap4flags\"];\nfileinto :flags \"a\" \"A\"; redirect \"Jane <a@b.example>\"; discard;",
-    )?;
-    check_acting_run(rt, shelf, main)
-}
-
-#[test]
-fn a_run_has_its_actions(rt: HostRuntime) -> Result<(), Fail> {
-    let main = main_name(rt.alloc())?;
-    check_acting(&rt, &mut Shelf::new(rt.alloc()), &main)
 }
 
 /// How many actions a run comes to, whether the implicit keep stands, the line and the kind of its error, and whether the last name that
@@ -114,9 +97,12 @@ fn last_read(outcome: &Outcome) -> Option<bool> {
     found
 }
 
-/// Compares what a run comes to.
+/// Compares what a run comes to. One that has actions is that of `check_acting`.
 fn check_told(rt: &impl Abort, row: &str, outcome: &Outcome, wanted: Told) {
     holds(rt, row, outcome.actions().len() == wanted.0);
+    if wanted.0 > 0 {
+        check_actions(rt, outcome.actions());
+    }
     holds(rt, row, outcome.implicit().is_some() == wanted.1);
     holds(rt, row, error_of(outcome) == wanted.2);
     holds(rt, row, last_read(outcome) == wanted.3);
@@ -149,32 +135,48 @@ fn check_text(
     check_run(rt, shelf, Some(main), &mut Meter::new(), wanted)
 }
 
-/// Runs on one shelf, where each text takes the place of the one before: of 1,048,576 octets one can be run, and none of more.
+/// Runs a script with actions, and compares them.
+fn check_acting(
+    rt: &(impl AllocGlobal + Abort),
+    shelf: &mut Shelf,
+    main: &ScriptName,
+) -> Result<(), Fail>
+    requires { length main.now.name ≤ 1024 }
+{
+    let text =
+        b"require [\"fileinto\", \"imap4flags\"];\nfileinto :flags \"a\" \"A\"; redirect \"Jane <a@b.example>\"; discard;";
+    let wanted = (3, false, None, Some(true));
+    check_text(rt, shelf, main, text, ("three actions", wanted))
+}
+
+/// Runs on one shelf, where each text takes the place of the one before.
 fn check_texts(
     rt: &(impl AllocGlobal + Abort),
     shelf: &mut Shelf,
     main: &ScriptName,
-    long: &[u8],
 ) -> Result<(), Fail>
     requires { length main.now.name ≤ 1024 }
 {
-    let kept = (0, true, None, Some(true));
     let invalid = (0, true, Some((0, ErrorKind::InvalidScript)), Some(true));
     let bad_address = (0, true, Some((2, ErrorKind::BadAddress)), Some(true));
     let text = b"keep;\nredirect \"\";";
     check_text(rt, shelf, main, text, ("a bad address", bad_address))?;
     check_text(rt, shelf, main, b"kep;", ("no command", invalid))?;
-    check_text(rt, shelf, main, b"keep;\ndiscard\n", ("no end", invalid))?;
-    check_text(rt, shelf, main, long, ("too large", invalid))?;
-    let front = &long[..long.len().min(1_048_576)];
-    check_text(rt, shelf, main, front, ("at the limit", kept))
+    check_text(rt, shelf, main, b"keep;\ndiscard\n", ("no end", invalid))
 }
 
-#[test]
-fn texts_are_run(rt: HostRuntime) -> Result<(), Fail> {
-    let main = main_name(rt.alloc())?;
-    let long = vec![in rt.alloc(); b' '; 1_048_577]?;
-    check_texts(&rt, &mut Shelf::new(rt.alloc()), &main, &long)
+/// Runs a text of so many octets, and compares what that comes to.
+fn check_long(
+    rt: &(impl AllocGlobal + Abort),
+    shelf: &mut Shelf,
+    main: &ScriptName,
+    count: usize,
+    wanted: (&str, Told),
+) -> Result<(), Fail>
+    requires { length main.now.name ≤ 1024 }
+{
+    let text = vec![in rt.alloc(); b' '; count]?;
+    check_text(rt, shelf, main, &text, wanted)
 }
 
 /// Runs no script, and one that is missing: both are runs.
@@ -193,10 +195,12 @@ fn check_missing(
     Ok(())
 }
 
-#[test]
-fn runs_without_a_script(rt: HostRuntime) -> Result<(), Fail> {
-    let main = main_name(rt.alloc())?;
-    check_missing(&rt, &Shelf::new(rt.alloc()), &main)
+/// Runs a script that is not on the shelf, though its name is that of the main one.
+fn check_other(rt: &(impl AllocGlobal + Abort), shelf: &Shelf) -> Result<(), Fail> {
+    let other = named(rt.alloc(), Place::Global, b"main")?;
+    let missing = (0, true, Some((0, ErrorKind::MissingScript)), Some(false));
+    let wanted = ("another place", missing);
+    check_run(rt, shelf, Some(&other), &mut Meter::new(), wanted)
 }
 
 /// A text that is put again is run in place of the first, and another script of the same name is not.
@@ -204,23 +208,38 @@ fn check_shelf(
     rt: &(impl AllocGlobal + Abort),
     shelf: &mut Shelf,
     main: &ScriptName,
-    other: &ScriptName,
 ) -> Result<(), Fail>
     requires { length main.now.name ≤ 1024 }
 {
     shelf.add(main, b"keep;")?;
     let stopped = ("put again", (0, true, None, Some(true)));
     check_text(rt, shelf, main, b"stop;", stopped)?;
-    let missing = (0, true, Some((0, ErrorKind::MissingScript)), Some(false));
-    let wanted = ("another place", missing);
-    check_run(rt, shelf, Some(other), &mut Meter::new(), wanted)
+    check_other(rt, shelf)
 }
 
+/// Runs on one shelf: of 1,048,576 octets a text can be run, and none of more.
+fn check_all(
+    rt: &(impl AllocGlobal + Abort),
+    shelf: &mut Shelf,
+    main: &ScriptName,
+) -> Result<(), Fail>
+    requires { length main.now.name ≤ 1024 }
+{
+    let invalid = (0, true, Some((0, ErrorKind::InvalidScript)), Some(true));
+    let kept = (0, true, None, Some(true));
+    check_missing(rt, shelf, main)?;
+    check_shelf(rt, shelf, main)?;
+    check_texts(rt, shelf, main)?;
+    check_long(rt, shelf, main, 1_048_577, ("too large", invalid))?;
+    check_long(rt, shelf, main, 1_048_576, ("at the limit", kept))?;
+    check_acting(rt, shelf, main)
+}
+
+/// Runs without a script, with one that takes the place of another, of texts, and with actions.
 #[test]
-fn shelves(rt: HostRuntime) -> Result<(), Fail> {
+fn scripts_are_run(rt: HostRuntime) -> Result<(), Fail> {
     let main = main_name(rt.alloc())?;
-    let other = named(rt.alloc(), Place::Global, b"main")?;
-    check_shelf(&rt, &mut Shelf::new(rt.alloc()), &main, &other)
+    check_all(&rt, &mut Shelf::new(rt.alloc()), &main)
 }
 
 #[test]
