@@ -6,7 +6,7 @@ use Rattle.std.specs.Map.{lookup, remove_entry}
 use Rattle.std.specs.Option.{option_map}
 use Rattle.indexmap.proofs.SetLemmas.{map-remove}
 use Rattle.indexmap.specs.IndexMap as ordered
-use Rattle.bench.specs.declared.message.Entry.{Entry}
+use Rattle.bench.specs.declared.entry.Entry.{Entry}
 use Rattle.bench.specs.view.Entry.{messages_of}
 
 -- there are as many messages as entries

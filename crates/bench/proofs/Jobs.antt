@@ -1,15 +1,18 @@
 -- What edits in turn make of a content, and what is known of the edits of a job.
-use Rattle.std.proofs.Common.{◌≡◌, ℕ, ◌+◌, ◌<◌, Bool, true, false, if◌then◌else◌, List, [], ◌∷◌, length, drop, get_or, map, fold, Option, None, Some, Result, Ok, Err, IfOk, refl, sym, ap, ◌∙◌, subst}
+use Rattle.std.proofs.Common.{◌≡◌, ℕ, suc, ◌+◌, ◌<◌, Bool, true, false, ◌||◌, if◌then◌else◌, List, [], ◌∷◌, length, length-append, drop, get_or, map, fold, Option, None, Some, Result, Ok, Err, IfOk, OnOk, refl, sym, ap, ◌∙◌, subst, arith}
 use Rattle.std.proofs.lemmas.List.{drop_more}
-use Rattle.std.proofs.lemmas.List.Sums.{fold-append}
 use Rattle.sieve_delivery.specs.declared.name.ScriptName.{ScriptName}
-use Rattle.bench.specs.Content.{Content, Edit, after, new_content, put_message, set_main, set_envelope, set_mailbox, Refuses, unless, script_refusal, message_refusal, main_refusal, envelope_refusal, mailbox_refusal}
-use Rattle.bench.specs.Test.{after_all, made_by, put_of, then_edit}
+use Rattle.sieve_run.specs.Meter.{next_run, runs_after}
+use Rattle.bench.specs.Bench.{BenchState, RefusedAmong}
+use Rattle.bench.specs.Content.{Content, Edit, after, put_message, set_main, set_envelope, set_mailbox, Refuses, unless, script_refusal, message_refusal, main_refusal, envelope_refusal, mailbox_refusal, with_message}
+use Rattle.bench.specs.Stale.{ids_where, is_among, stale_after, touches}
+use Rattle.bench.specs.Test.{after_all, put_of, then_edit}
 use Rattle.bench.specs.declared.fault.EditFault.{EditFault}
 use Rattle.bench.specs.declared.fault.EditFault.TheVariants.{TooLarge, NoSuchScript, NameTaken, NoSuchMessage, Full, NoMemory}
 use Rattle.bench.specs.declared.test_job.TestJob.{TestJob}
 use Rattle.bench.specs.declared.test_job.TestScript.{TestScript}
 use Rattle.bench.specs.view.Refused.{Refused}
+use Rattle.bench.proofs.Names.{same_id}
 
 -- A REFUSAL STAYS
 
@@ -59,6 +62,11 @@ put_refused content scripts i script fault all within is so_far refused =
 
 -- THE MESSAGE
 
+-- what an accepted edit makes
+made_is : (refusal : Option EditFault) (content new : Content) → unless refusal content ≡ Ok new → content ≡ new
+made_is None content new made = cc
+made_is (Some fault) content new made = absurd cc
+
 -- that edits leave no message, unless one of them is refused
 abbrev LeavesNone : Result Content EditFault → Type 0
 LeavesNone made = IfOk made (λ content. content.messages ≡ [])
@@ -67,7 +75,7 @@ kept_none : (refusal : Option EditFault) (content : Content) → content.message
 kept_none None content none = none
 kept_none (Some fault) content none = tt
 
--- settings, scripts and a main script are no messages
+-- settings and scripts are no messages
 none_set : (made : Result Content EditFault) (from to : List ℕ) → LeavesNone made → LeavesNone (then_edit made (set_envelope from to))
 none_set (Ok content) from to none = kept_none (envelope_refusal from to) _ none
 none_set (Err refusal) from to none = tt
@@ -84,26 +92,34 @@ none_all_put : (made : Result Content EditFault) (scripts : List TestScript) →
 none_all_put made [] none = none
 none_all_put made (script ∷ scripts) none = none_all_put (then_edit made (put_of script)) scripts (none_put made script none)
 
-none_named : (made : Result Content EditFault) (name : ScriptName) → LeavesNone made → LeavesNone (then_edit made (set_main name))
-none_named (Ok content) name none = kept_none (main_refusal name) _ none
-none_named (Err refusal) name none = tt
+pub settings_leave_none : (from to mailbox : List ℕ) (old new : Content) → old.messages ≡ [] → after_all old (set_envelope from to ∷ set_mailbox mailbox ∷ []) ≡ Ok new → new.messages ≡ []
+settings_leave_none from to mailbox old new none made = subst LeavesNone made (none_boxed _ mailbox (none_set (Ok old) from to none))
 
--- a message that is put where there is none is the only one
-one_kept : (refusal : Option EditFault) (content : Content) → length content.messages ≡ 1 → IfOk (unless refusal content) (λ content. length content.messages ≡ 1)
-one_kept None content one = one
-one_kept (Some fault) content one = tt
+pub scripts_leave_none : (scripts : List TestScript) (old new : Content) → old.messages ≡ [] → after_all old (map put_of scripts) ≡ Ok new → new.messages ≡ []
+scripts_leave_none scripts old new none made = subst LeavesNone made (none_all_put (Ok old) scripts none)
 
-one_put : (made : Result Content EditFault) (id bytes : List ℕ) → LeavesNone made → IfOk (then_edit made (put_message id bytes)) (λ content. length content.messages ≡ 1)
-one_put (Ok content) id bytes none = one_kept (message_refusal content.messages id bytes) _ (rw none refl)
-one_put (Err refusal) id bytes none = tt
+-- nor is a main script
+pub main_leaves_none : (name : ScriptName) (old new : Content) → old.messages ≡ [] → after old (set_main name) ≡ Ok new → new.messages ≡ []
+main_leaves_none name old new none made = ap (λ c. c.messages) (sym (made_is (main_refusal name) (record old { main = Some name }) new made)) ∙ none
 
-one_made : (job : TestJob) → IfOk (made_by job) (λ content. length content.messages ≡ 1)
-unfolding made_by
-one_made job =
-    let begun : LeavesNone (after_all new_content (set_envelope job.from job.to ∷ set_mailbox job.mailbox ∷ [])) = none_boxed _ job.mailbox (none_set (Ok new_content) job.from job.to refl) in
-    rw (fold-append then_edit (after_all new_content (set_envelope job.from job.to ∷ set_mailbox job.mailbox ∷ [])) (map put_of job.scripts.items) (set_main job.main ∷ put_message job.id job.message ∷ []))
-    (one_put _ job.id job.message (none_named _ job.main (none_all_put _ job.scripts.items begun)))
+-- of one message those are the id alone that pass a test which it passes
+one_id : (test : List ℕ × List ℕ → Bool) (id bytes : List ℕ) → test (id, bytes) ≡ true → ids_where test ((id, bytes) ∷ []) ≡ id ∷ []
+unfolding ids_where
+one_id test id bytes is = rw is refl
 
--- the bench of a job has its message and no other
-pub one_message : (job : TestJob) (content : Content) → made_by job ≡ Ok content → length content.messages ≡ 1
-one_message job content made = subst (λ r. IfOk r (λ content. length content.messages ≡ 1)) made (one_made job)
+-- a message that is put where there is none is the only stale one
+pub first_put : (old new : BenchState) (id bytes : List ℕ) (outcome : Result Unit EditFault) → old.content.messages ≡ [] → OnOk outcome (after old.content (put_message id bytes) ≡ Ok new.content)
+    → OnOk outcome (new.stale ≡ stale_after old.content (put_message id bytes) old.stale new.content) → OnOk outcome (new.stale ≡ id ∷ [])
+first_put old new id bytes (Err fault) none ok stale = tt
+first_put old new id bytes (Ok done) none ok stale =
+    let all : with_message id bytes old.content.messages ≡ new.content.messages = ap (λ c. c.messages) (made_is (message_refusal old.content.messages id bytes) (record old.content { messages = with_message id bytes old.content.messages }) new.content ok) in
+    let only : new.content.messages ≡ (id, bytes) ∷ [] = sym all ∙ ap (with_message id bytes) none in
+    stale
+    ∙ ap (ids_where (λ message. touches old.content (put_message id bytes) message || is_among message.0 old.stale)) only
+    ∙ one_id (λ message. touches old.content (put_message id bytes) message || is_among message.0 old.stale) id bytes (rw (same_id id) refl)
+
+-- where memory is refused to a report of it, its run is counted
+pub one_refused : (old new : List (List ℕ)) (before after' : ℕ) → length old ≡ 1 → RefusedAmong old new before after' → after' ≡ next_run before
+one_refused old new before after' one refused =
+    let none : length refused.done ≡ 0 = omega (arith, one, ap length refused.whole, length-append refused.done new, refused.more) in
+    refused.runs ∙ ap (λ n. runs_after (suc n) before) none

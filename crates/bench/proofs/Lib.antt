@@ -2,7 +2,11 @@ pub mod Dumping
 pub mod Entries
 pub mod JobRows
 pub mod Jobs
+pub mod Judged
 pub mod Lines
+pub mod Marks
 pub mod Messages
+pub mod Names
+pub mod Refreshing
 pub mod Stales
 pub mod Writing

@@ -3,7 +3,7 @@ use Rattle.std.proofs.Common.{◌≡◌, ℕ, ◌+◌, List, ◌∷◌, remove, 
 use Rattle.std.specs.Map.{remove_entry}
 
 -- the first of some entries is removed at their first place
-pub removed_here : (test : List ℕ → Bool) (all : List (List ℕ × List ℕ)) (key value : List ℕ) (es : List (List ℕ × List ℕ)) (index : ℕ) → test key ≡ true
+pub removed_here : {V : Type 0} (test : List ℕ → Bool) (all : List (List ℕ × V)) (key : List ℕ) (value : V) (es : List (List ℕ × V)) (index : ℕ) → test key ≡ true
     → ((n : ℕ) → remove ((key, value) ∷ es) n ≡ remove_entry test ((key, value) ∷ es) → remove all (index + n) ≡ remove_entry test all) → remove all index ≡ remove_entry test all
 removed_here test all key value es index is so_far =
     let here : remove ((key, value) ∷ es) 0 ≡ remove_entry test ((key, value) ∷ es) = rw is refl in
@@ -11,7 +11,7 @@ removed_here test all key value es index is so_far =
     ap (λ i. remove all i) place ∙ so_far 0 here
 
 -- another is removed one place behind
-pub removed_later : (test : List ℕ → Bool) (all : List (List ℕ × List ℕ)) (key value : List ℕ) (es : List (List ℕ × List ℕ)) (index : ℕ) → test key ≡ false
+pub removed_later : {V : Type 0} (test : List ℕ → Bool) (all : List (List ℕ × V)) (key : List ℕ) (value : V) (es : List (List ℕ × V)) (index : ℕ) → test key ≡ false
     → ((n : ℕ) → remove ((key, value) ∷ es) n ≡ remove_entry test ((key, value) ∷ es) → remove all (index + n) ≡ remove_entry test all)
     → (n : ℕ) → remove es n ≡ remove_entry test es → remove all (index + 1 + n) ≡ remove_entry test all
 removed_later test all key value es index is so_far n later =

@@ -1,6 +1,5 @@
--- Worked rows of which messages an edit touches.
-use Rattle.std.proofs.Common.{◌≡◌, ℕ, Bool, true, false, List, [], ◌∷◌, length, None, Some, nat_eq, nat_lt, refl, codes}
-use lib.Pointwise.{pointwise}
+-- Worked rows of which messages are stale behind an edit, and behind a report that memory was refused to.
+use Rattle.std.proofs.Common.{◌≡◌, ℕ, ◌<◌, true, false, List, [], ◌∷◌, length, length-append, None, Some, Result, Ok, Err, nat_lt, refl, ap, codes, arith}
 use Rattle.sieve_base.specs.Limits.{text_limit}
 use Rattle.sieve_base.specs.declared.place.Place.TheVariants.{Personal, Global}
 use Rattle.sieve_check.specs.Judgement.{judgement_of, sound, faulty}
@@ -10,8 +9,10 @@ use Rattle.sieve_reading.specs.Tree.{Node}
 use Rattle.sieve_check.specs.declared.judged.FaultKind.{FaultKind}
 use Rattle.sieve_run.specs.Run.{outcome_of, exec}
 use Rattle.sieve_delivery.specs.declared.name.ScriptName.{ScriptName}
-use Rattle.bench.specs.Content.{Content, Edit, put_script, put_message, set_main, rename_script, remove_script, remove_message, clear_main, set_envelope, set_mailbox}
-use Rattle.bench.specs.Stale.{touches, stale_after, verdict_on}
+use Rattle.bench.specs.Bench.{RefusedAmong}
+use Rattle.bench.specs.Content.{Content, Edit, after, put_script, put_message, set_main, rename_script, remove_script, remove_message, clear_main, set_envelope, set_mailbox}
+use Rattle.bench.specs.Stale.{ids_where, stale_after, verdict_on}
+use Rattle.bench.specs.declared.fault.EditFault.{EditFault}
 
 abbrev personal : List ℕ → ScriptName
 personal name = record { place = Personal; name = name }
@@ -38,23 +39,24 @@ bench scripts = record {
   messages = (codes "m1", codes "Subject: one\n\n") ∷ (codes "m2", codes "Subject: two\n\n") ∷ [];
 }
 
--- which of m1, m2 and m3 are in a set
-abbrev marks : (List ℕ → Bool) → List Bool
-marks stale = stale (codes "m1") ∷ stale (codes "m2") ∷ stale (codes "m3") ∷ []
+-- the stale messages behind an edit: where it is refused, those that were stale
+abbrev behind : Result Content EditFault → Content → Edit → List (List ℕ) → List (List ℕ)
+behind (Ok new) old edit stale = stale_after old edit stale new
+behind (Err fault) old edit stale = stale
 
-abbrev none : List Bool
-none = false ∷ false ∷ false ∷ []
+abbrev marks : Content → Edit → List (List ℕ) → List (List ℕ)
+marks content edit stale = behind (after content edit) content edit stale
 
-abbrev both : List Bool
-both = true ∷ true ∷ false ∷ []
+-- where none was
+abbrev touched : Content → Edit → List (List ℕ)
+touched content edit = marks content edit []
 
--- which of them are stale after an edit, where none was
-abbrev touched : Content → Edit → List Bool
-touched content edit = marks (stale_after content edit (λ id. false))
+-- both messages, and the first
+abbrev both : List (List ℕ)
+both = codes "m1" ∷ codes "m2" ∷ []
 
--- and where m1 was
-abbrev first_is : List ℕ → Bool
-first_is id = pointwise nat_eq (codes "m1") id
+abbrev first : List (List ℕ)
+first = codes "m1" ∷ []
 
 -- THE MAIN SCRIPT IS MISSING
 
@@ -62,25 +64,25 @@ abbrev missing : Content
 missing = bench ((y, codes "keep;") ∷ [])
 
 put_missing_row : touched missing (put_script main (codes "keep;")) ≡ both
-unfolding touches outcome_of
+unfolding ids_where outcome_of
 put_missing_row = refl
 
-put_unread_row : touched missing (put_script x (codes "keep;")) ≡ none
-unfolding touches outcome_of
+put_unread_row : touched missing (put_script x (codes "keep;")) ≡ []
+unfolding ids_where outcome_of
 put_unread_row = refl
 
 -- a new name is looked up too, as far as a run missed it
 rename_to_missing_row : touched missing (rename_script y main) ≡ both
-unfolding touches outcome_of
+unfolding ids_where outcome_of
 rename_to_missing_row = refl
 
-rename_unread_row : touched missing (rename_script y x) ≡ none
-unfolding touches outcome_of
+rename_unread_row : touched missing (rename_script y x) ≡ []
+unfolding ids_where outcome_of
 rename_unread_row = refl
 
 -- what isn't there can't be removed
-remove_missing_row : touched missing (remove_script main) ≡ none
-unfolding touches outcome_of
+remove_missing_row : touched missing (remove_script main) ≡ []
+unfolding ids_where outcome_of
 remove_missing_row = refl
 
 -- THE MAIN SCRIPT IS THERE
@@ -109,88 +111,102 @@ keep_row text tree short judged commands bytes = rw (short, judged, commands) re
 -- rows of such a text
 module _ (text : List ℕ) (alone : IsAlone text) where
   -- another script, which no run looks up, is put, or put anew
-  put_row : touched (present text) (put_script x (codes "keep;")) ≡ none
-  unfolding touches
+  put_row : touched (present text) (put_script x (codes "keep;")) ≡ []
+  unfolding ids_where
   put_row = simp alone
 
-  put_again_row : touched (present text) (put_script y []) ≡ none
-  unfolding touches
+  put_again_row : touched (present text) (put_script y []) ≡ []
+  unfolding ids_where
   put_again_row = simp alone
 
-  put_global_row : touched (present text) (put_script global_main []) ≡ none
-  unfolding touches
+  put_global_row : touched (present text) (put_script global_main []) ≡ []
+  unfolding ids_where
   put_global_row = simp alone
 
   put_main_row : touched (present text) (put_script main []) ≡ both
-  unfolding touches
+  unfolding ids_where
   put_main_row = simp alone
 
   remove_main_row : touched (present text) (remove_script main) ≡ both
-  unfolding touches
+  unfolding ids_where
   remove_main_row = simp alone
 
-  remove_row : touched (present text) (remove_script y) ≡ none
-  unfolding touches
+  remove_row : touched (present text) (remove_script y) ≡ []
+  unfolding ids_where
   remove_row = simp alone
 
-  rename_row : touched (present text) (rename_script y x) ≡ none
-  unfolding touches
+  rename_row : touched (present text) (rename_script y x) ≡ []
+  unfolding ids_where
   rename_row = simp alone
 
   rename_main_row : touched (present text) (rename_script main x) ≡ both
-  unfolding touches
+  unfolding ids_where
   rename_main_row = simp alone
 
   -- a name that is taken is refused
-  refused_rename_row : marks (stale_after (present text) (rename_script y main) first_is) ≡ true ∷ false ∷ false ∷ []
-  unfolding touches
+  refused_rename_row : marks (present text) (rename_script y main) first ≡ first
+  unfolding ids_where
   refused_rename_row = refl
 
-  refused_remove_row : marks (stale_after (present text) (remove_message (codes "m3")) first_is) ≡ true ∷ false ∷ false ∷ []
-  unfolding touches
+  refused_remove_row : marks (present text) (remove_message (codes "m3")) first ≡ first
+  unfolding ids_where
   refused_remove_row = refl
 
   -- a message that is put is touched alone, a new one too
-  message_row : marks (stale_after (present text) (put_message (codes "m2") []) (λ id. false)) ≡ false ∷ true ∷ false ∷ []
-  unfolding touches
+  message_row : touched (present text) (put_message (codes "m2") []) ≡ codes "m2" ∷ []
+  unfolding ids_where
   message_row = refl
 
-  new_message_row : touched (present text) (put_message (codes "m3") []) ≡ false ∷ false ∷ true ∷ []
-  unfolding touches
+  new_message_row : touched (present text) (put_message (codes "m3") []) ≡ codes "m3" ∷ []
+  unfolding ids_where
   new_message_row = refl
 
   -- what was stale stays so
-  stays_row : marks (stale_after (present text) (put_message (codes "m2") []) first_is) ≡ both
-  unfolding touches
+  stays_row : marks (present text) (put_message (codes "m2") []) first ≡ both
+  unfolding ids_where
   stays_row = refl
 
   -- but for a message that is removed
-  remove_message_row : marks (stale_after (present text) (remove_message (codes "m1")) first_is) ≡ none
-  unfolding touches
+  remove_message_row : marks (present text) (remove_message (codes "m1")) first ≡ []
+  unfolding ids_where
   remove_message_row = refl
 
-  remove_other_message_row : marks (stale_after (present text) (remove_message (codes "m2")) first_is) ≡ true ∷ false ∷ false ∷ []
-  unfolding touches
+  remove_other_message_row : marks (present text) (remove_message (codes "m2")) first ≡ first
+  unfolding ids_where
   remove_other_message_row = refl
 
   -- the settings touch all
   mailbox_row : touched (present text) (set_mailbox (codes "Inbox2")) ≡ both
-  unfolding touches
+  unfolding ids_where
   mailbox_row = refl
 
   envelope_row : touched (present text) (set_envelope (codes "a@b.example") []) ≡ both
-  unfolding touches
+  unfolding ids_where
   envelope_row = refl
 
   set_main_row : touched (present text) (set_main y) ≡ both
-  unfolding touches
+  unfolding ids_where
   set_main_row = refl
 
   -- even where the main script stays
   same_main_row : touched (present text) (set_main main) ≡ both
-  unfolding touches
+  unfolding ids_where
   same_main_row = refl
 
   clear_main_row : touched (present text) clear_main ≡ both
-  unfolding touches
+  unfolding ids_where
   clear_main_row = refl
+
+-- A REPORT THAT MEMORY WAS REFUSED TO
+
+-- it can't leave nothing stale
+left_row : (old : List (List ℕ)) (runs later : ℕ) → RefusedAmong old [] runs later → ⊥
+left_row old runs later refused = omega (arith, refused.more)
+
+-- nor make more of them stale
+more_row : (old new : List (List ℕ)) (runs later : ℕ) → length old < length new → RefusedAmong old new runs later → ⊥
+more_row old new runs later more refused = omega (arith, ap length refused.whole, length-append refused.done new)
+
+-- nor be where nothing was stale
+none_row : (new : List (List ℕ)) (runs later : ℕ) → RefusedAmong [] new runs later → ⊥
+none_row new runs later refused = omega (arith, ap length refused.whole, length-append refused.done new, refused.more)

@@ -1,12 +1,11 @@
--- Which messages an edit touches: those whose verdict it may change.
-use Rattle.std.specs.Prelude.{ℕ, Bool, false, ◌||◌, ◌&&◌, not, List, Option, None, Some, is_some, Result, Ok, Err, nat_eq}
+-- Which messages are stale: the next report runs these. An edit makes those stale whose verdict it may change.
+use Rattle.std.specs.Prelude.{ℕ, Bool, true, false, ◌||◌, List, map, filter, nat_eq}
 use Rattle.std.specs.List.{list_any}
 use lib.Pointwise.{pointwise}
 use Rattle.sieve_delivery.specs.declared.name.ScriptName.{ScriptName}
-use Rattle.sieve_delivery.specs.Name.{name_eq}
+use Rattle.sieve_run.specs.Run.{is_read}
 use Rattle.sieve_run.specs.Verdict.{Verdict}
-use Rattle.bench.specs.declared.fault.EditFault.{EditFault}
-use Rattle.bench.specs.Content.{Content, Edit, put_script, put_message, set_main, rename_script, remove_script, remove_message, clear_main, set_envelope, set_mailbox, after, message_at}
+use Rattle.bench.specs.Content.{Content, Edit, put_script, put_message, set_main, rename_script, remove_script, remove_message, clear_main, set_envelope, set_mailbox}
 use Rattle.bench.specs.Report.{verdict_by}
 
 -- the verdict on a message of a content
@@ -15,43 +14,29 @@ verdict_on content bytes = verdict_by content.main content.envelope content.scri
 
 -- whether the run on a message looks a name up, present or missing
 abbrev pub looks_up : Content → ScriptName → List ℕ → Bool
-looks_up content name bytes = list_any (λ e. name_eq name e.0) (verdict_on content bytes).reads
+looks_up content name bytes = is_read name (verdict_on content bytes).reads
 
--- whether there is a message of an id, on which the run looks a name up
-abbrev pub reads_at : Content → ScriptName → Option (List ℕ) → Bool
-reads_at content name None = false
-reads_at content name (Some bytes) = looks_up content name bytes
+-- whether an edit of a content touches a message, told by its id and its octets
+abbrev pub touches : Content → Edit → List ℕ × List ℕ → Bool
+touches content (put_script name text) message = looks_up content name message.1
+touches content (put_message id bytes) message = pointwise nat_eq id message.0
+touches content (set_main name) message = true
+touches content (rename_script from to) message = looks_up content from message.1 || looks_up content to message.1
+touches content (remove_script name) message = looks_up content name message.1
+touches content (remove_message id) message = false
+touches content clear_main message = true
+touches content (set_envelope from to) message = true
+touches content (set_mailbox mailbox) message = true
 
--- whether an edit, where it is accepted, touches the message of an id
-unfoldable pub touches : Content → Edit → List ℕ → Bool
-touches content (put_script name text) id = reads_at content name (message_at content.messages id)
-touches content (put_message other bytes) id = pointwise nat_eq other id
-touches content (set_main name) id = is_some (message_at content.messages id)
-touches content (rename_script from to) id = reads_at content from (message_at content.messages id) || reads_at content to (message_at content.messages id)
-touches content (remove_script name) id = reads_at content name (message_at content.messages id)
-touches content (remove_message other) id = false
-touches content clear_main id = is_some (message_at content.messages id)
-touches content (set_envelope from to) id = is_some (message_at content.messages id)
-touches content (set_mailbox mailbox) id = is_some (message_at content.messages id)
+-- whether an id is among some
+abbrev pub is_among : List ℕ → List (List ℕ) → Bool
+is_among id ids = list_any (pointwise nat_eq id) ids
 
--- whether an edit removes the message of an id
-abbrev pub removes : Edit → List ℕ → Bool
-removes (put_script name text) id = false
-removes (put_message other bytes) id = false
-removes (set_main name) id = false
-removes (rename_script from to) id = false
-removes (remove_script name) id = false
-removes (remove_message other) id = pointwise nat_eq other id
-removes clear_main id = false
-removes (set_envelope from to) id = false
-removes (set_mailbox mailbox) id = false
+-- the ids of the messages that pass a test, in their order
+unfoldable pub ids_where : (List ℕ × List ℕ → Bool) → List (List ℕ × List ℕ) → List (List ℕ)
+ids_where test messages = map (λ m. m.0) (filter test messages)
 
--- the stale messages behind an edit that has this meaning, told by their ids: those that were stale and those that it touches, but for the
--- one that it removes; where it is refused, those that were
-abbrev pub stale_behind : Result Content EditFault → Content → Edit → (List ℕ → Bool) → List ℕ → Bool
-stale_behind (Ok content) old edit stale id = not (removes edit id) && (touches old edit id || stale id)
-stale_behind (Err fault) old edit stale id = stale id
-
--- the stale messages after an edit; one that memory is refused to changes nothing
-abbrev pub stale_after : Content → Edit → (List ℕ → Bool) → List ℕ → Bool
-stale_after old edit stale id = stale_behind (after old edit) old edit stale id
+-- the stale messages behind an edit that makes a content of another, told by their ids in the list's order: of those that are there then,
+-- those that it touches and those that were stale
+abbrev pub stale_after : Content → Edit → List (List ℕ) → Content → List (List ℕ)
+stale_after old edit stale new = ids_where (λ message. touches old edit message || is_among message.0 stale) new.messages

@@ -1,5 +1,5 @@
 -- The test of a message: the edits that a job makes of a new bench, and how the report of that bench ends.
-use Rattle.std.specs.Prelude.{◌≡◌, ⊤, ℕ, Bool, true, false, ◌&&◌, ◌==◌, if◌then◌else◌, List, [], ◌∷◌, ◌++◌, map, fold, Result, Ok, Err, IsOkAnd}
+use Rattle.std.specs.Prelude.{◌≡◌, ◌⊎◌, ℕ, Bool, true, false, ◌&&◌, ◌==◌, if◌then◌else◌, List, [], ◌∷◌, ◌++◌, map, fold, Result, Ok, Err, IsOkAnd}
 use Rattle.std.specs.List.{list_all}
 use Rattle.sieve_check.specs.Judgement.{Judgement, judgement_of, sound, faulty}
 use Rattle.sieve_run.specs.Meter.{next_run}
@@ -67,11 +67,12 @@ TestEnds test.Full job whole front nothing = (made_by job ≡ Err edit.Full) × 
 TestEnds test.Write job whole front nothing = IsOkAnd (made_by job) (λ content. front (report_text content))
 TestEnds test.NoMemory job whole front nothing = nothing
 
--- How many runs were made by an end: one where a report was made, and none where an edit was refused. Memory may have been refused before the run or in it.
-abbrev pub TestRuns : TestEnd → ℕ → ℕ → Type 0
-TestRuns test.Clean old new = new ≡ next_run old
-TestRuns test.Faulty old new = new ≡ next_run old
-TestRuns test.TooLarge old new = new ≡ old
-TestRuns test.Full old new = new ≡ old
-TestRuns test.Write old new = new ≡ next_run old
-TestRuns test.NoMemory old new = ⊤
+-- How many runs of a job were made by an end: one where a report was made, and none where an edit was refused. Memory may have been refused to an edit, or,
+-- where none of the job's edits is to be refused, to the report, whose run is counted then.
+abbrev pub TestRuns : TestEnd → TestJob → ℕ → ℕ → Type 0
+TestRuns test.Clean job old new = new ≡ next_run old
+TestRuns test.Faulty job old new = new ≡ next_run old
+TestRuns test.TooLarge job old new = new ≡ old
+TestRuns test.Full job old new = new ≡ old
+TestRuns test.Write job old new = new ≡ next_run old
+TestRuns test.NoMemory job old new = (new ≡ old) ⊎ IsOkAnd (made_by job) (λ content. new ≡ next_run old)

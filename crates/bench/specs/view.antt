@@ -1,6 +1,5 @@
 -- What the program's types stand for in contracts. The other files of specs/ restate the subject.
 pub mod Entry
 pub mod ReportFault
-pub mod Reported
 pub mod Refused
 pub mod Tested

@@ -1,5 +1,7 @@
-ghost use Rattle.std.specs.Prelude.{◌≡◌, ⊤, ◌≤◌, IfOk, OnOk, OnErr, IfErr, Ok, length, remove, is_some, IfSome};
-ghost use Rattle.bench.specs.Bench.{Makes};
+ghost use Rattle.std.specs.Prelude.{◌≡◌, ⊤, [], IfOk, OnOk, OnErr, IfErr, Ok, length};
+ghost use Rattle.std.specs.Option.{option_copied};
+ghost use Rattle.bench.specs.Bench.{Makes, RefusedAmong, verdict_at};
+ghost use Rattle.bench.specs.Stale.{ids_where, is_among, stale_after};
 ghost use Rattle.sieve_base.specs.Writers.{Wrote, WroteFront};
 ghost use Rattle.sieve_run.specs.Library.{found_at, lookup_of};
 ghost use Rattle.sieve_run.specs.Meter.{runs_after};
@@ -7,32 +9,35 @@ ghost use Rattle.sieve_run.specs.view.Found.{FoundAs};
 ghost use Rattle.bench.specs.Dump.{dump_of};
 ghost use Rattle.bench.specs.Report.{report_text};
 ghost use Rattle.bench.specs.Test.{is_clean};
-ghost use Rattle.bench.specs.view.Entry.{messages_of};
 ghost use Rattle.bench.specs.view.ReportFault.{MatchReportFault};
-ghost use Rattle.bench.specs.Content.{after, Answers, message_at, new_content, Refuses, text_at, without_message};
+ghost use Rattle.bench.specs.Content.{after, Answers, new_content, Refuses, text_at};
 ghost use Rattle.bench.specs.Content.{put_script, put_message, set_main, rename_script, remove_script, remove_message, clear_main, set_envelope, set_mailbox};
 
+use crate::dropping::{position_of, remove_at, remove_sought};
 use crate::dump::write_dump;
+use crate::entry::Entry;
 use crate::fault::{EditFault, ReportFault};
-use crate::message::{Entry, message_of};
+use crate::marking::{forget_all, forget_readers};
+use crate::message::message_of;
 use crate::refusal::{
     is_long, refuse_envelope, refuse_mailbox, refuse_main, refuse_message, refuse_remove_script,
     refuse_rename, refuse_script,
 };
-use crate::report::{is_clean, run_all, write_report};
+use crate::report::{is_clean, run_stale, write_report};
 use crate::scripts::Scripts;
 use crate::sought::Sought;
 use indexmap::IndexMap;
 use session_text::Word;
 use sieve_base::limits::MAX_ID;
 use sieve_base::{Octets, Sink, WriteFault};
-use sieve_run::{Envelope, Found, Library, Meter, ScriptName};
+use sieve_run::{Envelope, Found, Library, Meter, Outcome, ScriptName};
 use std::alloc::{AllocError, Global};
 use std::collections::BTreeMap;
 use std::marker::Model;
 
-/// Scripts beside sample messages, with the main script's name and the envelope. Contracts see what it holds as
-/// plain data.
+/// Scripts beside sample messages, with the main script's name and the envelope, and the verdicts that reports found and no edit has
+/// touched since. A message without such a verdict is stale: the next report runs it. Contracts see what a bench holds as plain data, and
+/// which messages are stale.
 #[derive(Drop)]
 pub struct Bench {
     alloc: Global,
@@ -43,29 +48,20 @@ pub struct Bench {
 }
 
 impl Model for Bench {
+    ghost use Rattle.std.specs.Prelude.{nat_eq};
+    ghost use Rattle.std.specs.List.{IsDistinct};
+    ghost use Rattle.std.specs.Map.{keys_of};
+    ghost use lib.Pointwise.{pointwise};
     ghost use Rattle.bench.specs.Bench.{BenchState};
     ghost use Rattle.bench.specs.Content.{Content};
-    ghost use Rattle.bench.specs.view.Entry.{messages_of};
+    ghost use Rattle.bench.specs.Report.{verdict_by};
+    ghost use Rattle.bench.specs.view.Entry.{KeepsDue, messages_of, stale_of};
 
     ghost Value = { BenchState };
 
-    ghost view = { λ b. record { content = record { main = b.main; envelope = b.envelope; scripts = b.scripts; messages = messages_of b.messages.entries } } };
-}
+    ghost view = { λ b. record { content = record { main = b.main; envelope = b.envelope; scripts = b.scripts; messages = messages_of b.messages.entries }; stale = stale_of b.messages.entries } };
 
-/// Where among the messages the one of a word's id is. Takes no memory, since the word isn't copied.
-#[tactic(auto, using(crate::proofs::Entries::entries), unfolding(crate::specs::view::Entry::messages_of))]
-fn position_of(messages: &IndexMap<Octets, Entry>, id: &Word<'_>) -> Option<usize>
-    ensures found { IfSome result (λ index. messages_of (remove messages.now.entries index) ≡ without_message id.now (messages_of messages.now.entries)) }
-    ensures is { is_some result ≡ is_some (message_at (messages_of messages.now.entries) id.now) }
-{
-    let mut index = 0;
-    for (other, _) in messages {
-        if id.is(other.as_slice()) {
-            return Some(index);
-        }
-        index += 1;
-    }
-    None
+    ghost invariant = { λ b. KeepsDue (verdict_by b.main b.envelope b.scripts) b.messages.entries × IsDistinct (pointwise nat_eq) (keys_of b.messages.entries) };
 }
 
 impl Bench {
@@ -85,23 +81,30 @@ impl Bench {
         }
     }
 
-    /// Keeps a script's text at a name, neither of which needs to be copied.
-    pub fn keep_script(&mut self, name: ScriptName, text: Octets) -> Result<(), EditFault>
-        ensures ok { OnOk result (after self.old.content (put_script name text) ≡ Ok self.new.content) }
+    /// Keeps a script's text at a name. The text needn't be copied.
+    pub fn keep_script(&mut self, name: &ScriptName, text: Octets) -> Result<(), EditFault>
+        ensures ok { OnOk result (after self.old.content (put_script name.now text) ≡ Ok self.new.content) }
+        ensures stale { OnOk result (self.new.stale ≡ stale_after self.old.content (put_script name.now text) self.old.stale self.new.content) }
         ensures err { OnErr result (self.new ≡ self.old) }
-        ensures refused { Refuses (after self.old.content (put_script name text)) result }
+        ensures refused { Refuses (after self.old.content (put_script name.now text)) result }
     {
-        if let Some(fault) = refuse_script(&self.scripts, &name, text.as_slice()) {
+        if let Some(fault) = refuse_script(&self.scripts, name, text.as_slice()) {
             return Err(fault);
         }
-        self.scripts.put(self.alloc, name, text)?;
-        Ok(())
+        match self.scripts.put(self.alloc, name, text) {
+            Ok(()) => {
+                forget_readers(&mut self.messages, name);
+                Ok(())
+            }
+            Err(_) => Err(EditFault::NoMemory),
+        }
     }
 
     /// Keeps a message's octets at an id, neither of which needs to be copied.
     #[tactic(auto, using(crate::proofs::Entries::entries))]
     pub fn keep_message(&mut self, id: Octets, bytes: Octets) -> Result<(), EditFault>
         ensures ok { OnOk result (after self.old.content (put_message id bytes) ≡ Ok self.new.content) }
+        ensures stale { OnOk result (self.new.stale ≡ stale_after self.old.content (put_message id bytes) self.old.stale self.new.content) }
         ensures err { OnErr result (self.new ≡ self.old) }
         ensures refused { Refuses (after self.old.content (put_message id bytes)) result }
     {
@@ -109,7 +112,11 @@ impl Bench {
             return Err(fault);
         }
         let message = message_of(self.alloc, bytes)?;
-        match self.messages.insert(id, Entry { message }) {
+        let entry = Entry {
+            message,
+            kept: None,
+        };
+        match self.messages.insert(id, entry) {
             Ok(_) => Ok(()),
             Err(_) => Err(EditFault::NoMemory),
         }
@@ -118,7 +125,8 @@ impl Bench {
     /// A bench with no scripts, no messages, no main script, an empty envelope, and the mailbox `INBOX`.
     #[tactic(auto, unfolding(crate::specs::view::Entry::messages_of))]
     pub fn new(alloc: Global) -> Result<Bench, AllocError>
-        ensures { IfOk result (λ bench. bench.content ≡ new_content) }
+        ensures content { IfOk result (λ bench. bench.content ≡ new_content) }
+        ensures stale { IfOk result (λ bench. bench.stale ≡ []) }
     {
         let envelope = Envelope {
             from: Octets::from_vec(Vec::new(alloc)),
@@ -139,6 +147,7 @@ impl Bench {
     /// Puts a script's text at a name, in place of the one there. A text with a fault is kept, and reported.
     pub fn put_script(&mut self, name: &ScriptName, text: &[u8]) -> Result<(), EditFault>
         ensures ok { OnOk result (after self.old.content (put_script name.now text.now) ≡ Ok self.new.content) }
+        ensures stale { OnOk result (self.new.stale ≡ stale_after self.old.content (put_script name.now text.now) self.old.stale self.new.content) }
         ensures err { OnErr result (self.new ≡ self.old) }
         ensures refused { Refuses (after self.old.content (put_script name.now text.now)) result }
     {
@@ -146,13 +155,13 @@ impl Bench {
             return Err(fault);
         }
         let text = Octets::copied(self.alloc, text)?;
-        let name = name.copy(self.alloc)?;
         self.keep_script(name, text)
     }
 
     /// Puts a message's octets at an id: a new id goes last, a present one keeps its place.
     pub fn put_message(&mut self, id: &Octets, bytes: &[u8]) -> Result<(), EditFault>
         ensures ok { OnOk result (after self.old.content (put_message id.now bytes.now) ≡ Ok self.new.content) }
+        ensures stale { OnOk result (self.new.stale ≡ stale_after self.old.content (put_message id.now bytes.now) self.old.stale self.new.content) }
         ensures err { OnErr result (self.new ≡ self.old) }
         ensures refused { Refuses (after self.old.content (put_message id.now bytes.now)) result }
     {
@@ -167,6 +176,7 @@ impl Bench {
     /// Makes a script main, whether or not it is there.
     pub fn set_main(&mut self, name: &ScriptName) -> Result<(), EditFault>
         ensures ok { OnOk result (after self.old.content (set_main name.now) ≡ Ok self.new.content) }
+        ensures stale { OnOk result (self.new.stale ≡ stale_after self.old.content (set_main name.now) self.old.stale self.new.content) }
         ensures err { OnErr result (self.new ≡ self.old) }
         ensures refused { Refuses (after self.old.content (set_main name.now)) result }
     {
@@ -175,25 +185,34 @@ impl Bench {
         }
         let name = name.copy(self.alloc)?;
         self.main = Some(name);
+        forget_all(&mut self.messages);
         Ok(())
     }
 
     /// Renames a script to a name that no script has. The main script's name stays as it is.
     pub fn rename_script(&mut self, from: &ScriptName, to: &ScriptName) -> Result<(), EditFault>
         ensures ok { OnOk result (after self.old.content (rename_script from.now to.now) ≡ Ok self.new.content) }
+        ensures stale { OnOk result (self.new.stale ≡ stale_after self.old.content (rename_script from.now to.now) self.old.stale self.new.content) }
         ensures err { OnErr result (self.new ≡ self.old) }
         ensures refused { Refuses (after self.old.content (rename_script from.now to.now)) result }
     {
         if let Some(fault) = refuse_rename(&self.scripts, from, to) {
             return Err(fault);
         }
-        self.scripts.rename(self.alloc, from, to)?;
-        Ok(())
+        match self.scripts.rename(self.alloc, from, to) {
+            Ok(()) => {
+                forget_readers(&mut self.messages, to);
+                forget_readers(&mut self.messages, from);
+                Ok(())
+            }
+            Err(_) => Err(EditFault::NoMemory),
+        }
     }
 
     /// Removes a script. Takes no memory.
     pub fn remove_script(&mut self, name: &ScriptName) -> Result<(), EditFault>
         ensures ok { OnOk result (after self.old.content (remove_script name.now) ≡ Ok self.new.content) }
+        ensures stale { OnOk result (self.new.stale ≡ stale_after self.old.content (remove_script name.now) self.old.stale self.new.content) }
         ensures err { OnErr result (self.new ≡ self.old) }
         ensures refused { Answers (after self.old.content (remove_script name.now)) result }
     {
@@ -201,12 +220,14 @@ impl Bench {
             return Err(fault);
         }
         self.scripts.remove(name);
+        forget_readers(&mut self.messages, name);
         Ok(())
     }
 
     /// Removes a message. The others stay in their order. Takes no memory.
     pub fn remove_message(&mut self, id: &Octets) -> Result<(), EditFault>
         ensures ok { OnOk result (after self.old.content (remove_message id.now) ≡ Ok self.new.content) }
+        ensures stale { OnOk result (self.new.stale ≡ stale_after self.old.content (remove_message id.now) self.old.stale self.new.content) }
         ensures err { OnErr result (self.new ≡ self.old) }
         ensures refused { Answers (after self.old.content (remove_message id.now)) result }
     {
@@ -218,7 +239,10 @@ impl Bench {
     /// Removes the message of an id. Takes no memory.
     #[tactic(auto, using(crate::proofs::Entries::entries))]
     fn drop_sought(&mut self, sought: Sought<'_>) -> Result<(), EditFault>
-        ensures { Makes (remove_message sought.entry.octets.now) result self.old self.new }
+        ensures ok { OnOk result (after self.old.content (remove_message sought.entry.octets.now) ≡ Ok self.new.content) }
+        ensures stale { OnOk result (self.new.stale ≡ stale_after self.old.content (remove_message sought.entry.octets.now) self.old.stale self.new.content) }
+        ensures err { OnErr result (self.new ≡ self.old) }
+        ensures refused { Answers (after self.old.content (remove_message sought.entry.octets.now)) result }
     {
         if sought.octets.len() > MAX_ID {
             return Err(EditFault::TooLarge);
@@ -226,20 +250,24 @@ impl Bench {
         if !self.messages.contains_key(sought) {
             return Err(EditFault::NoSuchMessage);
         }
-        self.messages.shift_remove(sought);
+        remove_sought(&mut self.messages, sought);
         Ok(())
     }
 
     /// Removes the message of a word, looking at all ids. Takes no memory.
+    #[tactic(auto, using(crate::proofs::Entries::entries))]
     fn drop_word(&mut self, id: &Word<'_>) -> Result<(), EditFault>
-        ensures { Makes (remove_message id.now) result self.old self.new }
+        ensures ok { OnOk result (after self.old.content (remove_message id.now) ≡ Ok self.new.content) }
+        ensures stale { OnOk result (self.new.stale ≡ stale_after self.old.content (remove_message id.now) self.old.stale self.new.content) }
+        ensures err { OnErr result (self.new ≡ self.old) }
+        ensures refused { Answers (after self.old.content (remove_message id.now)) result }
     {
         if id.len() > MAX_ID {
             return Err(EditFault::TooLarge);
         }
         match position_of(&self.messages, id) {
             Some(index) => {
-                self.messages.shift_remove_index(index);
+                remove_at(&mut self.messages, index);
                 Ok(())
             }
             None => Err(EditFault::NoSuchMessage),
@@ -259,14 +287,17 @@ impl Bench {
 
     /// Leaves no script main. Takes no memory.
     pub fn clear_main(&mut self)
-        ensures { after self.old.content clear_main ≡ Ok self.new.content }
+        ensures made { after self.old.content clear_main ≡ Ok self.new.content }
+        ensures stale { self.new.stale ≡ stale_after self.old.content clear_main self.old.stale self.new.content }
     {
         self.main = None;
+        forget_all(&mut self.messages);
     }
 
     /// Sets the addresses of the sender and of the recipient.
     pub fn set_envelope(&mut self, from: &[u8], to: &[u8]) -> Result<(), EditFault>
         ensures ok { OnOk result (after self.old.content (set_envelope from.now to.now) ≡ Ok self.new.content) }
+        ensures stale { OnOk result (self.new.stale ≡ stale_after self.old.content (set_envelope from.now to.now) self.old.stale self.new.content) }
         ensures err { OnErr result (self.new ≡ self.old) }
         ensures refused { Refuses (after self.old.content (set_envelope from.now to.now)) result }
     {
@@ -277,12 +308,14 @@ impl Bench {
         let to = Octets::copied(self.alloc, to)?;
         self.envelope.from = from;
         self.envelope.to = to;
+        forget_all(&mut self.messages);
         Ok(())
     }
 
     /// Sets the mailbox that mail is kept in.
     pub fn set_mailbox(&mut self, mailbox: &[u8]) -> Result<(), EditFault>
         ensures ok { OnOk result (after self.old.content (set_mailbox mailbox.now) ≡ Ok self.new.content) }
+        ensures stale { OnOk result (self.new.stale ≡ stale_after self.old.content (set_mailbox mailbox.now) self.old.stale self.new.content) }
         ensures err { OnErr result (self.new ≡ self.old) }
         ensures refused { Refuses (after self.old.content (set_mailbox mailbox.now)) result }
     {
@@ -291,22 +324,39 @@ impl Bench {
         }
         let mailbox = Octets::copied(self.alloc, mailbox)?;
         self.envelope.mailbox = mailbox;
+        forget_all(&mut self.messages);
         Ok(())
     }
 
-    /// Runs the main script on each message, and writes the report. A report that memory is refused for writes
-    /// nothing; one whose writer fails has written a front of the report. The scripts, the messages and the settings
-    /// stay as they are.
+    /// The verdict on the message of an id, as a report found it; none exactly where there is no such message or it is stale. Takes no
+    /// memory.
+    pub fn verdict(&self, id: &Octets) -> Option<&Outcome>
+        ensures due { option_copied result ≡ verdict_at self.now id.now }
+        // The stale messages are some of those that are there, each once and in the list's order.
+        ensures listed { self.now.stale ≡ ids_where (λ message. is_among message.0 self.now.stale) self.now.content.messages }
+    {
+        match self.messages.get(id) {
+            Some(entry) => entry.kept.as_ref(),
+            None => None,
+        }
+    }
+
+    /// Runs the main script on each stale message, in the list's order, and writes the report. A report that memory is refused for writes
+    /// nothing, and the verdicts that were made are kept; one whose writer fails has written a front of the report, and all verdicts are
+    /// kept. The scripts, the messages and the settings stay as they are. Takes no memory where no message is stale.
     pub fn report<W: Sink>(&mut self, meter: &mut Meter, writer: &mut W) -> Result<(), ReportFault>
         ensures ok { OnOk result (Wrote W.contents W.fault_count writer.old writer.new (report_text self.old.content)) }
         // Nothing is written where memory is refused, and a front of the report where the writer fails.
         ensures err { IfErr result (λ fault. MatchReportFault fault (writer.new ≡ writer.old)
             (WroteFront W.contents W.fault_count writer.old writer.new (report_text self.old.content))) }
-        ensures content { self.new ≡ self.old }
-        // Each message was run once, unless memory was refused.
-        ensures runs { OnOk result (meter.new ≡ runs_after (length self.old.content.messages) meter.old) }
-        ensures runs_at_fault { IfErr result (λ fault. MatchReportFault fault ⊤
-            (meter.new ≡ runs_after (length self.old.content.messages) meter.old)) }
+        ensures content { self.new.content ≡ self.old.content }
+        // Each stale message was run once, and none is stale; where memory was refused the first ones were run.
+        ensures stale { OnOk result (self.new.stale ≡ []) }
+        ensures runs { OnOk result (meter.new ≡ runs_after (length self.old.stale) meter.old) }
+        ensures at_fault { IfErr result (λ fault. MatchReportFault fault
+            (RefusedAmong self.old.stale self.new.stale meter.old meter.new)
+            ((self.new.stale ≡ []) × (meter.new ≡ runs_after (length self.old.stale) meter.old))) }
+        ensures no_memory { self.old.stale ≡ [] → IfErr result (λ fault. MatchReportFault fault ⊥ ⊤) }
     {
         match self.report_and_judge(meter, writer) {
             Ok(_clean) => Ok(()),
@@ -324,24 +374,28 @@ impl Bench {
         ensures clean { IfOk result (λ clean. clean ≡ is_clean self.old.content) }
         ensures err { IfErr result (λ fault. MatchReportFault fault (writer.new ≡ writer.old)
             (WroteFront W.contents W.fault_count writer.old writer.new (report_text self.old.content))) }
-        ensures content { self.new ≡ self.old }
-        ensures runs { OnOk result (meter.new ≡ runs_after (length self.old.content.messages) meter.old) }
-        ensures runs_at_fault { IfErr result (λ fault. MatchReportFault fault ⊤
-            (meter.new ≡ runs_after (length self.old.content.messages) meter.old)) }
+        ensures content { self.new.content ≡ self.old.content }
+        ensures stale { OnOk result (self.new.stale ≡ []) }
+        ensures runs { OnOk result (meter.new ≡ runs_after (length self.old.stale) meter.old) }
+        ensures at_fault { IfErr result (λ fault. MatchReportFault fault
+            (RefusedAmong self.old.stale self.new.stale meter.old meter.new)
+            ((self.new.stale ≡ []) × (meter.new ≡ runs_after (length self.old.stale) meter.old))) }
     {
         let main = self.main.as_ref();
-        let Ok(reported) = run_all(
+        if run_stale(
             self.alloc,
             &self.scripts,
             main,
             &self.envelope,
-            &self.messages,
+            &mut self.messages,
             meter,
-        ) else {
+        )
+        .is_err()
+        {
             return Err(ReportFault::NoMemory);
-        };
-        match write_report(main, &self.envelope, &self.scripts, &reported, writer) {
-            Ok(()) => Ok(is_clean(&self.scripts, &reported)),
+        }
+        match write_report(main, &self.envelope, &self.scripts, &self.messages, writer) {
+            Ok(()) => Ok(is_clean(&self.scripts, &self.messages)),
             Err(_) => Err(ReportFault::Write),
         }
     }

@@ -3,8 +3,11 @@
 #![tactic(auto)]
 
 mod bench;
+mod dropping;
 mod dump;
+mod entry;
 mod fault;
+mod marking;
 mod message;
 mod refusal;
 mod report;

@@ -5,12 +5,6 @@ use sieve_base::Octets;
 use sieve_run::{Message, MessageFault};
 use std::alloc::{AllocError, Global};
 
-/// A message with what the bench keeps beside it.
-#[derive(Drop)]
-pub(crate) struct Entry {
-    pub(crate) message: Message,
-}
-
 /// The message of these octets, which are no more than a message may have.
 pub(crate) fn message_of(alloc: Global, bytes: Octets) -> Result<Message, AllocError>
     requires { length bytes ≤ message_limit }

@@ -3,8 +3,8 @@ ghost use Rattle.std.specs.Prelude.{◌≡◌};
 ghost use Rattle.bench.specs.Content.{is_long, script_refusal, message_refusal, main_refusal, rename_refusal, remove_script_refusal, envelope_refusal, mailbox_refusal};
 ghost use Rattle.bench.specs.view.Entry.{messages_of};
 
+use crate::entry::Entry;
 use crate::fault::EditFault;
-use crate::message::Entry;
 use crate::scripts::Scripts;
 use indexmap::IndexMap;
 use sieve_base::Octets;

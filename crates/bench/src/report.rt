@@ -1,14 +1,16 @@
-ghost use Rattle.std.specs.Prelude.{◌≡◌, IfOk, OnOk, OnErr, map, length};
+ghost use Rattle.std.specs.Prelude.{◌≡◌, [], ◌∷◌, OnOk, OnErr, length, nat_eq};
 ghost use Rattle.std.specs.List.{flat_map};
 ghost use Rattle.std.specs.Option.{option_copied};
+ghost use Rattle.indexmap.specs.IndexMap.{IsUnique};
+ghost use lib.Pointwise.{pointwise};
 ghost use Rattle.sieve_base.specs.Writers.{Wrote, WroteFront};
-ghost use Rattle.bench.specs.Report.{action_line, read_line, script_line, verdict_lines, message_lines, error_count, total_line, report_with, verdicts};
+ghost use Rattle.bench.specs.Bench.{RefusedAmong};
+ghost use Rattle.bench.specs.Report.{action_line, read_line, script_line, verdict_by, verdict_lines, message_lines, error_count, total_line, report_with};
 ghost use Rattle.sieve_run.specs.Meter.{runs_after};
 ghost use Rattle.bench.specs.Test.{is_clean_with};
-ghost use Rattle.bench.specs.view.Entry.{messages_of};
-ghost use Rattle.bench.specs.view.Reported.{reported_of};
+ghost use Rattle.bench.specs.view.Entry.{KeepsDue, judged_of, messages_of, stale_of};
 
-use crate::message::Entry;
+use crate::entry::Entry;
 use crate::report_lines::{
     write_action, write_envelope, write_error, write_implicit, write_main, write_message,
     write_read, write_script, write_total,
@@ -16,36 +18,33 @@ use crate::report_lines::{
 use crate::scripts::Scripts;
 use indexmap::IndexMap;
 use sieve_base::{Octets, Sink, WriteFault};
-use sieve_run::{Envelope, Meter, Outcome, ScriptName, run};
+use sieve_run::{Envelope, Meter, Outcome, ScriptName};
 use std::alloc::{AllocError, Global};
 
-/// A message's id with the verdict on it.
-#[derive(Drop)]
-pub(crate) struct Reported<'a> {
-    id: &'a Octets,
-    outcome: Outcome,
-}
-
-/// Runs the main script on each message.
-#[tactic(auto, unfolding(crate::specs::Report::verdicts, crate::specs::view::Entry::messages_of))]
-pub(crate) fn run_all<'a>(
+/// Runs the main script on the stale messages, in their order.
+pub(crate) fn run_stale(
     alloc: Global,
     scripts: &Scripts,
     main: Option<&ScriptName>,
     envelope: &Envelope,
-    messages: &'a IndexMap<Octets, Entry>,
+    messages: &mut IndexMap<Octets, Entry>,
     meter: &mut Meter,
-) -> Result<Vec<Reported<'a>>, AllocError>
-    ensures verdicts { IfOk result (λ reported.
-        map reported_of reported.items ≡ verdicts (option_copied main.entry) envelope.now scripts.now (messages_of messages.now.entries)) }
-    ensures meter { OnOk result (meter.new ≡ runs_after (length (messages_of messages.now.entries)) meter.old) }
+) -> Result<(), AllocError>
+    requires { KeepsDue (verdict_by (option_copied main) envelope.now scripts.now) messages.old.entries }
+    ensures messages { messages_of messages.new.entries ≡ messages_of messages.old.entries }
+    ensures due { KeepsDue (verdict_by (option_copied main.entry) envelope.now scripts.now) messages.new.entries }
+    ensures unique { IsUnique (pointwise nat_eq) messages.new }
+    ensures stale { OnOk result (stale_of messages.new.entries ≡ []) }
+    ensures runs { OnOk result (meter.new ≡ runs_after (length (stale_of messages.old.entries)) meter.old) }
+    ensures refused { OnErr result (RefusedAmong (stale_of messages.old.entries) (stale_of messages.new.entries) meter.old meter.new) }
 {
-    let mut reported = Vec::new(alloc);
-    for (id, entry) in messages {
-        let outcome = run(alloc, scripts, main, envelope, &entry.message, meter)?;
-        reported.push(Reported { id, outcome })?;
+    let count = messages.len();
+    for index in 0..count {
+        if let Some(entry) = messages.get_index_mut(index) {
+            entry.refresh(alloc, scripts, main, envelope, meter)?;
+        }
     }
-    Ok(reported)
+    Ok(())
 }
 
 /// Writes the lines of the actions.
@@ -101,78 +100,100 @@ fn write_verdict<W: Sink>(
     write_reads(outcome, writer)
 }
 
-/// Writes the lines of a message.
-fn write_reported<W: Sink>(
+/// Writes the lines of a message, where its verdict is kept.
+fn write_entry<W: Sink>(
     envelope: &Envelope,
-    reported: &Reported<'_>,
+    id: &Octets,
+    entry: &Entry,
     writer: &mut W,
 ) -> Result<(), WriteFault>
-    ensures ok { OnOk result (Wrote W.contents W.fault_count writer.old writer.new (message_lines envelope.now.mailbox (reported_of reported.now))) }
-    ensures err { OnErr result (WroteFront W.contents W.fault_count writer.old writer.new (message_lines envelope.now.mailbox (reported_of reported.now))) }
+    ensures ok { OnOk result (Wrote W.contents W.fault_count writer.old writer.new (flat_map (message_lines envelope.now.mailbox) (judged_of ((id.now, entry.now) ∷ [])))) }
+    ensures err { OnErr result (WroteFront W.contents W.fault_count writer.old writer.new (flat_map (message_lines envelope.now.mailbox) (judged_of ((id.now, entry.now) ∷ [])))) }
 {
-    write_message(reported.id, writer)?;
-    write_verdict(envelope, &reported.outcome, writer)
+    match &entry.kept {
+        Some(outcome) => write_judged(envelope, id, outcome, writer),
+        None => Ok(()),
+    }
 }
 
-/// Writes the lines of all messages.
-#[tactic(auto, using(crate::proofs::Writing::writing))]
-fn write_all_reported<W: Sink>(
+/// Writes the lines of a message with the verdict on it.
+fn write_judged<W: Sink>(
     envelope: &Envelope,
-    reported: &[Reported<'_>],
+    id: &Octets,
+    outcome: &Outcome,
     writer: &mut W,
 ) -> Result<(), WriteFault>
-    ensures ok { OnOk result (Wrote W.contents W.fault_count writer.old writer.new (flat_map (message_lines envelope.now.mailbox) (map reported_of reported.now))) }
-    ensures err { OnErr result (WroteFront W.contents W.fault_count writer.old writer.new (flat_map (message_lines envelope.now.mailbox) (map reported_of reported.now))) }
+    ensures ok { OnOk result (Wrote W.contents W.fault_count writer.old writer.new (message_lines envelope.now.mailbox (id.now, outcome.now))) }
+    ensures err { OnErr result (WroteFront W.contents W.fault_count writer.old writer.new (message_lines envelope.now.mailbox (id.now, outcome.now))) }
 {
-    for one in reported {
-        write_reported(envelope, one, writer)?;
+    write_message(id, writer)?;
+    write_verdict(envelope, outcome, writer)
+}
+
+/// Writes the lines of all messages whose verdicts are kept.
+#[tactic(auto, using(crate::proofs::Writing::writing))]
+fn write_kept<W: Sink>(
+    envelope: &Envelope,
+    messages: &IndexMap<Octets, Entry>,
+    writer: &mut W,
+) -> Result<(), WriteFault>
+    ensures ok { OnOk result (Wrote W.contents W.fault_count writer.old writer.new (flat_map (message_lines envelope.now.mailbox) (judged_of messages.now.entries))) }
+    ensures err { OnErr result (WroteFront W.contents W.fault_count writer.old writer.new (flat_map (message_lines envelope.now.mailbox) (judged_of messages.now.entries))) }
+{
+    for (id, entry) in messages {
+        write_entry(envelope, id, entry, writer)?;
     }
     Ok(())
 }
 
-/// How many of the verdicts have an error.
-fn error_count(reported: &[Reported<'_>]) -> usize
-    ensures { result ≡ error_count (map reported_of reported.now) }
+/// How many of the verdicts that are kept have an error.
+fn error_count(messages: &IndexMap<Octets, Entry>) -> usize
+    ensures { result ≡ error_count (judged_of messages.now.entries) }
 {
-    reported
+    messages
         .iter()
-        .filter(|one| one.outcome.error().is_some())
+        .filter(|(_, entry)| entry.has_error())
         .count()
 }
 
-/// Whether no script has a fault, and no verdict an error.
-pub(crate) fn is_clean(scripts: &Scripts, reported: &[Reported<'_>]) -> bool
-    ensures { result ≡ is_clean_with scripts.now (map reported_of reported.now) }
+/// Whether no script has a fault, and no verdict that is kept an error.
+pub(crate) fn is_clean(scripts: &Scripts, messages: &IndexMap<Octets, Entry>) -> bool
+    ensures { result ≡ is_clean_with scripts.now (judged_of messages.now.entries) }
 {
-    scripts.are_sound() && error_count(reported) == 0
+    scripts.are_sound() && error_count(messages) == 0
 }
 
-/// Writes a report with these verdicts.
+/// Writes a report with the verdicts that are kept.
 pub(crate) fn write_report<W: Sink>(
     main: Option<&ScriptName>,
     envelope: &Envelope,
     scripts: &Scripts,
-    reported: &[Reported<'_>],
+    messages: &IndexMap<Octets, Entry>,
     writer: &mut W,
 ) -> Result<(), WriteFault>
+    requires { stale_of messages.now.entries ≡ [] }
     ensures ok { OnOk result (Wrote W.contents W.fault_count writer.old writer.new
-        (report_with (option_copied main.entry) envelope.now scripts.now (map reported_of reported.now))) }
+        (report_with (option_copied main.entry) envelope.now scripts.now (judged_of messages.now.entries))) }
     ensures err { OnErr result (WroteFront W.contents W.fault_count writer.old writer.new
-        (report_with (option_copied main.entry) envelope.now scripts.now (map reported_of reported.now))) }
+        (report_with (option_copied main.entry) envelope.now scripts.now (judged_of messages.now.entries))) }
 {
     write_main(main, writer)?;
     write_envelope(envelope, writer)?;
     write_scripts(scripts, writer)?;
-    write_all_reported(envelope, reported, writer)?;
-    write_totals(reported, writer)
+    write_kept(envelope, messages, writer)?;
+    write_totals(messages, writer)
 }
 
 /// Writes the last line.
-fn write_totals<W: Sink>(reported: &[Reported<'_>], writer: &mut W) -> Result<(), WriteFault>
+fn write_totals<W: Sink>(
+    messages: &IndexMap<Octets, Entry>,
+    writer: &mut W,
+) -> Result<(), WriteFault>
+    requires { stale_of messages.now.entries ≡ [] }
     ensures ok { OnOk result (Wrote W.contents W.fault_count writer.old writer.new
-        (total_line (length (map reported_of reported.now)) (error_count (map reported_of reported.now)))) }
+        (total_line (length (judged_of messages.now.entries)) (error_count (judged_of messages.now.entries)))) }
     ensures err { OnErr result (WroteFront W.contents W.fault_count writer.old writer.new
-        (total_line (length (map reported_of reported.now)) (error_count (map reported_of reported.now)))) }
+        (total_line (length (judged_of messages.now.entries)) (error_count (judged_of messages.now.entries)))) }
 {
-    write_total(reported.len() as u64, error_count(reported) as u64, writer)
+    write_total(messages.len() as u64, error_count(messages) as u64, writer)
 }

@@ -76,14 +76,15 @@ impl Scripts {
     pub(crate) fn put(
         &mut self,
         alloc: Global,
-        name: ScriptName,
+        name: &ScriptName,
         text: Octets,
     ) -> Result<(), AllocError>
         requires { length text ≤ text_limit }
-        ensures ok { OnOk result (self.new ≡ with_script name text self.old) }
+        ensures ok { OnOk result (self.new ≡ with_script name.now text self.old) }
         ensures err { OnErr result (self.new ≡ self.old) }
     {
         let script = Script::new(alloc, text)?;
+        let name = name.copy(alloc)?;
         self.keep(name, script)
     }
 

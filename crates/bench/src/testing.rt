@@ -1,6 +1,7 @@
 //! Tests a message by a bench that is made for it.
 ghost use Rattle.std.specs.Prelude.{◌≡◌, [], ◌∷◌, IfErr, IfOk, Ok, OnOk, length, map};
 ghost use Rattle.sieve_base.specs.Writers.{Wrote, WroteFront};
+ghost use Rattle.sieve_run.specs.Meter.{next_run};
 ghost use Rattle.bench.specs.Content.{put_message, set_envelope, set_mailbox, set_main};
 ghost use Rattle.bench.specs.Test.{TestEnds, TestRuns, after_all, edits_of, made_by, put_of};
 ghost use Rattle.bench.specs.view.Refused.{Refused};
@@ -38,6 +39,7 @@ fn put_scripts(bench: &mut Bench, scripts: &[TestScript]) -> Result<(), EditFaul
 fn put_sample(bench: &mut Bench, job: &TestJob) -> Result<(), EditFault>
     ensures ok { OnOk result (after_all bench.old.content (set_main job.now.main ∷ put_message job.now.id job.now.message ∷ []) ≡ Ok bench.new.content) }
     ensures err { IfErr result (λ fault. Refused fault (after_all bench.old.content (set_main job.now.main ∷ put_message job.now.id job.now.message ∷ []))) }
+    ensures stale { bench.old.content.messages ≡ [] → OnOk result (bench.new.stale ≡ job.now.id ∷ []) }
 {
     bench.set_main(&job.main)?;
     bench.put_message(&job.id, job.message.as_slice())
@@ -47,6 +49,7 @@ fn put_sample(bench: &mut Bench, job: &TestJob) -> Result<(), EditFault>
 fn make_edits(bench: &mut Bench, job: &TestJob) -> Result<(), EditFault>
     ensures ok { OnOk result (after_all bench.old.content (edits_of job.now) ≡ Ok bench.new.content) }
     ensures err { IfErr result (λ fault. Refused fault (after_all bench.old.content (edits_of job.now))) }
+    ensures stale { bench.old.content.messages ≡ [] → OnOk result (bench.new.stale ≡ job.now.id ∷ []) }
 {
     set_delivery(bench, job)?;
     put_scripts(bench, &job.scripts)?;
@@ -58,6 +61,7 @@ fn make_edits(bench: &mut Bench, job: &TestJob) -> Result<(), EditFault>
 fn bench_of(alloc: Global, job: &TestJob) -> Result<Bench, EditFault>
     ensures ok { IfOk result (λ bench. made_by job.now ≡ Ok bench.content) }
     ensures err { IfErr result (λ fault. Refused fault (made_by job.now)) }
+    ensures stale { IfOk result (λ bench. bench.stale ≡ job.now.id ∷ []) }
 {
     let mut bench = Bench::new(alloc)?;
     make_edits(&mut bench, job)?;
@@ -66,10 +70,10 @@ fn bench_of(alloc: Global, job: &TestJob) -> Result<Bench, EditFault>
 
 /// Writes the report of a bench, and says how that ends.
 fn report_end<W: Sink>(bench: &mut Bench, meter: &mut Meter, writer: &mut W) -> TestEnd
-    requires { length bench.old.content.messages ≡ 1 }
+    requires { length bench.old.stale ≡ 1 }
     ensures ends { ReportEnds result bench.old.content (Wrote W.contents W.fault_count writer.old writer.new)
         (WroteFront W.contents W.fault_count writer.old writer.new) (writer.new ≡ writer.old) }
-    ensures runs { TestRuns result meter.old meter.new }
+    ensures runs { meter.new ≡ next_run meter.old }
 {
     match bench.report_and_judge(meter, writer) {
         Ok(true) => TestEnd::Clean,
@@ -83,7 +87,8 @@ fn report_end<W: Sink>(bench: &mut Bench, meter: &mut Meter, writer: &mut W) -> 
 ///
 /// `Clean` says that the report was written, that no script has a fault, and that the message has no error; `Faulty` that it was written and one of them has.
 /// `TooLarge` and `Full` are the refusal of the first edit that is refused; nothing was written. `Write`: the writer failed, and a front of the report was
-/// written. `NoMemory`: memory was refused to the bench, an edit or the report; nothing was written. The meter counts one run for a report.
+/// written. `NoMemory`: memory was refused to the bench, an edit or the report; nothing was written. The meter counts one run for a report, also for one
+/// that memory was refused to.
 pub fn test_bench<W: Sink>(
     alloc: Global,
     job: &TestJob,
@@ -92,7 +97,7 @@ pub fn test_bench<W: Sink>(
 ) -> TestEnd
     ensures ends { TestEnds result job.now (Wrote W.contents W.fault_count writer.old writer.new)
         (WroteFront W.contents W.fault_count writer.old writer.new) (writer.new ≡ writer.old) }
-    ensures runs { TestRuns result meter.old meter.new }
+    ensures runs { TestRuns result job.now meter.old meter.new }
 {
     match bench_of(alloc, job) {
         Ok(mut bench) => report_end(&mut bench, meter, writer),

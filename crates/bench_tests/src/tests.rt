@@ -8,6 +8,7 @@ mod edits;
 mod failing_reads;
 mod failing_writes;
 mod faults;
+mod kept;
 mod limits;
 mod memory;
 mod meters;

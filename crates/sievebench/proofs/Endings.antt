@@ -4,11 +4,12 @@ use Rattle.std.specs.Option.{option_map}
 use Rattle.session_text.specs.SessionLine as line
 use Rattle.session_text.specs.SessionLine.{cut_line, first_line, in_front, line_from, without_cr, command_of_line}
 use Rattle.sieve_base.specs.Limits.{line_limit}
-use Rattle.bench.specs.Bench.{BenchState}
+use Rattle.sieve_run.specs.Meter.{runs_after}
 use Rattle.bench.specs.Content.{Content, Edit, after, put_message, put_script}
 use Rattle.bench.specs.Dump.{dump_of}
 use Rattle.bench.specs.Report.{report_text}
-use Rattle.sievebench.specs.Session.{CutSession, Ends, IsFront, Replies, Request, SessionText, Step, Steps, none_yet, one_more, over, unreadable, truncated, idle, edits, reports, dumps, refusal_line, request_at, request_by, request_of, takes_memory, with_octets}
+use Rattle.bench.specs.Stale.{stale_after}
+use Rattle.sievebench.specs.Session.{CutSession, Ends, IsFront, Replies, Request, Served, SessionText, Step, Steps, none_yet, one_more, over, unreadable, truncated, idle, edits, reports, dumps, refusal_line, request_at, request_by, request_of, takes_memory, with_octets}
 use Rattle.bench.specs.declared.fault.EditFault.{EditFault}
 use Rattle.sievebench.specs.declared.status.SessionEnd.{SessionEnd}
 use Rattle.sievebench.specs.declared.status.SessionEnd.TheVariants as ends
@@ -81,24 +82,29 @@ stream_fewer b bs = by_cut (cut_line (b ∷ bs)) (cut_fewer (b ∷ bs))
 
 -- EACH COMMAND HAS A REPLY, AND EACH STREAM AN END
 
-edit_replies : (takes : Bool) (meaning : Result Content EditFault) (old : BenchState) → (reply : List ℕ) × (new : BenchState) × Replies takes meaning old reply new
-edit_replies takes (Ok content) old = (codes "ok\n", record old { content = content }, inl (refl, refl))
-edit_replies takes (Err fault) old = (refusal_line fault, old, (inl refl, refl))
+edit_replies : (edit : Edit) (takes : Bool) (meaning : Result Content EditFault) (old : Served) → (reply : List ℕ) × (new : Served) × Replies edit takes meaning old reply new
+edit_replies edit takes (Ok content) old =
+    (codes "ok\n", record old { bench = record { content = content; stale = stale_after old.bench.content edit old.bench.stale content } }, inl (refl, (refl, refl, refl)))
+edit_replies edit takes (Err fault) old = (refusal_line fault, old, (inl refl, refl))
+
+-- a bench behind a report, and the runs
+abbrev reported : Served → Served
+reported old = record { bench = record old.bench { stale = [] }; runs = runs_after (length old.bench.stale) old.runs }
 
 -- some commands, and then others
-steps_both : (request : List ℕ → Request) (a b : BenchState) (s t xs : List ℕ) → Steps request a s xs b t → (c : BenchState) (u ys : List ℕ) → Steps request b t ys c u → Steps request a s (xs ++ ys) c u
+steps_both : (request : List ℕ → Request) (a b : Served) (s t xs : List ℕ) → Steps request a s xs b t → (c : Served) (u ys : List ℕ) → Steps request b t ys c u → Steps request a s (xs ++ ys) c u
 steps_both request a b s t xs first c u ys none_yet = rw append-nil first
 steps_both request a b s t xs first c u ys (one_more replies reply mid new rest left before step) =
     rw (← append_assoc xs replies reply) (one_more (xs ++ replies) reply mid new rest left (steps_both request a b s t xs first mid rest replies before) step)
 
 -- a session comes to an end
-abbrev ComesToEnd : BenchState → List ℕ → Type 0
-ComesToEnd old stream = (text : List ℕ) × (end : SessionEnd) × (new : BenchState) × SessionText old stream text end new
+abbrev ComesToEnd : Served → List ℕ → Type 0
+ComesToEnd old stream = (text : List ℕ) × (end : SessionEnd) × (new : Served) × SessionText old stream text end new
 
-ends_here : (old : BenchState) (stream reply : List ℕ) (end : SessionEnd) → Ends (request_of stream) end reply → ComesToEnd old stream
+ends_here : (old : Served) (stream reply : List ℕ) (end : SessionEnd) → Ends (request_of stream) end reply → ComesToEnd old stream
 ends_here old stream reply end is = (reply, end, old, record { replies = []; last = reply; rest = stream; steps = none_yet; ends = is; whole = refl })
 
-goes_on : (old mid : BenchState) (stream reply left : List ℕ) → Step old (request_of stream) reply mid left → ComesToEnd mid left → ComesToEnd old stream
+goes_on : (old mid : Served) (stream reply left : List ℕ) → Step old (request_of stream) reply mid left → ComesToEnd mid left → ComesToEnd old stream
 goes_on old mid stream reply left step ended =
     let session = ended.3 in (
       reply ++ ended.0,
@@ -114,18 +120,18 @@ goes_on old mid stream reply left step ended =
       },
     )
 
-by_request : (n : ℕ) (old : BenchState) (stream : List ℕ) (request : Request) → ((new : BenchState) (rest : List ℕ) → length rest ≤ n → ComesToEnd new rest) → length stream ≤ suc n → LeavesFewer (length stream) request → request_of stream ≡ request → ComesToEnd old stream
+by_request : (n : ℕ) (old : Served) (stream : List ℕ) (request : Request) → ((new : Served) (rest : List ℕ) → length rest ≤ n → ComesToEnd new rest) → length stream ≤ suc n → LeavesFewer (length stream) request → request_of stream ≡ request → ComesToEnd old stream
 by_request n old stream over go few less is = ends_here old stream [] ends.Done (rw is (refl, refl))
 by_request n old stream unreadable go few less is = ends_here old stream (codes "no syntax\n") ends.Syntax (rw is (refl, refl))
 by_request n old stream truncated go few less is = ends_here old stream (codes "no truncated\n") ends.Truncated (rw is (refl, refl))
 by_request n old stream (idle rest) go few less is = goes_on old old stream [] rest (rw is (refl, refl, refl)) (go old rest (omega (arith, few, less)))
 by_request n old stream (edits edit rest) go few less is =
-    let said = edit_replies (takes_memory edit) (after old.content edit) old in
+    let said = edit_replies edit (takes_memory edit) (after old.bench.content edit) old in
     goes_on old said.1 stream said.0 rest (rw is (said.2, refl)) (go said.1 rest (omega (arith, few, less)))
-by_request n old stream (reports rest) go few less is = goes_on old old stream (report_text old.content) rest (rw is (inl refl, refl, refl)) (go old rest (omega (arith, few, less)))
-by_request n old stream (dumps name rest) go few less is = goes_on old old stream (dump_of old.content name) rest (rw is (inl refl, refl, refl)) (go old rest (omega (arith, few, less)))
+by_request n old stream (reports rest) go few less is = goes_on old (reported old) stream (report_text old.bench.content) rest (rw is (inl (refl, (refl, refl, refl)), refl)) (go (reported old) rest (omega (arith, few, less)))
+by_request n old stream (dumps name rest) go few less is = goes_on old old stream (dump_of old.bench.content name) rest (rw is (inl refl, refl, refl)) (go old rest (omega (arith, few, less)))
 
-comes_to_end : (n : ℕ) (old : BenchState) (stream : List ℕ) → length stream ≤ n → ComesToEnd old stream
+comes_to_end : (n : ℕ) (old : Served) (stream : List ℕ) → length stream ≤ n → ComesToEnd old stream
 unfolding request_of
 comes_to_end n old [] few = ends_here old [] [] ends.Done (refl, refl)
 comes_to_end zero old (b ∷ bs) few = absurd (omega (arith, few))
@@ -135,7 +141,7 @@ joined : (r f b y x t : List ℕ) → f ++ b ≡ y → (r ++ f) ++ (b ++ (x ++ t
 joined r f b y x t is = rw (← is) (simp append_assoc)
 
 -- what is written of a session whose last reply is cut
-pub cut_is_front : (old new : BenchState) (stream text : List ℕ) → CutSession old stream text new → IsFront old stream text
+pub cut_is_front : (old new : Served) (stream text : List ℕ) → CutSession old stream text new → IsFront old stream text
 cut_is_front old new stream text cut = elim cut.answered [ inl on ↦ later on.0 on.1 (comes_to_end (length on.0) new on.0 (omega arith)) | inr last ↦ here last.0 last.1 ]
   where
     later : (left : List ℕ) → Step cut.mid (request_of cut.rest) cut.reply new left → ComesToEnd new left → IsFront old stream text

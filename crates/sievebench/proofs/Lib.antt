@@ -1,4 +1,5 @@
 pub mod Endings
+pub mod Moving
 pub mod Requests
 pub mod Serving
 pub mod SessionRows

@@ -6,10 +6,9 @@ use Rattle.std.proofs.Math.Seq.{drop-append_seam, take-append_seam}
 use Rattle.std.proofs.KnownBytes.{Appends-nil}
 use Rattle.std.specs.Io.KnownBytes.{Keeps, prepend_known}
 use Rattle.sieve_base.specs.Limits.{line_limit}
-use Rattle.bench.specs.Bench.{BenchState}
 use Rattle.bench.specs.Content.{Edit, put_script, put_message, set_main, rename_script, remove_script, set_envelope, set_mailbox}
 use Rattle.session_text.specs.view.Line.{IsCutOff, IsEnded, IsLine, IsWithin}
-use Rattle.sievebench.specs.Session.{Request, Step, request_behind, request_of, request_at, request_by, request_so_far, with_octets, edits, unreadable}
+use Rattle.sievebench.specs.Session.{Request, Served, Step, request_behind, request_of, request_at, request_by, request_so_far, with_octets, edits, unreadable}
 use Rattle.session_text.specs.SessionLine as line
 use Rattle.session_text.specs.SessionLine.{cut_line, ended_line, first_line, command_of_line, is_long_so_far, line_so_far}
 use Rattle.sievebench.specs.view.Task.{IsFollowedBy, IsTask, command_of, edit_by, edit_of}
@@ -42,13 +41,13 @@ forgotten (Some line.report) count is = absurd is
 forgotten (Some (line.dump place name)) count is = rw is (dump_refused (record { place = place; name = name }))
 
 -- a put
-pub put_goes : (subject : Subject) (count : ℕ) (command : Option line.Command) (way : Progress) (old new : BenchState) (unused before left rest after' : Option (List ℕ)) → IsTask (tasks.Put subject count) command
+pub put_goes : (subject : Subject) (count : ℕ) (command : Option line.Command) (way : Progress) (old new : Served) (unused before left rest after' : Option (List ℕ)) → IsTask (tasks.Put subject count) command
     → GoesFrom (λ rest. with_octets count rest (edit_of subject)) way old unused before new left rest after' → GoesFrom (request_by command) way old unused before new left rest after'
 put_goes (subjects.Script name) count command way old new unused before left rest after' is goes = rw is goes
 put_goes (subjects.Message id) count command way old new unused before left rest after' is goes = rw is goes
 
 -- a line of no words
-pub idle_step : (content : BenchState) (unused written : Option (List ℕ)) → StepFrom (request_by (Some line.nothing)) content unused written content unused written
+pub idle_step : (content : Served) (unused written : Option (List ℕ)) → StepFrom (request_by (Some line.nothing)) content unused written content unused written
 idle_step content None written = tt
 idle_step content (Some xs) written = ([], (refl, refl, refl), Appends-nil written)
 
@@ -58,7 +57,7 @@ unreadable_ends None = tt
 unreadable_ends (Some xs) = (refl, refl)
 
 -- an edit that no octets follow
-pub change_goes : (change : Change) (way : Progress) (old new : BenchState) (unused before left rest after' : Option (List ℕ)) → GoesFrom (λ rest. edits (edit_by change) rest) way old unused before new left rest after'
+pub change_goes : (change : Change) (way : Progress) (old new : Served) (unused before left rest after' : Option (List ℕ)) → GoesFrom (λ rest. edits (edit_by change) rest) way old unused before new left rest after'
     → GoesFrom (request_by (Some (command_of change))) way old unused before new left rest after'
 change_goes (changes.Main name) way old new unused before left rest after' goes = goes
 change_goes changes.NoMain way old new unused before left rest after' goes = goes
@@ -70,7 +69,7 @@ change_goes (changes.Mailbox box) way old new unused before left rest after' goe
 -- WHAT FOLLOWS A COMMAND DOESN'T MATTER TO IT
 
 -- what octets ask for, where they ask for it whatever follows what is left of them
-abbrev Alone : (List ℕ → Request) → BenchState → List ℕ → List ℕ → BenchState → List ℕ → Type 0
+abbrev Alone : (List ℕ → Request) → Served → List ℕ → List ℕ → Served → List ℕ → Type 0
 Alone request old unused reply new left = (used : List ℕ) × (unused ≡ used ++ left) × ((more : List ℕ) → Step old (request (used ++ more)) reply new more)
 
 put_of : (octets more : List ℕ) (edit : List ℕ → Edit) → with_octets (length octets) (octets ++ more) edit ≡ edits (edit octets) more
@@ -79,7 +78,7 @@ put_of octets more edit =
     let some : nat_lt (length (octets ++ more)) (length octets) ≡ false = grind (arith, nat_tests, size) in
     rw some (rw (take-append_seam octets more) (rw (drop-append_seam octets more) refl))
 
-put_alone : (count : ℕ) (edit : List ℕ → Edit) (old new : BenchState) (xs ys reply : List ℕ) → Step old (with_octets count xs edit) reply new ys → Alone (λ rest. with_octets count rest edit) old xs reply new ys
+put_alone : (count : ℕ) (edit : List ℕ → Edit) (old new : Served) (xs ys reply : List ℕ) → Step old (with_octets count xs edit) reply new ys → Alone (λ rest. with_octets count rest edit) old xs reply new ys
 put_alone count edit old new xs ys reply step = by_room (cases_lt (length xs) count)
   where
     by_room : (length xs < count) ⊎ (count ≤ length xs) → Alone (λ rest. with_octets count rest edit) old xs reply new ys
@@ -94,7 +93,7 @@ put_alone count edit old new xs ys reply step = by_room (cases_lt (length xs) co
           λ more. subst (λ n. Step old (with_octets n (take count xs ++ more) edit) reply new more) size (rw (put_of (take count xs) more edit) (step'.0, refl)),
         )
 
-step_alone : (command : Option line.Command) (old new : BenchState) (xs ys reply : List ℕ) → Step old (request_by command xs) reply new ys → Alone (request_by command) old xs reply new ys
+step_alone : (command : Option line.Command) (old new : Served) (xs ys reply : List ℕ) → Step old (request_by command xs) reply new ys → Alone (request_by command) old xs reply new ys
 step_alone None old new xs ys reply step = absurd step
 step_alone (Some line.nothing) old new xs ys reply step = ([], sym step.2, λ more. (step.0, step.1, refl))
 step_alone (Some (line.script place name n)) old new xs ys reply step = put_alone n (put_script (record { place = place; name = name })) old new xs ys reply step
@@ -106,7 +105,7 @@ step_alone (Some (line.drop_script place name)) old new xs ys reply step = ([], 
 step_alone (Some (line.drop_message id)) old new xs ys reply step = ([], sym step.1, λ more. (step.0, refl))
 step_alone (Some (line.envelope from to)) old new xs ys reply step = ([], sym step.1, λ more. (step.0, refl))
 step_alone (Some (line.mailbox box)) old new xs ys reply step = ([], sym step.1, λ more. (step.0, refl))
-step_alone (Some line.report) old new xs ys reply step = ([], sym step.2, λ more. (step.0, step.1, refl))
+step_alone (Some line.report) old new xs ys reply step = ([], sym step.1, λ more. (step.0, refl))
 step_alone (Some (line.dump place name)) old new xs ys reply step = ([], sym step.2, λ more. (step.0, step.1, refl))
 
 -- THE NEXT LINE
@@ -128,7 +127,7 @@ long_request (b ∷ bs) some long =
     ap (λ (v : Bool). cond v unreadable (request_by (command_of_line (first_line (b ∷ bs)).0) (first_line (b ∷ bs)).1)) past
 
 -- the end
-pub over_end : (old : BenchState) (unused rest before : Option (List ℕ)) (pending : List ℕ) → Keeps unused (prepend_known pending rest) → IfSome rest (IsLine Over pending) → EndFrom request_of ends.Done old unused before old before
+pub over_end : (old : Served) (unused rest before : Option (List ℕ)) (pending : List ℕ) → Keeps unused (prepend_known pending rest) → IfSome rest (IsLine Over pending) → EndFrom request_of ends.Done old unused before old before
 unfolding request_of
 over_end old None rest before pending same end = tt
 over_end old (Some xs) None before pending same end = absurd same
@@ -143,7 +142,7 @@ long_end (Some xs) (Some ys) pending same long some =
     rw (← same) (rw (long_request (pending ++ ys) (omega arith) long) (refl, refl))
 
 -- what is read of a line of which no more can be read
-pub cut_line_break : (old : BenchState) (unused rest written : Option (List ℕ)) (pending : List ℕ) → Keeps unused (prepend_known pending rest) → IsCutOff pending → BreakFrom request_so_far old unused written old rest written
+pub cut_line_break : (old : Served) (unused rest written : Option (List ℕ)) (pending : List ℕ) → Keeps unused (prepend_known pending rest) → IsCutOff pending → BreakFrom request_so_far old unused written old rest written
 unfolding request_so_far line_so_far
 cut_line_break old None rest written pending same cut = tt
 cut_line_break old (Some xs) None written pending same cut = absurd same
@@ -174,7 +173,7 @@ line_alone pending len skip ended within = λ more.
     let few : nat_lt line_limit (length (take len pending)) ≡ false = grind (arith, nat_tests, length-take len pending, within) in
     ap (request_behind (take skip pending ++ more)) (ended more) ∙ ap (λ (v : Bool). cond v unreadable (request_by (command_of_line (take len pending)) more)) few
 
-pub step_served : (front : List ℕ) (command : Option line.Command) (ended : Bool) (old new : BenchState) (unused behind left before after' : Option (List ℕ)) → Begins front command unused behind → (ended ≡ false → BeginsAlone front command)
+pub step_served : (front : List ℕ) (command : Option line.Command) (ended : Bool) (old new : Served) (unused behind left before after' : Option (List ℕ)) → Begins front command unused behind → (ended ≡ false → BeginsAlone front command)
     → StepFrom (request_by command) old behind before new left after' → ServesFrom ended old unused before new left after'
 step_served front command ended old new None behind left before after' begins alone step = tt
 step_served front command ended old new (Some xs) None left before after' begins alone step = absurd begins
@@ -189,13 +188,13 @@ step_served front command ended old new (Some xs) (Some ys) (Some zs) before aft
           λ more. rw (append_assoc front own.0 more) (rw (whole (own.0 ++ more)) (own.2 more)),
         )
 
-pub end_served : (front : List ℕ) (command : Option line.Command) (end : SessionEnd) (old new : BenchState) (unused behind before after' : Option (List ℕ)) → Begins front command unused behind
+pub end_served : (front : List ℕ) (command : Option line.Command) (end : SessionEnd) (old new : Served) (unused behind before after' : Option (List ℕ)) → Begins front command unused behind
     → EndFrom (request_by command) end old behind before new after' → EndFrom request_of end old unused before new after'
 end_served front command end old new None behind before after' begins ended = tt
 end_served front command end old new (Some xs) None before after' begins ended = absurd begins
 end_served front command end old new (Some xs) (Some ys) before after' begins ended = (ended.0, rw begins.1 ended.1, ended.2, ended.3)
 
-pub break_served : (front : List ℕ) (command : Option line.Command) (old new : BenchState) (unused behind rest before after' : Option (List ℕ)) → Begins front command unused behind → BeginsAlone front command
+pub break_served : (front : List ℕ) (command : Option line.Command) (old new : Served) (unused behind rest before after' : Option (List ℕ)) → Begins front command unused behind → BeginsAlone front command
     → BreakFrom (request_by command) old behind before new rest after' → BreakFrom request_so_far old unused before new rest after'
 break_served front command old new None behind rest before after' begins alone broken = tt
 break_served front command old new (Some xs) None rest before after' begins alone broken = absurd begins
@@ -203,7 +202,7 @@ break_served front command old new (Some xs) (Some ys) None before after' begins
 break_served front command old new (Some xs) (Some ys) (Some zs) before after' begins alone broken =
     (front ++ broken.0, begins.0 ∙ ap (λ l. front ++ l) broken.1 ∙ sym (append_assoc front broken.0 zs), alone broken.0 ∙ broken.2, broken.3, broken.4)
 
-pub cut_served : (front : List ℕ) (command : Option line.Command) (old new : BenchState) (unused behind before after' : Option (List ℕ)) → Begins front command unused behind
+pub cut_served : (front : List ℕ) (command : Option line.Command) (old new : Served) (unused behind before after' : Option (List ℕ)) → Begins front command unused behind
     → CutFrom (request_by command) old behind before new after' → CutFrom request_of old unused before new after'
 cut_served front command old new None behind before after' begins cut = tt
 cut_served front command old new (Some xs) None before after' begins cut = absurd begins

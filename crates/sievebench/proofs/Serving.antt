@@ -1,21 +1,23 @@
 -- How the commands of a session are served.
-use Rattle.std.proofs.Common.{◌≡◌, ℕ, ◌<◌, ◌≤◌, ◌⊎◌, inl, inr, List, length, take, drop, sym, ap, refl, arith, rules, Option, None, Some, Result, Ok, Err, OnOk, OnErr, Bool, true, false, nat_lt, nat_le, ◌||◌, ◌&&◌, is_none, cond, codes, IfSome, length-take}
+use Rattle.std.proofs.Common.{◌≡◌, ℕ, ◌<◌, ◌≤◌, ◌⊎◌, inl, inr, List, length, take, drop, sym, ap, ◌∙◌, refl, arith, rules, Option, None, Some, Result, Ok, Err, OnOk, OnErr, Bool, true, false, nat_lt, nat_le, ◌||◌, ◌&&◌, is_none, cond, codes, IfSome, length-take}
 use Rattle.std.proofs.lemmas.Bool.Decides.{nat_tests}
 use Rattle.std.proofs.KnownBytes.{Appends-nil}
 use Rattle.std.specs.Io.KnownBytes.{Appends}
 use Rattle.sieve_base.specs.Devices.{HasRisen}
 use Rattle.sieve_base.specs.Limits.{message_count_limit, message_limit, script_count_limit, text_limit}
 use Rattle.sieve_base.specs.Writers.{Wrote, WroteFront}
-use Rattle.bench.specs.Bench.{BenchState}
+use Rattle.bench.specs.Bench.{BenchState, Makes}
 use Rattle.bench.specs.Content.{Content, Edit, after, Answers, Refuses, unless, is_long, is_long_id, text_at, message_at, with_script, with_message}
 use Rattle.session_text.specs.view.Payload.{BreaksOff, Takes, FallsShort}
-use Rattle.sievebench.specs.Session.{Ends, MatchFault, MatchSessionEnd, Request, Step, takes_memory, with_octets, dumps, edits, reports, truncated, Replies, refusal_line}
+use Rattle.sievebench.specs.Session.{Ends, MatchFault, MatchSessionEnd, Reported, ReportRefused, Request, Served, served, Step, takes_memory, with_octets, dumps, edits, reports, truncated, Replies, refusal_line}
 use Rattle.sieve_delivery.specs.declared.name.ScriptName.{ScriptName}
 use Rattle.bench.specs.Dump.{dump_of}
 use Rattle.bench.specs.Report.{report_text}
+use Rattle.bench.specs.Stale.{stale_after}
 use Rattle.sievebench.specs.view.Task.{edit_of, limit_of}
 use Rattle.sievebench.specs.view.Progress.{RefusesIf, BreakFrom, Continues, CutFrom, EndsBy, Follows, GoesFrom, MatchProgress, MayBeRefused, StepFrom, EndFrom, reply_line}
 use Rattle.sievebench.specs.declared.server.Progress.{Progress}
+use Rattle.sievebench.proofs.Moving.{edit_moves, made_moves, report_moves}
 use Rattle.sievebench.specs.declared.server.Progress.TheVariants as ways
 use Rattle.bench.specs.declared.fault.EditFault.{EditFault}
 use Rattle.bench.specs.declared.fault.EditFault.TheVariants.{TooLarge, Full, NoMemory}
@@ -27,7 +29,7 @@ use Rattle.sievebench.specs.declared.status.SessionEnd.TheVariants as ends
 -- WHAT IS ASKED FOR, AND WHAT IS WRITTEN
 
 -- the unused octets ask for a command, this is its reply, and so much is left
-abbrev pub RepliesTo : (List ℕ → Request) → BenchState → Option (List ℕ) → List ℕ → BenchState → Option (List ℕ) → Type 0
+abbrev pub RepliesTo : (List ℕ → Request) → Served → Option (List ℕ) → List ℕ → Served → Option (List ℕ) → Type 0
 RepliesTo request old None reply new left = Unit {0}
 RepliesTo request old (Some unused) reply new None = ⊥
 RepliesTo request old (Some unused) reply new (Some left) = Step old (request unused) reply new left
@@ -37,37 +39,37 @@ abbrev pub EndsAt : (List ℕ → Request) → Option (List ℕ) → SessionEnd 
 EndsAt request None end reply = Unit {0}
 EndsAt request (Some unused) end reply = Ends (request unused) end reply
 
-step_written : (request : List ℕ → Request) (old new : BenchState) (unused left before after' : Option (List ℕ)) (reply : List ℕ) → RepliesTo request old unused reply new left → Appends before after' reply
+step_written : (request : List ℕ → Request) (old new : Served) (unused left before after' : Option (List ℕ)) (reply : List ℕ) → RepliesTo request old unused reply new left → Appends before after' reply
     → StepFrom request old unused before new left after'
 step_written request old new None left before after' reply asked written = tt
 step_written request old new (Some xs) None before after' reply asked written = absurd asked
 step_written request old new (Some xs) (Some ys) before after' reply asked written = (reply, asked, written)
 
-pub step_cut : {T : Type 0} (contents : T → Option (List ℕ)) (fault_count : T → ℕ) (w w' : T) (request : List ℕ → Request) (old new : BenchState) (unused left : Option (List ℕ)) (reply : List ℕ)
+pub step_cut : {T : Type 0} (contents : T → Option (List ℕ)) (fault_count : T → ℕ) (w w' : T) (request : List ℕ → Request) (old new : Served) (unused left : Option (List ℕ)) (reply : List ℕ)
     → RepliesTo request old unused reply new left → WroteFront contents fault_count w w' reply → CutFrom request old unused (contents w) new (contents w')
 step_cut contents fault_count w w' request old new None left reply asked cut = tt
 step_cut contents fault_count w w' request old new (Some xs) None reply asked cut = absurd asked
 step_cut contents fault_count w w' request old new (Some xs) (Some ys) reply asked cut = (reply, cut.front, cut.back, cut.whole, inl (ys, asked), cut.front_appended)
 
-end_written : (request : List ℕ → Request) (end : SessionEnd) (old : BenchState) (unused before after' : Option (List ℕ)) (reply : List ℕ) → EndsAt request unused end reply → Appends before after' reply
+end_written : (request : List ℕ → Request) (end : SessionEnd) (old : Served) (unused before after' : Option (List ℕ)) (reply : List ℕ) → EndsAt request unused end reply → Appends before after' reply
     → EndFrom request end old unused before old after'
 end_written request end old None before after' reply asked written = tt
 end_written request end old (Some xs) before after' reply asked written = (reply, asked, written, refl)
 
-end_cut : {T : Type 0} (contents : T → Option (List ℕ)) (fault_count : T → ℕ) (w w' : T) (request : List ℕ → Request) (end : SessionEnd) (old : BenchState) (unused : Option (List ℕ)) (reply : List ℕ)
+end_cut : {T : Type 0} (contents : T → Option (List ℕ)) (fault_count : T → ℕ) (w w' : T) (request : List ℕ → Request) (end : SessionEnd) (old : Served) (unused : Option (List ℕ)) (reply : List ℕ)
     → EndsAt request unused end reply → WroteFront contents fault_count w w' reply → CutFrom request old unused (contents w) old (contents w')
 end_cut contents fault_count w w' request end old None reply asked cut = tt
 end_cut contents fault_count w w' request end old (Some xs) reply asked cut = (reply, cut.front, cut.back, cut.whole, inr (end, asked, refl), cut.front_appended)
 
 -- where a reply was written, or the writer failed
-pub answered : {T : Type 0} (contents : T → Option (List ℕ)) (fault_count : T → ℕ) (w w' : T) (request : List ℕ → Request) (way : Progress) (old new : BenchState) (unused left rest : Option (List ℕ)) (reply : List ℕ)
+pub answered : {T : Type 0} (contents : T → Option (List ℕ)) (fault_count : T → ℕ) (w w' : T) (request : List ℕ → Request) (way : Progress) (old new : Served) (unused left rest : Option (List ℕ)) (reply : List ℕ)
     → Continues way (Wrote contents fault_count w w' reply) (WroteFront contents fault_count w w' reply) → RepliesTo request old unused reply new left
     → GoesFrom request way old unused (contents w) new left rest (contents w')
 answered contents fault_count w w' request ways.Continues old new unused left rest reply said asked = step_written request old new unused left (contents w) (contents w') reply asked said.text_appended
 answered contents fault_count w w' request (ways.Ends end) old new unused left rest reply said asked = rw said.0 (step_cut contents fault_count w w' request old new unused left reply asked said.1)
 
 -- where the last reply was written, or the writer failed; P is what is known of the end that is due
-pub ended : {T : Type 0} (contents : T → Option (List ℕ)) (fault_count : T → ℕ) (w w' : T) (request : List ℕ → Request) (wanted : SessionEnd) (way : Progress) (old : BenchState) (unused : Option (List ℕ)) (reply : List ℕ) (P R : Type 0)
+pub ended : {T : Type 0} (contents : T → Option (List ℕ)) (fault_count : T → ℕ) (w w' : T) (request : List ℕ → Request) (wanted : SessionEnd) (way : Progress) (old : Served) (unused : Option (List ℕ)) (reply : List ℕ) (P R : Type 0)
     → ((Q S : Type 0) → Q → MatchSessionEnd wanted Q R S ⊥) → EndsBy wanted way (Wrote contents fault_count w w' reply) (WroteFront contents fault_count w w' reply) → EndsAt request unused wanted reply
     → Follows way P (λ end. EndFrom request end old unused (contents w) old (contents w')) R (CutFrom request old unused (contents w) old (contents w'))
 ended contents fault_count w w' request wanted ways.Continues old unused reply P R due said asked = absurd said
@@ -114,34 +116,51 @@ where_broken (ways.Ends ends.TurnLimit) P R S N A B G F Q known h = (known.0, h)
 
 -- REPLIES TO EDITS
 
+-- where it is made
+replies_ok : (edit : Edit) (takes : Bool) (content : Content) (old new : BenchState) (runs : ℕ) → content ≡ new.content → new.stale ≡ stale_after old.content edit old.stale new.content
+    → Replies edit takes (Ok content) (served old runs) (codes "ok\n") (served new runs)
+replies_ok edit takes content old new runs same stale =
+    inl (refl, (sym same, stale ∙ ap (λ (c : Content). stale_after old.content edit old.stale c) (sym same), refl))
+
 -- what an edit answers is what its definition allows
-pub replies_of : (takes : Bool) (outcome : Result Unit EditFault) (meaning : Result Content EditFault) (old new : BenchState) → OnOk outcome (meaning ≡ Ok new.content) → OnErr outcome (new ≡ old) → RefusesIf takes meaning outcome → Replies takes meaning old (reply_line outcome) new
-replies_of true (Ok done) (Ok content) old new ok err refused = inl (refl, let same : content ≡ new.content = cc in sym same)
-replies_of true (Ok done) (Err fault) old new ok err refused = absurd refused
-replies_of true (Err fault) (Ok content) old new ok err refused = inr (refl, ap refusal_line refused, err)
-replies_of true (Err fault) (Err refusal) old new ok err refused = (inl (ap refusal_line refused), err)
-replies_of false (Ok done) (Ok content) old new ok err refused = inl (refl, let same : content ≡ new.content = cc in sym same)
-replies_of false (Ok done) (Err fault) old new ok err refused = absurd refused
-replies_of false (Err fault) (Ok content) old new ok err refused = absurd refused
-replies_of false (Err fault) (Err refusal) old new ok err refused = (inl (ap refusal_line refused), err)
+pub replies_of : (edit : Edit) (takes : Bool) (outcome : Result Unit EditFault) (meaning : Result Content EditFault) (old new : BenchState) (runs : ℕ) → OnOk outcome (meaning ≡ Ok new.content)
+    → OnOk outcome (new.stale ≡ stale_after old.content edit old.stale new.content) → OnErr outcome (new ≡ old) → RefusesIf takes meaning outcome
+    → Replies edit takes meaning (served old runs) (reply_line outcome) (served new runs)
+replies_of edit takes (Ok done) (Ok content) old new runs ok stale err refused =
+    let same : content ≡ new.content = cc in
+    replies_ok edit takes content old new runs same stale
+replies_of edit true (Ok done) (Err fault) old new runs ok stale err refused = absurd refused
+replies_of edit false (Ok done) (Err fault) old new runs ok stale err refused = absurd refused
+replies_of edit true (Err fault) (Ok content) old new runs ok stale err refused = inr (refl, ap refusal_line refused, ap (λ b. served b runs) err)
+replies_of edit false (Err fault) (Ok content) old new runs ok stale err refused = absurd refused
+replies_of edit true (Err fault) (Err refusal) old new runs ok stale err refused = (inl (ap refusal_line refused), ap (λ b. served b runs) err)
+replies_of edit false (Err fault) (Err refusal) old new runs ok stale err refused = (inl (ap refusal_line refused), ap (λ b. served b runs) err)
 
 -- the same, where memory may be refused
-pub replies_with_memory : (takes : Bool) (outcome : Result Unit EditFault) (meaning : Result Content EditFault) (old new : BenchState) → takes ≡ true → OnOk outcome (meaning ≡ Ok new.content) → OnErr outcome (new ≡ old) → Refuses meaning outcome → Replies takes meaning old (reply_line outcome) new
-replies_with_memory true outcome meaning old new is ok err refused = replies_of true outcome meaning old new ok err refused
-replies_with_memory false outcome meaning old new is ok err refused = absurd (search rules)
+pub replies_with_memory : (edit : Edit) (takes : Bool) (outcome : Result Unit EditFault) (meaning : Result Content EditFault) (old new : BenchState) (runs : ℕ) → takes ≡ true → OnOk outcome (meaning ≡ Ok new.content)
+    → OnOk outcome (new.stale ≡ stale_after old.content edit old.stale new.content) → OnErr outcome (new ≡ old) → Refuses meaning outcome
+    → Replies edit takes meaning (served old runs) (reply_line outcome) (served new runs)
+replies_with_memory edit true outcome meaning old new runs is ok stale err refused = replies_of edit true outcome meaning old new runs ok stale err refused
+replies_with_memory edit false outcome meaning old new runs is ok stale err refused = absurd (search rules)
 
 -- an edit that takes no memory
-pub replies_made : (takes : Bool) (outcome : Result Unit EditFault) (meaning : Result Content EditFault) (old new : BenchState) → OnOk outcome (meaning ≡ Ok new.content) → OnErr outcome (new ≡ old) → Answers meaning outcome → Replies takes meaning old (reply_line outcome) new
-replies_made takes (Ok done) (Ok content) old new ok err refused = inl (refl, let same : content ≡ new.content = cc in sym same)
-replies_made takes (Ok done) (Err fault) old new ok err refused = absurd refused
-replies_made takes (Err fault) (Ok content) old new ok err refused = absurd refused
-replies_made takes (Err fault) (Err refusal) old new ok err refused = (inl (ap refusal_line refused), err)
+answers_if : (takes : Bool) (meaning : Result Content EditFault) (outcome : Result Unit EditFault) → Answers meaning outcome → RefusesIf takes meaning outcome
+answers_if true (Ok content) (Ok done) is = is
+answers_if true (Ok content) (Err fault) is = absurd is
+answers_if true (Err refusal) (Ok done) is = absurd is
+answers_if true (Err refusal) (Err fault) is = is
+answers_if false meaning outcome is = is
+
+pub replies_made : (edit : Edit) (takes : Bool) (outcome : Result Unit EditFault) (old new : BenchState) (runs : ℕ) → Makes edit outcome old new
+    → Replies edit takes (after old.content edit) (served old runs) (reply_line outcome) (served new runs)
+replies_made edit takes outcome old new runs made =
+    replies_of edit takes outcome (after old.content edit) old new runs made.0 made.1 made.2 (answers_if takes (after old.content edit) outcome made.3)
 
 -- memory may always be refused
-pub no_memory_replies : (takes : Bool) (meaning : Result Content EditFault) (old : BenchState) → takes ≡ true → Replies takes meaning old (refusal_line NoMemory) old
-no_memory_replies true (Ok content) old is = inr (refl, refl, refl)
-no_memory_replies true (Err fault) old is = (inr (refl, refl), refl)
-no_memory_replies false meaning old is = absurd (search rules)
+pub no_memory_replies : (edit : Edit) (takes : Bool) (meaning : Result Content EditFault) (old : Served) → takes ≡ true → Replies edit takes meaning old (refusal_line NoMemory) old
+no_memory_replies edit true (Ok content) old is = inr (refl, refl, refl)
+no_memory_replies edit true (Err fault) old is = (inr (refl, refl), refl)
+no_memory_replies edit false meaning old is = absurd (search rules)
 
 -- a put takes memory
 pub put_takes : (subject : Subject) (octets : List ℕ) → takes_memory (edit_of subject octets) ≡ true
@@ -164,14 +183,14 @@ too_large (subjects.Message id) old octets more =
     ap (λ (b : Bool). unless (cond b (Some TooLarge) (cond (is_none (message_at old.messages id) && nat_le message_count_limit (length old.messages)) (Some Full) None)) (record old { messages = with_message id octets old.messages })) first
 
 -- octets that weren't kept: too many of them, or memory was refused
-pub unkept_replies : (subject : Subject) (count : ℕ) (old : BenchState) (octets : List ℕ) → length octets ≡ count → Replies (takes_memory (edit_of subject octets)) (after old.content (edit_of subject octets)) old (refusal_line (cond (nat_lt (limit_of subject) count) TooLarge NoMemory)) old
+pub unkept_replies : (subject : Subject) (count : ℕ) (old : Served) (octets : List ℕ) → length octets ≡ count → Replies (edit_of subject octets) (takes_memory (edit_of subject octets)) (after old.bench.content (edit_of subject octets)) old (refusal_line (cond (nat_lt (limit_of subject) count) TooLarge NoMemory)) old
 unkept_replies subject count old octets size = by_flag (nat_lt (limit_of subject) count) refl
   where
-    by_flag : (b : Bool) → nat_lt (limit_of subject) count ≡ b → Replies (takes_memory (edit_of subject octets)) (after old.content (edit_of subject octets)) old (refusal_line (cond b TooLarge NoMemory)) old
+    by_flag : (b : Bool) → nat_lt (limit_of subject) count ≡ b → Replies (edit_of subject octets) (takes_memory (edit_of subject octets)) (after old.bench.content (edit_of subject octets)) old (refusal_line (cond b TooLarge NoMemory)) old
     by_flag true is =
         let more : limit_of subject < length octets = grind (arith, nat_tests) in
-        rw (too_large subject old.content octets more) (inl refl, refl)
-    by_flag false is = no_memory_replies (takes_memory (edit_of subject octets)) (after old.content (edit_of subject octets)) old (put_takes subject octets)
+        rw (too_large subject old.bench.content octets more) (inl refl, refl)
+    by_flag false is = no_memory_replies (edit_of subject octets) (takes_memory (edit_of subject octets)) (after old.bench.content (edit_of subject octets)) old (put_takes subject octets)
 
 -- COUNTED OCTETS
 
@@ -184,8 +203,8 @@ pub short : (count : ℕ) (edit : List ℕ → Edit) (rest : List ℕ) → lengt
 short count edit rest less = grind (arith, nat_tests)
 
 -- a put of octets that came
-pub put_replies : (count : ℕ) (edit : List ℕ → Edit) (old new : BenchState) (unused left kept : Option (List ℕ)) (reply : List ℕ)
-    → Takes count unused left kept → ((octets : List ℕ) → length octets ≡ count → IfSome kept (λ k. k ≡ octets) → Replies (takes_memory (edit octets)) (after old.content (edit octets)) old reply new)
+pub put_replies : (count : ℕ) (edit : List ℕ → Edit) (old new : Served) (unused left kept : Option (List ℕ)) (reply : List ℕ)
+    → Takes count unused left kept → ((octets : List ℕ) → length octets ≡ count → IfSome kept (λ k. k ≡ octets) → Replies (edit octets) (takes_memory (edit octets)) (after old.bench.content (edit octets)) old reply new)
     → RepliesTo (λ rest. with_octets count rest edit) old unused reply new left
 put_replies count edit old new None left kept reply taken replies = tt
 put_replies count edit old new (Some xs) None kept reply taken replies = absurd taken
@@ -199,14 +218,14 @@ falls_short request count None rest cut less = tt
 falls_short request count (Some xs) rest cut less = rw (cut xs less.0) (refl, refl)
 
 -- octets of which no more can be read
-pub breaks_off : (request : List ℕ → Request) (count : ℕ) (old : BenchState) (unused rest written : Option (List ℕ)) → ((octets : List ℕ) → length octets < count → request octets ≡ truncated) → BreaksOff count unused rest
+pub breaks_off : (request : List ℕ → Request) (count : ℕ) (old : Served) (unused rest written : Option (List ℕ)) → ((octets : List ℕ) → length octets < count → request octets ≡ truncated) → BreaksOff count unused rest
     → BreakFrom request old unused written old rest written
 breaks_off request count old None rest written cut broken = tt
 breaks_off request count old (Some xs) None written cut broken = absurd broken
 breaks_off request count old (Some xs) (Some ys) written cut broken = (broken.0, broken.1, cut broken.0 broken.2, Appends-nil written, refl)
 
 -- what memory is refused to
-pub refused_replies : (count : ℕ) (request : List ℕ → Request) (old : BenchState) (unused left kept : Option (List ℕ)) → MayBeRefused count request → Takes count unused left kept → RepliesTo request old unused (refusal_line NoMemory) old left
+pub refused_replies : (count : ℕ) (request : List ℕ → Request) (old : Served) (unused left kept : Option (List ℕ)) → MayBeRefused count request → Takes count unused left kept → RepliesTo request old unused (refusal_line NoMemory) old left
 refused_replies count request old None left kept may taken = tt
 refused_replies count request old (Some xs) None kept may taken = absurd taken
 refused_replies count request old (Some xs) (Some ys) kept may taken = rw taken.1 (may.where_whole old xs taken.0)
@@ -214,14 +233,14 @@ refused_replies count request old (Some xs) (Some ys) kept may taken = rw taken.
 -- memory may be refused to a put
 pub put_refused : (count : ℕ) (edit : List ℕ → Edit) → ((octets : List ℕ) → takes_memory (edit octets) ≡ true) → MayBeRefused count (λ rest. with_octets count rest edit)
 put_refused count edit takes = record {
-  where_whole = λ old rest within. rw (enough count rest edit within) (no_memory_replies _ (after old.content (edit (take count rest))) old (takes (take count rest)), refl);
+  where_whole = λ old rest within. rw (enough count rest edit within) (no_memory_replies _ _ (after old.bench.content (edit (take count rest))) old (takes (take count rest)), refl);
   where_short = short count edit;
 }
 
 -- to an edit that no octets follow
 pub edit_refused : (edit : Edit) → takes_memory edit ≡ true → MayBeRefused 0 (λ rest. edits edit rest)
 edit_refused edit takes = record {
-  where_whole = λ old rest within. (no_memory_replies _ (after old.content edit) old takes, refl);
+  where_whole = λ old rest within. (no_memory_replies _ _ (after old.bench.content edit) old takes, refl);
   where_short = λ rest less. absurd (omega (arith, less));
 }
 
@@ -235,18 +254,23 @@ dump_refused name = record {
 -- OTHER COMMANDS
 
 -- an edit that no octets follow
-pub edit_replies : (edit : Edit) (old new : BenchState) (unused : Option (List ℕ)) (reply : List ℕ) → Replies (takes_memory edit) (after old.content edit) old reply new → RepliesTo (λ rest. edits edit rest) old unused reply new unused
+pub edit_replies : (edit : Edit) (old new : Served) (unused : Option (List ℕ)) (reply : List ℕ) → Replies edit (takes_memory edit) (after old.bench.content edit) old reply new → RepliesTo (λ rest. edits edit rest) old unused reply new unused
 edit_replies edit old new None reply replies = tt
 edit_replies edit old new (Some xs) reply replies = (replies, refl)
 
--- a report, or the reply that memory was refused
-pub report_replies : (old new : BenchState) (unused : Option (List ℕ)) (reply : List ℕ) → (reply ≡ report_text old.content) ⊎ (reply ≡ refusal_line NoMemory) → new ≡ old → RepliesTo (λ rest. reports rest) old unused reply new unused
-report_replies old new None reply either same = tt
-report_replies old new (Some xs) reply either same = (either, rw same refl, refl)
+-- a report
+pub report_replies : (old new : Served) (unused : Option (List ℕ)) → Reported old new → RepliesTo (λ rest. reports rest) old unused (report_text old.bench.content) new unused
+report_replies old new None made = tt
+report_replies old new (Some xs) made = (inl (refl, made), refl)
+
+-- or the reply that memory was refused
+pub refused_report_replies : (old new : Served) (unused : Option (List ℕ)) → ReportRefused old new → RepliesTo (λ rest. reports rest) old unused (refusal_line NoMemory) new unused
+refused_report_replies old new None refused = tt
+refused_report_replies old new (Some xs) refused = (inr (refl, refused), refl)
 
 -- the code of a script, or why there is none
-pub dump_replies : (name : ScriptName) (old : BenchState) (unused : Option (List ℕ)) → RepliesTo (λ rest. dumps name rest) old unused (dump_of old.content name) old unused
+pub dump_replies : (name : ScriptName) (old : Served) (unused : Option (List ℕ)) → RepliesTo (λ rest. dumps name rest) old unused (dump_of old.bench.content name) old unused
 dump_replies name old None = tt
 dump_replies name old (Some xs) = (inl refl, refl, refl)
 
-pub ruleset serving = (answered, answer_faults, replies_of, replies_with_memory, replies_made, no_memory_replies, put_takes, put_replies, falls_short, breaks_off, unkept_replies, edit_replies, report_replies, dump_replies)
+pub ruleset serving = (answered, answer_faults, replies_of, replies_with_memory, replies_made, no_memory_replies, put_takes, put_replies, falls_short, breaks_off, unkept_replies, edit_replies, report_replies, refused_report_replies, dump_replies, edit_moves, made_moves, report_moves)

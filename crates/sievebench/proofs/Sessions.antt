@@ -3,19 +3,18 @@ use Rattle.std.proofs.Common.{◌≡◌, ℕ, ◌+◌, ◌-◌, ◌^◌, ◌≤�
 use Rattle.std.proofs.KnownBytes.{Appends-nil, Appends-trans}
 use Rattle.sieve_base.specs.Devices.{HasRisen}
 use Rattle.session_text.specs.view.Input.{CallsMade, Input, Reads, TurnsGave}
-use Rattle.bench.specs.Bench.{BenchState}
-use Rattle.sievebench.specs.Session.{BrokenSessionFrom, CutSessionFrom, SessionFrom, MatchFault, MatchSessionEnd, ReadsAreMade, TurnsAreSpent, none_yet, one_more, request_of, request_so_far}
+use Rattle.sievebench.specs.Session.{BrokenSessionFrom, CutSessionFrom, SessionFrom, MatchFault, MatchSessionEnd, ReadsAreMade, Served, TurnsAreSpent, none_yet, one_more, request_of, request_so_far}
 use Rattle.sievebench.specs.view.Progress.{BreakFrom, CutFrom, EndFrom, ServesFrom, SoFar}
 use Rattle.sievebench.specs.declared.status.SessionEnd.{SessionEnd}
 use Rattle.sievebench.specs.declared.status.SessionEnd.TheVariants.{Done, Syntax, Truncated, Read, Write, NoMemory, TurnLimit}
 
 -- nothing is done in the beginning
-pub so_far_begins : (ended : Bool) (bench : BenchState) (unused written : Option (List ℕ)) → SoFar ended bench unused written bench unused written
+pub so_far_begins : (ended : Bool) (bench : Served) (unused written : Option (List ℕ)) → SoFar ended bench unused written bench unused written
 so_far_begins ended bench None written = tt
 so_far_begins ended bench (Some stream) written = ([], none_yet, λ going. ([], refl, λ more. none_yet), Appends-nil written)
 
 -- one more command
-pub so_far_more : (ended ended' : Bool) (old mid new : BenchState) (stream unused left before after' written : Option (List ℕ)) → (ended' ≡ false → ended ≡ false) → SoFar ended old stream before mid unused after'
+pub so_far_more : (ended ended' : Bool) (old mid new : Served) (stream unused left before after' written : Option (List ℕ)) → (ended' ≡ false → ended ≡ false) → SoFar ended old stream before mid unused after'
     → ServesFrom ended' mid unused after' new left written → SoFar ended' old stream before new left written
 so_far_more ended ended' old mid new None unused left before after' written stays done step = tt
 so_far_more ended ended' old mid new (Some s) None left before after' written stays done step = absurd done
@@ -34,7 +33,7 @@ so_far_more ended ended' old mid new (Some s) (Some t) (Some u) before after' wr
 )
 
 -- the end that the octets ask for
-pub so_far_ends : (ended : Bool) (end : SessionEnd) (old mid new : BenchState) (stream unused before after' written : Option (List ℕ)) → SoFar ended old stream before mid unused after' → EndFrom request_of end mid unused after' new written → SessionFrom end old stream before new written
+pub so_far_ends : (ended : Bool) (end : SessionEnd) (old mid new : Served) (stream unused before after' written : Option (List ℕ)) → SoFar ended old stream before mid unused after' → EndFrom request_of end mid unused after' new written → SessionFrom end old stream before new written
 so_far_ends ended end old mid new None unused before after' written done last = tt
 so_far_ends ended end old mid new (Some s) None before after' written done last = absurd done
 so_far_ends ended end old mid new (Some s) (Some t) before after' written done last = (
@@ -44,7 +43,7 @@ so_far_ends ended end old mid new (Some s) (Some t) before after' written done l
 )
 
 -- where no more can be read
-pub so_far_breaks : (ended : Bool) (old mid new : BenchState) (stream unused rest before after' written : Option (List ℕ)) → ended ≡ false → SoFar ended old stream before mid unused after' → BreakFrom request_so_far mid unused after' new rest written
+pub so_far_breaks : (ended : Bool) (old mid new : Served) (stream unused rest before after' written : Option (List ℕ)) → ended ≡ false → SoFar ended old stream before mid unused after' → BreakFrom request_so_far mid unused after' new rest written
     → BrokenSessionFrom old stream before new rest written
 so_far_breaks ended old mid new None unused rest before after' written going done last = tt
 so_far_breaks ended old mid new (Some s) None rest before after' written going done last = absurd done
@@ -59,7 +58,7 @@ so_far_breaks ended old mid new (Some s) (Some t) (Some u) before after' written
     )
 
 -- where no more can be written
-pub so_far_cut : (ended : Bool) (old mid new : BenchState) (stream unused before after' written : Option (List ℕ)) → SoFar ended old stream before mid unused after' → CutFrom request_of mid unused after' new written
+pub so_far_cut : (ended : Bool) (old mid new : Served) (stream unused before after' written : Option (List ℕ)) → SoFar ended old stream before mid unused after' → CutFrom request_of mid unused after' new written
     → CutSessionFrom old stream before new written
 so_far_cut ended old mid new None unused before after' written done last = tt
 so_far_cut ended old mid new (Some s) None before after' written done last = absurd done
@@ -70,7 +69,7 @@ so_far_cut ended old mid new (Some s) (Some t) before after' written done last =
 )
 
 -- each end
-pub so_far_ends_by : (end : SessionEnd) (ended ended' : Bool) (old mid new : BenchState) (stream unused rest before after' written : Option (List ℕ)) (Q A B F : Type 0) → (ended' ≡ false → ended ≡ false) → SoFar ended old stream before mid unused after'
+pub so_far_ends_by : (end : SessionEnd) (ended ended' : Bool) (old mid new : Served) (stream unused rest before after' written : Option (List ℕ)) (Q A B F : Type 0) → (ended' ≡ false → ended ≡ false) → SoFar ended old stream before mid unused after'
     → MatchFault end ((ended' ≡ false) × A) F ((ended' ≡ false) × B)
     → MatchSessionEnd end (EndFrom request_of end mid unused after' new written) (BreakFrom request_so_far mid unused after' new rest written) (CutFrom request_of mid unused after' new written) ⊥
     → MatchSessionEnd end (SessionFrom end old stream before new written) (BrokenSessionFrom old stream before new rest written) (CutSessionFrom old stream before new written) Q

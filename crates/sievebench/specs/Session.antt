@@ -2,10 +2,12 @@
 use Rattle.std.specs.Prelude.{◌≡◌, ⊤, ℕ, ◌+◌, ◌-◌, ◌^◌, ◌≤◌, Bool, true, false, ◌⊎◌, List, [], ◌∷◌, ◌++◌, length, take, drop, Option, None, Some, Result, Ok, Err, nat_lt, if◌then◌else◌, codes}
 use Rattle.std.specs.Io.KnownBytes.{Appends}
 use Rattle.sieve_base.specs.Limits.{line_limit}
-use Rattle.bench.specs.Bench.{BenchState}
+use Rattle.sieve_run.specs.Meter.{runs_after}
+use Rattle.bench.specs.Bench.{BenchState, RefusedAmong}
 use Rattle.bench.specs.Content.{Content, Edit, put_script, put_message, set_main, rename_script, remove_script, remove_message, clear_main, set_envelope, set_mailbox, after}
 use Rattle.bench.specs.Dump.{dump_of}
 use Rattle.bench.specs.Report.{report_text}
+use Rattle.bench.specs.Stale.{stale_after}
 use Rattle.sieve_delivery.specs.declared.name.ScriptName.{ScriptName}
 use Rattle.session_text.specs.SessionLine.{Command, nothing, script, message, main, no_main, rename, drop_script, drop_message, envelope, mailbox, report, dump, first_line, command_of_line, is_long_so_far, line_so_far}
 use Rattle.bench.specs.declared.fault.EditFault.{EditFault}
@@ -86,25 +88,54 @@ takes_memory clear_main = false
 takes_memory (set_envelope from to) = true
 takes_memory (set_mailbox box) = true
 
--- the reply to an edit, and the bench after it; where memory is refused nothing changes
-abbrev pub Replies : Bool → Result Content EditFault → BenchState → List ℕ → BenchState → Type 0
-Replies takes (Ok content) old reply new = ((reply ≡ codes "ok\n") × (new.content ≡ content)) ⊎ ((takes ≡ true) × (reply ≡ refusal_line NoMemory) × (new ≡ old))
-Replies takes (Err fault) old reply new = ((reply ≡ refusal_line fault) ⊎ ((takes ≡ true) × (reply ≡ refusal_line NoMemory))) × (new ≡ old)
+-- a bench, and how many runs were made so far
+pub record Served : Type 0 where
+  pub bench : BenchState
+  pub runs : ℕ
 
--- One command: its reply, the bench after it, and what is left of the stream.
-abbrev pub Step : BenchState → Request → List ℕ → BenchState → List ℕ → Type 0
+abbrev pub served : BenchState → ℕ → Served
+served bench runs = record { bench = bench; runs = runs }
+
+-- An edit is made. The messages that it touches are stale, and no run is made.
+abbrev pub Made : Edit → Content → Served → Served → Type 0
+Made edit content old new = (new.bench.content ≡ content) × (new.bench.stale ≡ stale_after old.bench.content edit old.bench.stale content) × (new.runs ≡ old.runs)
+
+-- the reply to an edit that makes this of the content or is refused, and what is after it; where it is refused nothing changes
+abbrev pub Replies : Edit → Bool → Result Content EditFault → Served → List ℕ → Served → Type 0
+Replies edit takes (Ok content) old reply new = ((reply ≡ codes "ok\n") × Made edit content old new) ⊎ ((takes ≡ true) × (reply ≡ refusal_line NoMemory) × (new ≡ old))
+Replies edit takes (Err fault) old reply new = ((reply ≡ refusal_line fault) ⊎ ((takes ≡ true) × (reply ≡ refusal_line NoMemory))) × (new ≡ old)
+
+-- a report is made: each stale message is run once, and none is stale
+abbrev pub Reported : Served → Served → Type 0
+Reported old new = (new.bench.content ≡ old.bench.content) × (new.bench.stale ≡ []) × (new.runs ≡ runs_after (length old.bench.stale) old.runs)
+
+-- memory is refused to a report: the first of the stale messages are run
+abbrev pub ReportRefused : Served → Served → Type 0
+ReportRefused old new = (new.bench.content ≡ old.bench.content) × RefusedAmong old.bench.stale new.bench.stale old.runs new.runs
+
+-- an edit is made, a report is, or memory is refused to one
+abbrev pub Moves : Served → Served → Type 0
+Moves old new = ((edit : Edit) × (content : Content) × (after old.bench.content edit ≡ Ok content) × Made edit content old new) ⊎ (Reported old new ⊎ ReportRefused old new)
+
+-- Edits and reports in turn, and nothing else: what became of a bench and of the runs, also where no device tells which octets it gave or took.
+pub data Moved (old : Served) : Served → Type 0 where
+  unmoved : Moved old old
+  moved : (mid new : Served) → Moved old mid → Moves mid new → Moved old new
+
+-- One command: its reply, what is after it, and what is left of the stream.
+abbrev pub Step : Served → Request → List ℕ → Served → List ℕ → Type 0
 Step old over reply new left = ⊥
 Step old unreadable reply new left = ⊥
 Step old truncated reply new left = ⊥
 Step old (idle rest) reply new left = (reply ≡ []) × (new ≡ old) × (left ≡ rest)
-Step old (edits edit rest) reply new left = Replies (takes_memory edit) (after old.content edit) old reply new × (left ≡ rest)
-Step old (reports rest) reply new left = ((reply ≡ report_text old.content) ⊎ (reply ≡ refusal_line NoMemory)) × (new.content ≡ old.content) × (left ≡ rest)
-Step old (dumps name rest) reply new left = ((reply ≡ dump_of old.content name) ⊎ (reply ≡ refusal_line NoMemory)) × (new ≡ old) × (left ≡ rest)
+Step old (edits edit rest) reply new left = Replies edit (takes_memory edit) (after old.bench.content edit) old reply new × (left ≡ rest)
+Step old (reports rest) reply new left = (((reply ≡ report_text old.bench.content) × Reported old new) ⊎ ((reply ≡ refusal_line NoMemory) × ReportRefused old new)) × (left ≡ rest)
+Step old (dumps name rest) reply new left = ((reply ≡ dump_of old.bench.content name) ⊎ (reply ≡ refusal_line NoMemory)) × (new ≡ old) × (left ≡ rest)
 
--- some commands in turn, each what the octets then ask for: their replies, the bench after them, and the octets behind them
-pub data Steps (request : List ℕ → Request) (old : BenchState) (stream : List ℕ) : List ℕ → BenchState → List ℕ → Type 0 where
+-- some commands in turn, each what the octets then ask for: their replies, what is after them, and the octets behind them
+pub data Steps (request : List ℕ → Request) (old : Served) (stream : List ℕ) : List ℕ → Served → List ℕ → Type 0 where
   none_yet : Steps request old stream [] old stream
-  one_more : (replies reply : List ℕ) (mid new : BenchState) (rest left : List ℕ) → Steps request old stream replies mid rest → Step mid (request rest) reply new left → Steps request old stream (replies ++ reply) new left
+  one_more : (replies reply : List ℕ) (mid new : Served) (rest left : List ℕ) → Steps request old stream replies mid rest → Step mid (request rest) reply new left → Steps request old stream (replies ++ reply) new left
 
 -- how a session ends at a stream, and its last reply
 abbrev pub Ends : Request → SessionEnd → List ℕ → Type 0
@@ -116,8 +147,8 @@ Ends (edits edit rest) end reply = ⊥
 Ends (reports rest) end reply = ⊥
 Ends (dumps name rest) end reply = ⊥
 
--- the text of a session over a stream, its end, and the bench that its commands leave
-pub record SessionText (old : BenchState) (stream : List ℕ) (text : List ℕ) (end : SessionEnd) (new : BenchState) : Type 0 where
+-- the text of a session over a stream, its end, and the bench that its commands leave, with the runs that were made
+pub record SessionText (old : Served) (stream : List ℕ) (text : List ℕ) (end : SessionEnd) (new : Served) : Type 0 where
   pub replies : List ℕ
   pub last : List ℕ
   pub rest : List ℕ
@@ -127,20 +158,20 @@ pub record SessionText (old : BenchState) (stream : List ℕ) (text : List ℕ) 
 
 -- the text of a session of which no more could be read: the replies to the commands that are whole in what was read, and the bench
 -- that these leave
-pub record BrokenSession (old : BenchState) (read : List ℕ) (text : List ℕ) (new : BenchState) : Type 0 where
+pub record BrokenSession (old : Served) (read : List ℕ) (text : List ℕ) (new : Served) : Type 0 where
   pub rest : List ℕ
   pub steps : Steps request_so_far old read text new rest
   pub breaks : NoneIsWhole rest
 
 -- the reply to what a stream asks for next, whether the session goes on or ends, and the bench after it
-abbrev pub Answered : BenchState → Request → List ℕ → BenchState → Type 0
+abbrev pub Answered : Served → Request → List ℕ → Served → Type 0
 Answered old request reply new = ((left : List ℕ) × Step old request reply new left) ⊎ ((end : SessionEnd) × Ends request end reply × (new ≡ old))
 
 -- the text of a session of which no more could be written: the replies to some commands, and a front of the next reply; and the bench
 -- that all these commands leave
-pub record CutSession (old : BenchState) (stream : List ℕ) (text : List ℕ) (new : BenchState) : Type 0 where
+pub record CutSession (old : Served) (stream : List ℕ) (text : List ℕ) (new : Served) : Type 0 where
   pub replies : List ℕ
-  pub mid : BenchState
+  pub mid : Served
   pub rest : List ℕ
   pub reply : List ℕ
   pub front : List ℕ
@@ -151,24 +182,24 @@ pub record CutSession (old : BenchState) (stream : List ℕ) (text : List ℕ) (
   pub whole : text ≡ replies ++ front
 
 -- a front of the text of some session over a stream
-abbrev pub IsFront : BenchState → List ℕ → List ℕ → Type 0
-IsFront old stream text = (back : List ℕ) × (end : SessionEnd) × (new : BenchState) × SessionText old stream (text ++ back) end new
+abbrev pub IsFront : Served → List ℕ → List ℕ → Type 0
+IsFront old stream text = (back : List ℕ) × (end : SessionEnd) × (new : Served) × SessionText old stream (text ++ back) end new
 
 -- OVER DEVICES
 
 -- The whole session is carried out, and its text written, where the reader tells which octets it has.
-abbrev pub SessionFrom : SessionEnd → BenchState → Option (List ℕ) → Option (List ℕ) → BenchState → Option (List ℕ) → Type 0
+abbrev pub SessionFrom : SessionEnd → Served → Option (List ℕ) → Option (List ℕ) → Served → Option (List ℕ) → Type 0
 SessionFrom end old None before new after = ⊤
 SessionFrom end old (Some stream) before new after = (text : List ℕ) × SessionText old stream text end new × Appends before after text
 
 -- What was read is carried out, and its text written. What is left is what the reader still has.
-abbrev pub BrokenSessionFrom : BenchState → Option (List ℕ) → Option (List ℕ) → BenchState → Option (List ℕ) → Option (List ℕ) → Type 0
+abbrev pub BrokenSessionFrom : Served → Option (List ℕ) → Option (List ℕ) → Served → Option (List ℕ) → Option (List ℕ) → Type 0
 BrokenSessionFrom old None before new left after = ⊤
 BrokenSessionFrom old (Some stream) before new None after = ⊥
 BrokenSessionFrom old (Some stream) before new (Some left) after = (read text : List ℕ) × (stream ≡ read ++ left) × BrokenSession old read text new × Appends before after text
 
 -- The session is carried out up to and with a command whose reply is cut.
-abbrev pub CutSessionFrom : BenchState → Option (List ℕ) → Option (List ℕ) → BenchState → Option (List ℕ) → Type 0
+abbrev pub CutSessionFrom : Served → Option (List ℕ) → Option (List ℕ) → Served → Option (List ℕ) → Type 0
 CutSessionFrom old None before new after = ⊤
 CutSessionFrom old (Some stream) before new after = (text : List ℕ) × CutSession old stream text new × Appends before after text
 

@@ -13,5 +13,5 @@ pub use bench::{
 pub use command_line::{Argument, Job, UsageFault, command_of};
 pub use server::session;
 pub use sieve_base::{Counted, Faults, Octets, Place, Sink, Source};
-pub use sieve_run::{Meter, ScriptName};
+pub use sieve_run::{Action, Meter, Outcome, ScriptName};
 pub use status::{End, SessionEnd, status_of};

@@ -4,8 +4,9 @@ ghost use Rattle.sieve_base.specs.Devices.{HasRisen};
 ghost use Rattle.sieve_base.specs.Writers.{Wrote, WroteFront};
 ghost use Rattle.bench.specs.Bench.{BenchState, Makes};
 ghost use Rattle.bench.specs.Content.{Edit, after, Refuses};
+ghost use Rattle.bench.specs.Stale.{stale_after};
 ghost use Rattle.session_text.specs.view.Input.{unused, fuel, Knows, Reads};
-ghost use Rattle.sievebench.specs.Session.{Request, SessionFrom, BrokenSessionFrom, CutSessionFrom, MatchSessionEnd, MatchFault, ReadsAreMade, TurnsAreSpent, AtLastEnd, with_octets, request_by, dumps, edits, reports, takes_memory};
+ghost use Rattle.sievebench.specs.Session.{Request, Served, served, Moved, SessionFrom, BrokenSessionFrom, CutSessionFrom, MatchSessionEnd, MatchFault, ReadsAreMade, TurnsAreSpent, AtLastEnd, with_octets, request_by, dumps, edits, reports, takes_memory};
 ghost use Rattle.session_text.specs.SessionLine as line;
 ghost use Rattle.std.specs.Io.KnownBytes.{IsAtEnd};
 ghost use Rattle.sievebench.specs.view.Task.{Tasks, edit_by, edit_of};
@@ -76,12 +77,13 @@ fn refuse_octets<W: Sink>(writer: &mut W) -> Progress
 /// Puts octets at a name or an id.
 fn keep(bench: &mut Bench, subject: Subject, octets: Vec<u8>) -> Result<(), EditFault>
     ensures ok { OnOk result (after bench.old.content (edit_of subject octets.items) ≡ Ok bench.new.content) }
+    ensures stale { OnOk result (bench.new.stale ≡ stale_after bench.old.content (edit_of subject octets.items) bench.old.stale bench.new.content) }
     ensures err { OnErr result (bench.new ≡ bench.old) }
     ensures refused { Refuses (after bench.old.content (edit_of subject octets.items)) result }
 {
     let octets = Octets::from_vec(octets);
     match subject {
-        Subject::Script(name) => bench.keep_script(name, octets),
+        Subject::Script(name) => bench.keep_script(&name, octets),
         Subject::Message(id) => bench.keep_message(id, octets),
     }
 }
@@ -89,6 +91,7 @@ fn keep(bench: &mut Bench, subject: Subject, octets: Vec<u8>) -> Result<(), Edit
 /// Makes an edit that no octets follow.
 fn carry_out(bench: &mut Bench, change: Change) -> Result<(), EditFault>
     ensures ok { OnOk result (after bench.old.content (edit_by change) ≡ Ok bench.new.content) }
+    ensures stale { OnOk result (bench.new.stale ≡ stale_after bench.old.content (edit_by change) bench.old.stale bench.new.content) }
     ensures err { OnErr result (bench.new ≡ bench.old) }
     ensures refused { RefusesIf (takes_memory (edit_by change)) (after bench.old.content (edit_by change)) result }
 {
@@ -128,9 +131,10 @@ fn serve_put<R: Source, W: Sink>(
 ) -> Progress
     requires known { Knows input.old (R.remaining reader.old) }
     ensures known { Knows input.new (R.remaining reader.new) }
-    ensures goes { GoesFrom (λ rest. with_octets count rest (edit_of subject)) result
-        bench.old (unused input.old (R.remaining reader.old)) (W.contents writer.old)
-        bench.new (unused input.new (R.remaining reader.new)) (R.remaining reader.new) (W.contents writer.new) }
+    ensures goes { (runs : ℕ) → GoesFrom (λ rest. with_octets count rest (edit_of subject)) result
+        (served bench.old runs) (unused input.old (R.remaining reader.old)) (W.contents writer.old)
+        (served bench.new runs) (unused input.new (R.remaining reader.new)) (R.remaining reader.new) (W.contents writer.new) }
+    ensures moves { (runs : ℕ) → Moved (served bench.old runs) (served bench.new runs) }
     ensures fuel { fuel input.new ≤ fuel input.old }
     ensures reads { Reads R.remaining R.fault_count R.call_count input.old input.new reader.old reader.new }
     ensures faults { TellsFaults result input.new (R.fault_count reader.old) (R.fault_count reader.new) (W.fault_count writer.old) (W.fault_count writer.new) }
@@ -163,7 +167,7 @@ fn serve_forgotten<R: Source, W: Sink>(
 ) -> Progress
     requires known { Knows input.old (R.remaining reader.old) }
     ensures known { Knows input.new (R.remaining reader.new) }
-    ensures goes { (old : BenchState) (request : List ℕ → Request) → MayBeRefused count request → GoesFrom request result
+    ensures goes { (old : Served) (request : List ℕ → Request) → MayBeRefused count request → GoesFrom request result
         old (unused input.old (R.remaining reader.old)) (W.contents writer.old)
         old (unused input.new (R.remaining reader.new)) (R.remaining reader.new) (W.contents writer.new) }
     ensures fuel { fuel input.new ≤ fuel input.old }
@@ -182,8 +186,9 @@ fn serve_forgotten<R: Source, W: Sink>(
 /// Makes an edit that no octets follow, and replies.
 #[tactic(auto, using(crate::proofs::Serving::serving))]
 fn serve_change<W: Sink>(bench: &mut Bench, writer: &mut W, change: Change) -> Progress
-    ensures goes { (unused rest : Option (List ℕ)) → GoesFrom (λ rest. edits (edit_by change) rest) result
-        bench.old unused (W.contents writer.old) bench.new unused rest (W.contents writer.new) }
+    ensures goes { (runs : ℕ) (unused rest : Option (List ℕ)) → GoesFrom (λ rest. edits (edit_by change) rest) result
+        (served bench.old runs) unused (W.contents writer.old) (served bench.new runs) unused rest (W.contents writer.new) }
+    ensures moves { (runs : ℕ) → Moved (served bench.old runs) (served bench.new runs) }
     ensures faults { MatchProgress result (W.fault_count writer.old ≤ W.fault_count writer.new) ⊥ (HasRisen (W.fault_count writer.old) (W.fault_count writer.new)) ⊥ }
     ensures end { AtLast result ⊥ }
 {
@@ -193,8 +198,8 @@ fn serve_change<W: Sink>(bench: &mut Bench, writer: &mut W, change: Change) -> P
 /// Replies to an edit that is made already.
 #[tactic(auto, using(crate::proofs::Serving::serving))]
 fn serve_made<W: Sink>(outcome: Result<(), EditFault>, writer: &mut W) -> Progress
-    ensures goes { (old new : BenchState) (edit : Edit) (unused rest : Option (List ℕ)) → Makes edit outcome old new → GoesFrom (λ rest. edits edit rest) result
-        old unused (W.contents writer.old) new unused rest (W.contents writer.new) }
+    ensures goes { (old new : BenchState) (runs : ℕ) (edit : Edit) (unused rest : Option (List ℕ)) → Makes edit outcome old new → GoesFrom (λ rest. edits edit rest) result
+        (served old runs) unused (W.contents writer.old) (served new runs) unused rest (W.contents writer.new) }
     ensures faults { MatchProgress result (W.fault_count writer.old ≤ W.fault_count writer.new) ⊥ (HasRisen (W.fault_count writer.old) (W.fault_count writer.new)) ⊥ }
     ensures end { AtLast result ⊥ }
 {
@@ -205,7 +210,8 @@ fn serve_made<W: Sink>(outcome: Result<(), EditFault>, writer: &mut W) -> Progre
 #[tactic(auto, using(crate::proofs::Serving::serving))]
 fn serve_report<W: Sink>(bench: &mut Bench, meter: &mut Meter, writer: &mut W) -> Progress
     ensures goes { (unused rest : Option (List ℕ)) → GoesFrom (λ rest. reports rest) result
-        bench.old unused (W.contents writer.old) bench.new unused rest (W.contents writer.new) }
+        (served bench.old meter.old) unused (W.contents writer.old) (served bench.new meter.new) unused rest (W.contents writer.new) }
+    ensures moves { Moved (served bench.old meter.old) (served bench.new meter.new) }
     ensures faults { MatchProgress result (W.fault_count writer.old ≤ W.fault_count writer.new) ⊥ (HasRisen (W.fault_count writer.old) (W.fault_count writer.new)) ⊥ }
     ensures end { AtLast result ⊥ }
 {
@@ -219,8 +225,8 @@ fn serve_report<W: Sink>(bench: &mut Bench, meter: &mut Meter, writer: &mut W) -
 /// Prints the code of a script, or replies why not.
 #[tactic(auto, using(crate::proofs::Serving::serving))]
 fn serve_dump<W: Sink>(bench: &Bench, writer: &mut W, name: &ScriptName) -> Progress
-    ensures goes { (unused rest : Option (List ℕ)) → GoesFrom (λ rest. dumps name.now rest) result
-        bench.now unused (W.contents writer.old) bench.now unused rest (W.contents writer.new) }
+    ensures goes { (runs : ℕ) (unused rest : Option (List ℕ)) → GoesFrom (λ rest. dumps name.now rest) result
+        (served bench.now runs) unused (W.contents writer.old) (served bench.now runs) unused rest (W.contents writer.new) }
     ensures faults { MatchProgress result (W.fault_count writer.old ≤ W.fault_count writer.new) ⊥ (HasRisen (W.fault_count writer.old) (W.fault_count writer.new)) ⊥ }
     ensures end { AtLast result ⊥ }
 {
@@ -243,8 +249,9 @@ fn perform<R: Source, W: Sink>(
     requires known { Knows input.old (R.remaining reader.old) }
     ensures known { Knows input.new (R.remaining reader.new) }
     ensures goes { (command : Option line.Command) (old : BenchState) → Tasks task command old bench.old → GoesFrom (request_by command) result
-        old (unused input.old (R.remaining reader.old)) (W.contents writer.old)
-        bench.new (unused input.new (R.remaining reader.new)) (R.remaining reader.new) (W.contents writer.new) }
+        (served old meter.old) (unused input.old (R.remaining reader.old)) (W.contents writer.old)
+        (served bench.new meter.new) (unused input.new (R.remaining reader.new)) (R.remaining reader.new) (W.contents writer.new) }
+    ensures moves { Moved (served bench.old meter.old) (served bench.new meter.new) }
     ensures fuel { fuel input.new ≤ fuel input.old }
     ensures reads { Reads R.remaining R.fault_count R.call_count input.old input.new reader.old reader.new }
     ensures faults { TellsFaults result input.new (R.fault_count reader.old) (R.fault_count reader.new) (W.fault_count writer.old) (W.fault_count writer.new) }
@@ -276,8 +283,9 @@ fn serve<R: Source, W: Sink>(
     requires known { Knows input.old (R.remaining reader.old) }
     ensures known { Knows input.new (R.remaining reader.new) }
     ensures goes { Serves input.new.ended result
-        bench.old (unused input.old (R.remaining reader.old)) (W.contents writer.old)
-        bench.new (unused input.new (R.remaining reader.new)) (R.remaining reader.new) (W.contents writer.new) }
+        (served bench.old meter.old) (unused input.old (R.remaining reader.old)) (W.contents writer.old)
+        (served bench.new meter.new) (unused input.new (R.remaining reader.new)) (R.remaining reader.new) (W.contents writer.new) }
+    ensures moves { Moved (served bench.old meter.old) (served bench.new meter.new) }
     ensures fuel { OnContinues result (fuel input.new < fuel input.old) }
     ensures reads { Reads R.remaining R.fault_count R.call_count input.old input.new reader.old reader.new }
     ensures faults { TellsFaults result input.new (R.fault_count reader.old) (R.fault_count reader.new) (W.fault_count writer.old) (W.fault_count writer.new) }
@@ -310,12 +318,15 @@ pub fn session<R: Source, W: Sink>(
     // At the ends that the octets ask for, what was written is the text of a session of the reader's octets with that
     // end, and the bench holds what its commands leave. At `Read` and `TurnLimit` it is the replies to the commands that were
     // whole in what was read, and at `Write` a front of the text, up to a reply that was cut; the bench holds what these
-    // commands leave. Where memory is refused at the start, nothing has changed.
+    // commands leave. At each end the meter has counted the runs of these commands' reports. Where memory is refused at the start,
+    // nothing has changed.
     ensures session { MatchSessionEnd result
-        (SessionFrom result bench.old (R.remaining reader.old) (W.contents writer.old) bench.new (W.contents writer.new))
-        (BrokenSessionFrom bench.old (R.remaining reader.old) (W.contents writer.old) bench.new (R.remaining reader.new) (W.contents writer.new))
-        (CutSessionFrom bench.old (R.remaining reader.old) (W.contents writer.old) bench.new (W.contents writer.new))
-        ((bench.new ≡ bench.old) × (reader.new ≡ reader.old) × (writer.new ≡ writer.old)) }
+        (SessionFrom result (served bench.old meter.old) (R.remaining reader.old) (W.contents writer.old) (served bench.new meter.new) (W.contents writer.new))
+        (BrokenSessionFrom (served bench.old meter.old) (R.remaining reader.old) (W.contents writer.old) (served bench.new meter.new) (R.remaining reader.new) (W.contents writer.new))
+        (CutSessionFrom (served bench.old meter.old) (R.remaining reader.old) (W.contents writer.old) (served bench.new meter.new) (W.contents writer.new))
+        ((bench.new ≡ bench.old) × (meter.new ≡ meter.old) × (reader.new ≡ reader.old) × (writer.new ≡ writer.old)) }
+    // Whatever the devices tell, what became of bench and meter are edits and reports in turn, and nothing else.
+    ensures moves { Moved (served bench.old meter.old) (served bench.new meter.new) }
     // At the end of the input none of the octets is unread.
     ensures end { AtLastEnd result (IsAtEnd (R.remaining reader.new)) }
     // A fault is told only where the device counted one, and the end of the turns only where all were taken, each for an octet or a fault.

@@ -3,9 +3,8 @@ use Rattle.std.specs.Prelude.{◌≡◌, ⊤, ℕ, ◌≤◌, ◌<◌, Bool, tru
 use Rattle.std.specs.Io.KnownBytes.{Appends}
 use Rattle.sieve_base.specs.Devices.{HasRisen}
 use Rattle.session_text.specs.view.Input.{Input}
-use Rattle.bench.specs.Bench.{BenchState}
 use Rattle.bench.specs.Content.{Content, Refuses, Answers}
-use Rattle.sievebench.specs.Session.{Request, truncated, Step, Steps, Ends, Answered, MatchSessionEnd, MatchFault, AtLastEnd, refusal_line, request_of, request_so_far}
+use Rattle.sievebench.specs.Session.{Request, Served, truncated, Step, Steps, Ends, Answered, MatchSessionEnd, MatchFault, AtLastEnd, refusal_line, request_of, request_so_far}
 use Rattle.bench.specs.declared.fault.EditFault.{EditFault}
 use Rattle.bench.specs.declared.fault.EditFault.TheVariants.{NoMemory}
 use Rattle.sievebench.specs.declared.status.SessionEnd.{SessionEnd}
@@ -14,24 +13,24 @@ use Rattle.sievebench.specs.declared.server.Progress.{Progress}
 use Rattle.sievebench.specs.declared.server.Progress.TheVariants as ways
 
 -- a command that the unused octets ask for is carried out, and its reply is written
-abbrev pub StepFrom : (List ℕ → Request) → BenchState → Option (List ℕ) → Option (List ℕ) → BenchState → Option (List ℕ) → Option (List ℕ) → Type 0
+abbrev pub StepFrom : (List ℕ → Request) → Served → Option (List ℕ) → Option (List ℕ) → Served → Option (List ℕ) → Option (List ℕ) → Type 0
 StepFrom request old None before new left after = ⊤
 StepFrom request old (Some unused) before new None after = ⊥
 StepFrom request old (Some unused) before new (Some left) after = (reply : List ℕ) × Step old (request unused) reply new left × Appends before after reply
 
 -- the unused octets end the session, and its last reply is written
-abbrev pub EndFrom : (List ℕ → Request) → SessionEnd → BenchState → Option (List ℕ) → Option (List ℕ) → BenchState → Option (List ℕ) → Type 0
+abbrev pub EndFrom : (List ℕ → Request) → SessionEnd → Served → Option (List ℕ) → Option (List ℕ) → Served → Option (List ℕ) → Type 0
 EndFrom request end old None before new after = ⊤
 EndFrom request end old (Some unused) before new after = (reply : List ℕ) × Ends (request unused) end reply × Appends before after reply × (new ≡ old)
 
 -- the octets that were read ask for something that is cut off: nothing is done, and nothing written
-abbrev pub BreakFrom : (List ℕ → Request) → BenchState → Option (List ℕ) → Option (List ℕ) → BenchState → Option (List ℕ) → Option (List ℕ) → Type 0
+abbrev pub BreakFrom : (List ℕ → Request) → Served → Option (List ℕ) → Option (List ℕ) → Served → Option (List ℕ) → Option (List ℕ) → Type 0
 BreakFrom request old None before new rest after = ⊤
 BreakFrom request old (Some unused) before new None after = ⊥
 BreakFrom request old (Some unused) before new (Some rest) after = (read : List ℕ) × (unused ≡ read ++ rest) × (request read ≡ truncated) × Appends before after [] × (new ≡ old)
 
 -- what the unused octets ask for is done, and a front of the reply is written
-abbrev pub CutFrom : (List ℕ → Request) → BenchState → Option (List ℕ) → Option (List ℕ) → BenchState → Option (List ℕ) → Type 0
+abbrev pub CutFrom : (List ℕ → Request) → Served → Option (List ℕ) → Option (List ℕ) → Served → Option (List ℕ) → Type 0
 CutFrom request old None before new after = ⊤
 CutFrom request old (Some unused) before new after = (reply front back : List ℕ) × (front ++ back ≡ reply) × Answered old (request unused) reply new × Appends before after front
 
@@ -42,28 +41,28 @@ Follows ways.Continues P Q R S = P
 Follows (ways.Ends end) P Q R S = MatchSessionEnd end (Q end) R S ⊥
 
 -- the session goes on behind a command, or ends; what is unused is left where it goes on, and the reader has the rest
-abbrev pub GoesFrom : (List ℕ → Request) → Progress → BenchState → Option (List ℕ) → Option (List ℕ) → BenchState → Option (List ℕ) → Option (List ℕ) → Option (List ℕ) → Type 0
+abbrev pub GoesFrom : (List ℕ → Request) → Progress → Served → Option (List ℕ) → Option (List ℕ) → Served → Option (List ℕ) → Option (List ℕ) → Option (List ℕ) → Type 0
 GoesFrom request way old unused before new left rest after =
     Follows way (StepFrom request old unused before new left after) (λ end. EndFrom request end old unused before new after) (BreakFrom request old unused before new rest after) (CutFrom request old unused before new after)
 
 -- some octets ask for a command, whatever follows them
-abbrev pub AsksAlone : BenchState → List ℕ → List ℕ → BenchState → List ℕ → Type 0
+abbrev pub AsksAlone : Served → List ℕ → List ℕ → Served → List ℕ → Type 0
 AsksAlone old unused reply new left = (used : List ℕ) × (unused ≡ used ++ left) × ((more : List ℕ) → Step old (request_so_far (used ++ more)) reply new more)
 
 -- the next command is carried out, and its reply written; where the input hasn't come to its end, nothing that follows the command matters
-abbrev pub ServesFrom : Bool → BenchState → Option (List ℕ) → Option (List ℕ) → BenchState → Option (List ℕ) → Option (List ℕ) → Type 0
+abbrev pub ServesFrom : Bool → Served → Option (List ℕ) → Option (List ℕ) → Served → Option (List ℕ) → Option (List ℕ) → Type 0
 ServesFrom ended old None before new left after = ⊤
 ServesFrom ended old (Some unused) before new None after = ⊥
 ServesFrom ended old (Some unused) before new (Some left) after =
     (reply : List ℕ) × Step old (request_of unused) reply new left × (ended ≡ false → AsksAlone old unused reply new left) × Appends before after reply
 
 -- the session goes on behind its next command, or ends
-abbrev pub Serves : Bool → Progress → BenchState → Option (List ℕ) → Option (List ℕ) → BenchState → Option (List ℕ) → Option (List ℕ) → Option (List ℕ) → Type 0
+abbrev pub Serves : Bool → Progress → Served → Option (List ℕ) → Option (List ℕ) → Served → Option (List ℕ) → Option (List ℕ) → Option (List ℕ) → Type 0
 Serves ended way old unused before new left rest after =
     Follows way (ServesFrom ended old unused before new left after) (λ end. EndFrom request_of end old unused before new after) (BreakFrom request_so_far old unused before new rest after) (CutFrom request_of old unused before new after)
 
 -- the commands so far are carried out, and their replies written; where the input hasn't come to its end, nothing that follows them matters
-abbrev pub SoFar : Bool → BenchState → Option (List ℕ) → Option (List ℕ) → BenchState → Option (List ℕ) → Option (List ℕ) → Type 0
+abbrev pub SoFar : Bool → Served → Option (List ℕ) → Option (List ℕ) → Served → Option (List ℕ) → Option (List ℕ) → Type 0
 SoFar ended old None before new unused after = ⊤
 SoFar ended old (Some stream) before new None after = ⊥
 SoFar ended old (Some stream) before new (Some unused) after =
@@ -104,7 +103,7 @@ AtLast (ways.Ends end) P = AtLastEnd end P
 
 -- what so many octets may follow, and memory be refused to: where they are there, the reply is that memory was refused, and else they are cut off
 pub record MayBeRefused (count : ℕ) (request : List ℕ → Request) : Type 0 where
-  pub where_whole : (old : BenchState) (rest : List ℕ) → count ≤ length rest → Step old (request rest) (refusal_line NoMemory) old (drop count rest)
+  pub where_whole : (old : Served) (rest : List ℕ) → count ≤ length rest → Step old (request rest) (refusal_line NoMemory) old (drop count rest)
   pub where_short : (rest : List ℕ) → length rest < count → request rest ≡ truncated
 
 -- the reply to an edit

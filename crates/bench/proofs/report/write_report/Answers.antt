@@ -17,17 +17,17 @@ unfolding report_with
 returns-in_err-write_scripts-clause-err g c =
     stops _ _ _ _ _ _ _ _ _ _ (goes_on _ _ _ _ _ _ _ _ (goes_on _ _ _ _ _ _ _ _ (begins _ _ _ _) c.in_ok-write_main.ensures.ok) c.in_ok-write_envelope.ensures.ok) refl c.in_err-write_scripts.ensures.err
 
-pub returns-in_err-write_all_reported-clause-err : goal.returns-in_err-write_all_reported-clause-err
+pub returns-in_err-write_kept-clause-err : goal.returns-in_err-write_kept-clause-err
 unfolding report_with
-returns-in_err-write_all_reported-clause-err g c =
-    stops _ _ _ _ _ _ _ _ _ _ (goes_on _ _ _ _ _ _ _ _ (goes_on _ _ _ _ _ _ _ _ (goes_on _ _ _ _ _ _ _ _ (begins _ _ _ _) c.in_ok-write_main.ensures.ok) c.in_ok-write_envelope.ensures.ok) c.in_ok-write_scripts.ensures.ok) refl c.in_err-write_all_reported.ensures.err
+returns-in_err-write_kept-clause-err g c =
+    stops _ _ _ _ _ _ _ _ _ _ (goes_on _ _ _ _ _ _ _ _ (goes_on _ _ _ _ _ _ _ _ (goes_on _ _ _ _ _ _ _ _ (begins _ _ _ _) c.in_ok-write_main.ensures.ok) c.in_ok-write_envelope.ensures.ok) c.in_ok-write_scripts.ensures.ok) refl c.in_err-write_kept.ensures.err
 
 pub returns-clause-err : goal.returns-clause-err
 unfolding report_with
 returns-clause-err g c =
-    stops_last _ _ _ _ _ _ _ _ (goes_on _ _ _ _ _ _ _ _ (goes_on _ _ _ _ _ _ _ _ (goes_on _ _ _ _ _ _ _ _ (goes_on _ _ _ _ _ _ _ _ (begins _ _ _ _) c.in_ok-write_main.ensures.ok) c.in_ok-write_envelope.ensures.ok) c.in_ok-write_scripts.ensures.ok) c.in_ok-write_all_reported.ensures.ok) c.write_totals.ensures.err
+    stops_last _ _ _ _ _ _ _ _ (goes_on _ _ _ _ _ _ _ _ (goes_on _ _ _ _ _ _ _ _ (goes_on _ _ _ _ _ _ _ _ (goes_on _ _ _ _ _ _ _ _ (begins _ _ _ _) c.in_ok-write_main.ensures.ok) c.in_ok-write_envelope.ensures.ok) c.in_ok-write_scripts.ensures.ok) c.in_ok-write_kept.ensures.ok) c.write_totals.ensures.err
 
 pub returns-clause-ok : goal.returns-clause-ok
 unfolding report_with
 returns-clause-ok g c =
-    ends_last _ _ _ _ _ _ _ _ (goes_on _ _ _ _ _ _ _ _ (goes_on _ _ _ _ _ _ _ _ (goes_on _ _ _ _ _ _ _ _ (goes_on _ _ _ _ _ _ _ _ (begins _ _ _ _) c.in_ok-write_main.ensures.ok) c.in_ok-write_envelope.ensures.ok) c.in_ok-write_scripts.ensures.ok) c.in_ok-write_all_reported.ensures.ok) c.write_totals.ensures.ok
+    ends_last _ _ _ _ _ _ _ _ (goes_on _ _ _ _ _ _ _ _ (goes_on _ _ _ _ _ _ _ _ (goes_on _ _ _ _ _ _ _ _ (goes_on _ _ _ _ _ _ _ _ (begins _ _ _ _) c.in_ok-write_main.ensures.ok) c.in_ok-write_envelope.ensures.ok) c.in_ok-write_scripts.ensures.ok) c.in_ok-write_kept.ensures.ok) c.write_totals.ensures.ok

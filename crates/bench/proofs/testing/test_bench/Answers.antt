@@ -1,5 +1,5 @@
-use Rattle.bench.proofs.Jobs.{one_message}
+use Rattle.std.proofs.Common.{length, ap}
 use Rattle.bench.proofs.testing.test_bench.Goals as goal
 
 pub report_end-requires : goal.report_end-requires
-report_end-requires g c = one_message c.args.job.now c.in-Ok.bench.content c.in-Ok.ensures.ok
+report_end-requires g c = ap length c.in-Ok.ensures.stale

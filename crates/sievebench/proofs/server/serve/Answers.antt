@@ -1,7 +1,8 @@
 use Rattle.std.proofs.Common.{◌≡◌, ◌∙◌, ap, sym, take}
-use Rattle.sievebench.specs.Session.{request_of}
+use Rattle.sievebench.specs.Session.{request_of, unmoved}
 use Rattle.session_text.specs.SessionLine.{command_of_line}
 use Rattle.sievebench.specs.declared.status.SessionEnd.TheVariants.{Syntax}
+use Rattle.sievebench.proofs.Moving.{moved_both, tasks_move}
 use Rattle.sievebench.proofs.Requests.{break_served, cut_line_break, cut_served, end_served, line_alone, line_begins, long_end, over_end, step_served}
 use Rattle.sievebench.proofs.Serving.{end_faults, ended, follows_by, where_broken}
 use Rattle.sievebench.proofs.server.serve.Goals as goal
@@ -40,3 +41,19 @@ returns-in-Whole-clause-goes g c =
     (λ both. break_served front command _ _ _ _ _ _ _ begins (line_alone pending c.in-Whole.len c.in-Whole.skip (c.in-Whole.ensures.ended (sym c.consume.ensures.ended ∙ c.perform.ensures.reads.stays_ended both.0)) c.in-Whole.ensures.within) both.1)
     (cut_served front command _ _ _ _ _ _ begins)
     (where_broken c.perform.result _ _ _ _ _ _ _ _ _ c.perform.ensures.faults (c.perform.ensures.goes command c.args.bench.now (rw (← line) c.task_of-task.ensures)))
+
+pub returns-in-Whole-clause-moves : goal.returns-in-Whole-clause-moves
+returns-in-Whole-clause-moves g c =
+    moved_both _ _ _ (tasks_move _ (command_of_line c.split_at.result.0.now) c.args.bench.now c.task_of-task.new.bench c.args.meter.now c.task_of-task.ensures) c.perform.ensures.moves
+
+pub returns-in-Over-clause-moves : goal.returns-in-Over-clause-moves
+returns-in-Over-clause-moves g c = unmoved
+
+pub returns-in-TooLong-clause-moves : goal.returns-in-TooLong-clause-moves
+returns-in-TooLong-clause-moves g c = unmoved
+
+pub returns-in-Failed-clause-moves : goal.returns-in-Failed-clause-moves
+returns-in-Failed-clause-moves g c = unmoved
+
+pub returns-in-Spent-clause-moves : goal.returns-in-Spent-clause-moves
+returns-in-Spent-clause-moves g c = unmoved

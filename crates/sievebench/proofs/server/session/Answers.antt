@@ -2,16 +2,19 @@ use Rattle.std.proofs.Common.{[], false, rules, arith}
 use Rattle.std.proofs.KnownBytes.{prepend_known-nil}
 use Rattle.session_text.specs.view.Input.{Input}
 use Rattle.session_text.proofs.Reading.{reads_both, reads_nothing}
+use Rattle.sievebench.specs.Session.{served, unmoved}
+use Rattle.sievebench.proofs.Moving.{moved_both}
 use Rattle.sievebench.proofs.Sessions.{faults_by, so_far_begins, so_far_more, so_far_ends_by}
 use Rattle.sievebench.proofs.server.session.Goals as goal
 
 pub loop-end-init : goal.loop-end-init
 loop-end-init g c =
     rw c.in-Ok.ensures (
-      rw (prepend_known-nil (g.R.Source.remaining c.args.reader.now)) (so_far_begins false c.args.bench.now (g.R.Source.remaining c.args.reader.now) (g.W.Sink.contents c.args.writer.now)),
+      rw (prepend_known-nil (g.R.Source.remaining c.args.reader.now)) (so_far_begins false (served c.args.bench.now c.args.meter.now) (g.R.Source.remaining c.args.reader.now) (g.W.Sink.contents c.args.writer.now)),
       search rules,
       reads_nothing _ _ _ _ _,
       omega arith,
+      unmoved,
     )
 
 pub loop-end-preserved : goal.loop-end-preserved
@@ -20,6 +23,7 @@ loop-end-preserved g c = (
   c.in-Continues.ensures.known,
   reads_both _ _ _ _ _ _ _ _ _ c.loop-end.invariant.2 c.in-Continues.ensures.reads,
   omega (arith, c.loop-end.invariant.3, c.in-Continues.ensures.faults),
+  moved_both _ _ _ c.loop-end.invariant.4 c.in-Continues.ensures.moves,
 )
 
 pub returns-in-Ends-clause-session : goal.returns-in-Ends-clause-session
@@ -34,3 +38,9 @@ pub returns-in-Ends-clause-calls : goal.returns-in-Ends-clause-calls
 returns-in-Ends-clause-calls g c =
     let reads = reads_both _ _ _ _ _ _ _ _ _ c.loop-end.invariant.2 c.in-Ends.ensures.reads in
     omega (arith, reads.calls_made.1)
+
+pub returns-in-Ends-clause-moves : goal.returns-in-Ends-clause-moves
+returns-in-Ends-clause-moves g c = moved_both _ _ _ c.loop-end.invariant.4 c.in-Ends.ensures.moves
+
+pub returns-in_default-clause-moves : goal.returns-in_default-clause-moves
+returns-in_default-clause-moves g c = unmoved

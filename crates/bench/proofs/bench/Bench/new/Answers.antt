@@ -1,10 +1,18 @@
 use Rattle.std.proofs.Common.{◌≡◌, ◌∙◌, [], refl}
-use Rattle.bench.specs.view.Entry.{messages_of}
+use Rattle.bench.specs.view.Entry.{KeepsDue, messages_of, stale_of}
 use Rattle.bench.proofs.bench.Bench.new.Goals as goal
 
-pub returns : goal.returns
+pub invariant_of-result : goal.invariant_of-result
+unfolding KeepsDue
+invariant_of-result c = let none : c.new-4.result.entries ≡ [] = c.new-4.ensures.empty in (rw none tt, c.new-4.ensures.unique)
+
+pub returns-clause-content : goal.returns-clause-content
 unfolding messages_of
-returns c =
+returns-clause-content c =
     let from : c.from_vec.result ≡ [] = c.from_vec.ensures ∙ c.new.ensures.items in
     let to : c.from_vec-2.result ≡ [] = c.from_vec-2.ensures ∙ c.new-2.ensures.items in
     rw (from, to, c.in_ok-copied.ensures, c.new-3.ensures.empty, c.new-4.ensures.empty) refl
+
+pub returns-clause-stale : goal.returns-clause-stale
+unfolding stale_of
+returns-clause-stale c = let none : c.new-4.result.entries ≡ [] = c.new-4.ensures.empty in rw none refl

@@ -5,3 +5,6 @@ returns-clause-ok c = rw (c.in_ok-bytes.ensures, c.in_ok-id.ensures, c.as_slice.
 
 pub returns-clause-refused : goal.returns-clause-refused
 returns-clause-refused c = rw (c.in_ok-bytes.ensures, c.in_ok-id.ensures, c.as_slice.ensures) at c.keep_message.ensures.refused
+
+pub returns-clause-stale : goal.returns-clause-stale
+returns-clause-stale c = rw (c.in_ok-id.ensures, c.as_slice.ensures) at c.keep_message.ensures.stale

@@ -1,6 +1,6 @@
 use Rattle.std.proofs.Common.{refl}
 use Rattle.bench.proofs.Writing.{begins, goes_on, stops, stops_last, ends_last}
-use Rattle.bench.proofs.report.write_reported.Goals as goal
+use Rattle.bench.proofs.report.write_judged.Goals as goal
 
 pub returns-in_err-write_message-clause-err : goal.returns-in_err-write_message-clause-err
 returns-in_err-write_message-clause-err g c = stops _ _ _ _ _ _ _ _ _ _ (begins _ _ _ _) refl c.in_err-write_message.ensures.err

@@ -1,0 +1,64 @@
+-- The verdicts that are kept, in the order of their messages.
+use Rattle.std.proofs.Common.{◌≡◌, ℕ, suc, ◌+◌, zero-add, List, [], ◌∷◌, ◌++◌, length, cond, Option, None, Some, IfSome, is_none, is_some, refl, sym, ap, ◌∙◌, append-nil, count_by}
+use Rattle.std.proofs.lemmas.Grind.{flat_map-append}
+use Rattle.std.proofs.lemmas.List.Sums.{sum_by-cons}
+use Rattle.std.specs.List.{flat_map}
+use Rattle.sieve_run.specs.Verdict.{Verdict}
+use Rattle.sieve_delivery.specs.declared.envelope.Envelope.{Envelope}
+use Rattle.sieve_delivery.specs.declared.name.ScriptName.{ScriptName}
+use Rattle.bench.specs.Report.{error_count, verdict_by, verdicts}
+use Rattle.bench.specs.declared.entry.Entry.{Entry}
+use Rattle.bench.specs.view.Entry.{has_error, is_stale, judged_before, judged_of, messages_of, stale_of, KeepsDue}
+
+-- where none is stale, what is kept are the verdicts on all messages
+pub all_judged : (main : Option ScriptName) (envelope : Envelope) (scripts : List (ScriptName × List ℕ)) (es : List (List ℕ × Entry)) → KeepsDue (verdict_by main envelope scripts) es → stale_of es ≡ []
+    → judged_of es ≡ verdicts main envelope scripts (messages_of es)
+unfolding KeepsDue stale_of judged_of messages_of verdicts
+all_judged main envelope scripts [] kept none = refl
+all_judged main envelope scripts (e ∷ es) kept none = by e.1.kept kept.0 none (λ h. all_judged main envelope scripts es kept.1 h)
+  where
+    by : (found : Option Verdict) → IfSome found (λ verdict. verdict ≡ verdict_by main envelope scripts e.1.message) → cond (is_none found) (e.0 ∷ stale_of es) (stale_of es) ≡ []
+        → (stale_of es ≡ [] → judged_of es ≡ verdicts main envelope scripts (messages_of es))
+        → judged_before e.0 found (judged_of es) ≡ (e.0, verdict_by main envelope scripts e.1.message) ∷ verdicts main envelope scripts (messages_of es)
+    by None is none more = absurd cc
+    by (Some verdict) is none more = ap (λ v. (e.0, v) ∷ judged_of es) is ∙ ap (λ l. (e.0, verdict_by main envelope scripts e.1.message) ∷ l) (more none)
+
+-- how many are judged, and with an error
+pub judged-all : (es : List (List ℕ × Entry)) → stale_of es ≡ [] → length (judged_of es) ≡ length es
+unfolding stale_of judged_of
+judged-all [] none = refl
+judged-all (e ∷ es) none = by e.1.kept none (judged-all es)
+  where
+    by : (kept : Option Verdict) → cond (is_none kept) (e.0 ∷ stale_of es) (stale_of es) ≡ [] → (stale_of es ≡ [] → length (judged_of es) ≡ length es) → length (judged_before e.0 kept (judged_of es)) ≡ length (e ∷ es)
+    by None none rest = absurd cc
+    by (Some verdict) none rest = ap suc (rest none)
+
+pub judged-errors : (es : List (List ℕ × Entry)) → error_count (judged_of es) ≡ count_by (λ e. has_error e.1.kept) es
+unfolding judged_of
+judged-errors [] = refl
+judged-errors (e ∷ es) = by e.1.kept (judged-errors es) ∙ sym (sum_by-cons (λ e. cond (has_error e.1.kept) 1 0) e es)
+  where
+    by : (kept : Option Verdict) → error_count (judged_of es) ≡ count_by (λ e. has_error e.1.kept) es → error_count (judged_before e.0 kept (judged_of es)) ≡ cond (has_error kept) 1 0 + count_by (λ e. has_error e.1.kept) es
+    by None rest = rest ∙ sym (zero-add (count_by (λ e. has_error e.1.kept) es))
+    by (Some verdict) rest = sum_by-cons (λ (j : List ℕ × Verdict). cond (is_some j.1.error) 1 0) (e.0, verdict) (judged_of es) ∙ ap (λ n. cond (is_some verdict.error) 1 0 + n) rest
+
+-- the first entry's, and those of the others
+judged_cut : (e : List ℕ × Entry) (es : List (List ℕ × Entry)) → judged_of (e ∷ es) ≡ judged_of (e ∷ []) ++ judged_of es
+unfolding judged_of
+judged_cut e es = by e.1.kept
+  where
+    by : (kept : Option Verdict) → judged_before e.0 kept (judged_of es) ≡ judged_before e.0 kept [] ++ judged_of es
+    by None = refl
+    by (Some verdict) = refl
+
+pub lines_cut : (lines : List ℕ × Verdict → List ℕ) (all es : List (List ℕ × Entry)) (e : List ℕ × Entry) → all ≡ e ∷ es → flat_map lines (judged_of all) ≡ flat_map lines (judged_of (e ∷ [])) ++ flat_map lines (judged_of es)
+lines_cut lines all es e cut = ap (λ l. flat_map lines (judged_of l)) cut ∙ ap (flat_map lines) (judged_cut e es) ∙ flat_map-append lines (judged_of (e ∷ [])) (judged_of es)
+
+-- those of one entry
+pub one_lines : (lines : List ℕ × Verdict → List ℕ) (id : List ℕ) (entry : Entry) (verdict : Verdict) → entry.kept ≡ Some verdict → flat_map lines (judged_of ((id, entry) ∷ [])) ≡ lines (id, verdict)
+unfolding judged_of
+one_lines lines id entry verdict is = ap (λ k. flat_map lines (judged_before id k [])) is ∙ append-nil (lines (id, verdict))
+
+pub judged_one : (id : List ℕ) (entry : Entry) (kept : Option Verdict) → entry.kept ≡ kept → judged_of ((id, entry) ∷ []) ≡ judged_before id kept []
+unfolding judged_of
+judged_one id entry kept is = ap (λ k. judged_before id k []) is

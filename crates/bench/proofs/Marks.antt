@@ -1,0 +1,284 @@
+-- What the marks of the entries say of the stale messages, and which verdicts stay due.
+use Rattle.std.proofs.Common.{◌≡◌, ℕ, suc, ◌+◌, zero-add, List, [], ◌∷◌, length, map, filter, Bool, true, false, cond, ◌||◌, if◌then◌else◌, Option, None, Some, IfSome, is_none, is_some, nat_eq, refl, sym, ap, ◌∙◌, count_by}
+use Rattle.std.proofs.lemmas.Map.Keys.{IsDistinct-head, IsDistinct-tail}
+use Rattle.std.specs.List.{AllByRecursion, IsDistinct}
+use Rattle.std.specs.Map.{keys_of, lookup, remove_entry}
+use Rattle.std.specs.Option.{option_map}
+use lib.Pointwise.{pointwise}
+use Rattle.indexmap.specs.IndexMap as ordered
+use Rattle.sieve_delivery.specs.Name.{name_eq}
+use Rattle.sieve_delivery.specs.declared.envelope.Envelope.{Envelope}
+use Rattle.sieve_delivery.specs.declared.name.ScriptName.{ScriptName}
+use Rattle.sieve_run.specs.Frame.{Agree, Texts, outcome_over}
+use Rattle.sieve_run.specs.Run.{is_read}
+use Rattle.sieve_run.specs.Verdict.{Verdict}
+use Rattle.bench.specs.Report.{error_count}
+use Rattle.bench.specs.Stale.{ids_where, is_among}
+use Rattle.bench.specs.declared.entry.Entry.{Entry}
+use Rattle.bench.specs.view.Entry.{has_error, is_stale, judged_before, judged_of, messages_of, stale_of, KeepsDue, forgotten, kept_without, unread}
+use Rattle.bench.proofs.Names.{is_id, is_name, other_id, same_id}
+
+or_true : (a b : Bool) → a ≡ true → (a || b) ≡ true
+or_true a b is = rw is refl
+
+or_false : (a b : Bool) → a ≡ false → (a || b) ≡ b
+or_false a b is = rw is refl
+
+-- WHICH IDS ARE AMONG THE STALE ONES
+
+-- an id that no entry has is not among them
+unlisted : (id : List ℕ) (es : List (List ℕ × Entry)) → AllByRecursion (λ k. pointwise nat_eq id k ≡ false) (keys_of es) → is_among id (stale_of es) ≡ false
+unfolding stale_of
+unlisted id [] apart = refl
+unlisted id (e ∷ es) apart = by (is_stale e.1) (unlisted id es apart.1)
+  where
+    by : (b : Bool) → is_among id (stale_of es) ≡ false → is_among id (cond b (e.0 ∷ stale_of es) (stale_of es)) ≡ false
+    by true rest = or_false (pointwise nat_eq id e.0) (is_among id (stale_of es)) apart.0 ∙ rest
+    by false rest = rest
+
+-- a test tells which entries are stale
+abbrev pub Tells : (List ℕ × List ℕ → Bool) → List (List ℕ × Entry) → Type 0
+Tells test es = AllByRecursion (λ e. test (e.0, e.1.message) ≡ is_stale e.1) es
+
+-- one more id in front, which is none of theirs
+more_told : (id : List ℕ) (b : Bool) (ids : List (List ℕ)) (es : List (List ℕ × Entry)) → AllByRecursion (λ k. pointwise nat_eq id k ≡ false) (keys_of es) → Tells (λ m. is_among m.0 ids) es → Tells (λ m. is_among m.0 (cond b (id ∷ ids) ids)) es
+more_told id b ids [] apart told = tt
+more_told id b ids (e ∷ es) apart told = (by b told.0, more_told id b ids es apart.1 told.1)
+  where
+    by : (b : Bool) → is_among e.0 ids ≡ is_stale e.1 → is_among e.0 (cond b (id ∷ ids) ids) ≡ is_stale e.1
+    by true is = or_false (pointwise nat_eq e.0 id) (is_among e.0 ids) (other_id id e.0 apart.0) ∙ is
+    by false is = is
+
+-- each id is among the stale ones exactly where its entry is stale
+pub told : (es : List (List ℕ × Entry)) → IsDistinct (pointwise nat_eq) (keys_of es) → Tells (λ m. is_among m.0 (stale_of es)) es
+unfolding stale_of
+told [] distinct = tt
+told (e ∷ es) distinct =
+    let apart : AllByRecursion (λ k. pointwise nat_eq e.0 k ≡ false) (keys_of es) = IsDistinct-head (pointwise nat_eq) e.0 (keys_of es) distinct in
+    (by (is_stale e.1) (unlisted e.0 es apart), more_told e.0 (is_stale e.1) (stale_of es) es apart (told es (IsDistinct-tail (pointwise nat_eq) e.0 (keys_of es) distinct)))
+  where
+    by : (b : Bool) → is_among e.0 (stale_of es) ≡ false → is_among e.0 (cond b (e.0 ∷ stale_of es) (stale_of es)) ≡ b
+    by true absent = or_true (pointwise nat_eq e.0 e.0) (is_among e.0 (stale_of es)) (same_id e.0)
+    by false absent = absent
+
+-- the stale ones are those that pass a test that tells
+pub passing : (test : List ℕ × List ℕ → Bool) (es : List (List ℕ × Entry)) → Tells test es → stale_of es ≡ ids_where test (messages_of es)
+unfolding stale_of messages_of ids_where
+passing test [] tells = refl
+passing test (e ∷ es) tells = rw (← tells.0) (by (test (e.0, e.1.message)) (passing test es tells.1))
+  where
+    by : (b : Bool) → stale_of es ≡ ids_where test (messages_of es) → cond b (e.0 ∷ stale_of es) (stale_of es) ≡ map (λ m. m.0) (cond b ((e.0, e.1.message) ∷ filter test (messages_of es)) (filter test (messages_of es)))
+    by true rest = ap (λ l. e.0 ∷ l) rest
+    by false rest = rest
+
+-- the same test in other words
+pub tells_too : (test other : List ℕ × List ℕ → Bool) (es : List (List ℕ × Entry)) → ((m : List ℕ × List ℕ) → other m ≡ test m) → Tells test es → Tells other es
+tells_too test other [] alike tells = tt
+tells_too test other (e ∷ es) alike tells = (alike (e.0, e.1.message) ∙ tells.0, tells_too test other es alike tells.1)
+
+-- MARKS FOR A NAME
+
+-- the entries, marked where their runs looked the name up
+abbrev pub marked : ScriptName → List (List ℕ × Entry) → List (List ℕ × Entry)
+marked name es = map (λ e. (e.0, unread name e.1)) es
+
+stale_for : (due : Verdict) (name : ScriptName) (before : Bool) (kept : Option Verdict) → IfSome kept (λ verdict. verdict ≡ due) → before ≡ is_none kept → (is_read name due.reads || before) ≡ is_none (kept_without name kept)
+stale_for due name before None is tells = rw tells (by (is_read name due.reads))
+  where
+    by : (b : Bool) → (b || true) ≡ true
+    by true = refl
+    by false = refl
+stale_for due name before (Some verdict) is tells = rw (tells, ← is) (by (is_read name verdict.reads))
+  where
+    by : (b : Bool) → (b || false) ≡ is_none (cond b None (Some verdict))
+    by true = refl
+    by false = refl
+
+-- behind a mark for a name those are stale whose runs looked it up, and those that were
+pub tells-marked : (due : List ℕ → Verdict) (name : ScriptName) (test : List ℕ × List ℕ → Bool) (es : List (List ℕ × Entry)) → KeepsDue due es → Tells test es → Tells (λ m. is_read name (due m.1).reads || test m) (marked name es)
+unfolding KeepsDue
+tells-marked due name test [] kept tells = tt
+tells-marked due name test (e ∷ es) kept tells = (stale_for (due e.1.message) name (test (e.0, e.1.message)) e.1.kept kept.0 tells.0, tells-marked due name test es kept.1 tells.1)
+
+-- the frame: a verdict is the same over each library that has the same text, or none, at each name that it looked up
+abbrev pub IsFramed : Type 0
+IsFramed =
+    (texts others : Texts) (main : Option ScriptName) (envelope : Envelope) (message : List ℕ) → Agree texts others (outcome_over texts main envelope message).reads
+    → outcome_over others main envelope message ≡ outcome_over texts main envelope message
+
+-- what isn't marked stays due, where the text at no other name changes
+still_due : IsFramed → (texts others : Texts) (main : Option ScriptName) (envelope : Envelope) (name : ScriptName) (message : List ℕ) (kept : Option Verdict)
+    → ((other : ScriptName) → name_eq name other ≡ false → texts other ≡ others other)
+    → IfSome kept (λ verdict. verdict ≡ outcome_over texts main envelope message) → IfSome (kept_without name kept) (λ verdict. verdict ≡ outcome_over others main envelope message)
+still_due frame texts others main envelope name message None alike is = tt
+still_due frame texts others main envelope name message (Some verdict) alike is = by (is_read name verdict.reads) refl
+  where
+    agree : is_read name verdict.reads ≡ false → (other : ScriptName) → is_read other verdict.reads ≡ true → (b : Bool) → name_eq name other ≡ b → texts other ≡ others other
+    agree unread other read true is = let e : name ≡ other = is_name name other is in absurd (let f : is_read other verdict.reads ≡ false = rw (← e) unread in cc)
+    agree unread other read false is = alike other is
+
+    by : (b : Bool) → is_read name verdict.reads ≡ b → IfSome (cond b None (Some verdict)) (λ verdict. verdict ≡ outcome_over others main envelope message)
+    by true read = tt
+    by false unread =
+        let all : Agree texts others (outcome_over texts main envelope message).reads = λ other read. agree unread other (rw is read) (name_eq name other) refl in
+        is ∙ sym (frame texts others main envelope message all)
+
+pub due-marked : IsFramed → (texts others : Texts) (main : Option ScriptName) (envelope : Envelope) (name : ScriptName) (es : List (List ℕ × Entry))
+    → ((other : ScriptName) → name_eq name other ≡ false → texts other ≡ others other)
+    → KeepsDue (outcome_over texts main envelope) es → KeepsDue (outcome_over others main envelope) (marked name es)
+unfolding KeepsDue
+due-marked frame texts others main envelope name [] alike kept = tt
+due-marked frame texts others main envelope name (e ∷ es) alike kept =
+    (still_due frame texts others main envelope name e.1.message e.1.kept alike kept.0, due-marked frame texts others main envelope name es alike kept.1)
+
+-- a mark changes no verdict
+kept_due : (due : Verdict) (name : ScriptName) (kept : Option Verdict) → IfSome kept (λ verdict. verdict ≡ due) → IfSome (kept_without name kept) (λ verdict. verdict ≡ due)
+kept_due due name None is = tt
+kept_due due name (Some verdict) is = by (is_read name verdict.reads)
+  where
+    by : (b : Bool) → IfSome (cond b None (Some verdict)) (λ verdict. verdict ≡ due)
+    by true = tt
+    by false = is
+
+due-kept : (due : List ℕ → Verdict) (name : ScriptName) (es : List (List ℕ × Entry)) → KeepsDue due es → KeepsDue due (marked name es)
+unfolding KeepsDue
+due-kept due name [] kept = tt
+due-kept due name (e ∷ es) kept = (kept_due (due e.1.message) name e.1.kept kept.0, due-kept due name es kept.1)
+
+pub messages-marked : (name : ScriptName) (es : List (List ℕ × Entry)) → messages_of (marked name es) ≡ messages_of es
+unfolding messages_of
+messages-marked name [] = refl
+messages-marked name (e ∷ es) = ap (λ l. (e.0, e.1.message) ∷ l) (messages-marked name es)
+
+-- MARKS FOR ALL
+
+abbrev pub all_marked : List (List ℕ × Entry) → List (List ℕ × Entry)
+all_marked es = map (λ e. (e.0, forgotten e.1)) es
+
+pub tells-all_marked : (test : List ℕ × List ℕ → Bool) (es : List (List ℕ × Entry)) → Tells (λ m. true || test m) (all_marked es)
+tells-all_marked test [] = tt
+tells-all_marked test (e ∷ es) = (refl, tells-all_marked test es)
+
+pub due-all_marked : (due : List ℕ → Verdict) (es : List (List ℕ × Entry)) → KeepsDue due (all_marked es)
+unfolding KeepsDue
+due-all_marked due [] = tt
+due-all_marked due (e ∷ es) = (tt, due-all_marked due es)
+
+pub messages-all_marked : (es : List (List ℕ × Entry)) → messages_of (all_marked es) ≡ messages_of es
+unfolding messages_of
+messages-all_marked [] = refl
+messages-all_marked (e ∷ es) = ap (λ l. (e.0, e.1.message) ∷ l) (messages-all_marked es)
+
+-- AN ENTRY THAT IS PUT
+
+abbrev pub fresh_entry : List ℕ → Entry
+fresh_entry bytes = record { message = bytes; kept = None }
+
+-- ids that differ from one that is the same as another differ from that
+apart_from : (id other : List ℕ) (test : List ℕ × List ℕ → Bool) (es : List (List ℕ × Entry)) → pointwise nat_eq id other ≡ true → AllByRecursion (λ k. pointwise nat_eq other k ≡ false) (keys_of es) → Tells test es → Tells (λ m. pointwise nat_eq id m.0 || test m) es
+apart_from id other test [] is apart tells = tt
+apart_from id other test (e ∷ es) is apart tells =
+    let here : pointwise nat_eq id e.0 ≡ false = rw (is_id id other is) apart.0 in
+    (or_false (pointwise nat_eq id e.0) (test (e.0, e.1.message)) here ∙ tells.0, apart_from id other test es is apart.1 tells.1)
+
+pub tells-put : (id bytes : List ℕ) (test : List ℕ × List ℕ → Bool) (es : List (List ℕ × Entry)) → IsDistinct (pointwise nat_eq) (keys_of es) → Tells test es → Tells (λ m. pointwise nat_eq id m.0 || test m) (ordered.insert_entry (pointwise nat_eq) es id (fresh_entry bytes))
+tells-put id bytes test [] distinct tells = (or_true (pointwise nat_eq id id) (test (id, bytes)) (same_id id), tt)
+tells-put id bytes test (e ∷ es) distinct tells =
+    by (pointwise nat_eq id e.0) refl (IsDistinct-head (pointwise nat_eq) e.0 (keys_of es) distinct) (tells-put id bytes test es (IsDistinct-tail (pointwise nat_eq) e.0 (keys_of es) distinct) tells.1)
+  where
+    by : (b : Bool) → pointwise nat_eq id e.0 ≡ b → AllByRecursion (λ k. pointwise nat_eq e.0 k ≡ false) (keys_of es) → Tells (λ m. pointwise nat_eq id m.0 || test m) (ordered.insert_entry (pointwise nat_eq) es id (fresh_entry bytes))
+        → Tells (λ m. pointwise nat_eq id m.0 || test m) (if b then (e.0, fresh_entry bytes) ∷ es else e ∷ ordered.insert_entry (pointwise nat_eq) es id (fresh_entry bytes))
+    by true is apart rest = (or_true (pointwise nat_eq id e.0) (test (e.0, bytes)) is, apart_from id e.0 test es is apart tells.1)
+    by false is apart rest = (or_false (pointwise nat_eq id e.0) (test (e.0, e.1.message)) is ∙ tells.0, rest)
+
+pub due-put : (due : List ℕ → Verdict) (id bytes : List ℕ) (es : List (List ℕ × Entry)) → KeepsDue due es → KeepsDue due (ordered.insert_entry (pointwise nat_eq) es id (fresh_entry bytes))
+unfolding KeepsDue
+due-put due id bytes [] kept = (tt, tt)
+due-put due id bytes (e ∷ es) kept = by (pointwise nat_eq id e.0) (due-put due id bytes es kept.1)
+  where
+    by : (b : Bool) → KeepsDue due (ordered.insert_entry (pointwise nat_eq) es id (fresh_entry bytes)) → KeepsDue due (if b then (e.0, fresh_entry bytes) ∷ es else e ∷ ordered.insert_entry (pointwise nat_eq) es id (fresh_entry bytes))
+    by true rest = (tt, kept.1)
+    by false rest = (kept.0, rest)
+
+-- AN ENTRY THAT IS REMOVED
+
+pub tells-removed : (at : List ℕ → Bool) (test : List ℕ × List ℕ → Bool) (es : List (List ℕ × Entry)) → Tells test es → Tells (λ m. false || test m) (remove_entry at es)
+tells-removed at test [] tells = tt
+tells-removed at test (e ∷ es) tells = by (at e.0) (tells-removed at test es tells.1)
+  where
+    by : (b : Bool) → Tells (λ m. false || test m) (remove_entry at es) → Tells (λ m. false || test m) (cond b es (e ∷ remove_entry at es))
+    by true rest = tells.1
+    by false rest = (tells.0, rest)
+
+pub due-removed : (due : List ℕ → Verdict) (at : List ℕ → Bool) (es : List (List ℕ × Entry)) → KeepsDue due es → KeepsDue due (remove_entry at es)
+unfolding KeepsDue
+due-removed due at [] kept = tt
+due-removed due at (e ∷ es) kept = by (at e.0) (due-removed due at es kept.1)
+  where
+    by : (b : Bool) → KeepsDue due (remove_entry at es) → KeepsDue due (cond b es (e ∷ remove_entry at es))
+    by true rest = kept.1
+    by false rest = (kept.0, rest)
+
+-- WHAT IS KEPT
+
+-- what is kept of the entry that is found
+abbrev pub kept_of : Option Entry → Option Verdict
+kept_of None = None
+kept_of (Some entry) = entry.kept
+
+pub kept_at : (due : List ℕ → Verdict) (id : List ℕ) (es : List (List ℕ × Entry)) → IsDistinct (pointwise nat_eq) (keys_of es) → KeepsDue due es
+    → kept_of (lookup (pointwise nat_eq id) es) ≡ (if is_among id (stale_of es) then None else option_map due (lookup (pointwise nat_eq id) (messages_of es)))
+unfolding KeepsDue stale_of messages_of
+kept_at due id [] distinct kept = refl
+kept_at due id (e ∷ es) distinct kept =
+    by (pointwise nat_eq id e.0) refl (unlisted e.0 es (IsDistinct-head (pointwise nat_eq) e.0 (keys_of es) distinct)) (kept_at due id es (IsDistinct-tail (pointwise nat_eq) e.0 (keys_of es) distinct) kept.1)
+  where
+    found : (verdict : Option Verdict) → IfSome verdict (λ v. v ≡ due e.1.message) → is_among id (stale_of es) ≡ false
+        → verdict ≡ (if is_among id (cond (is_none verdict) (id ∷ stale_of es) (stale_of es)) then None else Some (due e.1.message))
+    found None is absent = rw (or_true (pointwise nat_eq id id) (is_among id (stale_of es)) (same_id id)) refl
+    found (Some verdict) is absent = rw absent (ap (λ v. Some v) is)
+
+    skip : (b : Bool) → pointwise nat_eq id e.0 ≡ false → is_among id (cond b (e.0 ∷ stale_of es) (stale_of es)) ≡ is_among id (stale_of es)
+    skip true is = or_false (pointwise nat_eq id e.0) (is_among id (stale_of es)) is
+    skip false is = refl
+
+    by : (b : Bool) → pointwise nat_eq id e.0 ≡ b → is_among e.0 (stale_of es) ≡ false
+        → kept_of (lookup (pointwise nat_eq id) es) ≡ (if is_among id (stale_of es) then None else option_map due (lookup (pointwise nat_eq id) (messages_of es)))
+        → kept_of (cond b (Some e.1) (lookup (pointwise nat_eq id) es)) ≡ (if is_among id (cond (is_stale e.1) (e.0 ∷ stale_of es) (stale_of es)) then None else option_map due (cond b (Some e.1.message) (lookup (pointwise nat_eq id) (messages_of es))))
+    by true is absent rest = rw (← is_id id e.0 is) (found e.1.kept kept.0 (rw (is_id id e.0 is) absent))
+    by false is absent rest = rw (skip (is_stale e.1) is) rest
+
+-- the stale ones are some of those that are there
+pub stale-listed : (es : List (List ℕ × Entry)) → IsDistinct (pointwise nat_eq) (keys_of es) → stale_of es ≡ ids_where (λ m. is_among m.0 (stale_of es)) (messages_of es)
+stale-listed es distinct = passing _ es (told es distinct)
+
+-- THE STALE ONES BEHIND AN EDIT
+
+pub stale-marked : (due : List ℕ → Verdict) (name : ScriptName) (es : List (List ℕ × Entry)) → KeepsDue due es → IsDistinct (pointwise nat_eq) (keys_of es)
+    → stale_of (marked name es) ≡ ids_where (λ m. is_read name (due m.1).reads || is_among m.0 (stale_of es)) (messages_of (marked name es))
+stale-marked due name es kept distinct = passing _ (marked name es) (tells-marked due name (λ m. is_among m.0 (stale_of es)) es kept (told es distinct))
+
+or_assoc : (a b c : Bool) → ((a || b) || c) ≡ (a || (b || c))
+or_assoc true b c = refl
+or_assoc false b c = refl
+
+pub stale-marked_twice : (due : List ℕ → Verdict) (from to : ScriptName) (es : List (List ℕ × Entry)) → KeepsDue due es → IsDistinct (pointwise nat_eq) (keys_of es)
+    → stale_of (marked from (marked to es))
+    ≡ ids_where (λ m. (is_read from (due m.1).reads || is_read to (due m.1).reads) || is_among m.0 (stale_of es)) (messages_of (marked from (marked to es)))
+stale-marked_twice due from to es kept distinct =
+    let first : Tells (λ m. is_read to (due m.1).reads || is_among m.0 (stale_of es)) (marked to es) = tells-marked due to (λ m. is_among m.0 (stale_of es)) es kept (told es distinct) in
+    passing _ (marked from (marked to es))
+    (tells_too (λ m. is_read from (due m.1).reads || (is_read to (due m.1).reads || is_among m.0 (stale_of es))) _ (marked from (marked to es))
+    (λ m. or_assoc (is_read from (due m.1).reads) (is_read to (due m.1).reads) (is_among m.0 (stale_of es)))
+    (tells-marked due from (λ m. is_read to (due m.1).reads || is_among m.0 (stale_of es)) (marked to es) (due-kept due to es kept) first))
+
+pub stale-all_marked : (es : List (List ℕ × Entry)) → stale_of (all_marked es) ≡ ids_where (λ m. true || is_among m.0 (stale_of es)) (messages_of (all_marked es))
+stale-all_marked es = passing _ (all_marked es) (tells-all_marked (λ m. is_among m.0 (stale_of es)) es)
+
+pub stale-put : (id bytes : List ℕ) (es : List (List ℕ × Entry)) → IsDistinct (pointwise nat_eq) (keys_of es)
+    → stale_of (ordered.insert_entry (pointwise nat_eq) es id (fresh_entry bytes)) ≡ ids_where (λ m. pointwise nat_eq id m.0 || is_among m.0 (stale_of es)) (messages_of (ordered.insert_entry (pointwise nat_eq) es id (fresh_entry bytes)))
+stale-put id bytes es distinct = passing _ (ordered.insert_entry (pointwise nat_eq) es id (fresh_entry bytes)) (tells-put id bytes (λ m. is_among m.0 (stale_of es)) es distinct (told es distinct))
+
+pub stale-removed : (at : List ℕ → Bool) (es : List (List ℕ × Entry)) → IsDistinct (pointwise nat_eq) (keys_of es)
+    → stale_of (remove_entry at es) ≡ ids_where (λ m. false || is_among m.0 (stale_of es)) (messages_of (remove_entry at es))
+stale-removed at es distinct = passing _ (remove_entry at es) (tells-removed at (λ m. is_among m.0 (stale_of es)) es (told es distinct))

@@ -1,0 +1,14 @@
+use Rattle.std.proofs.Common.{◌≡◌, length, sym, ◌∙◌, rules}
+use Rattle.bench.specs.view.Entry.{judged_of}
+use Rattle.bench.proofs.Judged.{judged-all}
+use Rattle.bench.proofs.report.write_totals.Goals as goal
+
+pub returns-clause-ok : goal.returns-clause-ok
+returns-clause-ok g c =
+    let all : c.len.result ≡ length (judged_of c.args.messages.now.entries) = c.len.ensures.len ∙ sym (judged-all c.args.messages.now.entries c.requires) in
+    rw (← all, ← c.error_count.ensures) c.write_total.ensures.ok
+
+pub returns-clause-err : goal.returns-clause-err
+returns-clause-err g c =
+    let all : c.len.result ≡ length (judged_of c.args.messages.now.entries) = c.len.ensures.len ∙ sym (judged-all c.args.messages.now.entries c.requires) in
+    rw (← all, ← c.error_count.ensures) c.write_total.ensures.err

@@ -1,0 +1,43 @@
+//! Which messages are marked stale. A mark takes no memory: it is the want of a kept verdict.
+ghost use Rattle.std.specs.Prelude.{◌≡◌, Option, map, nat_eq, false};
+ghost use Rattle.indexmap.specs.IndexMap.{IsUnique};
+ghost use lib.Pointwise.{pointwise};
+ghost use Rattle.sieve_delivery.specs.Name.{name_eq};
+ghost use Rattle.sieve_delivery.specs.declared.name.ScriptName as names;
+ghost use Rattle.sieve_delivery.specs.declared.envelope.Envelope.{Envelope};
+ghost use Rattle.sieve_run.specs.Frame.{Texts, outcome_over};
+ghost use Rattle.bench.specs.view.Entry.{KeepsDue, forgotten, unread, messages_of};
+
+use crate::entry::Entry;
+use indexmap::IndexMap;
+use sieve_base::Octets;
+use sieve_run::ScriptName;
+use sieve_run::laws::a_verdict_depends_on_what_it_looked_up;
+
+/// Marks all messages stale.
+pub(crate) fn forget_all(messages: &mut IndexMap<Octets, Entry>)
+    ensures entries { messages.new.entries ≡ map (λ e. (e.0, forgotten e.1)) messages.old.entries }
+    ensures messages { messages_of messages.new.entries ≡ messages_of messages.old.entries }
+    ensures unique { IsUnique (pointwise nat_eq) messages.new }
+{
+    messages.retain(|_id, entry| {
+        entry.forget();
+        true
+    });
+}
+
+/// Marks those stale whose runs looked the name up. Where the text at no other name changes, each verdict that is kept stays due.
+pub(crate) fn forget_readers(messages: &mut IndexMap<Octets, Entry>, name: &ScriptName)
+    ensures entries { messages.new.entries ≡ map (λ e. (e.0, unread name.now e.1)) messages.old.entries }
+    ensures messages { messages_of messages.new.entries ≡ messages_of messages.old.entries }
+    ensures unique { IsUnique (pointwise nat_eq) messages.new }
+    ensures due { (texts others : Texts) (main : Option names.ScriptName) (envelope : Envelope)
+        → ((other : names.ScriptName) → name_eq name.now other ≡ false → texts other ≡ others other)
+        → KeepsDue (outcome_over texts main envelope) messages.old.entries → KeepsDue (outcome_over others main envelope) messages.new.entries }
+{
+    a_verdict_depends_on_what_it_looked_up();
+    messages.retain(|_id, entry| {
+        entry.forget_reader(name);
+        true
+    });
+}

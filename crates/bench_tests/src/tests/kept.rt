@@ -1,0 +1,251 @@
+//! Reports that run what edits have touched, and the verdicts that are kept.
+
+use super::meters::put_message;
+use super::{TURNS, holds, same};
+use sievebench::{Action, Bench, Counted, Meter, Octets, ReportFault, SessionEnd, session};
+use std::io;
+use std::io::{ErrorKind, Write};
+use std::process::Abort;
+use std::test::Fail;
+
+/// Edits as a session's octets, how many runs the report behind them makes, and its text.
+type Step<'a> = (&'a [u8], u64, &'a [u8]);
+
+/// Two messages, and a main script that includes another for the first of them, as far as that is there.
+const TWO_MESSAGES: &[u8] =
+    b"script personal main 71\nrequire \"include\"; if header \"Subject\" \"one\" { include :optional \"x\"; }message m1 14\nSubject: one\n\nmessage m2 14\nSubject: two\n\nmain personal main\n";
+
+/// Makes edits.
+fn edit(rt: &(impl AllocGlobal + Abort), bench: &mut Bench, edits: &[u8]) {
+    let mut reader = Counted::new(edits);
+    let mut writer = Counted::new(Vec::new(rt.alloc()));
+    let end = session(bench, &mut Meter::new(), &mut reader, &mut writer, TURNS);
+    let at = ("edits of so many octets", edits.len() as u64, 0);
+    holds(rt, at, end == SessionEnd::Done);
+}
+
+/// Makes edits and then a report, and compares its text and how many runs it makes.
+fn check_step(
+    rt: &(impl AllocGlobal + Abort),
+    bench: &mut Bench,
+    meter: &mut Meter,
+    (edits, runs, text): Step<'_>,
+) -> Result<(), Fail> {
+    edit(rt, bench, edits);
+    let before = meter.runs();
+    let mut writer = Counted::new(Vec::new(rt.alloc()));
+    bench.report(meter, &mut writer)?;
+    let at = (
+        "a report behind edits of so many octets",
+        edits.len() as u64,
+        runs,
+    );
+    same(rt, at, &writer.into_inner(), text);
+    holds(rt, at, meter.runs().checked_sub(before) == Some(runs));
+    Ok(())
+}
+
+/// Makes steps in turn.
+fn check_steps(
+    rt: &(impl AllocGlobal + Abort),
+    bench: &mut Bench,
+    steps: &[Step<'_>],
+) -> Result<(), Fail> {
+    let mut meter = Meter::new();
+    for step in steps {
+        check_step(rt, bench, &mut meter, *step)?;
+    }
+    Ok(())
+}
+
+#[test]
+fn a_script_that_is_put_or_renamed_reruns_what_looked_it_up(rt: HostRuntime) -> Result<(), Fail> {
+    let mut bench = Bench::new(rt.alloc())?;
+    check_steps(
+        &rt,
+        &mut bench,
+        &[
+            (
+                TWO_MESSAGES,
+                2,
+                b"main personal \"main\"\nenvelope \"\" \"\" mailbox \"INBOX\"\nscript personal \"main\" ok\nmessage \"m1\"\n  implicit \"INBOX\"\n  read personal \"main\"\n  read personal \"x\" missing\nmessage \"m2\"\n  implicit \"INBOX\"\n  read personal \"main\"\ntotal 2 messages 0 errors\n",
+            ),
+            (
+                b"script personal x 8\ndiscard;",
+                1,
+                b"main personal \"main\"\nenvelope \"\" \"\" mailbox \"INBOX\"\nscript personal \"main\" ok\nscript personal \"x\" ok\nmessage \"m1\"\n  discard\n  read personal \"main\"\n  read personal \"x\"\nmessage \"m2\"\n  implicit \"INBOX\"\n  read personal \"main\"\ntotal 2 messages 0 errors\n",
+            ),
+            (
+                b"rename personal main personal old\n",
+                2,
+                b"main personal \"main\"\nenvelope \"\" \"\" mailbox \"INBOX\"\nscript personal \"old\" ok\nscript personal \"x\" ok\nmessage \"m1\"\n  implicit \"INBOX\"\n  error personal \"main\" line 0 missing-script\n  read personal \"main\" missing\nmessage \"m2\"\n  implicit \"INBOX\"\n  error personal \"main\" line 0 missing-script\n  read personal \"main\" missing\ntotal 2 messages 2 errors\n",
+            ),
+            (
+                b"rename personal old personal main\n",
+                2,
+                b"main personal \"main\"\nenvelope \"\" \"\" mailbox \"INBOX\"\nscript personal \"main\" ok\nscript personal \"x\" ok\nmessage \"m1\"\n  discard\n  read personal \"main\"\n  read personal \"x\"\nmessage \"m2\"\n  implicit \"INBOX\"\n  read personal \"main\"\ntotal 2 messages 0 errors\n",
+            ),
+        ],
+    )
+}
+
+/// Each edit in turn, on a bench whose verdicts are kept.
+fn check_edits(rt: &(impl AllocGlobal + Abort), bench: &mut Bench) -> Result<(), Fail> {
+    check_steps(
+        rt,
+        bench,
+        &[
+            (
+                b"",
+                0,
+                b"main personal \"main\"\nenvelope \"\" \"\" mailbox \"INBOX\"\nscript personal \"main\" ok\nscript personal \"x\" ok\nmessage \"m1\"\n  discard\n  read personal \"main\"\n  read personal \"x\"\nmessage \"m2\"\n  implicit \"INBOX\"\n  read personal \"main\"\ntotal 2 messages 0 errors\n",
+            ),
+            (
+                b"script personal y 0\n",
+                0,
+                b"main personal \"main\"\nenvelope \"\" \"\" mailbox \"INBOX\"\nscript personal \"main\" ok\nscript personal \"x\" ok\nscript personal \"y\" ok\nmessage \"m1\"\n  discard\n  read personal \"main\"\n  read personal \"x\"\nmessage \"m2\"\n  implicit \"INBOX\"\n  read personal \"main\"\ntotal 2 messages 0 errors\n",
+            ),
+            (
+                b"script personal x 8\ndiscard;",
+                1,
+                b"main personal \"main\"\nenvelope \"\" \"\" mailbox \"INBOX\"\nscript personal \"main\" ok\nscript personal \"x\" ok\nscript personal \"y\" ok\nmessage \"m1\"\n  discard\n  read personal \"main\"\n  read personal \"x\"\nmessage \"m2\"\n  implicit \"INBOX\"\n  read personal \"main\"\ntotal 2 messages 0 errors\n",
+            ),
+            (
+                b"message m2 14\nSubject: two\n\n",
+                1,
+                b"main personal \"main\"\nenvelope \"\" \"\" mailbox \"INBOX\"\nscript personal \"main\" ok\nscript personal \"x\" ok\nscript personal \"y\" ok\nmessage \"m1\"\n  discard\n  read personal \"main\"\n  read personal \"x\"\nmessage \"m2\"\n  implicit \"INBOX\"\n  read personal \"main\"\ntotal 2 messages 0 errors\n",
+            ),
+            (
+                b"mailbox Inbox2\n",
+                2,
+                b"main personal \"main\"\nenvelope \"\" \"\" mailbox \"Inbox2\"\nscript personal \"main\" ok\nscript personal \"x\" ok\nscript personal \"y\" ok\nmessage \"m1\"\n  discard\n  read personal \"main\"\n  read personal \"x\"\nmessage \"m2\"\n  implicit \"Inbox2\"\n  read personal \"main\"\ntotal 2 messages 0 errors\n",
+            ),
+            (
+                b"envelope a@b.example \"\"\n",
+                2,
+                b"main personal \"main\"\nenvelope \"a@b.example\" \"\" mailbox \"Inbox2\"\nscript personal \"main\" ok\nscript personal \"x\" ok\nscript personal \"y\" ok\nmessage \"m1\"\n  discard\n  read personal \"main\"\n  read personal \"x\"\nmessage \"m2\"\n  implicit \"Inbox2\"\n  read personal \"main\"\ntotal 2 messages 0 errors\n",
+            ),
+            (
+                b"drop-script personal x\n",
+                1,
+                b"main personal \"main\"\nenvelope \"a@b.example\" \"\" mailbox \"Inbox2\"\nscript personal \"main\" ok\nscript personal \"y\" ok\nmessage \"m1\"\n  implicit \"Inbox2\"\n  read personal \"main\"\n  read personal \"x\" missing\nmessage \"m2\"\n  implicit \"Inbox2\"\n  read personal \"main\"\ntotal 2 messages 0 errors\n",
+            ),
+            (
+                b"rename personal y personal x\n",
+                1,
+                b"main personal \"main\"\nenvelope \"a@b.example\" \"\" mailbox \"Inbox2\"\nscript personal \"main\" ok\nscript personal \"x\" ok\nmessage \"m1\"\n  implicit \"Inbox2\"\n  read personal \"main\"\n  read personal \"x\"\nmessage \"m2\"\n  implicit \"Inbox2\"\n  read personal \"main\"\ntotal 2 messages 0 errors\n",
+            ),
+            (
+                b"drop-message m1\n",
+                0,
+                b"main personal \"main\"\nenvelope \"a@b.example\" \"\" mailbox \"Inbox2\"\nscript personal \"main\" ok\nscript personal \"x\" ok\nmessage \"m2\"\n  implicit \"Inbox2\"\n  read personal \"main\"\ntotal 1 messages 0 errors\n",
+            ),
+            (
+                b"script personal main 5\nkeep;",
+                1,
+                b"main personal \"main\"\nenvelope \"a@b.example\" \"\" mailbox \"Inbox2\"\nscript personal \"main\" ok\nscript personal \"x\" ok\nmessage \"m2\"\n  store \"Inbox2\"\n  read personal \"main\"\ntotal 1 messages 0 errors\n",
+            ),
+        ],
+    )
+}
+
+#[test]
+fn each_edit_reruns_what_it_touches(rt: HostRuntime) -> Result<(), Fail> {
+    let mut bench = Bench::new(rt.alloc())?;
+    begin(&rt, &mut bench)?;
+    check_edits(&rt, &mut bench)
+}
+
+/// The two messages, with the script that the first includes, and a report.
+fn begin(rt: &(impl AllocGlobal + Abort), bench: &mut Bench) -> Result<(), Fail> {
+    edit(rt, bench, TWO_MESSAGES);
+    edit(rt, bench, b"script personal x 8\ndiscard;");
+    let mut writer = Counted::new(Vec::new(rt.alloc()));
+    bench.report(&mut Meter::new(), &mut writer)?;
+    Ok(())
+}
+
+/// Whether a verdict is kept that discards the message and does no more.
+fn is_discarded(bench: &Bench, id: &Octets) -> bool {
+    match bench.verdict(id) {
+        Some(outcome) => matches!(outcome.actions(), [Action::Discard]),
+        None => false,
+    }
+}
+
+/// Puts a script anew that one of two messages has looked up, and looks at their verdicts before the next report and behind it.
+fn check_verdicts(
+    rt: &(impl AllocGlobal + Abort),
+    bench: &mut Bench,
+    first: &Octets,
+    second: &Octets,
+) -> Result<(), Fail> {
+    begin(rt, bench)?;
+    edit(rt, bench, b"script personal x 8\ndiscard;");
+    holds(
+        rt,
+        ("a stale message", 1, 0),
+        bench.verdict(first).is_none(),
+    );
+    holds(
+        rt,
+        ("another message", 2, 0),
+        bench.verdict(second).is_some(),
+    );
+    let mut writer = Counted::new(Vec::new(rt.alloc()));
+    bench.report(&mut Meter::new(), &mut writer)?;
+    holds(
+        rt,
+        ("a message that was run", 1, 1),
+        is_discarded(bench, first),
+    );
+    bench.remove_message(first)?;
+    holds(rt, ("no message", 1, 2), bench.verdict(first).is_none());
+    Ok(())
+}
+
+#[test]
+fn a_verdict_is_kept_until_an_edit_touches_it(rt: HostRuntime) -> Result<(), Fail> {
+    let mut bench = Bench::new(rt.alloc())?;
+    let first = Octets::copied(rt.alloc(), b"m1")?;
+    let second = Octets::copied(rt.alloc(), b"m2")?;
+    check_verdicts(&rt, &mut bench, &first, &second)
+}
+
+/// A writer that takes nothing.
+#[derive(Drop)]
+struct Shut;
+
+impl Write for Shut {
+    fn write(&mut self, _buf: &[u8]) -> io::Result<usize> {
+        Err(io::Error::from(ErrorKind::BrokenPipe))
+    }
+
+    fn flush(&mut self) -> io::Result<()> {
+        Ok(())
+    }
+}
+
+/// Reports to a writer that takes nothing, and then to one that does.
+fn check_shut(rt: &(impl AllocGlobal + Abort), bench: &mut Bench) -> Result<(), Fail> {
+    let mut meter = Meter::new();
+    put_message(rt.alloc(), bench, b"a")?;
+    put_message(rt.alloc(), bench, b"b")?;
+    let shut = bench.report(&mut meter, &mut Counted::new(Shut));
+    let fails = matches!(shut, Err(ReportFault::Write));
+    holds(
+        rt,
+        ("a report to a shut writer", 2, meter.runs()),
+        fails && meter.runs() == 2,
+    );
+    let mut writer = Counted::new(Vec::new(rt.alloc()));
+    bench.report(&mut meter, &mut writer)?;
+    holds(rt, ("the next report", 2, meter.runs()), meter.runs() == 2);
+    Ok(())
+}
+
+#[test]
+fn a_report_that_cannot_be_written_keeps_its_verdicts(rt: HostRuntime) -> Result<(), Fail> {
+    let mut bench = Bench::new(rt.alloc())?;
+    check_shut(&rt, &mut bench)
+}

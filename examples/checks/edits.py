@@ -1,0 +1,140 @@
+"""Random edits of a bench with a report behind each, beside benches that are made anew for each report: the texts must be the same."""
+import concurrent.futures
+import os
+import random
+import subprocess
+
+from .runs import SECONDS, put
+
+WALKS, STEPS = 12, 250
+NAMES = [b"main", b"a", b"b", b"c", b'd "e"']
+IDS = [b"m1", b"m2", b"m3", b"m 4"]
+SUBJECTS = [b"one", b"two", b"one two", b""]
+
+
+def quoted(octets):
+    """A word of a session."""
+    return b'"' + octets.replace(b"\\", b"\\\\").replace(b'"', b'\\"') + b'"'
+
+
+def text_of(dice):
+    """A script: it may include others that are there or not, by what a message or the envelope is like, and it may have a fault."""
+    lines = [b'require ["include", "fileinto", "envelope", "variables"];']
+    for _ in range(dice.randrange(4)):
+        name, subject = dice.choice(NAMES), dice.choice(SUBJECTS)
+        place = dice.choice([b"", b":global "])
+        include = b"include %s%s%s%s;" % (place, dice.choice([b"", b":once "]), dice.choice([b"", b":optional ", b":optional "]), quoted(name))
+        lines.append(
+            dice.choice(
+                [
+                    b'if header :contains "Subject" %s { %s }' % (quoted(subject), include),
+                    b'if envelope "from" "a@b.example" { %s }' % include,
+                    include,
+                    b'if header :matches "Subject" "* *" { fileinto "${1}"; }',
+                    b'set "global.x" "${global.x}y"; if string "${global.x}" "yy" { discard; }',
+                    b"return;",
+                    b"keep;",
+                    b"kep;",
+                ]
+            )
+        )
+    return b"\n".join(lines) + b"\n"
+
+
+class Bench:
+    """What a bench holds, by the rules of its edits."""
+
+    def __init__(self):
+        self.scripts, self.messages = {}, {}
+        self.main, self.envelope, self.mailbox = None, (b"", b""), b"INBOX"
+
+    def edit(self, dice):
+        """Makes an edit, and gives its octets and the reply that is due."""
+        kind = dice.choice(["script"] * 6 + ["rename"] * 3 + ["message"] * 3 + ["drop-script", "drop-script", "drop-message", "main", "main", "no-main", "envelope", "mailbox"])
+        place, name = dice.choice([b"personal", b"personal", b"global"]), dice.choice(NAMES)
+        words = place + b" " + quoted(name)
+        key, at = (place != b"personal", name), dice.choice(IDS)
+        if kind == "script":
+            text = self.scripts.get(key, b"") if dice.random() < 0.1 else text_of(dice)
+            self.scripts[key] = text
+            return put(b"script " + words, text), b"ok"
+        if kind == "message":
+            octets = b"Subject: " + dice.choice(SUBJECTS) + b"\n\n"
+            self.messages[at] = octets
+            return put(b"message " + quoted(at), octets), b"ok"
+        if kind == "rename":
+            other = dice.choice([b"personal", b"personal", b"global"]), dice.choice(NAMES)
+            new = (other[0] != b"personal", other[1])
+            line = b"rename %s %s %s\n" % (words, other[0], quoted(other[1]))
+            if key not in self.scripts:
+                return line, b"no no-such-script"
+            if new in self.scripts:
+                return line, b"no name-taken"
+            self.scripts[new] = self.scripts.pop(key)
+            return line, b"ok"
+        if kind == "drop-script":
+            there = self.scripts.pop(key, None) is not None
+            return b"drop-script " + words + b"\n", b"ok" if there else b"no no-such-script"
+        if kind == "drop-message":
+            there = self.messages.pop(at, None) is not None
+            return b"drop-message " + quoted(at) + b"\n", b"ok" if there else b"no no-such-message"
+        if kind == "main":
+            self.main = words
+            return b"main " + words + b"\n", b"ok"
+        if kind == "no-main":
+            self.main = None
+            return b"no-main\n", b"ok"
+        if kind == "envelope":
+            self.envelope = dice.choice([b"", b"a@b.example"]), dice.choice([b"", b"c@d.example"])
+            return b"envelope %s %s\n" % tuple(quoted(it) for it in self.envelope), b"ok"
+        self.mailbox = dice.choice([b"INBOX", b"Lists"])
+        return b"mailbox " + self.mailbox + b"\n", b"ok"
+
+    def anew(self):
+        """A session that makes a new bench of this, and reports."""
+        settings = [b"envelope %s %s\n" % tuple(quoted(it) for it in self.envelope), b"mailbox " + self.mailbox + b"\n"]
+        scripts = [put(b"script %s %s" % (b"global" if shared else b"personal", quoted(name)), text) for (shared, name), text in self.scripts.items()]
+        messages = [put(b"message " + quoted(at), octets) for at, octets in self.messages.items()]
+        main = [] if self.main is None else [b"main " + self.main + b"\n"]
+        return b"".join(settings + scripts + messages + main) + b"report\n"
+
+
+def served(path, octets):
+    """What the program replies to a session."""
+    env = {**os.environ, "PATH": path}
+    return subprocess.run(["sievebench", "session"], input=octets, env=env, capture_output=True, timeout=SECONDS, check=True).stdout
+
+
+def last_report(replies):
+    """The report at the end of some replies, behind the lines that say that edits were made."""
+    return replies[replies.rindex(b"main ", 0, replies.index(b"\nenvelope ")) :]
+
+
+class Walk:
+    """So many edits in turn."""
+
+    def __init__(self, seed):
+        self.seed, self.title, self.command = seed, f"{STEPS} random edits, each with a report", f"seed {seed}"
+
+    def differences(self, path):
+        """What is other than on a bench that is made anew."""
+        dice, bench, session, wanted, anew = random.Random(self.seed), Bench(), [], [], []
+        for _ in range(STEPS):
+            octets, reply = bench.edit(dice)
+            session.append(octets + b"report\n")
+            wanted.append(reply + b"\n")
+            anew.append(bench.anew())
+        with concurrent.futures.ThreadPoolExecutor(os.cpu_count()) as pool:
+            fresh = list(pool.map(lambda octets: last_report(served(path, octets)), anew))
+        got = served(path, b"".join(session))
+        for step, (reply, report) in enumerate(zip(wanted, fresh)):
+            if not got.startswith(reply + report):
+                return [f"at edit {step}: wanted {reply + report!r:.2000}, got {got[: len(reply + report)]!r:.2000}"]
+            got = got[len(reply + report) :]
+        return [f"more behind the last report: {got!r:.2000}"] if got else []
+
+
+def of_benches():
+    """All walks."""
+    for seed in range(WALKS):
+        yield Walk(seed)
