@@ -1,7 +1,7 @@
 //! The bench's public calls: what they answer with ample memory, at their limits, and over devices that fail.
 //!
 //! What octets alone tell, as sessions with their replies and scripts with their verdicts, stands in `examples/rows` and is made in
-//! `examples/checks`.
+//! `tools/checks`.
 
 mod devices;
 mod edits;

@@ -1,6 +1,6 @@
 //! Rows for public calls of the libraries of texts. What is expected was written by hand from the standards.
 //!
-//! What scripts and mails alone tell stands in `examples/rows` and is made in `examples/checks`.
+//! What scripts and mails alone tell stands in `examples/rows` and is made in `tools/checks`.
 
 mod addresses_of_values;
 mod comparators;

@@ -1,4 +1,4 @@
-//! The words of the command line, and the status of each end. What further words ask for stands in `examples/rows` and `examples/checks`.
+//! The words of the command line, and the status of each end. What further words ask for stands in `examples/rows` and `tools/checks`.
 
 use super::holds;
 use sievebench::{End, SessionEnd, TestEnd, UsageFault, command_of, status_of};

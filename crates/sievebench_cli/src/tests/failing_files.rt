@@ -1,4 +1,4 @@
-//! Files and folders that fail, and names that no file system has. What other files come to is made in `examples/checks`.
+//! Files and folders that fail, and names that no file system has. What other files come to is made in `tools/checks`.
 
 use super::holds;
 use super::machine::{Given, Machine, Paths, Room, Written};
