@@ -54,7 +54,14 @@ no-such-message, full, too-large, no-memory. Any other line is answered \"no syn
 that ends inside N octets \"no truncated\": both end the session with status 2.
 
 Exit status: 0 done, 2 as above, 3 the input or the output failed or too many reads were made,
-4 out of memory. docs/FORMATS.md of the project has all of this in full."
+4 out of memory. It tells of the session alone: with a verdict that is an error, a script's fault
+or a reply no it is 0 all the same. For a status of 1 on a verdict that is an error or a reply no,
+where INPUT writes a session that ends by a report:
+  set -o pipefail
+  INPUT | sievebench session > replies || exit
+  ! grep '^no ' replies && tail -n 1 replies | grep -x 'total [0-9]* messages 0 errors'
+
+docs/FORMATS.md of the project has all of this in full."
 }
 
 /// Behind the usage of `dump`: what its lines are.
@@ -78,8 +85,8 @@ Each plain file NAME.sieve of a folder is the script NAME; other files are passe
 a personal script, named by the last part of its path without a final .sieve; it takes the place
 of one of that name in the personal folder. An include finds scripts of the two folders alone: give
 --personal for those beside SCRIPT. Nothing is delivered, and no file is written. A value that
-begins with - is joined to its option, as in --to=-x or -f-x; a path that begins with - stands
-behind --.
+begins with - is joined to its option, as in -f-x or --to=-x, and doesn't stand behind --, whatever
+a tip says; a path that begins with - does.
 
 Standard output is the report:
   main personal \"NAME\"
