@@ -9,7 +9,6 @@ use Rattle.bench.specs.Stale.{ids_where, is_among, stale_after, touches}
 use Rattle.bench.specs.Test.{after_all, put_of, then_edit}
 use Rattle.bench.specs.declared.fault.EditFault.{EditFault}
 use Rattle.bench.specs.declared.fault.EditFault.TheVariants.{TooLarge, NoSuchScript, NameTaken, NoSuchMessage, Full, NoMemory}
-use Rattle.bench.specs.declared.test_job.TestJob.{TestJob}
 use Rattle.bench.specs.declared.test_job.TestScript.{TestScript}
 use Rattle.bench.specs.view.Refused.{Refused}
 use Rattle.bench.proofs.Names.{same_id}

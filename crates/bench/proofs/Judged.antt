@@ -8,7 +8,7 @@ use Rattle.sieve_delivery.specs.declared.envelope.Envelope.{Envelope}
 use Rattle.sieve_delivery.specs.declared.name.ScriptName.{ScriptName}
 use Rattle.bench.specs.Report.{error_count, verdict_by, verdicts}
 use Rattle.bench.specs.declared.entry.Entry.{Entry}
-use Rattle.bench.specs.view.Entry.{has_error, is_stale, judged_before, judged_of, messages_of, stale_of, KeepsDue}
+use Rattle.bench.specs.view.Entry.{has_error, judged_before, judged_of, messages_of, stale_of, KeepsDue}
 
 -- where none is stale, what is kept are the verdicts on all messages
 pub all_judged : (main : Option ScriptName) (envelope : Envelope) (scripts : List (ScriptName × List ℕ)) (es : List (List ℕ × Entry)) → KeepsDue (verdict_by main envelope scripts) es → stale_of es ≡ []

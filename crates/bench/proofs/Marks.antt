@@ -1,5 +1,5 @@
 -- What the marks of the entries say of the stale messages, and which verdicts stay due.
-use Rattle.std.proofs.Common.{◌≡◌, ℕ, suc, ◌+◌, zero-add, List, [], ◌∷◌, length, map, filter, Bool, true, false, cond, ◌||◌, if◌then◌else◌, Option, None, Some, IfSome, is_none, is_some, nat_eq, refl, sym, ap, ◌∙◌, count_by}
+use Rattle.std.proofs.Common.{◌≡◌, ℕ, List, [], ◌∷◌, map, filter, Bool, true, false, cond, ◌||◌, if◌then◌else◌, Option, None, Some, IfSome, is_none, nat_eq, refl, sym, ap, ◌∙◌}
 use Rattle.std.proofs.lemmas.Map.Keys.{IsDistinct-head, IsDistinct-tail}
 use Rattle.std.specs.List.{AllByRecursion, IsDistinct}
 use Rattle.std.specs.Map.{keys_of, lookup, remove_entry}
@@ -12,10 +12,9 @@ use Rattle.sieve_delivery.specs.declared.name.ScriptName.{ScriptName}
 use Rattle.sieve_run.specs.Frame.{Agree, Texts, outcome_over}
 use Rattle.sieve_run.specs.Run.{is_read}
 use Rattle.sieve_run.specs.Verdict.{Verdict}
-use Rattle.bench.specs.Report.{error_count}
 use Rattle.bench.specs.Stale.{ids_where, is_among}
 use Rattle.bench.specs.declared.entry.Entry.{Entry}
-use Rattle.bench.specs.view.Entry.{has_error, is_stale, judged_before, judged_of, messages_of, stale_of, KeepsDue, forgotten, kept_without, unread}
+use Rattle.bench.specs.view.Entry.{is_stale, messages_of, stale_of, KeepsDue, forgotten, kept_without, unread}
 use Rattle.bench.proofs.Names.{is_id, is_name, other_id, same_id}
 
 or_true : (a b : Bool) → a ≡ true → (a || b) ≡ true

@@ -1,4 +1,4 @@
-use Rattle.std.proofs.Common.{◌≡◌, ℕ, count_by, sym, ◌∙◌, rules}
+use Rattle.std.proofs.Common.{◌≡◌, count_by, sym, ◌∙◌, rules}
 use Rattle.bench.specs.view.Entry.{has_error}
 use Rattle.bench.proofs.Judged.{judged-errors}
 use Rattle.bench.proofs.report.error_count.Goals as goal

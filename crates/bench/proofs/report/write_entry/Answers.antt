@@ -1,4 +1,4 @@
-use Rattle.std.proofs.Common.{◌≡◌, None, Some, rules}
+use Rattle.std.proofs.Common.{None, rules}
 use Rattle.bench.proofs.Judged.{judged_one, one_lines}
 use Rattle.bench.specs.Report.{message_lines}
 use Rattle.bench.proofs.report.write_entry.Goals as goal

@@ -1,4 +1,4 @@
-use Rattle.std.proofs.Common.{◌≡◌, length, sym, ◌∙◌, rules}
+use Rattle.std.proofs.Common.{◌≡◌, length, sym, ◌∙◌}
 use Rattle.bench.specs.view.Entry.{judged_of}
 use Rattle.bench.proofs.Judged.{judged-all}
 use Rattle.bench.proofs.report.write_totals.Goals as goal

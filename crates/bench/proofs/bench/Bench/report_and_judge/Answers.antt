@@ -1,6 +1,5 @@
 use Rattle.std.proofs.Common.{◌≡◌, Bool, List, [], ℕ, Option, ap, ◌∙◌, option_copied, subst, rules}
 use Rattle.sieve_base.specs.Writers.{Wrote, WroteFront}
-use Rattle.sieve_delivery.specs.declared.envelope.Envelope.{Envelope}
 use Rattle.sieve_delivery.specs.declared.name.ScriptName.{ScriptName}
 use Rattle.sieve_run.specs.Verdict.{Verdict}
 use Rattle.bench.specs.Content.{Content}
