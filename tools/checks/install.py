@@ -47,7 +47,7 @@ def of_successes(room):
     here = os.fsencode(os.path.realpath(top))
     used = "find 'a b' -type f; 'a b/bin/sievebench' x; eval \"$(grep export told)\"; sievebench y"
     yield Run("an install into a folder that isn't there", top, f"{INSTALL} 'a b' > told; echo $?; {used}", lines("0", "a b/bin/sievebench", "new x", "new y"))
-    told = [b"installed as %s/a b/bin/sievebench.\n" % here, b"28 minutes", b"5 GB of disk", b"2 GB of memory"]
+    told = [b"installed as %s/a b/bin/sievebench.\n" % here, b"28 minutes", b"6 GB of disk", b"2 GB of memory"]
     told += [b"rt run -- --version, in sievebench_cli\n", b"The program is %s/a b/bin/sievebench.\n" % here, b"The path does not have it."]
     yield Run("what an install tells", top, "cat told", told)
     yield Run("an install where nothing is named", top, f"HOME=home {INSTALL} > told; home/.local/bin/sievebench x", b"new x\n")
@@ -74,7 +74,7 @@ def of_failures(room):
         ("no program is built", b"#!/bin/sh\n", OLD, f"p > told; echo $?; {used}", b"1\n" + old, [b"out/sievebench_cli"]),
         ("a page can't be copied", BUILDS, {**OLD, "man/1.1/x": b""}, f"p > told; echo $?; {used}", b"1\n" + old, [b"man/1.1"]),
         ("there is no rt", None, OLD, f"p; echo $?; {used}", b"1\n" + old, [b"install: there is no rt in the path"]),
-        ("a folder is a file", calls, {"p": b""}, "p/q; echo $?; find p", b"1\np\n", [b"install: cannot write to ", b"/p\n"]),
+        ("a folder is a file", calls, OLD, f"p/bin/sievebench; echo $?; {used}", b"1\n" + old, [b"install: cannot write to ", b"/p/bin/sievebench\n"]),
         ("the program's place is a folder", calls, {"p/bin/sievebench/x": b""}, "p; echo $?; find p -type f", b"1\np/bin/sievebench/x\n", [b"/p/bin/sievebench is a folder\n"]),
         ("two words are given", calls, {}, "p q; echo $?; find . -name p -o -name q", b"1\n", [b"install: one word at most is wanted"]),
     ]:

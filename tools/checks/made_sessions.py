@@ -6,7 +6,7 @@ import os
 import pathlib
 import shlex
 
-from .amounts import KEPT, MAILBOX_LIMIT, MAIL_LIMIT, MESSAGE_LIMIT, NAME_LIMIT, SCRIPT_LIMIT, TEXT_LIMIT
+from .amounts import KEPT, MAILBOX_LIMIT, MESSAGE_LIMIT, NAME_LIMIT, SCRIPT_LIMIT, TEXT_LIMIT
 from .files import write
 from .runs import SETTINGS, Run, lines
 
@@ -159,17 +159,18 @@ def of_refusals(room):
     write(room / "s", {"main.sieve": b""})
     write(room / "two", {"a.sieve": b"", "b.sieve": b""})
     write(room / "m", {"1": b""})
+    write(room / "pair", {"1": b"", "2": b""})
+    write(room / "crowd", {"1": b"", "2": b"", "3": b""})
     write(room / "hidden", {".1": b"", "folder/1": b""})
     write(room / "large", {"a.sieve": b"\n" * (TEXT_LIMIT + 1), "main.sieve": b""})
     write(room / "long", {"1": b"", "2\x1b[2J": b"\n" * (MESSAGE_LIMIT + 1)})
     write(room / "full", {f"{number:04}.sieve": b"" for number in range(SCRIPT_LIMIT)})
-    (room / "crowd").mkdir()
-    for number in range(MAIL_LIMIT + 1):
-        os.mknod(room / f"crowd/{number}")
     for folder, name in [("torn", "x.sieve"), ("broken", "z\u00fc")]:
         # It is a plain file, of which nothing can be read.
         write(room / folder, {"main.sieve": b""})
         (room / folder / name).symlink_to("/proc/self/mem")
+    write(room / "far", {"main.sieve": b""})
+    (room / "far/x.sieve").symlink_to("n" * 300)
     address, mailbox = "a" * (NAME_LIMIT + 1), "b" * (MAILBOX_LIMIT + 1)
     for title, words, sentence in [
         ("a folder of scripts that isn't there", "'n\u00f3' m", 'cannot read "n\\xc3\\xb3": '),
@@ -178,6 +179,7 @@ def of_refusals(room):
         ("a folder without a name", "'' m", 'cannot read "": '),
         ("a script that can't be read", "torn m", 'cannot read "torn/x.sieve": '),
         ("a global script that can't be read", "--global torn/ s m", 'cannot read "torn/x.sieve": '),
+        ("a script of which nobody knows what it is", "far m", 'cannot read "far/x.sieve": '),
         ("a mail that can't be read", "s broken", 'cannot read "broken/z\\xc3\\xbc": '),
         ("no mails", "s hidden", 'no mails in "hidden"\n'),
         ("no script", "m m", 'no file "m/main.sieve" for the main script'),
@@ -193,7 +195,6 @@ def of_refusals(room):
         ("a long recipient", f"--envelope b {address} s m", f'more than 1024 octets in "{address}"\n'),
         ("a long mailbox", f"--mailbox {mailbox} s m", f'more than 255 octets in "{mailbox}"\n'),
         ("many scripts", "--global full s m", 'more than 1024 scripts in "s" and "full"\n'),
-        ("many mails", "s crowd", 'more than 65536 mails in "crowd"\n'),
         ("one folder", "s", "two folders are wanted, of scripts and of mails"),
         ("three folders", "s m m", "two folders are wanted, of scripts and of mails"),
         ("an unknown option", "--m\u00e4in a s m", '"--m\\xc3\\xa4in" is no option, stands twice, or wants a value'),
@@ -202,6 +203,10 @@ def of_refusals(room):
         ("an output that is full", "s m > /dev/full", "cannot write: "),
     ]:
         yield Run(f"no session of {title}", room, f"{MAKE} {words}", b"", [f"make-session: {sentence}".encode()], 2)
+    # To make so many files would take longer than all else: here the limit is another.
+    few = f"sed 's/ 65_536$/ 2/' {MAKE} > few && python3 few s"
+    yield Run("no session of many mails", room, f"{few} crowd", b"", b'make-session: more than 2 mails in "crowd"\n', 2)
+    yield Run("a session of as many mails as there may be", room, f"{few} pair | tail -n 3", b'message "2" 0\nmain personal "main"\nreport\n')
 
 
 def of_folders(room):
