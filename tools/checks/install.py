@@ -1,0 +1,81 @@
+"""What `tools/install` does, in copies of the files that it needs. In the place of `rt` stands a script, so that nothing is proved."""
+import os
+import pathlib
+import shutil
+
+from .files import write
+from .runs import Run, lines
+
+SOURCE = pathlib.Path(__file__).resolve().parent.parent / "install"
+# What it and the script for `rt` call: nothing else is in the path that it is given.
+COMMANDS = ["bash", "cat", "chmod", "dirname", "install", "mkdir", "mv", "realpath", "rm", "sed"]
+INSTALL = 'PATH="$PWD/kit" tools/install'
+BUILDS = b"""#!/bin/sh
+echo "rt $*, in ${PWD##*/}"
+mkdir -p out
+printf '#!/bin/sh\\necho new "$@"\\n' > out/sievebench_cli
+chmod 700 out/sievebench_cli
+"""
+OLD = {"p/bin/sievebench": b"#!/bin/sh\necho old\n"}
+PAGE = {"man/sievebench.1": b"page\n", "man/notes": b""}
+
+
+def copy(room, rt, files):
+    """A folder with what is needed of a repository, a script for `rt`, if any, and other files."""
+    top = room / str(len(list(room.iterdir())))
+    write(top, {"tools/install": SOURCE.read_bytes(), "crates/sievebench_cli/args": b"", **({"kit/rt": rt} if rt else {}), **files})
+    (top / "kit").mkdir(exist_ok=True)
+    for command in COMMANDS:
+        (top / "kit" / command).symlink_to(shutil.which(command))
+    for path in ["tools/install", "kit/rt", "p/bin/sievebench"]:
+        if (top / path).is_file():
+            (top / path).chmod(0o755)
+    return top
+
+
+def of_prefixes(room):
+    """All of them."""
+    room = room / "install"
+    room.mkdir()
+    yield from of_successes(room)
+    yield from of_failures(room)
+
+
+def of_successes(room):
+    """What is installed, and what is told of it."""
+    top = copy(room, BUILDS, {})
+    here = os.fsencode(os.path.realpath(top))
+    used = "find 'a b' -type f; 'a b/bin/sievebench' x; eval \"$(grep export told)\"; sievebench y"
+    yield Run("an install into a folder that isn't there", top, f"{INSTALL} 'a b' > told; echo $?; {used}", lines("0", "a b/bin/sievebench", "new x", "new y"))
+    told = [b"installed as %s/a b/bin/sievebench.\n" % here, b"28 minutes", b"6 GB of disk", b"2 GB of memory"]
+    told += [b"rt run -- --version, in sievebench_cli\n", b"The program is %s/a b/bin/sievebench.\n" % here, b"The path does not have it."]
+    yield Run("what an install tells", top, "cat told", told)
+    yield Run("an install where nothing is named", top, f"HOME=home {INSTALL} > told; home/.local/bin/sievebench x", b"new x\n")
+    has = b"The path has it: sievebench --help tells how it is used.\n"
+    yield Run("an install again, into a folder of the path", top, 'PATH="$PWD/kit:$PWD/home/.local/bin" tools/install home/.local | tail -n 1', has)
+    top = copy(room, BUILDS, {**OLD, **PAGE})
+    here = os.fsencode(os.path.realpath(top))
+    other = b"The path has another one before it, %s/p/bin/sievebench.\n" % here
+    yield Run("an install where the path has another", top, 'PATH="$PWD/kit:$PWD/p/bin" tools/install q | tail -n 1', other)
+    found = lines("0", "p/bin/sievebench", "p/share/man/man1/sievebench.1", "new x", "page")
+    used = "find p -type f | sort; p/bin/sievebench x; cat p/share/man/man1/*"
+    yield Run("an install over an older one, with a page of the manual", top, f"{INSTALL} p > told; echo $?; {used}", found)
+
+
+def of_failures(room):
+    """What isn't installed: what was there before stays as it was."""
+    fails, calls = b"#!/bin/sh\nexit 7\n", b"#!/bin/sh\necho called\n"
+    failed = [b"install: rt failed with status 7, so nothing is installed\n"]
+    old = lines("p/bin/sievebench") + OLD["p/bin/sievebench"]
+    used = "find p -type f; cat p/bin/*"
+    for title, rt, files, words, output, error in [
+        ("proofs fail", fails, {}, "p > told; echo $?; find . -name p", b"7\n", failed),
+        ("proofs fail, over an older one", fails, OLD, f"p > told; echo $?; {used}", b"7\n" + old, failed),
+        ("no program is built", b"#!/bin/sh\n", OLD, f"p > told; echo $?; {used}", b"1\n" + old, [b"out/sievebench_cli"]),
+        ("a page can't be copied", BUILDS, {**OLD, "man/1.1/x": b""}, f"p > told; echo $?; {used}", b"1\n" + old, [b"man/1.1"]),
+        ("there is no rt", None, OLD, f"p; echo $?; {used}", b"1\n" + old, [b"install: there is no rt in the path"]),
+        ("a folder is a file", calls, OLD, f"p/bin/sievebench; echo $?; {used}", b"1\n" + old, [b"install: cannot write to ", b"/p/bin/sievebench\n"]),
+        ("the program's place is a folder", calls, {"p/bin/sievebench/x": b""}, "p; echo $?; find p -type f", b"1\np/bin/sievebench/x\n", [b"/p/bin/sievebench is a folder\n"]),
+        ("two words are given", calls, {}, "p q; echo $?; find . -name p -o -name q", b"1\n", [b"install: one word at most is wanted"]),
+    ]:
+        yield Run(f"no install where {title}", copy(room, rt, files), f"{INSTALL} {words}", output, error)

@@ -1,0 +1,48 @@
+"""The commands of the README, run at the top of the repository as they stand there.
+
+A block ```` ```sh ```` holds commands, and the block without a word that follows it holds what they print. Commands that prove have
+none: they aren't run, but their files must be executable. In the place of `rt try`, which builds a program without proofs and runs it in
+a folder of its own, stands a script that runs the program that is tested.
+"""
+import os
+import pathlib
+import re
+import shlex
+
+from .runs import Run
+
+TOP = pathlib.Path(__file__).resolve().parent.parent.parent
+PROVE = ["tools/install", ".ci/run", "tools/check"]
+BLOCK = re.compile(r"^```sh\n(.*?)^```\n(?:\n```\n(.*?)^```\n)?", re.M | re.S)
+TRY = """#!/bin/sh
+[ "${PWD##*/} $1 $2" = "sievebench_cli try --" ] || exit 70
+shift 2
+cd "${0%/*}" && exec sievebench "$@"
+"""
+
+
+class Proving:
+    """A command that isn't run."""
+
+    def __init__(self, command):
+        self.title, self.command = "README", command
+
+    def differences(self, path):
+        """What is missing for it to be run, or to be told."""
+        file = shlex.split(self.command, comments=True)[0]
+        if file not in PROVE:
+            return ["no block behind it holds what it prints"]
+        return [] if os.access(TOP / file, os.X_OK) else [f"{file} can't be executed"]
+
+
+def of_blocks(room):
+    """The commands of all blocks."""
+    kit = room / "kit"
+    kit.mkdir()
+    (kit / "rt").write_text(TRY)
+    (kit / "rt").chmod(0o755)
+    for commands, printed in BLOCK.findall((TOP / "README.md").read_text(encoding="utf-8")):
+        if printed:
+            yield Run("README", TOP, f"PATH={shlex.quote(str(kit))}:$PATH\n{commands}", printed.encode())
+        else:
+            yield from map(Proving, commands.splitlines())
