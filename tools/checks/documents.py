@@ -10,23 +10,26 @@ TOP = pathlib.Path(__file__).resolve().parent.parent.parent
 FORMATS, LANGUAGE, SCRIPT = TOP / "docs/FORMATS.md", TOP / "docs/LANGUAGE.md", TOP / "examples/office/main.sieve"
 # What writes the session in the document's lines; here a file has it.
 MAKER = "tools/make-session --main main scripts mails"
-BLOCK = r"\n### {}\n(?:(?!\n##).)*?```sh\n(.*?)```"
+SECTION, BLOCK = r"\n### {}\n((?:(?!\n##).)*)", r"```sh\n(.*?)```"
 
 
-def block(title):
-    """The lines of shell under a heading of the formats' page."""
-    return re.search(BLOCK.format(title), FORMATS.read_text(encoding="utf-8"), re.S)[1]
+def blocks(title):
+    """The blocks of shell under a heading of the formats' page."""
+    section = re.search(SECTION.format(title), FORMATS.read_text(encoding="utf-8"), re.S)[1]
+    return re.findall(BLOCK, section, re.S)
 
 
 def of_replies(room):
     """A session whose sixth line with words is none, behind replies of many lines, and the line that counts the replies."""
     (room / "input").write_bytes(b"message m 0\n\n" + put(b"script personal main", b"discard;\nx;\n") + b"main personal main\nreport\ndump personal gone\nfrobnicate\n")
-    yield Run("the line of a `no syntax`", room, f"sievebench session < input > replies; {block('Which line was refused')}", lines("6"))
+    (count,) = blocks("Which line was refused")
+    yield Run("the line of a `no syntax`", room, f"sievebench session < input > replies; {count}", lines("6"))
 
 
 def of_failing(room):
-    """What the lines that make a pipeline fail answer to sessions, and to a maker that fails."""
-    script, text = block("When a session fails"), put(b"script personal main", b'redirect "a";')
+    """What the lines that make a pipeline fail answer to sessions, and to a maker that fails; and the line that finds faults."""
+    script, finder = blocks("When a session fails")
+    text = put(b"script personal main", b'redirect "a";')
     assert script.count(MAKER) == 1, MAKER
     sound, report = put(b"script personal main", b"discard;"), b"message m 0\nmain personal main\nreport\n"
     for number, (title, octets, end, output, status) in enumerate(
@@ -46,6 +49,9 @@ def of_failing(room):
         (folder / "input").write_bytes(octets)
         (folder / "lines").write_text(script.replace(MAKER, "{ cat input; %s }" % (end and end + ";")))
         yield Run(f"the lines that make a pipeline fail, where the session {title}", folder, "bash lines", output, status=status)
+    faulty = put(b"script personal main", b"keep;") + put(b'script personal "ok"', b"kep;") + put(b'script global "line 1 kep"', b"") + report
+    (room / "faulty").write_bytes(faulty)
+    yield Run("the line that finds faults", room, f"sievebench session < faulty > replies; {finder}", lines('script personal "ok" line 1 unknown-command'))
 
 
 class Shown:
