@@ -3,6 +3,7 @@
 """
 import pathlib
 import re
+import textwrap
 
 from .runs import Run, lines, put
 
@@ -31,6 +32,7 @@ def of_failing(room):
     script, finder = blocks("When a session fails")
     text = put(b"script personal main", b'redirect "a";')
     assert script.count(MAKER) == 1, MAKER
+    yield Run("the help has the same lines", room, "sievebench help session", [textwrap.indent(script.replace(MAKER, "INPUT"), "  ").encode()])
     sound, report = put(b"script personal main", b"discard;"), b"message m 0\nmain personal main\nreport\n"
     for number, (title, octets, end, output, status) in enumerate(
         [
