@@ -1,0 +1,85 @@
+"""What the documents show: the lines of shell of `docs/FORMATS.md` that say how a session went, and the whole script and the contents of
+`docs/LANGUAGE.md`.
+"""
+import pathlib
+import re
+import textwrap
+
+from .runs import Run, lines, put
+
+TOP = pathlib.Path(__file__).resolve().parent.parent.parent
+FORMATS, LANGUAGE, SCRIPT = TOP / "docs/FORMATS.md", TOP / "docs/LANGUAGE.md", TOP / "examples/office/main.sieve"
+# What writes the session in the document's lines; here a file has it.
+MAKER = "tools/make-session --main main scripts mails"
+SECTION, BLOCK = r"\n### {}\n((?:(?!\n##).)*)", r"```sh\n(.*?)```"
+
+
+def blocks(title):
+    """The blocks of shell under a heading of the formats' page."""
+    section = re.search(SECTION.format(title), FORMATS.read_text(encoding="utf-8"), re.S)[1]
+    return re.findall(BLOCK, section, re.S)
+
+
+def of_replies(room):
+    """A session whose sixth line with words is none, behind replies of many lines, and the line that counts the replies."""
+    (room / "input").write_bytes(b"message m 0\n\n" + put(b"script personal main", b"discard;\nx;\n") + b"main personal main\nreport\ndump personal gone\nfrobnicate\n")
+    (count,) = blocks("Which line was refused")
+    yield Run("the line of a `no syntax`", room, f"sievebench session < input > replies; {count}", lines("6"))
+
+
+def of_failing(room):
+    """What the lines that make a pipeline fail answer to sessions, and to a maker that fails; and the line that finds faults."""
+    script, finder = blocks("When a session fails")
+    text = put(b"script personal main", b'redirect "a";')
+    assert script.count(MAKER) == 1, MAKER
+    yield Run("the help has the same lines", room, "sievebench help session", [textwrap.indent(script.replace(MAKER, "INPUT"), "  ").encode()])
+    sound, report = put(b"script personal main", b"discard;"), b"message m 0\nmain personal main\nreport\n"
+    for number, (title, octets, end, output, status) in enumerate(
+        [
+            ("is sound", sound + report, "", lines("total 1 messages 0 errors"), 0),
+            ("has an error", text + report, "", b"", 1),
+            ("has an error and then none", text + report + sound + b"report\n", "", lines("total 1 messages 0 errors"), 0),
+            ("has a refused edit", sound + b"drop-message m\n" + report, "", lines("no no-such-message"), 1),
+            ("ends by `no syntax`", sound + report + b"frobnicate\n", "", b"", 2),
+            ("ends by `no truncated`", sound + report + b"message m 9\n", "", b"", 2),
+            ("has no report", sound, "", b"", 1),
+            ("is sound, of a maker that fails", sound + report, "exit 3", b"", 3),
+        ]
+    ):
+        folder = room / f"failing{number}"
+        folder.mkdir()
+        (folder / "input").write_bytes(octets)
+        (folder / "lines").write_text(script.replace(MAKER, "{ cat input; %s }" % (end and end + ";")))
+        yield Run(f"the lines that make a pipeline fail, where the session {title}", folder, "bash lines", output, status=status)
+    faulty = put(b"script personal main", b"keep;") + put(b'script personal "ok"', b"kep;") + put(b'script global "line 1 kep"', b"") + report
+    (room / "faulty").write_bytes(faulty)
+    yield Run("the line that finds faults", room, f"sievebench session < faulty > replies; {finder}", lines('script personal "ok" line 1 unknown-command'))
+
+
+class Shown:
+    """Whether what a document shows is what stands elsewhere."""
+
+    def __init__(self, title, wanted, got):
+        self.title, self.command, self.wanted, self.got = title, LANGUAGE.name, wanted, got
+
+    def differences(self, path):
+        """What is shown otherwise."""
+        return [] if self.wanted == self.got else [f"wanted {self.wanted!r:.2000}, got {self.got!r:.2000}"]
+
+
+def of_language():
+    """The whole script, and the contents with their links."""
+    text = LANGUAGE.read_text(encoding="utf-8")
+    yield Shown("the whole script", SCRIPT.read_text(encoding="utf-8"), re.search(r"```sieve\n(.*?)```", text, re.S)[1])
+    headings = re.findall(r"^## (.*)", text, re.M)
+    wanted = [(heading, re.sub(r"[^a-z0-9 -]", "", heading.lower()).replace(" ", "-")) for heading in headings]
+    yield Shown("the contents", wanted, re.findall(r"^- \[(.*?)\]\(#(.*?)\)", text, re.M))
+
+
+def of_documents(room):
+    """All of them."""
+    room = room / "documents"
+    room.mkdir()
+    yield from of_replies(room)
+    yield from of_failing(room)
+    yield from of_language()
