@@ -47,7 +47,7 @@ def of_successes(room):
     here = os.fsencode(os.path.realpath(top))
     used = "find 'a b' -type f; 'a b/bin/sievebench' x; eval \"$(grep export told)\"; sievebench y"
     yield Run("an install into a folder that isn't there", top, f"{INSTALL} 'a b' > told; echo $?; {used}", lines("0", "a b/bin/sievebench", "new x", "new y"))
-    told = [b"installed as %s/a b/bin/sievebench.\n" % here, b"28 minutes", b"6 GB of disk", b"2 GB of memory"]
+    told = [b"installed as %s/a b/bin/sievebench.\n" % here, b"28 minutes", b"6 GB of disk", b"3 GB of memory"]
     told += [b"rt run -- --version, in sievebench_cli\n", b"The program is %s/a b/bin/sievebench.\n" % here, b"The path does not have it."]
     yield Run("what an install tells", top, "cat told", told)
     yield Run("an install where nothing is named", top, f"HOME=home {INSTALL} > told; home/.local/bin/sievebench x", b"new x\n")
