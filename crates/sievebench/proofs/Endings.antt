@@ -1,15 +1,14 @@
 -- Each session comes to an end.
 use Rattle.std.proofs.Common.{◌≡◌, ℕ, ◌<◌, ◌≤◌, zero, suc, List, [], ◌∷◌, ◌++◌, length, take, drop, length-drop, append_assoc, append-nil, sym, ap, ◌∙◌, refl, arith, inl, inr, Bool, true, false, eqb, cond, nat_lt, codes, Option, None, Some, Result, Ok, Err}
 use Rattle.std.specs.Option.{option_map}
-use Rattle.session_text.specs.SessionLine as line
-use Rattle.session_text.specs.SessionLine.{cut_line, first_line, in_front, line_from, without_cr, command_of_line}
+use Rattle.session_text.specs.SessionLine.{cut_line, first_line, in_front, line_from, without_cr}
 use Rattle.sieve_base.specs.Limits.{line_limit}
 use Rattle.sieve_run.specs.Meter.{runs_after}
-use Rattle.bench.specs.Content.{Content, Edit, after, put_message, put_script}
+use Rattle.bench.specs.Content.{Content, Edit, after}
 use Rattle.bench.specs.Dump.{dump_of}
 use Rattle.bench.specs.Report.{report_text}
 use Rattle.bench.specs.Stale.{stale_after}
-use Rattle.sievebench.specs.Session.{CutSession, Ends, IsFront, Replies, Request, Served, SessionText, Step, Steps, none_yet, one_more, over, unreadable, truncated, idle, edits, reports, dumps, refusal_line, request_at, request_by, request_of, takes_memory, with_octets}
+use Rattle.sievebench.specs.Session.{Ask, asks_nothing, asks_put, asks_edit, asks_report, asks_dump, ask_at, CutSession, Ends, IsFront, Replies, Request, Served, SessionText, Step, Steps, none_yet, one_more, over, unreadable, truncated, idle, edits, reports, dumps, refusal_line, request_at, request_by, request_of, takes_memory, with_octets}
 use Rattle.bench.specs.declared.fault.EditFault.{EditFault}
 use Rattle.sievebench.specs.declared.status.SessionEnd.{SessionEnd}
 use Rattle.sievebench.specs.declared.status.SessionEnd.TheVariants as ends
@@ -33,20 +32,13 @@ put_fewer n count rest edit less = by_room (nat_lt (length rest) count)
     by_room true = tt
     by_room false = omega (arith, length-drop count rest, less)
 
-command_fewer : (n : ℕ) (command : Option line.Command) (rest : List ℕ) → length rest < n → LeavesFewer n (request_by command rest)
-command_fewer n None rest less = tt
-command_fewer n (Some line.nothing) rest less = less
-command_fewer n (Some (line.script place name count)) rest less = put_fewer n count rest (put_script (record { place = place; name = name })) less
-command_fewer n (Some (line.message id count)) rest less = put_fewer n count rest (put_message id) less
-command_fewer n (Some (line.main place name)) rest less = less
-command_fewer n (Some line.no_main) rest less = less
-command_fewer n (Some (line.rename place name new_place new_name)) rest less = less
-command_fewer n (Some (line.drop_script place name)) rest less = less
-command_fewer n (Some (line.drop_message id)) rest less = less
-command_fewer n (Some (line.envelope from to)) rest less = less
-command_fewer n (Some (line.mailbox box)) rest less = less
-command_fewer n (Some line.report) rest less = less
-command_fewer n (Some (line.dump place name)) rest less = less
+ask_fewer : (n : ℕ) (ask : Option Ask) (rest : List ℕ) → length rest < n → LeavesFewer n (request_by ask rest)
+ask_fewer n None rest less = tt
+ask_fewer n (Some asks_nothing) rest less = less
+ask_fewer n (Some (asks_put count edit)) rest less = put_fewer n count rest edit less
+ask_fewer n (Some (asks_edit edit)) rest less = less
+ask_fewer n (Some asks_report) rest less = less
+ask_fewer n (Some (asks_dump name)) rest less = less
 
 -- what follows the first LF
 abbrev CutsFewer : ℕ → Option (List ℕ × List ℕ) → Type 0
@@ -68,9 +60,9 @@ cut_fewer (b ∷ bs) = by_octet (cut_fewer bs) (eqb b 10)
 at_fewer : (n : ℕ) (front rest : List ℕ) → length rest < n → LeavesFewer n (request_at (front, rest))
 at_fewer n front rest less = by_limit (nat_lt line_limit (length front))
   where
-    by_limit : (v : Bool) → LeavesFewer n (cond v unreadable (request_by (command_of_line front) rest))
+    by_limit : (v : Bool) → LeavesFewer n (cond v unreadable (request_by (ask_at front) rest))
     by_limit true = tt
-    by_limit false = command_fewer n (command_of_line front) rest less
+    by_limit false = ask_fewer n (ask_at front) rest less
 
 stream_fewer : (b : ℕ) (bs : List ℕ) → LeavesFewer (length (b ∷ bs)) (request_of (b ∷ bs))
 unfolding request_of first_line

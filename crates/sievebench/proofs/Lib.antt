@@ -4,3 +4,4 @@ pub mod Requests
 pub mod Serving
 pub mod SessionRows
 pub mod Sessions
+pub mod Tried

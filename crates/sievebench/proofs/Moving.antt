@@ -1,40 +1,37 @@
 -- What edits and reports make of a bench and of the runs.
-use Rattle.std.proofs.Common.{◌≡◌, ℕ, inl, inr, [], length, Option, Result, Ok, Err, OnOk, OnErr, IfErr, refl, sym, subst}
+use Rattle.std.proofs.Common.{◌≡◌, ℕ, inl, inr, [], length, Option, Result, Ok, Err, OnOk, IfErr, refl, sym, subst}
 use Rattle.sieve_run.specs.Meter.{runs_after}
-use Rattle.bench.specs.Bench.{BenchState, Makes, RefusedAmong}
-use Rattle.bench.specs.Content.{Edit, after}
-use Rattle.bench.specs.Stale.{stale_after}
+use Rattle.bench.specs.Bench.{BenchState, RefusedAmong}
+use Rattle.bench.specs.Content.{Edit}
 use Rattle.bench.specs.declared.fault.EditFault.{EditFault}
 use Rattle.bench.specs.declared.fault.ReportFault.{ReportFault}
 use Rattle.bench.specs.declared.fault.ReportFault.TheVariants as faults
 use Rattle.bench.specs.view.ReportFault.{MatchReportFault}
-use Rattle.session_text.specs.SessionLine.{Command}
 use Rattle.sievebench.specs.declared.task.Task.{Task}
 use Rattle.sievebench.specs.declared.task.Task.TheVariants as tasks
+use Rattle.sievebench.specs.view.Progress.{Tries}
 use Rattle.sievebench.specs.view.Task.{Tasks}
-use Rattle.sievebench.specs.Session.{Served, served, Moved, unmoved, moved}
+use Rattle.sievebench.specs.Session.{Ask, Served, served, Moved, unmoved, moved}
+use Rattle.sievebench.proofs.Tried.{tried}
 
 same_moves : (old new : BenchState) (runs : ℕ) → new ≡ old → Moved (served old runs) (served new runs)
 same_moves old new runs same = subst (λ (b : BenchState). Moved (served old runs) (served b runs)) (sym same) unmoved
 
-pub edit_moves : (edit : Edit) (outcome : Result Unit EditFault) (old new : BenchState) (runs : ℕ) → OnOk outcome (after old.content edit ≡ Ok new.content)
-    → OnOk outcome (new.stale ≡ stale_after old.content edit old.stale new.content) → OnErr outcome (new ≡ old) → Moved (served old runs) (served new runs)
-edit_moves edit (Ok done) old new runs ok stale err = moved (served old runs) (served new runs) unmoved (inl (edit, new.content, ok, (refl, stale, refl)))
-edit_moves edit (Err fault) old new runs ok stale err = same_moves old new runs err
-
-pub made_moves : (edit : Edit) (outcome : Result Unit EditFault) (old new : BenchState) (runs : ℕ) → Makes edit outcome old new → Moved (served old runs) (served new runs)
-made_moves edit outcome old new runs made = edit_moves edit outcome old new runs made.0 made.1 made.2
+pub edit_moves : (edit : Edit) (outcome : Result Unit EditFault) (old new : BenchState) (runs : ℕ) → Tries edit outcome old new → Moved (served old runs) (served new runs)
+edit_moves edit (Ok done) old new runs made = moved (served old runs) (served new runs) unmoved (inl (edit, new.content, made.0, (refl, made.1, refl)))
+edit_moves edit (Err fault) old new runs made = same_moves old new runs made.2
 
 -- what is done before a task is given
-pub tasks_move : (task : Task) (command : Option Command) (old new : BenchState) (runs : ℕ) → Tasks task command old new → Moved (served old runs) (served new runs)
-tasks_move (tasks.Made outcome) command old new runs is = made_moves is.0 outcome old new runs is.2
-tasks_move tasks.Idle command old new runs is = same_moves old new runs is.1
-tasks_move (tasks.Put subject count) command old new runs is = same_moves old new runs is.1
-tasks_move (tasks.Change change) command old new runs is = same_moves old new runs is.1
-tasks_move tasks.Report command old new runs is = same_moves old new runs is.1
-tasks_move (tasks.Dump name) command old new runs is = same_moves old new runs is.1
-tasks_move (tasks.Forgotten count) command old new runs is = same_moves old new runs is.1
-tasks_move tasks.Unreadable command old new runs is = same_moves old new runs is.1
+pub tasks_move : (task : Task) (ask : Option Ask) (old new : BenchState) (runs : ℕ) → Tasks task ask old new → Moved (served old runs) (served new runs)
+tasks_move (tasks.Made outcome) ask old new runs is =
+    let made = tried ask outcome old new is in
+    edit_moves made.0 outcome old new runs made.2
+tasks_move tasks.Idle ask old new runs is = same_moves old new runs is.1
+tasks_move (tasks.Put subject count) ask old new runs is = same_moves old new runs is.1
+tasks_move tasks.Report ask old new runs is = same_moves old new runs is.1
+tasks_move (tasks.Dump name) ask old new runs is = same_moves old new runs is.1
+tasks_move (tasks.Forgotten count) ask old new runs is = same_moves old new runs is.1
+tasks_move tasks.Unreadable ask old new runs is = same_moves old new runs is.1
 
 pub report_moves : (outcome : Result Unit ReportFault) (old new : BenchState) (runs runs' : ℕ) → new.content ≡ old.content → OnOk outcome (new.stale ≡ []) → OnOk outcome (runs' ≡ runs_after (length old.stale) runs)
     → IfErr outcome (λ fault. MatchReportFault fault (RefusedAmong old.stale new.stale runs runs') ((new.stale ≡ []) × (runs' ≡ runs_after (length old.stale) runs))) → Moved (served old runs) (served new runs')

@@ -6,48 +6,28 @@ use Rattle.std.proofs.Math.Seq.{drop-append_seam, take-append_seam}
 use Rattle.std.proofs.KnownBytes.{Appends-nil}
 use Rattle.std.specs.Io.KnownBytes.{Keeps, prepend_known}
 use Rattle.sieve_base.specs.Limits.{line_limit}
-use Rattle.bench.specs.Content.{Edit, put_script, put_message, set_main, rename_script, remove_script, set_envelope, set_mailbox}
+use Rattle.bench.specs.Content.{Edit}
 use Rattle.session_text.specs.view.Line.{IsCutOff, IsEnded, IsLine, IsWithin}
-use Rattle.sievebench.specs.Session.{Request, Served, Step, request_behind, request_of, request_at, request_by, request_so_far, with_octets, edits, unreadable}
-use Rattle.session_text.specs.SessionLine as line
-use Rattle.session_text.specs.SessionLine.{cut_line, ended_line, first_line, command_of_line, is_long_so_far, line_so_far}
-use Rattle.sievebench.specs.view.Task.{IsFollowedBy, IsTask, command_of, edit_by, edit_of}
-use Rattle.sievebench.specs.declared.task.Change.{Change}
-use Rattle.sievebench.specs.declared.task.Change.TheVariants as changes
-use Rattle.sievebench.specs.declared.task.Subject.{Subject}
-use Rattle.sievebench.specs.declared.task.Subject.TheVariants as subjects
-use Rattle.sievebench.specs.declared.task.Task.TheVariants as tasks
-use Rattle.sievebench.specs.view.Progress.{AsksAlone, BreakFrom, CutFrom, StepFrom, EndFrom, GoesFrom, MayBeRefused, ServesFrom}
-use Rattle.sievebench.proofs.Serving.{EndsAt, dump_refused, edit_refused, put_refused, short}
+use Rattle.sievebench.specs.Session.{Ask, asks_nothing, asks_put, asks_edit, asks_report, asks_dump, ask_at, Request, Served, Step, request_behind, request_of, request_at, request_by, request_so_far, with_octets, edits, unreadable}
+use Rattle.session_text.specs.SessionLine.{first_line, line_so_far}
+use Rattle.sievebench.specs.view.Task.{IsFollowedBy}
+use Rattle.sievebench.specs.view.Progress.{AsksAlone, BreakFrom, CutFrom, StepFrom, EndFrom, MayBeRefused, ServesFrom}
+use Rattle.sievebench.proofs.Serving.{EndsAt, dump_refused, put_refused, short}
 use Rattle.session_text.specs.declared.line.Line.TheVariants.{Over, Whole, TooLong}
-use Rattle.sievebench.specs.declared.server.Progress.{Progress}
 use Rattle.sievebench.specs.declared.status.SessionEnd.{SessionEnd}
 use Rattle.sievebench.specs.declared.status.SessionEnd.TheVariants as ends
 
--- memory may be refused to a command whose words are forgotten
-pub forgotten : (command : Option line.Command) (count : ℕ) → IsFollowedBy count command → MayBeRefused count (request_by command)
+-- memory may be refused to what is forgotten
+pub forgotten : (ask : Option Ask) (count : ℕ) → IsFollowedBy count ask → MayBeRefused count (request_by ask)
 forgotten None count is = absurd is
-forgotten (Some line.nothing) count is = absurd is
-forgotten (Some (line.script place name n)) count is = rw is (put_refused count (put_script (record { place = place; name = name })) (λ octets. refl))
-forgotten (Some (line.message id n)) count is = rw is (put_refused count (put_message id) (λ octets. refl))
-forgotten (Some (line.main place name)) count is = rw is (edit_refused (set_main (record { place = place; name = name })) refl)
-forgotten (Some line.no_main) count is = absurd is
-forgotten (Some (line.rename place name new_place new_name)) count is = rw is (edit_refused (rename_script (record { place = place; name = name }) (record { place = new_place; name = new_name })) refl)
-forgotten (Some (line.drop_script place name)) count is = rw is (edit_refused (remove_script (record { place = place; name = name })) refl)
-forgotten (Some (line.drop_message id)) count is = absurd is
-forgotten (Some (line.envelope from to)) count is = rw is (edit_refused (set_envelope from to) refl)
-forgotten (Some (line.mailbox box)) count is = rw is (edit_refused (set_mailbox box) refl)
-forgotten (Some line.report) count is = absurd is
-forgotten (Some (line.dump place name)) count is = rw is (dump_refused (record { place = place; name = name }))
-
--- a put
-pub put_goes : (subject : Subject) (count : ℕ) (command : Option line.Command) (way : Progress) (old new : Served) (unused before left rest after' : Option (List ℕ)) → IsTask (tasks.Put subject count) command
-    → GoesFrom (λ rest. with_octets count rest (edit_of subject)) way old unused before new left rest after' → GoesFrom (request_by command) way old unused before new left rest after'
-put_goes (subjects.Script name) count command way old new unused before left rest after' is goes = rw is goes
-put_goes (subjects.Message id) count command way old new unused before left rest after' is goes = rw is goes
+forgotten (Some asks_nothing) count is = absurd is
+forgotten (Some (asks_put n edit)) count is = rw is.0 (put_refused count edit is.1)
+forgotten (Some (asks_edit edit)) count is = absurd is
+forgotten (Some asks_report) count is = absurd is
+forgotten (Some (asks_dump name)) count is = rw is (dump_refused name)
 
 -- a line of no words
-pub idle_step : (content : Served) (unused written : Option (List ℕ)) → StepFrom (request_by (Some line.nothing)) content unused written content unused written
+pub idle_step : (content : Served) (unused written : Option (List ℕ)) → StepFrom (request_by (Some asks_nothing)) content unused written content unused written
 idle_step content None written = tt
 idle_step content (Some xs) written = ([], (refl, refl, refl), Appends-nil written)
 
@@ -55,16 +35,6 @@ idle_step content (Some xs) written = ([], (refl, refl, refl), Appends-nil writt
 pub unreadable_ends : (unused : Option (List ℕ)) → EndsAt (request_by None) unused ends.Syntax (codes "no syntax\n")
 unreadable_ends None = tt
 unreadable_ends (Some xs) = (refl, refl)
-
--- an edit that no octets follow
-pub change_goes : (change : Change) (way : Progress) (old new : Served) (unused before left rest after' : Option (List ℕ)) → GoesFrom (λ rest. edits (edit_by change) rest) way old unused before new left rest after'
-    → GoesFrom (request_by (Some (command_of change))) way old unused before new left rest after'
-change_goes (changes.Main name) way old new unused before left rest after' goes = goes
-change_goes changes.NoMain way old new unused before left rest after' goes = goes
-change_goes (changes.Rename from to) way old new unused before left rest after' goes = goes
-change_goes (changes.DropScript name) way old new unused before left rest after' goes = goes
-change_goes (changes.Envelope from to) way old new unused before left rest after' goes = goes
-change_goes (changes.Mailbox box) way old new unused before left rest after' goes = goes
 
 -- WHAT FOLLOWS A COMMAND DOESN'T MATTER TO IT
 
@@ -93,30 +63,23 @@ put_alone count edit old new xs ys reply step = by_room (cases_lt (length xs) co
           λ more. subst (λ n. Step old (with_octets n (take count xs ++ more) edit) reply new more) size (rw (put_of (take count xs) more edit) (step'.0, refl)),
         )
 
-step_alone : (command : Option line.Command) (old new : Served) (xs ys reply : List ℕ) → Step old (request_by command xs) reply new ys → Alone (request_by command) old xs reply new ys
+step_alone : (ask : Option Ask) (old new : Served) (xs ys reply : List ℕ) → Step old (request_by ask xs) reply new ys → Alone (request_by ask) old xs reply new ys
 step_alone None old new xs ys reply step = absurd step
-step_alone (Some line.nothing) old new xs ys reply step = ([], sym step.2, λ more. (step.0, step.1, refl))
-step_alone (Some (line.script place name n)) old new xs ys reply step = put_alone n (put_script (record { place = place; name = name })) old new xs ys reply step
-step_alone (Some (line.message id n)) old new xs ys reply step = put_alone n (put_message id) old new xs ys reply step
-step_alone (Some (line.main place name)) old new xs ys reply step = ([], sym step.1, λ more. (step.0, refl))
-step_alone (Some line.no_main) old new xs ys reply step = ([], sym step.1, λ more. (step.0, refl))
-step_alone (Some (line.rename place name new_place new_name)) old new xs ys reply step = ([], sym step.1, λ more. (step.0, refl))
-step_alone (Some (line.drop_script place name)) old new xs ys reply step = ([], sym step.1, λ more. (step.0, refl))
-step_alone (Some (line.drop_message id)) old new xs ys reply step = ([], sym step.1, λ more. (step.0, refl))
-step_alone (Some (line.envelope from to)) old new xs ys reply step = ([], sym step.1, λ more. (step.0, refl))
-step_alone (Some (line.mailbox box)) old new xs ys reply step = ([], sym step.1, λ more. (step.0, refl))
-step_alone (Some line.report) old new xs ys reply step = ([], sym step.1, λ more. (step.0, refl))
-step_alone (Some (line.dump place name)) old new xs ys reply step = ([], sym step.2, λ more. (step.0, step.1, refl))
+step_alone (Some asks_nothing) old new xs ys reply step = ([], sym step.2, λ more. (step.0, step.1, refl))
+step_alone (Some (asks_put count edit)) old new xs ys reply step = put_alone count edit old new xs ys reply step
+step_alone (Some (asks_edit edit)) old new xs ys reply step = ([], sym step.1, λ more. (step.0, refl))
+step_alone (Some asks_report) old new xs ys reply step = ([], sym step.1, λ more. (step.0, refl))
+step_alone (Some (asks_dump name)) old new xs ys reply step = ([], sym step.2, λ more. (step.0, step.1, refl))
 
 -- THE NEXT LINE
 
 -- a line within the limit
-whole_request : (stream front rest : List ℕ) → 0 < length stream → first_line stream ≡ (front, rest) → length front ≤ line_limit → request_of stream ≡ request_by (command_of_line front) rest
+whole_request : (stream front rest : List ℕ) → 0 < length stream → first_line stream ≡ (front, rest) → length front ≤ line_limit → request_of stream ≡ request_by (ask_at front) rest
 unfolding request_of
 whole_request [] front rest some is small = absurd (omega arith)
 whole_request (b ∷ bs) front rest some is small =
     let within : nat_lt line_limit (length front) ≡ false = grind (arith, nat_tests) in
-    ap request_at is ∙ ap (λ (v : Bool). cond v unreadable (request_by (command_of_line front) rest)) within
+    ap request_at is ∙ ap (λ (v : Bool). cond v unreadable (request_by (ask_at front) rest)) within
 
 -- a line past it
 long_request : (stream : List ℕ) → 0 < length stream → line_limit < length (first_line stream).0 → request_of stream ≡ unreadable
@@ -124,7 +87,7 @@ unfolding request_of
 long_request [] some long = absurd (omega arith)
 long_request (b ∷ bs) some long =
     let past : nat_lt line_limit (length (first_line (b ∷ bs)).0) ≡ true = grind (arith, nat_tests) in
-    ap (λ (v : Bool). cond v unreadable (request_by (command_of_line (first_line (b ∷ bs)).0) (first_line (b ∷ bs)).1)) past
+    ap (λ (v : Bool). cond v unreadable (request_by (ask_at (first_line (b ∷ bs)).0) (first_line (b ∷ bs)).1)) past
 
 -- the end
 pub over_end : (old : Served) (unused rest before : Option (List ℕ)) (pending : List ℕ) → Keeps unused (prepend_known pending rest) → IfSome rest (IsLine Over pending) → EndFrom request_of ends.Done old unused before old before
@@ -149,17 +112,17 @@ cut_line_break old (Some xs) None written pending same cut = absurd same
 cut_line_break old (Some xs) (Some ys) written pending same cut = (pending, sym same, rw cut.0 (rw cut.1 refl), Appends-nil written, refl)
 
 -- the octets begin with a line of a command, and ask for what that asks for behind it
-abbrev pub Begins : List ℕ → Option line.Command → Option (List ℕ) → Option (List ℕ) → Type 0
-Begins front command None behind = Unit {0}
-Begins front command (Some xs) None = ⊥
-Begins front command (Some xs) (Some ys) = (xs ≡ front ++ ys) × (request_of xs ≡ request_by command ys)
+abbrev pub Begins : List ℕ → Option Ask → Option (List ℕ) → Option (List ℕ) → Type 0
+Begins front ask None behind = Unit {0}
+Begins front ask (Some xs) None = ⊥
+Begins front ask (Some xs) (Some ys) = (xs ≡ front ++ ys) × (request_of xs ≡ request_by ask ys)
 
 -- the same, whatever follows the line
-abbrev pub BeginsAlone : List ℕ → Option line.Command → Type 0
-BeginsAlone front command = (more : List ℕ) → request_so_far (front ++ more) ≡ request_by command more
+abbrev pub BeginsAlone : List ℕ → Option Ask → Type 0
+BeginsAlone front ask = (more : List ℕ) → request_so_far (front ++ more) ≡ request_by ask more
 
 pub line_begins : (unused rest : Option (List ℕ)) (pending : List ℕ) (len skip : ℕ) → Keeps unused (prepend_known pending rest) → IfSome rest (IsLine (Whole len skip) pending) → IsWithin (Whole len skip) pending
-    → Begins (take skip pending) (command_of_line (take len pending)) unused (prepend_known (drop skip pending) rest)
+    → Begins (take skip pending) (ask_at (take len pending)) unused (prepend_known (drop skip pending) rest)
 line_begins None rest pending len skip same is within = tt
 line_begins (Some xs) None pending len skip same is within = absurd same
 line_begins (Some xs) (Some ys) pending len skip same is within =
@@ -167,43 +130,43 @@ line_begins (Some xs) (Some ys) pending len skip same is within =
     let cut : pending ++ ys ≡ take skip pending ++ (drop skip pending ++ ys) = ap (λ l. l ++ ys) (sym (take-append-drop skip pending)) ∙ append_assoc (take skip pending) (drop skip pending) ys in
     rw (← same) (cut, whole_request (pending ++ ys) (take len pending) (drop skip pending ++ ys) (omega (arith, within)) is (omega (arith, length-take len pending, within)))
 
-pub line_alone : (pending : List ℕ) (len skip : ℕ) → IsEnded (Whole len skip) pending → IsWithin (Whole len skip) pending → BeginsAlone (take skip pending) (command_of_line (take len pending))
+pub line_alone : (pending : List ℕ) (len skip : ℕ) → IsEnded (Whole len skip) pending → IsWithin (Whole len skip) pending → BeginsAlone (take skip pending) (ask_at (take len pending))
 unfolding request_so_far
 line_alone pending len skip ended within = λ more.
     let few : nat_lt line_limit (length (take len pending)) ≡ false = grind (arith, nat_tests, length-take len pending, within) in
-    ap (request_behind (take skip pending ++ more)) (ended more) ∙ ap (λ (v : Bool). cond v unreadable (request_by (command_of_line (take len pending)) more)) few
+    ap (request_behind (take skip pending ++ more)) (ended more) ∙ ap (λ (v : Bool). cond v unreadable (request_by (ask_at (take len pending)) more)) few
 
-pub step_served : (front : List ℕ) (command : Option line.Command) (ended : Bool) (old new : Served) (unused behind left before after' : Option (List ℕ)) → Begins front command unused behind → (ended ≡ false → BeginsAlone front command)
-    → StepFrom (request_by command) old behind before new left after' → ServesFrom ended old unused before new left after'
-step_served front command ended old new None behind left before after' begins alone step = tt
-step_served front command ended old new (Some xs) None left before after' begins alone step = absurd begins
-step_served front command ended old new (Some xs) (Some ys) None before after' begins alone step = step
-step_served front command ended old new (Some xs) (Some ys) (Some zs) before after' begins alone step = (step.0, rw begins.1 step.1, λ is. asked (alone is), step.2)
+pub step_served : (front : List ℕ) (ask : Option Ask) (ended : Bool) (old new : Served) (unused behind left before after' : Option (List ℕ)) → Begins front ask unused behind → (ended ≡ false → BeginsAlone front ask)
+    → StepFrom (request_by ask) old behind before new left after' → ServesFrom ended old unused before new left after'
+step_served front ask ended old new None behind left before after' begins alone step = tt
+step_served front ask ended old new (Some xs) None left before after' begins alone step = absurd begins
+step_served front ask ended old new (Some xs) (Some ys) None before after' begins alone step = step
+step_served front ask ended old new (Some xs) (Some ys) (Some zs) before after' begins alone step = (step.0, rw begins.1 step.1, λ is. asked (alone is), step.2)
   where
-    asked : BeginsAlone front command → AsksAlone old xs step.0 new zs
+    asked : BeginsAlone front ask → AsksAlone old xs step.0 new zs
     asked whole =
-        let own : Alone (request_by command) old ys step.0 new zs = step_alone command old new ys zs step.0 step.1 in (
+        let own : Alone (request_by ask) old ys step.0 new zs = step_alone ask old new ys zs step.0 step.1 in (
           front ++ own.0,
           begins.0 ∙ ap (λ l. front ++ l) own.1 ∙ sym (append_assoc front own.0 zs),
           λ more. rw (append_assoc front own.0 more) (rw (whole (own.0 ++ more)) (own.2 more)),
         )
 
-pub end_served : (front : List ℕ) (command : Option line.Command) (end : SessionEnd) (old new : Served) (unused behind before after' : Option (List ℕ)) → Begins front command unused behind
-    → EndFrom (request_by command) end old behind before new after' → EndFrom request_of end old unused before new after'
-end_served front command end old new None behind before after' begins ended = tt
-end_served front command end old new (Some xs) None before after' begins ended = absurd begins
-end_served front command end old new (Some xs) (Some ys) before after' begins ended = (ended.0, rw begins.1 ended.1, ended.2, ended.3)
+pub end_served : (front : List ℕ) (ask : Option Ask) (end : SessionEnd) (old new : Served) (unused behind before after' : Option (List ℕ)) → Begins front ask unused behind
+    → EndFrom (request_by ask) end old behind before new after' → EndFrom request_of end old unused before new after'
+end_served front ask end old new None behind before after' begins ended = tt
+end_served front ask end old new (Some xs) None before after' begins ended = absurd begins
+end_served front ask end old new (Some xs) (Some ys) before after' begins ended = (ended.0, rw begins.1 ended.1, ended.2, ended.3)
 
-pub break_served : (front : List ℕ) (command : Option line.Command) (old new : Served) (unused behind rest before after' : Option (List ℕ)) → Begins front command unused behind → BeginsAlone front command
-    → BreakFrom (request_by command) old behind before new rest after' → BreakFrom request_so_far old unused before new rest after'
-break_served front command old new None behind rest before after' begins alone broken = tt
-break_served front command old new (Some xs) None rest before after' begins alone broken = absurd begins
-break_served front command old new (Some xs) (Some ys) None before after' begins alone broken = broken
-break_served front command old new (Some xs) (Some ys) (Some zs) before after' begins alone broken =
+pub break_served : (front : List ℕ) (ask : Option Ask) (old new : Served) (unused behind rest before after' : Option (List ℕ)) → Begins front ask unused behind → BeginsAlone front ask
+    → BreakFrom (request_by ask) old behind before new rest after' → BreakFrom request_so_far old unused before new rest after'
+break_served front ask old new None behind rest before after' begins alone broken = tt
+break_served front ask old new (Some xs) None rest before after' begins alone broken = absurd begins
+break_served front ask old new (Some xs) (Some ys) None before after' begins alone broken = broken
+break_served front ask old new (Some xs) (Some ys) (Some zs) before after' begins alone broken =
     (front ++ broken.0, begins.0 ∙ ap (λ l. front ++ l) broken.1 ∙ sym (append_assoc front broken.0 zs), alone broken.0 ∙ broken.2, broken.3, broken.4)
 
-pub cut_served : (front : List ℕ) (command : Option line.Command) (old new : Served) (unused behind before after' : Option (List ℕ)) → Begins front command unused behind
-    → CutFrom (request_by command) old behind before new after' → CutFrom request_of old unused before new after'
-cut_served front command old new None behind before after' begins cut = tt
-cut_served front command old new (Some xs) None before after' begins cut = absurd begins
-cut_served front command old new (Some xs) (Some ys) before after' begins cut = (cut.0, cut.1, cut.2, cut.3, rw begins.1 cut.4, cut.5)
+pub cut_served : (front : List ℕ) (ask : Option Ask) (old new : Served) (unused behind before after' : Option (List ℕ)) → Begins front ask unused behind
+    → CutFrom (request_by ask) old behind before new after' → CutFrom request_of old unused before new after'
+cut_served front ask old new None behind before after' begins cut = tt
+cut_served front ask old new (Some xs) None before after' begins cut = absurd begins
+cut_served front ask old new (Some xs) (Some ys) before after' begins cut = (cut.0, cut.1, cut.2, cut.3, rw begins.1 cut.4, cut.5)

@@ -1,13 +1,13 @@
 -- How the commands of a session are served.
-use Rattle.std.proofs.Common.{◌≡◌, ℕ, ◌<◌, ◌≤◌, inl, inr, List, length, take, drop, sym, ap, ◌∙◌, refl, arith, rules, Option, None, Some, Result, Ok, Err, OnOk, OnErr, Bool, true, false, nat_lt, nat_le, ◌||◌, ◌&&◌, is_none, cond, codes, IfSome, length-take}
+use Rattle.std.proofs.Common.{◌≡◌, ℕ, ◌<◌, ◌≤◌, ◌⊎◌, inl, inr, List, length, take, drop, sym, ap, ◌∙◌, refl, arith, rules, Option, None, Some, Result, Ok, Err, OnOk, OnErr, IfErr, Bool, true, false, nat_lt, nat_le, ◌||◌, ◌&&◌, is_none, cond, codes, IfSome, length-take}
 use Rattle.std.proofs.lemmas.Bool.Decides.{nat_tests}
 use Rattle.std.proofs.KnownBytes.{Appends-nil}
 use Rattle.std.specs.Io.KnownBytes.{Appends}
 use Rattle.sieve_base.specs.Devices.{HasRisen}
 use Rattle.sieve_base.specs.Limits.{message_count_limit, message_limit, script_count_limit, text_limit}
 use Rattle.sieve_base.specs.Writers.{Wrote, WroteFront}
-use Rattle.bench.specs.Bench.{BenchState, Makes}
-use Rattle.bench.specs.Content.{Content, Edit, after, Answers, Refuses, unless, is_long, is_long_id, text_at, message_at, with_script, with_message}
+use Rattle.bench.specs.Bench.{BenchState}
+use Rattle.bench.specs.Content.{Content, Edit, after, unless, is_long, is_long_id, text_at, message_at, with_script, with_message}
 use Rattle.session_text.specs.view.Payload.{BreaksOff, Takes, FallsShort}
 use Rattle.sievebench.specs.Session.{Ends, MatchFault, MatchSessionEnd, Reported, ReportRefused, Request, Served, served, Step, takes_memory, with_octets, dumps, edits, reports, truncated, Replies, refusal_line}
 use Rattle.sieve_delivery.specs.declared.name.ScriptName.{ScriptName}
@@ -15,9 +15,9 @@ use Rattle.bench.specs.Dump.{dump_of}
 use Rattle.bench.specs.Report.{report_text}
 use Rattle.bench.specs.Stale.{stale_after}
 use Rattle.sievebench.specs.view.Task.{edit_of, limit_of}
-use Rattle.sievebench.specs.view.Progress.{RefusesIf, BreakFrom, Continues, CutFrom, EndsBy, Follows, GoesFrom, MatchProgress, MayBeRefused, StepFrom, EndFrom, reply_line}
+use Rattle.sievebench.specs.view.Progress.{BreakFrom, Continues, CutFrom, EndsBy, Follows, GoesFrom, MatchProgress, MayBeRefused, StepFrom, EndFrom, Tries, reply_line}
 use Rattle.sievebench.specs.declared.server.Progress.{Progress}
-use Rattle.sievebench.proofs.Moving.{edit_moves, made_moves, report_moves}
+use Rattle.sievebench.proofs.Moving.{edit_moves, report_moves}
 use Rattle.sievebench.specs.declared.server.Progress.TheVariants as ways
 use Rattle.bench.specs.declared.fault.EditFault.{EditFault}
 use Rattle.bench.specs.declared.fault.EditFault.TheVariants.{TooLarge, Full, NoMemory}
@@ -123,38 +123,23 @@ replies_ok edit takes content old new runs same stale =
     inl (refl, (sym same, stale ∙ ap (λ (c : Content). stale_after old.content edit old.stale c) (sym same), refl))
 
 -- what an edit answers is what its definition allows
-pub replies_of : (edit : Edit) (takes : Bool) (outcome : Result Unit EditFault) (meaning : Result Content EditFault) (old new : BenchState) (runs : ℕ) → OnOk outcome (meaning ≡ Ok new.content)
-    → OnOk outcome (new.stale ≡ stale_after old.content edit old.stale new.content) → OnErr outcome (new ≡ old) → RefusesIf takes meaning outcome
+replies_of : (edit : Edit) (takes : Bool) (outcome : Result Unit EditFault) (meaning : Result Content EditFault) (old new : BenchState) (runs : ℕ) → OnOk outcome (meaning ≡ Ok new.content)
+    → OnOk outcome (new.stale ≡ stale_after old.content edit old.stale new.content) → OnErr outcome (new ≡ old) → IfErr outcome (λ fault. (meaning ≡ Err fault) ⊎ ((takes ≡ true) × (fault ≡ NoMemory)))
     → Replies edit takes meaning (served old runs) (reply_line outcome) (served new runs)
 replies_of edit takes (Ok done) (Ok content) old new runs ok stale err refused =
     let same : content ≡ new.content = cc in
     replies_ok edit takes content old new runs same stale
-replies_of edit true (Ok done) (Err fault) old new runs ok stale err refused = absurd refused
-replies_of edit false (Ok done) (Err fault) old new runs ok stale err refused = absurd refused
-replies_of edit true (Err fault) (Ok content) old new runs ok stale err refused = inr (refl, ap refusal_line refused, ap (λ b. served b runs) err)
-replies_of edit false (Err fault) (Ok content) old new runs ok stale err refused = absurd refused
-replies_of edit true (Err fault) (Err refusal) old new runs ok stale err refused = (inl (ap refusal_line refused), ap (λ b. served b runs) err)
-replies_of edit false (Err fault) (Err refusal) old new runs ok stale err refused = (inl (ap refusal_line refused), ap (λ b. served b runs) err)
+replies_of edit takes (Ok done) (Err fault) old new runs ok stale err refused = absurd (search rules)
+replies_of edit takes (Err fault) (Ok content) old new runs ok stale err (inl is) = absurd (search rules)
+replies_of edit takes (Err fault) (Ok content) old new runs ok stale err (inr is) = inr (is.0, ap refusal_line is.1, ap (λ b. served b runs) err)
+replies_of edit takes (Err fault) (Err refusal) old new runs ok stale err (inl is) =
+    let same : fault ≡ refusal = cc in
+    (inl (ap refusal_line same), ap (λ b. served b runs) err)
+replies_of edit takes (Err fault) (Err refusal) old new runs ok stale err (inr is) = (inr (is.0, ap refusal_line is.1), ap (λ b. served b runs) err)
 
--- the same, where memory may be refused
-pub replies_with_memory : (edit : Edit) (takes : Bool) (outcome : Result Unit EditFault) (meaning : Result Content EditFault) (old new : BenchState) (runs : ℕ) → takes ≡ true → OnOk outcome (meaning ≡ Ok new.content)
-    → OnOk outcome (new.stale ≡ stale_after old.content edit old.stale new.content) → OnErr outcome (new ≡ old) → Refuses meaning outcome
-    → Replies edit takes meaning (served old runs) (reply_line outcome) (served new runs)
-replies_with_memory edit true outcome meaning old new runs is ok stale err refused = replies_of edit true outcome meaning old new runs ok stale err refused
-replies_with_memory edit false outcome meaning old new runs is ok stale err refused = absurd (search rules)
-
--- an edit that takes no memory
-answers_if : (takes : Bool) (meaning : Result Content EditFault) (outcome : Result Unit EditFault) → Answers meaning outcome → RefusesIf takes meaning outcome
-answers_if true (Ok content) (Ok done) is = is
-answers_if true (Ok content) (Err fault) is = absurd is
-answers_if true (Err refusal) (Ok done) is = absurd is
-answers_if true (Err refusal) (Err fault) is = is
-answers_if false meaning outcome is = is
-
-pub replies_made : (edit : Edit) (takes : Bool) (outcome : Result Unit EditFault) (old new : BenchState) (runs : ℕ) → Makes edit outcome old new
-    → Replies edit takes (after old.content edit) (served old runs) (reply_line outcome) (served new runs)
-replies_made edit takes outcome old new runs made =
-    replies_of edit takes outcome (after old.content edit) old new runs made.0 made.1 made.2 (answers_if takes (after old.content edit) outcome made.3)
+pub tried_replies : (edit : Edit) (outcome : Result Unit EditFault) (old new : BenchState) (runs : ℕ) → Tries edit outcome old new
+    → Replies edit (takes_memory edit) (after old.content edit) (served old runs) (reply_line outcome) (served new runs)
+tried_replies edit outcome old new runs made = replies_of edit (takes_memory edit) outcome (after old.content edit) old new runs made.0 made.1 made.2 made.3
 
 -- memory may always be refused
 pub no_memory_replies : (edit : Edit) (takes : Bool) (meaning : Result Content EditFault) (old : Served) → takes ≡ true → Replies edit takes meaning old (refusal_line NoMemory) old
@@ -237,13 +222,6 @@ put_refused count edit takes = record {
   where_short = short count edit;
 }
 
--- to an edit that no octets follow
-pub edit_refused : (edit : Edit) → takes_memory edit ≡ true → MayBeRefused 0 (λ rest. edits edit rest)
-edit_refused edit takes = record {
-  where_whole = λ old rest within. (no_memory_replies _ _ (after old.bench.content edit) old takes, refl);
-  where_short = λ rest less. absurd (omega (arith, less));
-}
-
 -- and to a dump
 pub dump_refused : (name : ScriptName) → MayBeRefused 0 (λ rest. dumps name rest)
 dump_refused name = record {
@@ -273,4 +251,4 @@ pub dump_replies : (name : ScriptName) (old : Served) (unused : Option (List ℕ
 dump_replies name old None = tt
 dump_replies name old (Some xs) = (inl refl, refl, refl)
 
-pub ruleset serving = (answered, answer_faults, replies_of, replies_with_memory, replies_made, no_memory_replies, put_takes, put_replies, falls_short, breaks_off, unkept_replies, edit_replies, report_replies, refused_report_replies, dump_replies, edit_moves, made_moves, report_moves)
+pub ruleset serving = (answered, answer_faults, tried_replies, no_memory_replies, put_takes, put_replies, falls_short, breaks_off, unkept_replies, edit_replies, report_replies, refused_report_replies, dump_replies, edit_moves, report_moves)

@@ -1,6 +1,7 @@
 -- A session: the replies to a stream of octets, and what the bench holds in the end.
 use Rattle.std.specs.Prelude.{◌≡◌, ⊤, ℕ, ◌+◌, ◌-◌, ◌^◌, ◌≤◌, Bool, true, false, ◌⊎◌, List, [], ◌∷◌, ◌++◌, length, take, drop, Option, None, Some, Result, Ok, Err, nat_lt, if◌then◌else◌, codes}
 use Rattle.std.specs.Io.KnownBytes.{Appends}
+use Rattle.std.specs.Option.{option_map}
 use Rattle.sieve_base.specs.Limits.{line_limit}
 use Rattle.sieve_run.specs.Meter.{runs_after}
 use Rattle.bench.specs.Bench.{BenchState, RefusedAmong}
@@ -30,24 +31,44 @@ pub data Request : Type 0 where
 abbrev pub with_octets : ℕ → List ℕ → (List ℕ → Edit) → Request
 with_octets count rest edit = if nat_lt (length rest) count then truncated else edits (edit (take count rest)) (drop count rest)
 
-abbrev pub request_by : Option Command → List ℕ → Request
+-- what a command asks for, whatever follows its line: nothing; to put so many octets, which follow it directly; another edit; a report; a dump
+pub data Ask : Type 0 where
+  asks_nothing : Ask
+  asks_put : (count : ℕ) (edit : List ℕ → Edit) → Ask
+  asks_edit : (edit : Edit) → Ask
+  asks_report : Ask
+  asks_dump : (name : ScriptName) → Ask
+
+abbrev pub ask_of : Command → Ask
+ask_of nothing = asks_nothing
+ask_of (script place name count) = asks_put count (λ octets. put_script (record { place = place; name = name }) octets)
+ask_of (message id count) = asks_put count (λ octets. put_message id octets)
+ask_of (main place name) = asks_edit (set_main (record { place = place; name = name }))
+ask_of no_main = asks_edit clear_main
+ask_of (rename place name new_place new_name) = asks_edit (rename_script (record { place = place; name = name }) (record { place = new_place; name = new_name }))
+ask_of (drop_script place name) = asks_edit (remove_script (record { place = place; name = name }))
+ask_of (drop_message id) = asks_edit (remove_message id)
+ask_of (envelope from to) = asks_edit (set_envelope from to)
+ask_of (mailbox box) = asks_edit (set_mailbox box)
+ask_of report = asks_report
+ask_of (dump place name) = asks_dump (record { place = place; name = name })
+
+-- what it asks for with the octets behind its line; a line of no command says nothing that there is
+abbrev pub request_by : Option Ask → List ℕ → Request
 request_by None rest = unreadable
-request_by (Some nothing) rest = idle rest
-request_by (Some (script place name count)) rest = with_octets count rest (put_script (record { place = place; name = name }))
-request_by (Some (message id count)) rest = with_octets count rest (put_message id)
-request_by (Some (main place name)) rest = edits (set_main (record { place = place; name = name })) rest
-request_by (Some no_main) rest = edits clear_main rest
-request_by (Some (rename place name new_place new_name)) rest = edits (rename_script (record { place = place; name = name }) (record { place = new_place; name = new_name })) rest
-request_by (Some (drop_script place name)) rest = edits (remove_script (record { place = place; name = name })) rest
-request_by (Some (drop_message id)) rest = edits (remove_message id) rest
-request_by (Some (envelope from to)) rest = edits (set_envelope from to) rest
-request_by (Some (mailbox box)) rest = edits (set_mailbox box) rest
-request_by (Some report) rest = reports rest
-request_by (Some (dump place name)) rest = dumps (record { place = place; name = name }) rest
+request_by (Some asks_nothing) rest = idle rest
+request_by (Some (asks_put count edit)) rest = with_octets count rest edit
+request_by (Some (asks_edit edit)) rest = edits edit rest
+request_by (Some asks_report) rest = reports rest
+request_by (Some (asks_dump name)) rest = dumps name rest
+
+-- what a line asks for
+abbrev pub ask_at : List ℕ → Option Ask
+ask_at line = option_map ask_of (command_of_line line)
 
 -- a line that is too long says nothing that there is
 abbrev pub request_at : List ℕ × List ℕ → Request
-request_at (line, rest) = if nat_lt line_limit (length line) then unreadable else request_by (command_of_line line) rest
+request_at (line, rest) = if nat_lt line_limit (length line) then unreadable else request_by (ask_at line) rest
 
 -- what a stream asks for
 unfoldable pub request_of : List ℕ → Request

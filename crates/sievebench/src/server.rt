@@ -1,19 +1,16 @@
 //! A session: commands in, replies out.
-ghost use Rattle.std.specs.Prelude.{◌≡◌, ◌≤◌, ◌<◌, ◌+◌, ℕ, List, Option, OnOk, OnErr, Ok, codes, nat_lt, if◌then◌else◌};
+ghost use Rattle.std.specs.Prelude.{◌≡◌, ◌≤◌, ◌<◌, ◌+◌, ℕ, List, Option, codes, nat_lt, if◌then◌else◌};
 ghost use Rattle.sieve_base.specs.Devices.{HasRisen};
 ghost use Rattle.sieve_base.specs.Writers.{Wrote, WroteFront};
-ghost use Rattle.bench.specs.Bench.{BenchState, Makes};
-ghost use Rattle.bench.specs.Content.{Edit, after, Refuses};
-ghost use Rattle.bench.specs.Stale.{stale_after};
+ghost use Rattle.bench.specs.Bench.{BenchState};
 ghost use Rattle.session_text.specs.view.Input.{unused, fuel, Knows, Reads};
-ghost use Rattle.sievebench.specs.Session.{Request, Served, served, Moved, SessionFrom, BrokenSessionFrom, CutSessionFrom, MatchSessionEnd, MatchFault, ReadsAreMade, TurnsAreSpent, AtLastEnd, with_octets, request_by, dumps, edits, reports, takes_memory};
-ghost use Rattle.session_text.specs.SessionLine as line;
+ghost use Rattle.sievebench.specs.Session.{Ask, Request, Served, served, Moved, SessionFrom, BrokenSessionFrom, CutSessionFrom, MatchSessionEnd, MatchFault, ReadsAreMade, TurnsAreSpent, AtLastEnd, with_octets, request_by, dumps, reports};
 ghost use Rattle.std.specs.Io.KnownBytes.{IsAtEnd};
-ghost use Rattle.sievebench.specs.view.Task.{Tasks, edit_by, edit_of};
-ghost use Rattle.sievebench.specs.view.Progress.{GoesFrom, Serves, RefusesIf, Continues, EndsBy, MatchProgress, OnContinues, TellsFaults, AtLast, MayBeRefused, reply_line};
+ghost use Rattle.sievebench.specs.view.Task.{IsTried, Tasks, edit_of};
+ghost use Rattle.sievebench.specs.view.Progress.{GoesFrom, Serves, Continues, EndsBy, MatchProgress, OnContinues, TellsFaults, AtLast, MayBeRefused, Tries, reply_line};
 
 use crate::status::SessionEnd;
-use crate::task::{Change, Subject, Task, limit_of, task_of};
+use crate::task::{Subject, Task, limit_of, task_of};
 use bench::{Bench, EditFault, ReportFault};
 use session_text::{Input, Line, Taken, take_octets};
 use sieve_base::{Octets, Sink, Source, write_out};
@@ -75,36 +72,14 @@ fn refuse_octets<W: Sink>(writer: &mut W) -> Progress
 }
 
 /// Puts octets at a name or an id.
+#[tactic(auto, using(crate::proofs::Tried::trying))]
 fn keep(bench: &mut Bench, subject: Subject, octets: Vec<u8>) -> Result<(), EditFault>
-    ensures ok { OnOk result (after bench.old.content (edit_of subject octets.items) ≡ Ok bench.new.content) }
-    ensures stale { OnOk result (bench.new.stale ≡ stale_after bench.old.content (edit_of subject octets.items) bench.old.stale bench.new.content) }
-    ensures err { OnErr result (bench.new ≡ bench.old) }
-    ensures refused { Refuses (after bench.old.content (edit_of subject octets.items)) result }
+    ensures { Tries (edit_of subject octets.items) result bench.old bench.new }
 {
     let octets = Octets::from_vec(octets);
     match subject {
         Subject::Script(name) => bench.keep_script(&name, octets),
         Subject::Message(id) => bench.keep_message(id, octets),
-    }
-}
-
-/// Makes an edit that no octets follow.
-fn carry_out(bench: &mut Bench, change: Change) -> Result<(), EditFault>
-    ensures ok { OnOk result (after bench.old.content (edit_by change) ≡ Ok bench.new.content) }
-    ensures stale { OnOk result (bench.new.stale ≡ stale_after bench.old.content (edit_by change) bench.old.stale bench.new.content) }
-    ensures err { OnErr result (bench.new ≡ bench.old) }
-    ensures refused { RefusesIf (takes_memory (edit_by change)) (after bench.old.content (edit_by change)) result }
-{
-    match change {
-        Change::Main { name } => bench.set_main(&name),
-        Change::NoMain => {
-            bench.clear_main();
-            Ok(())
-        }
-        Change::Rename { from, to } => bench.rename_script(&from, &to),
-        Change::DropScript { name } => bench.remove_script(&name),
-        Change::Envelope { from, to } => bench.set_envelope(from.as_slice(), to.as_slice()),
-        Change::Mailbox { mailbox } => bench.set_mailbox(mailbox.as_slice()),
     }
 }
 
@@ -183,22 +158,10 @@ fn serve_forgotten<R: Source, W: Sink>(
     }
 }
 
-/// Makes an edit that no octets follow, and replies.
-#[tactic(auto, using(crate::proofs::Serving::serving))]
-fn serve_change<W: Sink>(bench: &mut Bench, writer: &mut W, change: Change) -> Progress
-    ensures goes { (runs : ℕ) (unused rest : Option (List ℕ)) → GoesFrom (λ rest. edits (edit_by change) rest) result
-        (served bench.old runs) unused (W.contents writer.old) (served bench.new runs) unused rest (W.contents writer.new) }
-    ensures moves { (runs : ℕ) → Moved (served bench.old runs) (served bench.new runs) }
-    ensures faults { MatchProgress result (W.fault_count writer.old ≤ W.fault_count writer.new) ⊥ (HasRisen (W.fault_count writer.old) (W.fault_count writer.new)) ⊥ }
-    ensures end { AtLast result ⊥ }
-{
-    answer(carry_out(bench, change), writer)
-}
-
 /// Replies to an edit that is made already.
 #[tactic(auto, using(crate::proofs::Serving::serving))]
 fn serve_made<W: Sink>(outcome: Result<(), EditFault>, writer: &mut W) -> Progress
-    ensures goes { (old new : BenchState) (runs : ℕ) (edit : Edit) (unused rest : Option (List ℕ)) → Makes edit outcome old new → GoesFrom (λ rest. edits edit rest) result
+    ensures goes { (ask : Option Ask) (old new : BenchState) (runs : ℕ) (unused rest : Option (List ℕ)) → IsTried ask outcome old new → GoesFrom (request_by ask) result
         (served old runs) unused (W.contents writer.old) (served new runs) unused rest (W.contents writer.new) }
     ensures faults { MatchProgress result (W.fault_count writer.old ≤ W.fault_count writer.new) ⊥ (HasRisen (W.fault_count writer.old) (W.fault_count writer.new)) ⊥ }
     ensures end { AtLast result ⊥ }
@@ -248,7 +211,7 @@ fn perform<R: Source, W: Sink>(
 ) -> Progress
     requires known { Knows input.old (R.remaining reader.old) }
     ensures known { Knows input.new (R.remaining reader.new) }
-    ensures goes { (command : Option line.Command) (old : BenchState) → Tasks task command old bench.old → GoesFrom (request_by command) result
+    ensures goes { (ask : Option Ask) (old : BenchState) → Tasks task ask old bench.old → GoesFrom (request_by ask) result
         (served old meter.old) (unused input.old (R.remaining reader.old)) (W.contents writer.old)
         (served bench.new meter.new) (unused input.new (R.remaining reader.new)) (R.remaining reader.new) (W.contents writer.new) }
     ensures moves { Moved (served bench.old meter.old) (served bench.new meter.new) }
@@ -260,7 +223,6 @@ fn perform<R: Source, W: Sink>(
     match task {
         Task::Idle => Progress::Continues,
         Task::Put { subject, count } => serve_put(bench, input, reader, writer, subject, count),
-        Task::Change { change } => serve_change(bench, writer, change),
         Task::Made { outcome } => serve_made(outcome, writer),
         Task::Report => serve_report(bench, meter, writer),
         Task::Dump { name } => serve_dump(bench, writer, &name),

@@ -1,8 +1,9 @@
 //! What the lines of a session ask for, with copies of their words.
 ghost use Rattle.std.specs.Prelude.{◌≡◌, Some, IfOk};
+ghost use Rattle.bench.specs.Bench.{BenchState};
 ghost use Rattle.session_text.specs.SessionLine as line;
-ghost use Rattle.session_text.specs.SessionLine.{command_of_line};
-ghost use Rattle.sievebench.specs.view.Task.{IsTask, Tasks, command_of, change_task, limit_of};
+ghost use Rattle.sievebench.specs.Session.{ask_at, ask_of};
+ghost use Rattle.sievebench.specs.view.Task.{IsTried, Tasks, limit_of};
 
 use bench::{Bench, EditFault};
 use session_text::{Command, Word, command_of_line};
@@ -18,26 +19,13 @@ pub(crate) enum Subject {
     Message(Octets),
 }
 
-/// An edit that no octets follow.
-#[derive(Drop)]
-pub(crate) enum Change {
-    Main { name: ScriptName },
-    NoMain,
-    Rename { from: ScriptName, to: ScriptName },
-    DropScript { name: ScriptName },
-    Envelope { from: Octets, to: Octets },
-    Mailbox { mailbox: Octets },
-}
-
 /// What a line asks for, with copies of its words.
 #[derive(Drop)]
 pub(crate) enum Task {
     Idle,
     /// To put the octets that follow.
     Put { subject: Subject, count: u64 },
-    /// To make an edit that no octets follow.
-    Change { change: Change },
-    /// An edit is made already that takes no memory, or why it isn't.
+    /// An edit that no octets follow is made already, or why it isn't.
     Made { outcome: Result<(), EditFault> },
     Report,
     /// To print the code of a script.
@@ -59,7 +47,7 @@ fn copied_name(alloc: Global, place: Place, name: &Word<'_>) -> Result<ScriptNam
 
 /// To put a script.
 fn script_task(alloc: Global, place: Place, name: &Word<'_>, count: u64) -> Task
-    ensures { IsTask result (Some (line.script place name.now count)) }
+    ensures { (state : BenchState) → Tasks result (Some (ask_of (line.script place name.now count))) state state }
 {
     match copied_name(alloc, place, name) {
         Ok(name) => Task::Put {
@@ -70,19 +58,9 @@ fn script_task(alloc: Global, place: Place, name: &Word<'_>, count: u64) -> Task
     }
 }
 
-/// To print the code of a script.
-fn dump_task(alloc: Global, place: Place, name: &Word<'_>) -> Task
-    ensures { IsTask result (Some (line.dump place name.now)) }
-{
-    match copied_name(alloc, place, name) {
-        Ok(name) => Task::Dump { name },
-        Err(_) => Task::Forgotten { count: 0 },
-    }
-}
-
 /// To put a message.
 fn message_task(alloc: Global, id: &Word<'_>, count: u64) -> Task
-    ensures { IsTask result (Some (line.message id.now count)) }
+    ensures { (state : BenchState) → Tasks result (Some (ask_of (line.message id.now count))) state state }
 {
     match id.copied(alloc) {
         Ok(id) => Task::Put {
@@ -93,95 +71,107 @@ fn message_task(alloc: Global, id: &Word<'_>, count: u64) -> Task
     }
 }
 
-/// The edit to make a script main.
-fn main_change(alloc: Global, place: Place, name: &Word<'_>) -> Result<Change, AllocError>
-    ensures { IfOk result (λ change. command_of change ≡ line.main place name.now) }
+/// To print the code of a script.
+fn dump_task(alloc: Global, place: Place, name: &Word<'_>) -> Task
+    ensures { (state : BenchState) → Tasks result (Some (ask_of (line.dump place name.now))) state state }
 {
-    let name = copied_name(alloc, place, name)?;
-    Ok(Change::Main { name })
-}
-
-/// The edit to rename a script.
-fn rename_change(
-    alloc: Global,
-    place: Place,
-    name: &Word<'_>,
-    new_place: Place,
-    new_name: &Word<'_>,
-) -> Result<Change, AllocError>
-    ensures { IfOk result (λ change. command_of change ≡ line.rename place name.now new_place new_name.now) }
-{
-    let from = copied_name(alloc, place, name)?;
-    let to = copied_name(alloc, new_place, new_name)?;
-    Ok(Change::Rename { from, to })
-}
-
-/// The edit to remove a script.
-fn drop_change(alloc: Global, place: Place, name: &Word<'_>) -> Result<Change, AllocError>
-    ensures { IfOk result (λ change. command_of change ≡ line.drop_script place name.now) }
-{
-    let name = copied_name(alloc, place, name)?;
-    Ok(Change::DropScript { name })
-}
-
-/// The edit to set the envelope's addresses.
-fn envelope_change(alloc: Global, from: &Word<'_>, to: &Word<'_>) -> Result<Change, AllocError>
-    ensures { IfOk result (λ change. command_of change ≡ line.envelope from.now to.now) }
-{
-    let from = from.copied(alloc)?;
-    let to = to.copied(alloc)?;
-    Ok(Change::Envelope { from, to })
-}
-
-/// The edit to set the mailbox.
-fn mailbox_change(alloc: Global, mailbox: &Word<'_>) -> Result<Change, AllocError>
-    ensures { IfOk result (λ change. command_of change ≡ line.mailbox mailbox.now) }
-{
-    let mailbox = mailbox.copied(alloc)?;
-    Ok(Change::Mailbox { mailbox })
-}
-
-/// To make an edit that no octets follow, if memory was there for its words.
-fn change_task(change: Result<Change, AllocError>) -> Task
-    ensures { result ≡ change_task change }
-{
-    match change {
-        Ok(change) => Task::Change { change },
+    match copied_name(alloc, place, name) {
+        Ok(name) => Task::Dump { name },
         Err(_) => Task::Forgotten { count: 0 },
     }
 }
 
-/// What to do for a line. A message is removed at once, since that takes no memory for its id.
+/// Makes a script main.
+#[tactic(auto, using(crate::proofs::Tried::trying))]
+fn set_main(bench: &mut Bench, place: Place, name: &Word<'_>) -> Result<(), EditFault>
+    ensures { IsTried (Some (ask_of (line.main place name.now))) result bench.old bench.new }
+{
+    let name = copied_name(bench.allocator(), place, name)?;
+    bench.set_main(&name)
+}
+
+/// Leaves no script main.
+#[tactic(auto, using(crate::proofs::Tried::trying))]
+fn clear_main(bench: &mut Bench) -> Result<(), EditFault>
+    ensures { IsTried (Some (ask_of line.no_main)) result bench.old bench.new }
+{
+    bench.clear_main();
+    Ok(())
+}
+
+/// Renames a script.
+#[tactic(auto, using(crate::proofs::Tried::trying))]
+fn rename_script(
+    bench: &mut Bench,
+    place: Place,
+    name: &Word<'_>,
+    new_place: Place,
+    new_name: &Word<'_>,
+) -> Result<(), EditFault>
+    ensures { IsTried (Some (ask_of (line.rename place name.now new_place new_name.now))) result bench.old bench.new }
+{
+    let from = copied_name(bench.allocator(), place, name)?;
+    let to = copied_name(bench.allocator(), new_place, new_name)?;
+    bench.rename_script(&from, &to)
+}
+
+/// Removes a script.
+#[tactic(auto, using(crate::proofs::Tried::trying))]
+fn drop_script(bench: &mut Bench, place: Place, name: &Word<'_>) -> Result<(), EditFault>
+    ensures { IsTried (Some (ask_of (line.drop_script place name.now))) result bench.old bench.new }
+{
+    let name = copied_name(bench.allocator(), place, name)?;
+    bench.remove_script(&name)
+}
+
+/// Sets the envelope's addresses.
+#[tactic(auto, using(crate::proofs::Tried::trying))]
+fn set_envelope(bench: &mut Bench, from: &Word<'_>, to: &Word<'_>) -> Result<(), EditFault>
+    ensures { IsTried (Some (ask_of (line.envelope from.now to.now))) result bench.old bench.new }
+{
+    let from = from.copied(bench.allocator())?;
+    let to = to.copied(bench.allocator())?;
+    bench.set_envelope(from.as_slice(), to.as_slice())
+}
+
+/// Sets the mailbox.
+#[tactic(auto, using(crate::proofs::Tried::trying))]
+fn set_mailbox(bench: &mut Bench, mailbox: &Word<'_>) -> Result<(), EditFault>
+    ensures { IsTried (Some (ask_of (line.mailbox mailbox.now))) result bench.old bench.new }
+{
+    let mailbox = mailbox.copied(bench.allocator())?;
+    bench.set_mailbox(mailbox.as_slice())
+}
+
+/// What to do for a line. An edit that no octets follow is made at once.
+#[tactic(auto, using(crate::proofs::Tried::trying))]
 pub(crate) fn task_of(bench: &mut Bench, line: &[u8]) -> Task
-    ensures { Tasks result (command_of_line line.now) bench.old bench.new }
+    ensures { Tasks result (ask_at line.now) bench.old bench.new }
 {
     let alloc = bench.allocator();
-    match command_of_line(line) {
-        None => Task::Unreadable,
-        Some(Command::Nothing) => Task::Idle,
-        Some(Command::Report) => Task::Report,
-        Some(Command::Dump { place, name }) => dump_task(alloc, place, &name),
-        Some(Command::Script { place, name, count }) => script_task(alloc, place, &name, count),
-        Some(Command::Message { id, count }) => message_task(alloc, &id, count),
-        Some(Command::Main { place, name }) => change_task(main_change(alloc, place, &name)),
-        Some(Command::NoMain) => Task::Change {
-            change: Change::NoMain,
-        },
-        Some(
-            Command::Rename {
-                place,
-                name,
-                new_place,
-                new_name,
-            },
-        ) => change_task(rename_change(alloc, place, &name, new_place, &new_name)),
-        Some(Command::DropScript { place, name }) => change_task(drop_change(alloc, place, &name)),
-        Some(Command::DropMessage { id }) => Task::Made {
-            outcome: bench.drop_message(&id),
-        },
-        Some(Command::Envelope { from, to }) => change_task(envelope_change(alloc, &from, &to)),
-        Some(Command::Mailbox { mailbox }) => change_task(mailbox_change(alloc, &mailbox)),
-    }
+    let Some(command) = command_of_line(line) else {
+        return Task::Unreadable;
+    };
+    let outcome = match command {
+        Command::Nothing => return Task::Idle,
+        Command::Report => return Task::Report,
+        Command::Dump { place, name } => return dump_task(alloc, place, &name),
+        Command::Script { place, name, count } => return script_task(alloc, place, &name, count),
+        Command::Message { id, count } => return message_task(alloc, &id, count),
+        Command::Main { place, name } => set_main(bench, place, &name),
+        Command::NoMain => clear_main(bench),
+        Command::Rename {
+            place,
+            name,
+            new_place,
+            new_name,
+        } => rename_script(bench, place, &name, new_place, &new_name),
+        Command::DropScript { place, name } => drop_script(bench, place, &name),
+        Command::DropMessage { id } => bench.drop_message(&id),
+        Command::Envelope { from, to } => set_envelope(bench, &from, &to),
+        Command::Mailbox { mailbox } => set_mailbox(bench, &mailbox),
+    };
+    Task::Made { outcome }
 }
 
 /// The most octets that may be put there.

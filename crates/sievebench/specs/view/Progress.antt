@@ -1,10 +1,12 @@
 -- How one command of a session goes, where what is left of the input and what is written may not be known.
-use Rattle.std.specs.Prelude.{◌≡◌, ⊤, ℕ, ◌≤◌, ◌<◌, Bool, true, false, ◌⊎◌, List, [], ◌++◌, length, drop, Option, None, Some, Result, Ok, Err, codes}
+use Rattle.std.specs.Prelude.{◌≡◌, ⊤, ℕ, ◌≤◌, ◌<◌, Bool, true, false, ◌⊎◌, List, [], ◌++◌, length, drop, Option, None, Some, Result, Ok, Err, OnOk, OnErr, IfErr, codes}
 use Rattle.std.specs.Io.KnownBytes.{Appends}
 use Rattle.sieve_base.specs.Devices.{HasRisen}
 use Rattle.session_text.specs.view.Input.{Input}
-use Rattle.bench.specs.Content.{Content, Refuses, Answers}
-use Rattle.sievebench.specs.Session.{Request, Served, truncated, Step, Steps, Ends, Answered, MatchSessionEnd, MatchFault, AtLastEnd, refusal_line, request_of, request_so_far}
+use Rattle.bench.specs.Bench.{BenchState}
+use Rattle.bench.specs.Content.{Edit, after}
+use Rattle.bench.specs.Stale.{stale_after}
+use Rattle.sievebench.specs.Session.{Request, Served, truncated, Step, Steps, Ends, Answered, MatchSessionEnd, MatchFault, AtLastEnd, refusal_line, request_of, request_so_far, takes_memory}
 use Rattle.bench.specs.declared.fault.EditFault.{EditFault}
 use Rattle.bench.specs.declared.fault.EditFault.TheVariants.{NoMemory}
 use Rattle.sievebench.specs.declared.status.SessionEnd.{SessionEnd}
@@ -111,7 +113,10 @@ abbrev pub reply_line : Result Unit EditFault → List ℕ
 reply_line (Ok done) = codes "ok\n"
 reply_line (Err fault) = refusal_line fault
 
--- what an edit may answer, where memory may be refused to it or may not
-abbrev pub RefusesIf : Bool → Result Content EditFault → Result Unit EditFault → Type 0
-RefusesIf true meaning outcome = Refuses meaning outcome
-RefusesIf false meaning outcome = Answers meaning outcome
+-- an edit is made, or it is said why not; memory may be refused where the edit takes some, also for its words
+abbrev pub Tries : Edit → Result Unit EditFault → BenchState → BenchState → Type 0
+Tries edit outcome old new =
+    OnOk outcome (after old.content edit ≡ Ok new.content)
+    × OnOk outcome (new.stale ≡ stale_after old.content edit old.stale new.content)
+    × OnErr outcome (new ≡ old)
+    × IfErr outcome (λ fault. (after old.content edit ≡ Err fault) ⊎ ((takes_memory edit ≡ true) × (fault ≡ NoMemory)))

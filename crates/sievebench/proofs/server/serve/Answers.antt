@@ -1,6 +1,5 @@
 use Rattle.std.proofs.Common.{◌≡◌, ◌∙◌, ap, sym, take}
-use Rattle.sievebench.specs.Session.{request_of, unmoved}
-use Rattle.session_text.specs.SessionLine.{command_of_line}
+use Rattle.sievebench.specs.Session.{ask_at, request_of, unmoved}
 use Rattle.sievebench.specs.declared.status.SessionEnd.TheVariants.{Syntax}
 use Rattle.sievebench.proofs.Moving.{moved_both, tasks_move}
 use Rattle.sievebench.proofs.Requests.{break_served, cut_line_break, cut_served, end_served, line_alone, line_begins, long_end, over_end, step_served}
@@ -32,19 +31,19 @@ returns-in-Whole-clause-goes g c =
     let pending = c.next.new.input.pending in
     let line : c.split_at.result.0.now ≡ take c.in-Whole.len pending = c.split_at.ensures.front ∙ ap (take c.in-Whole.len) c.pending.ensures in
     let left = g.R.Source.remaining c.next.new.reader in
-    let command = command_of_line (take c.in-Whole.len pending) in
+    let ask = ask_at (take c.in-Whole.len pending) in
     let front = take c.in-Whole.skip pending in
     let begins = rw (← c.consume.ensures.pending) at (line_begins _ left pending c.in-Whole.len c.in-Whole.skip c.in-Whole.ensures.keeps c.in-Whole.ensures.line c.in-Whole.ensures.within) in
     follows_by c.perform.result _ _ _ _ _ _ _ _
-    (step_served front command c.perform.new.input.ended _ _ _ _ _ _ _ begins (λ going. line_alone pending c.in-Whole.len c.in-Whole.skip (c.in-Whole.ensures.ended (sym c.consume.ensures.ended ∙ c.perform.ensures.reads.stays_ended going)) c.in-Whole.ensures.within))
-    (λ end. end_served front command end _ _ _ _ _ _ begins)
-    (λ both. break_served front command _ _ _ _ _ _ _ begins (line_alone pending c.in-Whole.len c.in-Whole.skip (c.in-Whole.ensures.ended (sym c.consume.ensures.ended ∙ c.perform.ensures.reads.stays_ended both.0)) c.in-Whole.ensures.within) both.1)
-    (cut_served front command _ _ _ _ _ _ begins)
-    (where_broken c.perform.result _ _ _ _ _ _ _ _ _ c.perform.ensures.faults (c.perform.ensures.goes command c.args.bench.now (rw (← line) c.task_of-task.ensures)))
+    (step_served front ask c.perform.new.input.ended _ _ _ _ _ _ _ begins (λ going. line_alone pending c.in-Whole.len c.in-Whole.skip (c.in-Whole.ensures.ended (sym c.consume.ensures.ended ∙ c.perform.ensures.reads.stays_ended going)) c.in-Whole.ensures.within))
+    (λ end. end_served front ask end _ _ _ _ _ _ begins)
+    (λ both. break_served front ask _ _ _ _ _ _ _ begins (line_alone pending c.in-Whole.len c.in-Whole.skip (c.in-Whole.ensures.ended (sym c.consume.ensures.ended ∙ c.perform.ensures.reads.stays_ended both.0)) c.in-Whole.ensures.within) both.1)
+    (cut_served front ask _ _ _ _ _ _ begins)
+    (where_broken c.perform.result _ _ _ _ _ _ _ _ _ c.perform.ensures.faults (c.perform.ensures.goes ask c.args.bench.now (rw (← line) c.task_of-task.ensures)))
 
 pub returns-in-Whole-clause-moves : goal.returns-in-Whole-clause-moves
 returns-in-Whole-clause-moves g c =
-    moved_both _ _ _ (tasks_move _ (command_of_line c.split_at.result.0.now) c.args.bench.now c.task_of-task.new.bench c.args.meter.now c.task_of-task.ensures) c.perform.ensures.moves
+    moved_both _ _ _ (tasks_move _ (ask_at c.split_at.result.0.now) c.args.bench.now c.task_of-task.new.bench c.args.meter.now c.task_of-task.ensures) c.perform.ensures.moves
 
 pub returns-in-Over-clause-moves : goal.returns-in-Over-clause-moves
 returns-in-Over-clause-moves g c = unmoved

@@ -2,7 +2,7 @@ use Rattle.std.proofs.Common.{◌≡◌}
 use Rattle.sievebench.specs.Session.{served, unmoved, with_octets}
 use Rattle.sievebench.specs.view.Task.{edit_of}
 use Rattle.sievebench.proofs.Moving.{edit_moves}
-use Rattle.sievebench.proofs.Serving.{answered, breaks_off, end_faults, ended, falls_short, put_replies, put_takes, replies_with_memory, short, unkept_replies}
+use Rattle.sievebench.proofs.Serving.{answered, breaks_off, end_faults, ended, falls_short, put_replies, short, tried_replies, unkept_replies}
 use Rattle.sievebench.specs.declared.status.SessionEnd.TheVariants.{Truncated}
 use Rattle.sievebench.proofs.server.serve_put.Goals as goal
 
@@ -12,7 +12,7 @@ returns-in-Whole-Some-clause-goes g c = λ runs.
     put_replies c.args.count (edit_of c.args.subject) _ _ _ _ _ _ c.in-Whole-Some.ensures.taken
     (λ octets size kept.
     let same : c.in-Whole-Some.octets.items ≡ octets = rw c.in-Whole-Some.kept-is at kept in
-    rw (← same) (replies_with_memory _ _ c.keep.result _ _ _ runs (put_takes c.args.subject c.in-Whole-Some.octets.items) c.keep.ensures.ok c.keep.ensures.stale c.keep.ensures.err c.keep.ensures.refused)))
+    rw (← same) (tried_replies _ c.keep.result _ _ runs c.keep.ensures)))
 
 pub returns-in-Whole-None-clause-goes : goal.returns-in-Whole-None-clause-goes
 returns-in-Whole-None-clause-goes g c = λ runs.
@@ -35,7 +35,7 @@ pub returns-in-Spent-clause-goes : goal.returns-in-Spent-clause-goes
 returns-in-Spent-clause-goes g c = λ runs. breaks_off _ c.args.count _ _ _ _ (short c.args.count (edit_of c.args.subject)) c.in-Spent.ensures.taken.0
 
 pub returns-in-Whole-Some-clause-moves : goal.returns-in-Whole-Some-clause-moves
-returns-in-Whole-Some-clause-moves g c = λ runs. edit_moves (edit_of c.args.subject c.in-Whole-Some.octets.items) c.keep.result c.args.bench.now c.keep.new.bench runs c.keep.ensures.ok c.keep.ensures.stale c.keep.ensures.err
+returns-in-Whole-Some-clause-moves g c = λ runs. edit_moves (edit_of c.args.subject c.in-Whole-Some.octets.items) c.keep.result c.args.bench.now c.keep.new.bench runs c.keep.ensures
 
 pub returns-in-Whole-None-clause-moves : goal.returns-in-Whole-None-clause-moves
 returns-in-Whole-None-clause-moves g c = λ runs. unmoved
