@@ -5,7 +5,6 @@ pub mod Jobs
 pub mod Judged
 pub mod Lines
 pub mod Marks
-pub mod Messages
 pub mod Names
 pub mod Refreshing
 pub mod Stales

@@ -1,13 +1,12 @@
--- Code as it is printed, and what is replied to `dump`.
-use Rattle.std.specs.Prelude.{◌≡◌, ℕ, ◌+◌, Bool, true, false, ◌||◌, nat_lt, List, [], ◌∷◌, ◌++◌, codes, length}
+-- Code as it is printed.
+use Rattle.std.specs.Prelude.{◌≡◌, ℕ, ◌+◌, Bool, true, false, ◌||◌, nat_lt, List, [], ◌∷◌, ◌++◌, length}
 use Rattle.sieve_base.specs.Limits.{name_limit, text_limit}
 use Rattle.sieve_check.specs.Judgement.{Judgement, judgement_of, sound, faulty}
+use Rattle.sieve_reading.specs.Tree.{Node}
 use Rattle.sieve_code.specs.Choice.{code_of}
 use Rattle.sieve_code.specs.Dump.{line_text}
 use Rattle.sieve_code.specs.Operation.{Operation}
-use Rattle.sieve_run.specs.Library.{Lookup, missing, invalid, present, found_at, lookup_of}
 use Rattle.sieve_delivery.specs.declared.name.ScriptName.{ScriptName}
-use Rattle.bench.specs.Content.{Content, text_at}
 use Rattle.bench.specs.Report.{script_line}
 use Rattle.bench.specs.declared.test_end.TestEnd.{TestEnd}
 use Rattle.bench.specs.declared.test_end.TestEnd.TheVariants as test
@@ -21,15 +20,9 @@ lines_from place (op ∷ ops) = line_text place op ++ lines_from (place + 1) ops
 abbrev pub code_text : List Operation → List ℕ
 code_text ops = lines_from 0 ops
 
--- the lines of a script's code and `ok`, or why there are none
-abbrev pub dump_reply : Lookup → List ℕ
-dump_reply missing = codes "no no-such-script\n"
-dump_reply invalid = codes "no invalid-script\n"
-dump_reply (present tree) = code_text (code_of tree) ++ codes "ok\n"
-
--- the reply to `dump` for a script of a bench; a name past the limit is missing, as in a run
-abbrev pub dump_of : Content → ScriptName → List ℕ
-dump_of content name = dump_reply (found_at (λ other. lookup_of (text_at content.scripts other)) name)
+-- the lines of a script's code
+abbrev pub script_code : List Node → List ℕ
+script_code tree = code_text (code_of tree)
 
 -- A TEXT BY ITSELF
 
@@ -38,7 +31,7 @@ abbrev pub is_too_large : ScriptName → List ℕ → Bool
 is_too_large name text = nat_lt name_limit (length name.name) || nat_lt text_limit (length text)
 
 abbrev pub dump_text_by : ScriptName → List ℕ → Judgement → List ℕ
-dump_text_by name text (sound tree) = code_text (code_of tree)
+dump_text_by name text (sound tree) = script_code tree
 dump_text_by name text (faulty line kind) = script_line (name, text)
 
 -- what is printed of a text under a name: its code, or its script's line of a report where it has a fault

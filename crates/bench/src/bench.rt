@@ -1,20 +1,17 @@
 ghost use Rattle.std.specs.Prelude.{◌≡◌, ⊤, [], IfOk, OnOk, OnErr, IfErr, Ok, length};
 ghost use Rattle.std.specs.Option.{option_copied};
-ghost use Rattle.bench.specs.Bench.{Makes, RefusedAmong, verdict_at};
+ghost use Rattle.bench.specs.Bench.{RefusedAmong, verdict_at};
 ghost use Rattle.bench.specs.Stale.{ids_where, is_among, stale_after};
 ghost use Rattle.sieve_base.specs.Writers.{Wrote, WroteFront};
 ghost use Rattle.sieve_run.specs.Library.{found_at, lookup_of};
 ghost use Rattle.sieve_run.specs.Meter.{runs_after};
 ghost use Rattle.sieve_run.specs.view.Found.{FoundAs};
-ghost use Rattle.bench.specs.Dump.{dump_of};
 ghost use Rattle.bench.specs.Report.{report_text};
 ghost use Rattle.bench.specs.Test.{is_clean};
 ghost use Rattle.bench.specs.view.ReportFault.{MatchReportFault};
 ghost use Rattle.bench.specs.Content.{after, Answers, new_content, Refuses, text_at};
 ghost use Rattle.bench.specs.Content.{put_script, put_message, set_main, rename_script, remove_script, remove_message, clear_main, set_envelope, set_mailbox};
 
-use crate::dropping::{position_of, remove_at, remove_sought};
-use crate::dump::write_dump;
 use crate::entry::Entry;
 use crate::fault::{EditFault, ReportFault};
 use crate::marking::{forget_all, forget_readers};
@@ -25,11 +22,10 @@ use crate::refusal::{
 };
 use crate::report::{is_clean, run_stale, write_report};
 use crate::scripts::Scripts;
-use crate::sought::Sought;
+use crate::sought::{Sought, remove_sought};
 use indexmap::IndexMap;
-use session_text::Word;
 use sieve_base::limits::MAX_ID;
-use sieve_base::{Octets, Sink, WriteFault};
+use sieve_base::{Octets, Sink};
 use sieve_run::{Envelope, Found, Library, Meter, Outcome, ScriptName};
 use std::alloc::{AllocError, Global};
 use std::collections::BTreeMap;
@@ -68,17 +64,6 @@ impl Bench {
     /// The allocator of all that the bench holds.
     pub fn allocator(&self) -> Global {
         self.alloc
-    }
-
-    /// What a run finds at a name.
-    fn found(&self, name: &ScriptName) -> Found<'_>
-        ensures { FoundAs result (found_at (λ other. lookup_of (text_at self.now.content.scripts other)) name.now) }
-    {
-        if is_long(&name.name) {
-            Found::Missing
-        } else {
-            self.scripts.find(name)
-        }
     }
 
     /// Keeps a script's text at a name. The text needn't be copied.
@@ -225,26 +210,15 @@ impl Bench {
     }
 
     /// Removes a message. The others stay in their order. Takes no memory.
-    pub fn remove_message(&mut self, id: &Octets) -> Result<(), EditFault>
+    #[tactic(auto, using(crate::proofs::Entries::entries))]
+    pub fn remove_message(&mut self, id: &[u8]) -> Result<(), EditFault>
         ensures ok { OnOk result (after self.old.content (remove_message id.now) ≡ Ok self.new.content) }
         ensures stale { OnOk result (self.new.stale ≡ stale_after self.old.content (remove_message id.now) self.old.stale self.new.content) }
         ensures err { OnErr result (self.new ≡ self.old) }
         ensures refused { Answers (after self.old.content (remove_message id.now)) result }
     {
-        self.drop_sought(Sought {
-            octets: id.as_slice(),
-        })
-    }
-
-    /// Removes the message of an id. Takes no memory.
-    #[tactic(auto, using(crate::proofs::Entries::entries))]
-    fn drop_sought(&mut self, sought: Sought<'_>) -> Result<(), EditFault>
-        ensures ok { OnOk result (after self.old.content (remove_message sought.entry.octets.now) ≡ Ok self.new.content) }
-        ensures stale { OnOk result (self.new.stale ≡ stale_after self.old.content (remove_message sought.entry.octets.now) self.old.stale self.new.content) }
-        ensures err { OnErr result (self.new ≡ self.old) }
-        ensures refused { Answers (after self.old.content (remove_message sought.entry.octets.now)) result }
-    {
-        if sought.octets.len() > MAX_ID {
+        let sought = Sought { octets: id };
+        if id.len() > MAX_ID {
             return Err(EditFault::TooLarge);
         }
         if !self.messages.contains_key(sought) {
@@ -252,37 +226,6 @@ impl Bench {
         }
         remove_sought(&mut self.messages, sought);
         Ok(())
-    }
-
-    /// Removes the message of a word, looking at all ids. Takes no memory.
-    #[tactic(auto, using(crate::proofs::Entries::entries))]
-    fn drop_word(&mut self, id: &Word<'_>) -> Result<(), EditFault>
-        ensures ok { OnOk result (after self.old.content (remove_message id.now) ≡ Ok self.new.content) }
-        ensures stale { OnOk result (self.new.stale ≡ stale_after self.old.content (remove_message id.now) self.old.stale self.new.content) }
-        ensures err { OnErr result (self.new ≡ self.old) }
-        ensures refused { Answers (after self.old.content (remove_message id.now)) result }
-    {
-        if id.len() > MAX_ID {
-            return Err(EditFault::TooLarge);
-        }
-        match position_of(&self.messages, id) {
-            Some(index) => {
-                remove_at(&mut self.messages, index);
-                Ok(())
-            }
-            None => Err(EditFault::NoSuchMessage),
-        }
-    }
-
-    /// Removes the message of a word of a session, for which no memory is taken either. A word that stands for other octets than
-    /// are written is compared with all ids.
-    pub fn drop_message(&mut self, id: &Word<'_>) -> Result<(), EditFault>
-        ensures { Makes (remove_message id.now) result self.old self.new }
-    {
-        match id.as_written() {
-            Some(octets) => self.drop_sought(Sought { octets }),
-            None => self.drop_word(id),
-        }
     }
 
     /// Leaves no script main. Takes no memory.
@@ -400,12 +343,14 @@ impl Bench {
         }
     }
 
-    /// Writes the lines of a script's code and `ok`, or why there are none: there is no such script, or it has a fault.
-    /// Where the writer fails, a front of that is written.
-    pub fn dump<W: Sink>(&self, name: &ScriptName, writer: &mut W) -> Result<(), WriteFault>
-        ensures ok { OnOk result (Wrote W.contents W.fault_count writer.old writer.new (dump_of self.now.content name.now)) }
-        ensures err { OnErr result (WroteFront W.contents W.fault_count writer.old writer.new (dump_of self.now.content name.now)) }
+    /// The code of a script, as an `include` of that name finds it: a name of more than 1,024 octets has none.
+    pub fn code(&self, name: &ScriptName) -> Found<'_>
+        ensures { FoundAs result (found_at (λ other. lookup_of (text_at self.now.content.scripts other)) name.now) }
     {
-        write_dump(self.found(name), writer)
+        if is_long(&name.name) {
+            Found::Missing
+        } else {
+            self.scripts.find(name)
+        }
     }
 }

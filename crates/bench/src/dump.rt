@@ -1,23 +1,21 @@
 //! Prints the code of a script.
-ghost use Rattle.std.specs.Prelude.{◌≡◌, ◌≤◌, ◌++◌, IfOk, OnErr, OnOk, codes, length};
+ghost use Rattle.std.specs.Prelude.{◌≡◌, ◌≤◌, IfOk, OnErr, OnOk, length};
 ghost use Rattle.sieve_base.specs.Limits.{text_limit};
 ghost use Rattle.sieve_base.specs.Writers.{Wrote, WroteFront};
 ghost use Rattle.sieve_check.specs.Judgement.{judgement_of};
 ghost use Rattle.sieve_code.specs.view.Code.{ops_of};
-ghost use Rattle.sieve_run.specs.Library.{Lookup};
-ghost use Rattle.sieve_run.specs.view.Found.{FoundAs};
-ghost use Rattle.bench.specs.Dump.{DumpEnds, code_text, dump_end_of, dump_reply, dump_text_of, is_too_large};
+ghost use Rattle.bench.specs.Dump.{DumpEnds, code_text, dump_end_of, dump_text_of, is_too_large};
 
 use crate::report_lines::write_script;
 use crate::test_end::TestEnd;
 use sieve_base::limits::{MAX_NAME, MAX_TEXT};
-use sieve_base::{Octets, Sink, WriteFault, write_out};
+use sieve_base::{Octets, Sink, WriteFault};
 use sieve_code::Code;
 use sieve_run::{Found, Script, ScriptName};
 use std::alloc::{AllocError, Global};
 
-/// Writes the lines of code.
-fn write_code<W: Sink>(code: &Code, writer: &mut W) -> Result<(), WriteFault>
+/// Writes the lines of code, one operation a line. Where the writer fails, a front of them is written.
+pub fn write_code<W: Sink>(code: &Code, writer: &mut W) -> Result<(), WriteFault>
     ensures ok { OnOk result (Wrote W.contents W.fault_count writer.old writer.new (code_text (ops_of code.now))) }
     ensures err { OnErr result (WroteFront W.contents W.fault_count writer.old writer.new (code_text (ops_of code.now))) }
 {
@@ -25,28 +23,6 @@ fn write_code<W: Sink>(code: &Code, writer: &mut W) -> Result<(), WriteFault>
         code.dump_line(i, writer)?;
     }
     Ok(())
-}
-
-/// Writes the lines of code, and `ok`.
-#[tactic(auto, using(crate::proofs::Writing::writing))]
-fn write_reply<W: Sink>(code: &Code, writer: &mut W) -> Result<(), WriteFault>
-    ensures ok { OnOk result (Wrote W.contents W.fault_count writer.old writer.new (code_text (ops_of code.now) ++ codes "ok\n")) }
-    ensures err { OnErr result (WroteFront W.contents W.fault_count writer.old writer.new (code_text (ops_of code.now) ++ codes "ok\n")) }
-{
-    write_code(code, writer)?;
-    write_out(b"ok\n", writer)
-}
-
-/// Writes the lines of what was found and `ok`, or why there are none.
-pub(crate) fn write_dump<W: Sink>(found: Found<'_>, writer: &mut W) -> Result<(), WriteFault>
-    ensures ok { (lookup : Lookup) → FoundAs found.entry lookup → OnOk result (Wrote W.contents W.fault_count writer.old writer.new (dump_reply lookup)) }
-    ensures err { (lookup : Lookup) → FoundAs found.entry lookup → OnErr result (WroteFront W.contents W.fault_count writer.old writer.new (dump_reply lookup)) }
-{
-    match found {
-        Found::Missing => write_out(b"no no-such-script\n", writer),
-        Found::Invalid => write_out(b"no invalid-script\n", writer),
-        Found::Present(code) => write_reply(code, writer),
-    }
 }
 
 /// Writes the code of a script, or its line of a report where it has a fault.

@@ -3,7 +3,6 @@
 #![tactic(auto)]
 
 mod bench;
-mod dropping;
 mod dump;
 mod entry;
 mod fault;
@@ -19,7 +18,7 @@ mod test_job;
 mod testing;
 
 pub use bench::Bench;
-pub use dump::dump_text;
+pub use dump::{dump_text, write_code};
 pub use fault::{EditFault, ReportFault};
 pub use test_end::TestEnd;
 pub use test_job::{TestJob, TestScript};

@@ -1,9 +1,10 @@
 //! The words of a session's lines that may be quoted. Reading them takes no memory, and copying their octets does.
-ghost use Rattle.std.specs.Prelude.{◌≡◌, ◌<◌, ◌≤◌, ℕ, IfOk, Some, None, IfSome, is_some, length, take, drop, [], false, true, IsTrue, ◌↔◌};
+ghost use Rattle.std.specs.Prelude.{◌≡◌, ◌<◌, ◌≤◌, ℕ, IfOk, Some, None, IfSome, IfNone, is_some, length, take, drop, [], false, true};
 ghost use Rattle.std.specs.List.{list_all};
 ghost use Rattle.session_text.specs.SessionLine.{is_bare, hex_digit_value, hex_octet, behind, quoted_value, escaped_value, hex_octets, word_value};
 ghost use Rattle.session_text.specs.view.Word.{MatchNext};
 
+use arrayvec::ArrayVec;
 use sieve_base::Octets;
 use std::alloc::{AllocError, Global};
 use std::marker::Model;
@@ -151,39 +152,24 @@ fn copied_quoted(alloc: Global, word: &[u8]) -> Result<Vec<u8>, AllocError>
     }
 }
 
-/// How many octets a quoted word stands for, behind its first quote.
-fn quoted_len(word: &[u8]) -> usize
-    ensures { IfSome (quoted_value word.now) (λ octets. length octets ≡ result) }
+/// The octets that a quoted word stands for, behind its first quote, where they are `N` at most.
+fn short_quoted<const N: usize>(word: &[u8]) -> Option<ArrayVec<u8, N>>
+    requires { is_some (quoted_value word.now) ≡ true }
+    ensures short { IfSome result (λ octets. quoted_value word.now ≡ Some octets.items) }
+    ensures long { IfNone result (IfSome (quoted_value word.now) (λ octets. N < length octets)) }
 {
+    let mut octets = ArrayVec::new();
     let mut rest = word;
-    let mut count = 0;
-    while let Next::Octet { rest: left, .. } = next_octet(rest) {
-        count += 1;
-        rest = left;
-    }
-    count
-}
-
-/// Whether a quoted word, behind its first quote, stands for these octets.
-fn is_quoted_as(word: &[u8], octets: &[u8]) -> bool
-    ensures { IsTrue result ↔ (quoted_value word.now ≡ Some octets.now) }
-{
-    let mut rest = word;
-    let mut expected = octets;
     loop {
         match next_octet(rest) {
-            Next::End => return expected.is_empty(),
+            Next::End => return Some(octets),
             Next::Octet { octet, rest: left } => {
-                let [first, others @ ..] = expected else {
-                    return false;
-                };
-                if *first != octet {
-                    return false;
+                if octets.try_push(octet).is_err() {
+                    return None;
                 }
                 rest = left;
-                expected = others;
             }
-            Next::Wrong => return false,
+            Next::Wrong => unreachable!(),
         }
     }
 }
@@ -235,37 +221,15 @@ impl<'a> Word<'a> {
         }
     }
 
-    /// How many octets it stands for. Takes no memory.
+    /// The octets that it stands for, where they are `N` at most. Takes no memory.
     #[tactic(auto, unfolding(crate::specs::SessionLine::word_value))]
-    pub fn len(&self) -> usize
-        ensures { result ≡ length self.now }
+    pub fn short<const N: usize>(&self) -> Option<ArrayVec<u8, N>>
+        ensures short { IfSome result (λ octets. octets.items ≡ self.now) }
+        ensures long { IfNone result (N < length self.now) }
     {
         match self.written {
-            [b'"', rest @ ..] => quoted_len(rest),
-            bare => bare.len(),
+            [b'"', rest @ ..] => short_quoted(rest),
+            bare => ArrayVec::try_from(bare).ok(),
         }
-    }
-
-    /// Whether it stands for these octets. Takes no memory.
-    #[tactic(auto, unfolding(crate::specs::SessionLine::word_value))]
-    pub fn is(&self, octets: &[u8]) -> bool
-        ensures { IsTrue result ↔ (self.now ≡ octets.now) }
-    {
-        match self.written {
-            [b'"', rest @ ..] => is_quoted_as(rest, octets),
-            bare => bare == octets,
-        }
-    }
-
-    /// The octets that it stands for, as they stand in the line, unless some of them are written otherwise: then there is none
-    /// such. Takes no memory.
-    pub fn as_written(&self) -> Option<&'a [u8]>
-        ensures { IfSome result (λ octets. octets.now ≡ self.now) }
-    {
-        let octets = match self.written {
-            [b'"', inner @ .., _] => inner,
-            bare => bare,
-        };
-        if self.is(octets) { Some(octets) } else { None }
     }
 }

@@ -5,10 +5,9 @@ use Rattle.session_text.specs.SessionLine.{cut_line, first_line, in_front, line_
 use Rattle.sieve_base.specs.Limits.{line_limit}
 use Rattle.sieve_run.specs.Meter.{runs_after}
 use Rattle.bench.specs.Content.{Content, Edit, after}
-use Rattle.bench.specs.Dump.{dump_of}
 use Rattle.bench.specs.Report.{report_text}
 use Rattle.bench.specs.Stale.{stale_after}
-use Rattle.sievebench.specs.Session.{Ask, asks_nothing, asks_put, asks_edit, asks_report, asks_dump, ask_at, CutSession, Ends, IsFront, Replies, Request, Served, SessionText, Step, Steps, none_yet, one_more, over, unreadable, truncated, idle, edits, reports, dumps, refusal_line, request_at, request_by, request_of, takes_memory, with_octets}
+use Rattle.sievebench.specs.Session.{Ask, asks_nothing, asks_put, asks_edit, asks_report, asks_dump, ask_at, CutSession, Ends, IsFront, dump_of, Replies, Request, Served, SessionText, Step, Steps, none_yet, one_more, over, unreadable, truncated, idle, edits, reports, dumps, refusal_line, request_at, request_by, request_of, takes_memory, with_octets}
 use Rattle.bench.specs.declared.fault.EditFault.{EditFault}
 use Rattle.sievebench.specs.declared.status.SessionEnd.{SessionEnd}
 use Rattle.sievebench.specs.declared.status.SessionEnd.TheVariants as ends

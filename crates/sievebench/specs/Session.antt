@@ -3,10 +3,11 @@ use Rattle.std.specs.Prelude.{◌≡◌, ⊤, ℕ, ◌+◌, ◌-◌, ◌^◌, �
 use Rattle.std.specs.Io.KnownBytes.{Appends}
 use Rattle.std.specs.Option.{option_map}
 use Rattle.sieve_base.specs.Limits.{line_limit}
+use Rattle.sieve_run.specs.Library.{Lookup, missing, invalid, present, found_at, lookup_of}
 use Rattle.sieve_run.specs.Meter.{runs_after}
 use Rattle.bench.specs.Bench.{BenchState, RefusedAmong}
-use Rattle.bench.specs.Content.{Content, Edit, put_script, put_message, set_main, rename_script, remove_script, remove_message, clear_main, set_envelope, set_mailbox, after}
-use Rattle.bench.specs.Dump.{dump_of}
+use Rattle.bench.specs.Content.{Content, Edit, put_script, put_message, set_main, rename_script, remove_script, remove_message, clear_main, set_envelope, set_mailbox, after, text_at}
+use Rattle.bench.specs.Dump.{script_code}
 use Rattle.bench.specs.Report.{report_text}
 use Rattle.bench.specs.Stale.{stale_after}
 use Rattle.sieve_delivery.specs.declared.name.ScriptName.{ScriptName}
@@ -96,6 +97,16 @@ refusal_line NoSuchMessage = codes "no no-such-message\n"
 refusal_line Full = codes "no full\n"
 refusal_line TooLarge = codes "no too-large\n"
 refusal_line NoMemory = codes "no no-memory\n"
+
+-- the reply to `dump`: the lines of a script's code and `ok`, or why there are none
+abbrev pub dump_reply : Lookup → List ℕ
+dump_reply missing = refusal_line NoSuchScript
+dump_reply invalid = codes "no invalid-script\n"
+dump_reply (present tree) = script_code tree ++ codes "ok\n"
+
+-- the same for a script of a bench, as an `include` of that name finds it
+abbrev pub dump_of : Content → ScriptName → List ℕ
+dump_of content name = dump_reply (found_at (λ other. lookup_of (text_at content.scripts other)) name)
 
 -- whether memory may be refused to an edit of a session; two take none
 abbrev pub takes_memory : Edit → Bool

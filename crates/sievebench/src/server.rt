@@ -1,20 +1,22 @@
 //! A session: commands in, replies out.
-ghost use Rattle.std.specs.Prelude.{◌≡◌, ◌≤◌, ◌<◌, ◌+◌, ℕ, List, Option, codes, nat_lt, if◌then◌else◌};
+ghost use Rattle.std.specs.Prelude.{◌≡◌, ◌≤◌, ◌<◌, ◌+◌, ℕ, List, Option, OnOk, OnErr, codes, nat_lt, if◌then◌else◌};
 ghost use Rattle.sieve_base.specs.Devices.{HasRisen};
 ghost use Rattle.sieve_base.specs.Writers.{Wrote, WroteFront};
 ghost use Rattle.bench.specs.Bench.{BenchState};
+ghost use Rattle.sieve_run.specs.Library.{Lookup};
+ghost use Rattle.sieve_run.specs.view.Found.{FoundAs};
 ghost use Rattle.session_text.specs.view.Input.{unused, fuel, Knows, Reads};
-ghost use Rattle.sievebench.specs.Session.{Ask, Request, Served, served, Moved, SessionFrom, BrokenSessionFrom, CutSessionFrom, MatchSessionEnd, MatchFault, ReadsAreMade, TurnsAreSpent, AtLastEnd, with_octets, request_by, dumps, reports};
+ghost use Rattle.sievebench.specs.Session.{Ask, dump_reply, Request, Served, served, Moved, SessionFrom, BrokenSessionFrom, CutSessionFrom, MatchSessionEnd, MatchFault, ReadsAreMade, TurnsAreSpent, AtLastEnd, with_octets, request_by, dumps, reports};
 ghost use Rattle.std.specs.Io.KnownBytes.{IsAtEnd};
 ghost use Rattle.sievebench.specs.view.Task.{IsTried, Tasks, edit_of};
 ghost use Rattle.sievebench.specs.view.Progress.{GoesFrom, Serves, Continues, EndsBy, MatchProgress, OnContinues, TellsFaults, AtLast, MayBeRefused, Tries, reply_line};
 
 use crate::status::SessionEnd;
 use crate::task::{Subject, Task, limit_of, task_of};
-use bench::{Bench, EditFault, ReportFault};
+use bench::{Bench, EditFault, ReportFault, write_code};
 use session_text::{Input, Line, Taken, take_octets};
-use sieve_base::{Octets, Sink, Source, write_out};
-use sieve_run::{Meter, ScriptName};
+use sieve_base::{Octets, Sink, Source, WriteFault, write_out};
+use sieve_run::{Found, Meter, ScriptName};
 use std::alloc::Global;
 
 /// How a command went.
@@ -185,6 +187,22 @@ fn serve_report<W: Sink>(bench: &mut Bench, meter: &mut Meter, writer: &mut W) -
     }
 }
 
+/// Writes the lines of a script's code and `ok`, or why there are none.
+#[tactic(auto, using(sieve_base::proofs::Writing::writing))]
+fn write_dump<W: Sink>(found: Found<'_>, writer: &mut W) -> Result<(), WriteFault>
+    ensures ok { (lookup : Lookup) → FoundAs found.entry lookup → OnOk result (Wrote W.contents W.fault_count writer.old writer.new (dump_reply lookup)) }
+    ensures err { (lookup : Lookup) → FoundAs found.entry lookup → OnErr result (WroteFront W.contents W.fault_count writer.old writer.new (dump_reply lookup)) }
+{
+    match found {
+        Found::Missing => write_out(b"no no-such-script\n", writer),
+        Found::Invalid => write_out(b"no invalid-script\n", writer),
+        Found::Present(code) => {
+            write_code(code, writer)?;
+            write_out(b"ok\n", writer)
+        }
+    }
+}
+
 /// Prints the code of a script, or replies why not.
 #[tactic(auto, using(crate::proofs::Serving::serving))]
 fn serve_dump<W: Sink>(bench: &Bench, writer: &mut W, name: &ScriptName) -> Progress
@@ -193,7 +211,7 @@ fn serve_dump<W: Sink>(bench: &Bench, writer: &mut W, name: &ScriptName) -> Prog
     ensures faults { MatchProgress result (W.fault_count writer.old ≤ W.fault_count writer.new) ⊥ (HasRisen (W.fault_count writer.old) (W.fault_count writer.new)) ⊥ }
     ensures end { AtLast result ⊥ }
 {
-    match bench.dump(name, writer) {
+    match write_dump(bench.code(name), writer) {
         Ok(()) => Progress::Continues,
         Err(_) => Progress::Ends(SessionEnd::Write),
     }

@@ -7,7 +7,7 @@ ghost use Rattle.sievebench.specs.view.Task.{IsTried, Tasks, limit_of};
 
 use bench::{Bench, EditFault};
 use session_text::{Command, Word, command_of_line};
-use sieve_base::limits::{MAX_MESSAGE, MAX_TEXT};
+use sieve_base::limits::{MAX_ID, MAX_MESSAGE, MAX_TEXT};
 use sieve_base::{Octets, Place};
 use sieve_run::ScriptName;
 use std::alloc::{AllocError, Global};
@@ -124,6 +124,17 @@ fn drop_script(bench: &mut Bench, place: Place, name: &Word<'_>) -> Result<(), E
     bench.remove_script(&name)
 }
 
+/// Removes a message. Takes no memory: an id that is too long for an array isn't one of the bench.
+#[tactic(auto, using(crate::proofs::Tried::trying))]
+fn drop_message(bench: &mut Bench, id: &Word<'_>) -> Result<(), EditFault>
+    ensures { IsTried (Some (ask_of (line.drop_message id.now))) result bench.old bench.new }
+{
+    match id.short::<MAX_ID>() {
+        Some(id) => bench.remove_message(id.as_slice()),
+        None => Err(EditFault::TooLarge),
+    }
+}
+
 /// Sets the envelope's addresses.
 #[tactic(auto, using(crate::proofs::Tried::trying))]
 fn set_envelope(bench: &mut Bench, from: &Word<'_>, to: &Word<'_>) -> Result<(), EditFault>
@@ -167,7 +178,7 @@ pub(crate) fn task_of(bench: &mut Bench, line: &[u8]) -> Task
             new_name,
         } => rename_script(bench, place, &name, new_place, &new_name),
         Command::DropScript { place, name } => drop_script(bench, place, &name),
-        Command::DropMessage { id } => bench.drop_message(&id),
+        Command::DropMessage { id } => drop_message(bench, &id),
         Command::Envelope { from, to } => set_envelope(bench, &from, &to),
         Command::Mailbox { mailbox } => set_mailbox(bench, &mailbox),
     };

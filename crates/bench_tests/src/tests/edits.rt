@@ -22,7 +22,7 @@ fn edit_content(
         bench,
         b"main none\nenvelope \"\" \"\" mailbox \"INBOX\"\nscript personal \"main\" ok\nmessage \"m\"\n  implicit \"INBOX\"\ntotal 1 messages 0 errors\n",
     )?;
-    bench.remove_message(id)?;
+    bench.remove_message(id.as_slice())?;
     bench.rename_script(main, other)?;
     check_report(
         rt,

@@ -199,7 +199,7 @@ fn check_verdicts(
         ("a message that was run", 1, 1),
         is_discarded(bench, first),
     );
-    bench.remove_message(first)?;
+    bench.remove_message(first.as_slice())?;
     holds(rt, ("no message", 1, 2), bench.verdict(first).is_none());
     Ok(())
 }

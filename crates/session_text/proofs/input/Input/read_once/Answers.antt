@@ -3,7 +3,7 @@ use Rattle.std.proofs.lemmas.Grind.{common_steps}
 use Rattle.std.proofs.lemmas.List.{with_items_is}
 use Rattle.std.specs.List.{slice_range}
 use Rattle.session_text.specs.view.Input.{Input}
-use Rattle.session_text.proofs.Reading.{call_made, gave_fault, gave_octets}
+use Rattle.session_text.proofs.Reading.{gave_fault, gave_octets}
 use Rattle.session_text.proofs.Unused.{unused-read}
 use Rattle.session_text.proofs.input.Input.read_once.Goals as goal
 

@@ -1,0 +1,11 @@
+use Rattle.std.proofs.Common.{◌≡◌, ◌++◌, length}
+use Rattle.std.specs.Option.{option_map}
+use Rattle.session_text.specs.SessionLine.{quoted_value}
+use Rattle.session_text.proofs.word.short_quoted.Given as goal
+
+-- the octets so far, and those of what is left, are those of the word
+abbrev pub invariant-loop-octets : goal.invariant-loop-octets
+invariant-loop-octets g l = quoted_value l.word ≡ option_map (λ more. l.octets.items ++ more) (quoted_value l.rest)
+
+abbrev pub decreases-loop-octets : goal.decreases-loop-octets
+decreases-loop-octets g l = length l.rest
