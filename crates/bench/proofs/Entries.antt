@@ -1,10 +1,9 @@
 -- What is done to the entries of a bench is done to their messages.
-use Rattle.std.proofs.Common.{◌≡◌, ℕ, List, [], ◌∷◌, length, remove, Bool, true, false, Option, Some, None, is_some, cond, if◌then◌else◌, refl, ap, ◌∙◌}
+use Rattle.std.proofs.Common.{◌≡◌, ℕ, List, [], ◌∷◌, length, Bool, true, false, Option, Some, None, is_some, cond, if◌then◌else◌, refl, ap, ◌∙◌}
 use Rattle.std.proofs.lemmas.List.{length-map}
 use Rattle.std.proofs.lemmas.Map.Made.{lookup-map_values}
 use Rattle.std.specs.Map.{lookup, remove_entry}
 use Rattle.std.specs.Option.{option_map}
-use Rattle.indexmap.proofs.SetLemmas.{map-remove}
 use Rattle.indexmap.specs.IndexMap as ordered
 use Rattle.bench.specs.declared.entry.Entry.{Entry}
 use Rattle.bench.specs.view.Entry.{messages_of}
@@ -13,11 +12,6 @@ use Rattle.bench.specs.view.Entry.{messages_of}
 pub length-messages : (es : List (List ℕ × Entry)) → length (messages_of es) ≡ length es
 unfolding messages_of
 length-messages es = length-map es _
-
--- the first message is that of the first entry
-pub messages-cons : (es : List (List ℕ × Entry)) (id : List ℕ) (entry : Entry) (rest : List (List ℕ × Entry)) → es ≡ (id, entry) ∷ rest → messages_of es ≡ (id, entry.message) ∷ messages_of rest
-unfolding messages_of
-messages-cons es id entry rest cut = ap messages_of cut
 
 -- the message of an id is that of its entry
 pub lookup-messages : (test : List ℕ → Bool) (es : List (List ℕ × Entry)) → lookup test (messages_of es) ≡ option_map (λ entry. entry.message) (lookup test es)
@@ -55,11 +49,6 @@ messages-remove_entry test ((id, entry) ∷ es) = by (test id) (messages-remove_
         → messages_of (cond b es ((id, entry) ∷ remove_entry test es)) ≡ cond b (messages_of es) ((id, entry.message) ∷ remove_entry test (messages_of es))
     by true rest = refl
     by false rest = ap (λ l. (id, entry.message) ∷ l) rest
-
--- or by its place
-pub messages-remove : (es : List (List ℕ × Entry)) (index : ℕ) → messages_of (remove es index) ≡ remove (messages_of es) index
-unfolding messages_of
-messages-remove es index = map-remove _ es index
 
 -- for functions' attributes
 pub ruleset entries = (length-messages, is_some-messages, messages-insert, messages-remove_entry)

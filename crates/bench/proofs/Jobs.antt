@@ -1,9 +1,8 @@
 -- What edits in turn make of a content, and what is known of the edits of a job.
-use Rattle.std.proofs.Common.{◌≡◌, ℕ, suc, ◌+◌, ◌<◌, Bool, true, false, ◌||◌, if◌then◌else◌, List, [], ◌∷◌, length, length-append, drop, get_or, map, fold, Option, None, Some, Result, Ok, Err, IfOk, OnOk, refl, sym, ap, ◌∙◌, subst, arith}
+use Rattle.std.proofs.Common.{◌≡◌, ℕ, ◌+◌, ◌<◌, Bool, true, false, ◌||◌, if◌then◌else◌, List, [], ◌∷◌, length, drop, get_or, map, fold, Option, None, Some, Result, Ok, Err, IfOk, OnOk, refl, sym, ap, ◌∙◌, subst}
 use Rattle.std.proofs.lemmas.List.{drop_more}
 use Rattle.sieve_delivery.specs.declared.name.ScriptName.{ScriptName}
-use Rattle.sieve_run.specs.Meter.{next_run, runs_after}
-use Rattle.bench.specs.Bench.{BenchState, RefusedAmong}
+use Rattle.bench.specs.Bench.{BenchState}
 use Rattle.bench.specs.Content.{Content, Edit, after, put_message, set_main, set_envelope, set_mailbox, Refuses, unless, script_refusal, message_refusal, main_refusal, envelope_refusal, mailbox_refusal, with_message}
 use Rattle.bench.specs.Stale.{ids_where, is_among, stale_after, touches}
 use Rattle.bench.specs.Test.{after_all, put_of, then_edit}
@@ -116,9 +115,3 @@ first_put old new id bytes (Ok done) none ok stale =
     stale
     ∙ ap (ids_where (λ message. touches old.content (put_message id bytes) message || is_among message.0 old.stale)) only
     ∙ one_id (λ message. touches old.content (put_message id bytes) message || is_among message.0 old.stale) id bytes (rw (same_id id) refl)
-
--- where memory is refused to a report of it, its run is counted
-pub one_refused : (old new : List (List ℕ)) (before after' : ℕ) → length old ≡ 1 → RefusedAmong old new before after' → after' ≡ next_run before
-one_refused old new before after' one refused =
-    let none : length refused.done ≡ 0 = omega (arith, one, ap length refused.whole, length-append refused.done new, refused.more) in
-    refused.runs ∙ ap (λ n. runs_after (suc n) before) none

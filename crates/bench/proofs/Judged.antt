@@ -6,7 +6,9 @@ use Rattle.std.specs.List.{flat_map}
 use Rattle.sieve_run.specs.Verdict.{Verdict}
 use Rattle.sieve_delivery.specs.declared.envelope.Envelope.{Envelope}
 use Rattle.sieve_delivery.specs.declared.name.ScriptName.{ScriptName}
-use Rattle.bench.specs.Report.{error_count, verdict_by, verdicts}
+use Rattle.bench.specs.Content.{Content}
+use Rattle.bench.specs.Report.{error_count, report_text, report_with, verdict_by, verdicts}
+use Rattle.bench.specs.Test.{is_clean, is_clean_with}
 use Rattle.bench.specs.declared.entry.Entry.{Entry}
 use Rattle.bench.specs.view.Entry.{has_error, judged_before, judged_of, messages_of, stale_of, KeepsDue}
 
@@ -22,6 +24,20 @@ all_judged main envelope scripts (e ∷ es) kept none = by e.1.kept kept.0 none 
         → judged_before e.0 found (judged_of es) ≡ (e.0, verdict_by main envelope scripts e.1.message) ∷ verdicts main envelope scripts (messages_of es)
     by None is none more = absurd cc
     by (Some verdict) is none more = ap (λ v. (e.0, v) ∷ judged_of es) is ∙ ap (λ l. (e.0, verdict_by main envelope scripts e.1.message) ∷ l) (more none)
+
+-- so the report of them is the report of the content
+pub report_is : (content : Content) (main : Option ScriptName) (es : List (List ℕ × Entry)) → main ≡ content.main → messages_of es ≡ content.messages → KeepsDue (verdict_by main content.envelope content.scripts) es → stale_of es ≡ []
+    → report_with main content.envelope content.scripts (judged_of es) ≡ report_text content
+report_is content main es m same kept none =
+    ap (report_with main content.envelope content.scripts) (all_judged main content.envelope content.scripts es kept none ∙ ap (verdicts main content.envelope content.scripts) same)
+    ∙ ap (λ x. report_with x content.envelope content.scripts (verdicts x content.envelope content.scripts content.messages)) m
+
+-- and what is found in them is found in it
+pub clean_is : (content : Content) (es : List (List ℕ × Entry)) → messages_of es ≡ content.messages → KeepsDue (verdict_by content.main content.envelope content.scripts) es → stale_of es ≡ []
+    → is_clean_with content.scripts (judged_of es) ≡ is_clean content
+unfolding is_clean
+clean_is content es same kept none =
+    ap (is_clean_with content.scripts) (all_judged content.main content.envelope content.scripts es kept none ∙ ap (verdicts content.main content.envelope content.scripts) same)
 
 -- how many are judged, and with an error
 pub judged-all : (es : List (List ℕ × Entry)) → stale_of es ≡ [] → length (judged_of es) ≡ length es

@@ -301,29 +301,6 @@ impl Bench {
             ((self.new.stale ≡ []) × (meter.new ≡ runs_after (length self.old.stale) meter.old))) }
         ensures no_memory { self.old.stale ≡ [] → IfErr result (λ fault. MatchReportFault fault ⊥ ⊤) }
     {
-        match self.report_and_judge(meter, writer) {
-            Ok(_clean) => Ok(()),
-            Err(fault) => Err(fault),
-        }
-    }
-
-    /// Reports, and answers whether no script has a fault and no message an error.
-    pub(crate) fn report_and_judge<W: Sink>(
-        &mut self,
-        meter: &mut Meter,
-        writer: &mut W,
-    ) -> Result<bool, ReportFault>
-        ensures ok { OnOk result (Wrote W.contents W.fault_count writer.old writer.new (report_text self.old.content)) }
-        ensures clean { IfOk result (λ clean. clean ≡ is_clean self.old.content) }
-        ensures err { IfErr result (λ fault. MatchReportFault fault (writer.new ≡ writer.old)
-            (WroteFront W.contents W.fault_count writer.old writer.new (report_text self.old.content))) }
-        ensures content { self.new.content ≡ self.old.content }
-        ensures stale { OnOk result (self.new.stale ≡ []) }
-        ensures runs { OnOk result (meter.new ≡ runs_after (length self.old.stale) meter.old) }
-        ensures at_fault { IfErr result (λ fault. MatchReportFault fault
-            (RefusedAmong self.old.stale self.new.stale meter.old meter.new)
-            ((self.new.stale ≡ []) × (meter.new ≡ runs_after (length self.old.stale) meter.old))) }
-    {
         let main = self.main.as_ref();
         if run_stale(
             self.alloc,
@@ -338,9 +315,17 @@ impl Bench {
             return Err(ReportFault::NoMemory);
         }
         match write_report(main, &self.envelope, &self.scripts, &self.messages, writer) {
-            Ok(()) => Ok(is_clean(&self.scripts, &self.messages)),
+            Ok(()) => Ok(()),
             Err(_) => Err(ReportFault::Write),
         }
+    }
+
+    /// Whether no script has a fault and no message an error.
+    pub(crate) fn is_clean(&self) -> bool
+        requires { self.now.stale ≡ [] }
+        ensures { result ≡ is_clean self.now.content }
+    {
+        is_clean(&self.scripts, &self.messages)
     }
 
     /// The code of a script, as an `include` of that name finds it: a name of more than 1,024 octets has none.

@@ -75,9 +75,9 @@ fn report_end<W: Sink>(bench: &mut Bench, meter: &mut Meter, writer: &mut W) -> 
         (WroteFront W.contents W.fault_count writer.old writer.new) (writer.new ≡ writer.old) }
     ensures runs { meter.new ≡ next_run meter.old }
 {
-    match bench.report_and_judge(meter, writer) {
-        Ok(true) => TestEnd::Clean,
-        Ok(false) => TestEnd::Faulty,
+    match bench.report(meter, writer) {
+        Ok(()) if bench.is_clean() => TestEnd::Clean,
+        Ok(()) => TestEnd::Faulty,
         Err(ReportFault::Write) => TestEnd::Write,
         Err(ReportFault::NoMemory) => TestEnd::NoMemory,
     }

@@ -89,8 +89,8 @@ fn a_script_that_is_put_or_renamed_reruns_what_looked_it_up(rt: HostRuntime) -> 
     )
 }
 
-/// Each edit in turn, on a bench whose verdicts are kept.
-fn check_edits(rt: &(impl AllocGlobal + Abort), bench: &mut Bench) -> Result<(), Fail> {
+/// Puts and settings in turn, on a bench whose verdicts are kept.
+fn check_puts(rt: &(impl AllocGlobal + Abort), bench: &mut Bench) -> Result<(), Fail> {
     check_steps(
         rt,
         bench,
@@ -125,6 +125,16 @@ fn check_edits(rt: &(impl AllocGlobal + Abort), bench: &mut Bench) -> Result<(),
                 2,
                 b"main personal \"main\"\nenvelope \"a@b.example\" \"\" mailbox \"Inbox2\"\nscript personal \"main\" ok\nscript personal \"x\" ok\nscript personal \"y\" ok\nmessage \"m1\"\n  discard\n  read personal \"main\"\n  read personal \"x\"\nmessage \"m2\"\n  implicit \"Inbox2\"\n  read personal \"main\"\ntotal 2 messages 0 errors\n",
             ),
+        ],
+    )
+}
+
+/// Removals, a rename and another main script in turn, behind them.
+fn check_removals(rt: &(impl AllocGlobal + Abort), bench: &mut Bench) -> Result<(), Fail> {
+    check_steps(
+        rt,
+        bench,
+        &[
             (
                 b"drop-script personal x\n",
                 1,
@@ -153,7 +163,8 @@ fn check_edits(rt: &(impl AllocGlobal + Abort), bench: &mut Bench) -> Result<(),
 fn each_edit_reruns_what_it_touches(rt: HostRuntime) -> Result<(), Fail> {
     let mut bench = Bench::new(rt.alloc())?;
     begin(&rt, &mut bench)?;
-    check_edits(&rt, &mut bench)
+    check_puts(&rt, &mut bench)?;
+    check_removals(&rt, &mut bench)
 }
 
 /// The two messages, with the script that the first includes, and a report.
