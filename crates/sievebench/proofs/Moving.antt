@@ -43,3 +43,7 @@ report_moves (Err faults.Write) old new runs runs' content stale made fault = mo
 pub moved_both : (a b c : Served) → Moved a b → Moved b c → Moved a c
 moved_both a b c first unmoved = first
 moved_both a b c first (moved mid new before last) = moved mid new (moved_both a b mid first before) last
+
+-- nothing is done
+pub stays : (old : Served) → Moved old old
+stays old = unmoved

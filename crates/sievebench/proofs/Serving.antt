@@ -16,7 +16,7 @@ use Rattle.bench.specs.Stale.{stale_after}
 use Rattle.sievebench.specs.view.Task.{edit_of, limit_of}
 use Rattle.sievebench.specs.view.Progress.{BreakFrom, Continues, CutFrom, EndsBy, Follows, GoesFrom, MatchProgress, MayBeRefused, StepFrom, EndFrom, Tries, reply_line}
 use Rattle.sievebench.specs.declared.server.Progress.{Progress}
-use Rattle.sievebench.proofs.Moving.{edit_moves, report_moves}
+use Rattle.sievebench.proofs.Moving.{edit_moves, report_moves, stays}
 use Rattle.sievebench.specs.declared.server.Progress.TheVariants as ways
 use Rattle.bench.specs.declared.fault.EditFault.{EditFault}
 use Rattle.bench.specs.declared.fault.EditFault.TheVariants.{TooLarge, Full, NoMemory}
@@ -250,4 +250,4 @@ pub dump_replies : (name : ScriptName) (old : Served) (unused : Option (List ℕ
 dump_replies name old None = tt
 dump_replies name old (Some xs) = (inl refl, refl, refl)
 
-pub ruleset serving = (answered, answer_faults, tried_replies, no_memory_replies, put_takes, put_replies, falls_short, breaks_off, unkept_replies, edit_replies, report_replies, refused_report_replies, dump_replies, edit_moves, report_moves)
+pub ruleset serving = (answered, answer_faults, tried_replies, no_memory_replies, put_takes, put_replies, falls_short, breaks_off, unkept_replies, edit_replies, report_replies, refused_report_replies, dump_replies, edit_moves, report_moves, stays)

@@ -1,6 +1,6 @@
 use Rattle.std.proofs.Common.{◌≡◌, None, Some}
 use Rattle.sievebench.specs.declared.status.SessionEnd.TheVariants.{Syntax}
-use Rattle.sievebench.specs.Session.{asks_nothing, asks_put, asks_report, asks_dump, request_by, served, unmoved}
+use Rattle.sievebench.specs.Session.{asks_nothing, asks_put, asks_report, asks_dump, request_by, served}
 use Rattle.sievebench.specs.view.Task.{IsFollowedBy, IsTried, edit_of}
 use Rattle.sievebench.proofs.Requests.{forgotten, idle_step, unreadable_ends}
 use Rattle.sievebench.proofs.Serving.{ended}
@@ -41,23 +41,8 @@ returns-in-Unreadable-clause-goes g c = λ ask old is.
     let is' : (ask ≡ None) × (c.args.bench.now ≡ old) = rw c.in-Unreadable.is at is in
     rw is'.0 (rw (← is'.1) (ended _ _ _ _ (request_by None) Syntax c.refuse_line.result (served c.args.bench.now c.args.meter.now) _ _ _ _ (λ Q S q. q) c.refuse_line.ensures (unreadable_ends _)))
 
-pub returns-in-Idle-clause-moves : goal.returns-in-Idle-clause-moves
-returns-in-Idle-clause-moves g c = unmoved
-
 pub returns-in-Put-clause-moves : goal.returns-in-Put-clause-moves
 returns-in-Put-clause-moves g c = c.serve_put.ensures.moves _
 
-pub returns-in-Made-clause-moves : goal.returns-in-Made-clause-moves
-returns-in-Made-clause-moves g c = unmoved
-
 pub returns-in-Report-clause-moves : goal.returns-in-Report-clause-moves
 returns-in-Report-clause-moves g c = c.serve_report.ensures.moves
-
-pub returns-in-Dump-clause-moves : goal.returns-in-Dump-clause-moves
-returns-in-Dump-clause-moves g c = unmoved
-
-pub returns-in-Forgotten-clause-moves : goal.returns-in-Forgotten-clause-moves
-returns-in-Forgotten-clause-moves g c = unmoved
-
-pub returns-in-Unreadable-clause-moves : goal.returns-in-Unreadable-clause-moves
-returns-in-Unreadable-clause-moves g c = unmoved

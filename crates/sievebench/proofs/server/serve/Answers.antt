@@ -1,5 +1,5 @@
 use Rattle.std.proofs.Common.{◌≡◌, ◌∙◌, ap, sym, take}
-use Rattle.sievebench.specs.Session.{ask_at, request_of, unmoved}
+use Rattle.sievebench.specs.Session.{ask_at, request_of}
 use Rattle.sievebench.specs.declared.status.SessionEnd.TheVariants.{Syntax}
 use Rattle.sievebench.proofs.Moving.{moved_both, tasks_move}
 use Rattle.sievebench.proofs.Requests.{break_served, cut_line_break, cut_served, end_served, line_alone, line_begins, long_end, over_end, step_served}
@@ -44,15 +44,3 @@ returns-in-Whole-clause-goes g c =
 pub returns-in-Whole-clause-moves : goal.returns-in-Whole-clause-moves
 returns-in-Whole-clause-moves g c =
     moved_both _ _ _ (tasks_move _ (ask_at c.split_at.result.0.now) c.args.bench.now c.task_of-task.new.bench c.args.meter.now c.task_of-task.ensures) c.perform.ensures.moves
-
-pub returns-in-Over-clause-moves : goal.returns-in-Over-clause-moves
-returns-in-Over-clause-moves g c = unmoved
-
-pub returns-in-TooLong-clause-moves : goal.returns-in-TooLong-clause-moves
-returns-in-TooLong-clause-moves g c = unmoved
-
-pub returns-in-Failed-clause-moves : goal.returns-in-Failed-clause-moves
-returns-in-Failed-clause-moves g c = unmoved
-
-pub returns-in-Spent-clause-moves : goal.returns-in-Spent-clause-moves
-returns-in-Spent-clause-moves g c = unmoved

@@ -1,5 +1,5 @@
 use Rattle.std.proofs.Common.{◌≡◌}
-use Rattle.sievebench.specs.Session.{served, unmoved, with_octets}
+use Rattle.sievebench.specs.Session.{served, with_octets}
 use Rattle.sievebench.specs.view.Task.{edit_of}
 use Rattle.sievebench.proofs.Moving.{edit_moves}
 use Rattle.sievebench.proofs.Serving.{answered, breaks_off, end_faults, ended, falls_short, put_replies, short, tried_replies, unkept_replies}
@@ -36,15 +36,3 @@ returns-in-Spent-clause-goes g c = λ runs. breaks_off _ c.args.count _ _ _ _ (s
 
 pub returns-in-Whole-Some-clause-moves : goal.returns-in-Whole-Some-clause-moves
 returns-in-Whole-Some-clause-moves g c = λ runs. edit_moves (edit_of c.args.subject c.in-Whole-Some.octets.items) c.keep.result c.args.bench.now c.keep.new.bench runs c.keep.ensures
-
-pub returns-in-Whole-None-clause-moves : goal.returns-in-Whole-None-clause-moves
-returns-in-Whole-None-clause-moves g c = λ runs. unmoved
-
-pub returns-in-Truncated-clause-moves : goal.returns-in-Truncated-clause-moves
-returns-in-Truncated-clause-moves g c = λ runs. unmoved
-
-pub returns-in-Failed-clause-moves : goal.returns-in-Failed-clause-moves
-returns-in-Failed-clause-moves g c = λ runs. unmoved
-
-pub returns-in-Spent-clause-moves : goal.returns-in-Spent-clause-moves
-returns-in-Spent-clause-moves g c = λ runs. unmoved
