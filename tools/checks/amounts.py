@@ -40,6 +40,11 @@ def of_lines(room):
         yield session(room, title, b" " * (LINE_LIMIT + spaces) + end, *told)
 
 
+def escaped_drop(count):
+    """A line that drops the message whose id is so many octets `n`, each of them escaped."""
+    return b'drop-message "%s"\n' % (b"\\x6e" * count)
+
+
 def of_words(room):
     """Words at their limits and past them."""
     large, no_script, no_message = b"no too-large\n", b"no no-such-script\n", b"no no-such-message\n"
@@ -64,6 +69,8 @@ def of_words(room):
     refusals = [large, large, no_script, b"no name-taken\n"]
     octets = b"script personal a 0\n" + b"".join(b"rename %s\n" % words for words in renames)
     yield session(room, "the order of a rename's refusals", octets, b"ok\n" + b"".join(refusals))
+    octets = b"message %s 0\n" % (b"n" * NAME_LIMIT) + escaped_drop(NAME_LIMIT + 1) + escaped_drop(NAME_LIMIT) * 2
+    yield session(room, "an id of escapes past its limit and at it", octets, b"ok\n" + large + b"ok\n" + no_message)
     name = b"n" * NAME_LIMIT
     octets = b"script global @ 8\ndiscard;message @ 0\nmain global @\nenvelope @ @\nreport\n"
     told = ["ok"] * 4 + ['main global "@"', 'envelope "@" "@" mailbox "INBOX"', 'script global "@" ok', 'message "@"', "  discard", '  read global "@"']
@@ -77,7 +84,7 @@ def of_counts(room):
     octets = b"".join(b"message %d 0\n" % i for i in range(2_000)) + b"report\n"
     yield session(room, "two thousand messages", octets, b"ok\n" * 2_000 + lines("main none", runs.SETTINGS) + listed + b"total 2000 messages 0 errors\n")
     # Comparing an id that isn't there with each id would take minutes.
-    octets = b"".join(b"message %d 0\n" % i for i in range(60_000)) + b'drop-message m\ndrop-message "m"\n' * 150_000
+    octets = b"".join(b"message %d 0\n" % i for i in range(60_000)) + b'drop-message m\ndrop-message "\\x6d"\n' * 150_000
     yield session(room, "absent messages among many", octets, b"ok\n" * 60_000 + b"no no-such-message\n" * 300_000)
     octets = b"".join(b"message %d 0\n" % i for i in range(MAIL_LIMIT)) + b"message more 0\nmessage 0 1\nx"
     yield session(room, "as many messages as there may be, one more, and one again", octets, b"ok\n" * MAIL_LIMIT + b"no full\nok\n")
