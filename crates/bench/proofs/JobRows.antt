@@ -7,7 +7,7 @@ use Rattle.sieve_check.specs.Judgement.{judgement_of, sound, faulty}
 use Rattle.sieve_reading.specs.Tree.{Node}
 use Rattle.sieve_check.specs.declared.judged.FaultKind.{FaultKind}
 use Rattle.sieve_run.specs.Run.{outcome_of}
-use Rattle.sieve_delivery.specs.declared.name.ScriptName.{ScriptName}
+use Rattle.sieve_base.specs.declared.name.ScriptName.{ScriptName}
 use Rattle.bench.specs.Content.{Content, Edit, new_content, put_script, put_message, set_main, set_envelope, set_mailbox, unless}
 use Rattle.bench.specs.Report.{verdicts}
 use Rattle.bench.specs.Test.{after_all, is_clean, made_by, put_of, test_end_of, then_edit}

@@ -5,11 +5,11 @@ use Rattle.std.proofs.lemmas.List.{take_more}
 use Rattle.sieve_base.specs.Writers.{quoted}
 use Rattle.sieve_check.specs.Judgement.{Judgement, sound, faulty, fault_of, fault_word, judgement_of}
 use Rattle.sieve_check.specs.declared.judged.FaultKind.{FaultKind}
-use Rattle.sieve_action.specs.ErrorKind.{error_word}
-use Rattle.sieve_delivery.specs.declared.envelope.Envelope.{Envelope}
-use Rattle.sieve_delivery.specs.declared.name.ScriptName.{ScriptName}
-use Rattle.sieve_action.specs.declared.error.RunError.{RunError}
-use Rattle.sieve_code.specs.Dump.{place_word}
+use Rattle.sieve_effects.specs.ErrorKind.{error_word}
+use Rattle.sieve_effects.specs.declared.envelope.Envelope.{Envelope}
+use Rattle.sieve_base.specs.declared.name.ScriptName.{ScriptName}
+use Rattle.sieve_effects.specs.declared.error.RunError.{RunError}
+use Rattle.sieve_base.specs.Name.{place_word}
 use Rattle.bench.specs.Report.{name_text, judgement_text, envelope_line, script_line, error_line, flag_word, flag_words, total_line}
 
 -- the line of the envelope

@@ -8,7 +8,7 @@ use Rattle.sieve_reading.specs.Script.{acts, no_commands, script_of}
 use Rattle.sieve_reading.specs.Tree.{Node}
 use Rattle.sieve_check.specs.declared.judged.FaultKind.{FaultKind}
 use Rattle.sieve_run.specs.Run.{outcome_of, exec}
-use Rattle.sieve_delivery.specs.declared.name.ScriptName.{ScriptName}
+use Rattle.sieve_base.specs.declared.name.ScriptName.{ScriptName}
 use Rattle.bench.specs.Bench.{RefusedAmong}
 use Rattle.bench.specs.Content.{Content, Edit, after, put_script, put_message, set_main, rename_script, remove_script, remove_message, clear_main, set_envelope, set_mailbox}
 use Rattle.bench.specs.Stale.{ids_where, stale_after, verdict_on}

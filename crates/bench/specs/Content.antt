@@ -5,9 +5,9 @@ use Rattle.std.specs.BTreeMap as tree
 use Rattle.indexmap.specs.IndexMap as ordered
 use lib.Pointwise.{pointwise}
 use Rattle.sieve_base.specs.Limits.{address_limit, id_limit, mailbox_limit, message_count_limit, message_limit, name_limit, script_count_limit, text_limit}
-use Rattle.sieve_delivery.specs.declared.name.ScriptName.{ScriptName}
-use Rattle.sieve_delivery.specs.declared.envelope.Envelope.{Envelope}
-use Rattle.sieve_delivery.specs.Name.{name_cmp}
+use Rattle.sieve_base.specs.declared.name.ScriptName.{ScriptName}
+use Rattle.sieve_effects.specs.declared.envelope.Envelope.{Envelope}
+use Rattle.sieve_base.specs.Name.{name_cmp}
 use Rattle.bench.specs.declared.fault.EditFault.{EditFault}
 use Rattle.bench.specs.declared.fault.EditFault.TheVariants.{TooLarge, NoSuchScript, NameTaken, NoSuchMessage, Full, NoMemory}
 

@@ -6,7 +6,7 @@ use Rattle.sieve_reading.specs.Tree.{Node}
 use Rattle.sieve_code.specs.Choice.{code_of}
 use Rattle.sieve_code.specs.Dump.{line_text}
 use Rattle.sieve_code.specs.Operation.{Operation}
-use Rattle.sieve_delivery.specs.declared.name.ScriptName.{ScriptName}
+use Rattle.sieve_base.specs.declared.name.ScriptName.{ScriptName}
 use Rattle.bench.specs.Report.{script_line}
 use Rattle.bench.specs.declared.test_end.TestEnd.{TestEnd}
 use Rattle.bench.specs.declared.test_end.TestEnd.TheVariants as test

@@ -3,13 +3,13 @@ use Rattle.std.specs.Prelude.{ℕ, Bool, true, false, List, [], ◌++◌, length
 use Rattle.std.specs.List.{flat_map}
 use Rattle.sieve_base.specs.Writers.{quoted}
 use Rattle.sieve_check.specs.Judgement.{Judgement, judgement_of, sound, faulty, fault_word}
-use Rattle.sieve_code.specs.Dump.{place_word}
-use Rattle.sieve_delivery.specs.declared.name.ScriptName.{ScriptName}
-use Rattle.sieve_delivery.specs.declared.envelope.Envelope.{Envelope}
-use Rattle.sieve_delivery.specs.declared.action.Action.{Action}
-use Rattle.sieve_delivery.specs.declared.action.Action.TheVariants.{Store, Redirect, Discard}
-use Rattle.sieve_action.specs.declared.error.RunError.{RunError}
-use Rattle.sieve_action.specs.ErrorKind.{error_word}
+use Rattle.sieve_base.specs.Name.{place_word}
+use Rattle.sieve_base.specs.declared.name.ScriptName.{ScriptName}
+use Rattle.sieve_effects.specs.declared.envelope.Envelope.{Envelope}
+use Rattle.sieve_effects.specs.declared.action.Action.{Action}
+use Rattle.sieve_effects.specs.declared.action.Action.TheVariants.{Store, Redirect, Discard}
+use Rattle.sieve_effects.specs.declared.error.RunError.{RunError}
+use Rattle.sieve_effects.specs.ErrorKind.{error_word}
 use Rattle.sieve_run.specs.Library.{lookup_of}
 use Rattle.sieve_run.specs.Run.{outcome_of}
 use Rattle.sieve_run.specs.Verdict.{Verdict}

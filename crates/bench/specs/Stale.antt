@@ -2,7 +2,7 @@
 use Rattle.std.specs.Prelude.{ℕ, Bool, true, false, ◌||◌, List, map, filter, nat_eq}
 use Rattle.std.specs.List.{list_any}
 use lib.Pointwise.{pointwise}
-use Rattle.sieve_delivery.specs.declared.name.ScriptName.{ScriptName}
+use Rattle.sieve_base.specs.declared.name.ScriptName.{ScriptName}
 use Rattle.sieve_run.specs.Run.{is_read}
 use Rattle.sieve_run.specs.Verdict.{Verdict}
 use Rattle.bench.specs.Content.{Content, Edit, put_script, put_message, set_main, rename_script, remove_script, remove_message, clear_main, set_envelope, set_mailbox}

@@ -4,7 +4,7 @@ use Rattle.std.specs.List.{list_all}
 use Rattle.sieve_check.specs.Judgement.{Judgement, judgement_of, sound, faulty}
 use Rattle.sieve_run.specs.Meter.{next_run}
 use Rattle.sieve_run.specs.Verdict.{Verdict}
-use Rattle.sieve_delivery.specs.declared.name.ScriptName.{ScriptName}
+use Rattle.sieve_base.specs.declared.name.ScriptName.{ScriptName}
 use Rattle.bench.specs.Content.{Content, Edit, after, new_content, put_script, put_message, set_main, set_envelope, set_mailbox}
 use Rattle.bench.specs.Report.{error_count, report_text, verdicts}
 use Rattle.bench.specs.declared.fault.EditFault.{EditFault}

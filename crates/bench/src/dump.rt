@@ -9,9 +9,9 @@ ghost use Rattle.bench.specs.Dump.{DumpEnds, code_text, dump_end_of, dump_text_o
 use crate::report_lines::write_script;
 use crate::test_end::TestEnd;
 use sieve_base::limits::{MAX_NAME, MAX_TEXT};
-use sieve_base::{Octets, Sink, WriteFault};
+use sieve_base::{Octets, ScriptName, Sink, WriteFault};
 use sieve_code::Code;
-use sieve_run::{Found, Script, ScriptName};
+use sieve_run::{Found, Script};
 use std::alloc::{AllocError, Global};
 
 /// Writes the lines of code, one operation a line. Where the writer fails, a front of them is written.

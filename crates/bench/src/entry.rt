@@ -7,7 +7,8 @@ ghost use Rattle.bench.specs.Report.{verdict_by};
 ghost use Rattle.bench.specs.view.Entry.{forgotten, has_error, refreshed, runs_at, unread};
 
 use crate::scripts::Scripts;
-use sieve_run::{Envelope, Message, Meter, Outcome, ScriptName, run};
+use sieve_base::ScriptName;
+use sieve_run::{Envelope, Message, Meter, Outcome, run};
 use std::alloc::{AllocError, Global};
 
 /// A message with the verdict on it, unless it is stale.

@@ -2,16 +2,15 @@
 ghost use Rattle.std.specs.Prelude.{◌≡◌, Option, map, nat_eq, false};
 ghost use Rattle.indexmap.specs.IndexMap.{IsUnique};
 ghost use lib.Pointwise.{pointwise};
-ghost use Rattle.sieve_delivery.specs.Name.{name_eq};
-ghost use Rattle.sieve_delivery.specs.declared.name.ScriptName as names;
-ghost use Rattle.sieve_delivery.specs.declared.envelope.Envelope.{Envelope};
+ghost use Rattle.sieve_base.specs.Name.{name_eq};
+ghost use Rattle.sieve_base.specs.declared.name.ScriptName as names;
+ghost use Rattle.sieve_effects.specs.declared.envelope.Envelope.{Envelope};
 ghost use Rattle.sieve_run.specs.Frame.{Texts, outcome_over};
 ghost use Rattle.bench.specs.view.Entry.{KeepsDue, forgotten, unread, messages_of};
 
 use crate::entry::Entry;
 use indexmap::IndexMap;
-use sieve_base::Octets;
-use sieve_run::ScriptName;
+use sieve_base::{Octets, ScriptName};
 use sieve_run::laws::a_verdict_depends_on_what_it_looked_up;
 
 /// Marks all messages stale.

@@ -7,11 +7,10 @@ use crate::entry::Entry;
 use crate::fault::EditFault;
 use crate::scripts::Scripts;
 use indexmap::IndexMap;
-use sieve_base::Octets;
 use sieve_base::limits::{
     MAX_ADDRESS, MAX_ID, MAX_MAILBOX, MAX_MESSAGE, MAX_MESSAGES, MAX_NAME, MAX_SCRIPTS, MAX_TEXT,
 };
-use sieve_run::ScriptName;
+use sieve_base::{Octets, ScriptName};
 
 /// Whether a script's name is past its limit.
 pub(crate) fn is_long(name: &Octets) -> bool

@@ -17,8 +17,8 @@ use crate::report_lines::{
 };
 use crate::scripts::Scripts;
 use indexmap::IndexMap;
-use sieve_base::{Octets, Sink, WriteFault};
-use sieve_run::{Envelope, Meter, Outcome, ScriptName};
+use sieve_base::{Octets, ScriptName, Sink, WriteFault};
+use sieve_run::{Envelope, Meter, Outcome};
 use std::alloc::{AllocError, Global};
 
 /// Runs the main script on the stale messages, in their order.

@@ -3,9 +3,8 @@ ghost use Rattle.std.specs.Option.{option_copied};
 ghost use Rattle.sieve_base.specs.Writers.{Wrote, WroteFront};
 ghost use Rattle.bench.specs.Report.{main_line, envelope_line, script_line, flag_word, flag_words, mailbox_words, mailbox_line, action_line, implicit_line, error_line, read_line, message_line, total_line};
 
-use sieve_base::{Octets, Piece, Sink, WriteFault, write_out, write_pieces};
-use sieve_code::place_word;
-use sieve_run::{Action, Envelope, FlagList, Outcome, Script, ScriptName};
+use sieve_base::{Octets, Piece, ScriptName, Sink, WriteFault, write_out, write_pieces};
+use sieve_run::{Action, Envelope, FlagList, Outcome, Script};
 
 /// Writes the line of the main script.
 #[tactic(auto, unfolding(crate::specs::Report::main_line))]

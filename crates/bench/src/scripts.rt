@@ -3,11 +3,11 @@ ghost use Rattle.std.specs.BTreeMap.{is_at};
 ghost use Rattle.std.specs.Map.{lookup};
 ghost use Rattle.sieve_base.specs.Limits.{text_limit};
 ghost use Rattle.sieve_check.specs.Judgement.{judgement_of};
-ghost use Rattle.sieve_delivery.specs.Name.{name_cmp};
+ghost use Rattle.sieve_base.specs.Name.{name_cmp};
 ghost use Rattle.bench.specs.Test.{is_sound};
 
-use sieve_base::Octets;
-use sieve_run::{Found, Library, Script, ScriptName};
+use sieve_base::{Octets, ScriptName};
+use sieve_run::{Found, Library, Script};
 use std::alloc::{AllocError, Global};
 use std::collections::BTreeMap;
 use std::marker::Model;
@@ -20,7 +20,7 @@ pub(crate) struct Scripts {
 
 impl Model for Scripts {
     ghost use Rattle.std.specs.Prelude.{ℕ, List};
-    ghost use Rattle.sieve_delivery.specs.declared.name.ScriptName.{ScriptName};
+    ghost use Rattle.sieve_base.specs.declared.name.ScriptName.{ScriptName};
 
     ghost Value = { List (ScriptName × List ℕ) };
 

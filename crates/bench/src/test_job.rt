@@ -1,5 +1,4 @@
-use sieve_base::Octets;
-use sieve_run::ScriptName;
+use sieve_base::{Octets, ScriptName};
 
 /// A script of a job: its name, of at most 1,024 octets, and its text, of at most 1,048,576.
 #[derive(Drop)]

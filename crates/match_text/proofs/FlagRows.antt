@@ -49,7 +49,7 @@ special_row = refl
 closing_brace_row : is_flag (codes "a}b[c") ≡ true
 closing_brace_row = refl
 
-first_octet_row : filter is_flag_octet (31 ∷ 32 ∷ 33 ∷ 126 ∷ 127 ∷ 128 ∷ 255 ∷ []) ≡ 33 ∷ 126 ∷ []
+first_octet_row : filter is_flag_octet (31 ∷ codes " !~" ++ 127 ∷ 128 ∷ 255 ∷ []) ≡ codes "!~"
 first_octet_row = refl
 
 lists_row : flags_of_texts (codes "a b" ∷ codes "" ∷ codes "B c" ∷ []) ≡ codes "a" ∷ codes "b" ∷ codes "c" ∷ []

@@ -2,7 +2,7 @@
 ghost use Rattle.std.specs.Prelude.{◌≡◌, ◌==◌, ◌↔◌, ℕ, IfOk, IsTrue, map};
 ghost use Rattle.std.proofs.Common.{rules};
 ghost use Rattle.memchr.specs.Find.{IsFirstByte};
-ghost use Rattle.match_text.specs.Comparator.{IsPart, Same, ascii_casemap, is_part, octet, same};
+ghost use Rattle.match_text.specs.Comparator.{IsPart, Same, ascii_casemap, collation_named, is_part, octet, same};
 
 use memchr::{memchr2, memmem};
 use std::alloc::{AllocError, Global};
@@ -126,6 +126,19 @@ pub enum Collation {
     Octet,
     /// `i;ascii-casemap`, which is [`AsciiCasemap`].
     Casemap,
+}
+
+/// The comparator of that name, octet for octet (RFC 4790, section 9). Takes no memory.
+pub fn collation_named(name: &[u8]) -> Option<Collation>
+    ensures { result ≡ collation_named name.now }
+{
+    if b"i;octet".as_slice() == name {
+        Some(Collation::Octet)
+    } else if b"i;ascii-casemap".as_slice() == name {
+        Some(Collation::Casemap)
+    } else {
+        None
+    }
 }
 
 /// Whether `value` is `key` under the comparator: the match type `:is`. It takes no memory.

@@ -12,7 +12,7 @@ mod segments;
 mod wildcards;
 
 pub use crate::comparators::{
-    AsciiCasemap, Collation, Comparator, Octet, contains, contains_in, is,
+    AsciiCasemap, Collation, Comparator, Octet, collation_named, contains, contains_in, is,
 };
 pub use crate::flags::{
     FlagList, flag_keys, flag_keys_of_texts, flag_text, flags_of, flags_of_texts, union, without,

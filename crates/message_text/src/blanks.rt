@@ -1,14 +1,8 @@
 //! Spaces and tabs round a text.
 ghost use Rattle.std.specs.Prelude.{◌≡◌};
-ghost use Rattle.sieve_base.specs.Octet.{is_blank};
 ghost use Rattle.message_text.specs.Blanks.{trim, trim_end, trim_start};
 
-/// Whether the octet is a space or a tab.
-pub(crate) fn is_blank(octet: u8) -> bool
-    ensures { result ≡ is_blank octet }
-{
-    octet == b' ' || octet == b'\t'
-}
+use sieve_base::octet::is_blank;
 
 /// The text without the spaces and tabs at its front.
 pub(crate) fn trim_start(text: &[u8]) -> &[u8]

@@ -2,15 +2,15 @@
 ghost use Rattle.std.specs.Prelude.{◌≡◌, ◌<◌, ◌++◌, IfNone, IfOk, IfSome, OnOk, Some, false, length, map, option_to_list, slice_get, slice_range, drop};
 ghost use Rattle.std.specs.List.{All};
 ghost use Rattle.std.specs.Str.Lines.{lines};
-ghost use Rattle.sieve_base.specs.Octet.{is_visible};
 ghost use Rattle.message_text.specs.Fields.{begins_field, field_groups, fields_of, is_continuation, is_name};
 ghost use Rattle.message_text.specs.view.Heads.{IsHead};
 ghost use Rattle.message_text.specs.view.Positions.{IsLineAt};
 ghost use Rattle.message_text.specs.view.Spans.{AreSpans, IsSpan, field_here, group_at};
 
-use crate::blanks::{is_blank, trim_end};
+use crate::blanks::trim_end;
 use crate::lines::{Line, line_at};
 use memchr::memchr;
+use sieve_base::octet::{is_blank, is_visible};
 use std::alloc::{AllocError, Global};
 
 /// Where a field stands among the octets of its message.
@@ -50,13 +50,6 @@ fn is_name(text: &[u8]) -> bool
     ensures { result ≡ is_name text.now }
 {
     !text.is_empty() && text.iter().all(|octet| is_visible(*octet))
-}
-
-// Whether the octet is printable and no space.
-fn is_visible(octet: u8) -> bool
-    ensures { result ≡ is_visible octet }
-{
-    matches!(octet, 33..=126)
 }
 
 // The name and the colon of a field's first line, or nothing where no field begins so.

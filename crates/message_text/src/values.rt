@@ -8,9 +8,10 @@ ghost use Rattle.message_text.specs.Fields.{field_of, is_continuation};
 ghost use Rattle.message_text.specs.view.Positions.{IsLineAt};
 ghost use Rattle.message_text.specs.view.Spans.{IsSpan, group_at};
 
-use crate::blanks::{is_blank, trim, trim_end, trim_start};
+use crate::blanks::{trim, trim_end, trim_start};
 use crate::fields::FieldSpan;
 use crate::lines::{Line, line_at};
+use sieve_base::octet::is_blank;
 use std::alloc::{AllocError, Global};
 use std::borrow::CowSlice;
 

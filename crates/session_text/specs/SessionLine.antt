@@ -6,7 +6,7 @@ use lib.Pointwise.{pointwise}
 use Rattle.sieve_base.specs.declared.place.Place.{Place}
 use Rattle.sieve_base.specs.declared.place.Place.TheVariants.{Personal, Global}
 use Rattle.sieve_base.specs.Limits.{line_limit}
-use Rattle.sieve_base.specs.Octet.{octet_of, is_between, is_digit, is_visible}
+use Rattle.sieve_base.specs.Octet.{octet_of, is_between, is_digit, is_printable, is_visible}
 
 -- a line with an octet in front of it, and what follows
 abbrev pub in_front : ℕ → List ℕ × List ℕ → List ℕ × List ℕ
@@ -42,10 +42,6 @@ line_so_far read = option_map ended_line (cut_line read)
 -- whether octets without an LF are too long for a line, whatever follows: a CR at their end may belong to the line's end
 abbrev pub is_long_so_far : List ℕ → Bool
 is_long_so_far read = nat_lt line_limit (length (without_cr read))
-
--- an octet of a line: a visible one of ASCII, or a space
-abbrev pub is_plain : ℕ → Bool
-is_plain b = is_between (octet_of " ") (octet_of "~") b
 
 -- where an octet of a line stands: outside quotes, inside them, or behind a backslash there
 pub data Spot : Type 0 where
@@ -256,6 +252,6 @@ abbrev pub command_of_words : List (List ℕ) → Option Command
 command_of_words [] = Some nothing
 command_of_words (word ∷ words) = command_by word words
 
--- what a line asks for, if it is one of the lines that there are
+-- what a line asks for, if it is one of the lines that there are: of visible octets of ASCII and spaces alone
 unfoldable pub command_of_line : List ℕ → Option Command
-command_of_line line = if list_all is_plain line then command_of_words (line_words line) else None
+command_of_line line = if list_all is_printable line then command_of_words (line_words line) else None

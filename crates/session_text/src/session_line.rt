@@ -2,12 +2,14 @@
 ghost use Rattle.std.specs.Prelude.{◌≡◌, ◌≢◌, ◌<◌, ◌≤◌, ◌∷◌, take, drop, slice_index, None, Some, length, IsTrue, ◌↔◌, MatchOption, []};
 ghost use Rattle.std.specs.List.{list_all};
 ghost use Rattle.std.specs.Option.{option_map};
-ghost use Rattle.session_text.specs.SessionLine.{is_plain, outside, spot_behind, is_gap, piece_length, line_words};
+ghost use Rattle.sieve_base.specs.Octet.{is_printable, octet_of};
+ghost use Rattle.session_text.specs.SessionLine.{outside, spot_behind, is_gap, piece_length, line_words};
 ghost use Rattle.session_text.specs.SessionLine.{is_text, place_of, count_of, last_count, named, last_name, last_value, script_command, message_command, rename_command, envelope_command, main_command, drop_script_command, dump_command, print_command, name_command, value_command, lone_command, command_by, command_of_line};
 ghost use Rattle.session_text.specs.view.Command.{command_as, spot_as};
 
 use crate::word::Word;
 use sieve_base::Place;
+use sieve_base::octet::is_printable;
 
 /// What a line asks for. The words are those of the line, and no copies.
 #[derive(Drop)]
@@ -66,18 +68,11 @@ pub enum Command<'a> {
     },
 }
 
-/// Whether an octet may stand in a line: a visible one of ASCII, or a space.
-fn is_plain_octet(octet: u8) -> bool
-    ensures { result ≡ is_plain octet }
-{
-    matches!(octet, 32..=126)
-}
-
 /// How many spaces a line begins with.
 fn leading_spaces(line: &[u8]) -> usize
     ensures within { result ≤ length line.now }
     ensures words { line_words (drop result line.now) ≡ line_words line.now }
-    ensures stops { slice_index (drop result line.now) 0 ≢ 32 }
+    ensures stops { slice_index (drop result line.now) 0 ≢ octet_of " " }
 {
     for (i, octet) in line.iter().enumerate() {
         if *octet != b' ' {
@@ -401,7 +396,7 @@ pub fn command_of_line(line: &[u8]) -> Option<Command<'_>>
 
 /// Whether a line has visible octets of ASCII and spaces alone.
 fn is_plain(line: &[u8]) -> bool
-    ensures { result ≡ list_all is_plain line.now }
+    ensures { result ≡ list_all is_printable line.now }
 {
-    line.iter().all(|octet| is_plain_octet(*octet))
+    line.iter().all(|octet| is_printable(*octet))
 }

@@ -6,6 +6,7 @@ ghost use Rattle.session_text.specs.view.Word.{MatchNext};
 
 use arrayvec::ArrayVec;
 use sieve_base::Octets;
+use sieve_base::octet::is_visible;
 use std::alloc::{AllocError, Global};
 use std::marker::Model;
 
@@ -13,11 +14,7 @@ use std::marker::Model;
 fn is_bare(octet: u8) -> bool
     ensures { result ≡ is_bare octet }
 {
-    match octet {
-        b'"' | b'\\' => false,
-        33..=126 => true,
-        _ => false,
-    }
+    is_visible(octet) && octet != b'"' && octet != b'\\'
 }
 
 /// Whether all octets may stand in a bare word.

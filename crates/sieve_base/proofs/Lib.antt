@@ -1,2 +1,3 @@
 pub mod Lists
+mod Rows
 pub mod Writing

@@ -22,6 +22,10 @@ is_blank octet = octet == octet_of " " || octet == octet_of "\t"
 abbrev pub is_visible : ℕ → Bool
 is_visible octet = is_between (octet_of "!") (octet_of "~") octet
 
+-- a visible character of ASCII or a space: VCHAR, SP
+abbrev pub is_printable : ℕ → Bool
+is_printable octet = is_between (octet_of " ") (octet_of "~") octet
+
 -- a letter or `_`, with which an identifier begins (RFC 5228, section 8.1)
 abbrev pub begins_name : ℕ → Bool
 begins_name octet = is_between (octet_of "a") (octet_of "z") octet || (is_between (octet_of "A") (octet_of "Z") octet || (octet == octet_of "_"))

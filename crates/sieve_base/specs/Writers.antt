@@ -4,7 +4,9 @@ use Rattle.std.specs.List.{flat_map}
 use Rattle.std.specs.Io.KnownBytes.{Appends}
 use Rattle.sieve_base.specs.Devices.{HasRisen}
 use Rattle.sieve_base.specs.declared.writers.Piece.{Piece}
-use Rattle.sieve_base.specs.declared.writers.Piece.TheVariants.{Raw, Quoted, Number}
+use Rattle.sieve_base.specs.declared.writers.Piece.TheVariants.{Raw, Quoted, Name, Number}
+use Rattle.sieve_base.specs.declared.name.ScriptName.{ScriptName}
+use Rattle.sieve_base.specs.Name.{place_word}
 use Rattle.sieve_base.specs.Octet.{octet_of}
 
 -- a digit of base 16, in lower case
@@ -22,10 +24,15 @@ octet_spelling octet =
 unfoldable pub quoted : List ℕ → List ℕ
 quoted octets = codes "\"" ++ flat_map octet_spelling octets ++ codes "\""
 
+-- the name of a script: the word of its place, and its octets in their quoted form
+unfoldable pub name_text : ScriptName → List ℕ
+name_text name = place_word name.place ++ codes " " ++ quoted name.name
+
 -- what a piece prints
 abbrev pub piece_text : Piece → List ℕ
 piece_text (Raw octets) = octets.now
 piece_text (Quoted octets) = quoted octets.now
+piece_text (Name name) = name_text name.now
 piece_text (Number n) = decimal n
 
 -- what pieces print, in order

@@ -1,9 +1,10 @@
 //! Writing octets, their quoted form, and lines of several pieces. None of it takes memory.
 ghost use Rattle.std.specs.Prelude.{◌≡◌, ℕ, ◌<◌, ◌≤◌, [], take, length, IfOk, OnOk, OnErr, IsTrue, ◌↔◌, ◌∷◌};
 ghost use Rattle.std.specs.List.{flat_map};
-ghost use Rattle.sieve_base.specs.Writers.{Wrote, WroteFront, hex_digit, octet_spelling, quoted, piece_text, pieces_text};
+ghost use Rattle.sieve_base.specs.Writers.{Wrote, WroteFront, hex_digit, octet_spelling, quoted, name_text, piece_text, pieces_text};
 
 use crate::devices::Sink;
+use crate::name::ScriptName;
 use itoa::Buffer;
 use std::io::ErrorKind;
 use thiserror::Error;
@@ -20,6 +21,8 @@ pub enum Piece<'a> {
     Raw(&'a [u8]),
     /// The quoted form of these octets, as `write_quoted` writes it.
     Quoted(&'a [u8]),
+    /// The word of a script's place, and its name as `write_quoted` writes it.
+    Name(&'a ScriptName),
     /// The number in base 10.
     Number(u64),
 }
@@ -69,7 +72,7 @@ pub fn write_out<W: Sink>(bytes: &[u8], writer: &mut W) -> Result<(), WriteFault
 fn is_plain(octet: u8) -> bool
     ensures { IsTrue result ↔ (octet_spelling octet ≡ octet ∷ []) }
 {
-    (32..=126).contains(&octet) && octet != b'"' && octet != b'\\'
+    (b' '..=b'~').contains(&octet) && octet != b'"' && octet != b'\\'
 }
 
 // How many octets at the front stand between quotes as they are.
@@ -101,7 +104,7 @@ fn write_spelling<W: Sink>(octet: u8, writer: &mut W) -> Result<(), WriteFault>
 {
     match octet {
         b'"' | b'\\' => write_out(&[b'\\', octet], writer),
-        32..=126 => write_out(&[octet], writer),
+        b' '..=b'~' => write_out(&[octet], writer),
         _ => write_out(
             &[
                 b'\\',
@@ -163,6 +166,17 @@ pub fn write_quoted<W: Sink>(bytes: &[u8], writer: &mut W) -> Result<(), WriteFa
     write_out(b"\"", writer)
 }
 
+// Writes the word of a script's place and its quoted name.
+#[tactic(auto, using(crate::proofs::Writing::writing), unfolding(crate::specs::Writers::name_text))]
+fn write_name<W: Sink>(name: &ScriptName, writer: &mut W) -> Result<(), WriteFault>
+    ensures ok { OnOk result (Wrote W.contents W.fault_count writer.old writer.new (name_text name.now)) }
+    ensures err { OnErr result (WroteFront W.contents W.fault_count writer.old writer.new (name_text name.now)) }
+{
+    write_out(name.place.word(), writer)?;
+    write_out(b" ", writer)?;
+    write_quoted(name.name.as_slice(), writer)
+}
+
 // Writes one piece.
 #[tactic(auto, using(crate::proofs::Writing::writing))]
 fn write_piece<W: Sink>(piece: &Piece<'_>, writer: &mut W) -> Result<(), WriteFault>
@@ -172,6 +186,7 @@ fn write_piece<W: Sink>(piece: &Piece<'_>, writer: &mut W) -> Result<(), WriteFa
     match piece {
         Piece::Raw(octets) => write_out(octets, writer),
         Piece::Quoted(octets) => write_quoted(octets, writer),
+        Piece::Name(name) => write_name(name, writer),
         Piece::Number(n) => write_out(Buffer::new().format(*n).as_bytes(), writer),
     }
 }

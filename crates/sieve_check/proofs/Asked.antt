@@ -12,12 +12,13 @@ use Rattle.sieve_check.specs.Element.{test_arguments}
 use Rattle.sieve_reading.specs.Label.{expecting, fills, is_unfit, labels_from, no_slots, slots_left, slots_of, slots_with}
 use Rattle.sieve_check.specs.Parted.{Cutting, parted_labelled, parted_test, parted_test_list, parted_tests, test_labels}
 use Rattle.sieve_check.specs.Readable.{Joins, test_takes}
-use Rattle.sieve_reading.specs.Reading.{Ask, Source, address_part_of, address_source, address_values, all_tags, collation_by, compares_by, compares_from, envelope_source, envelope_values, exists_ask, exists_by, flag_source, flag_values, given_texts, given_variable, has_tag, header_source, header_values, in_role, is_tagged, labels_in, literal_in, match_type_of, number_in, over_ask, part_shape, reads_ask, size_by, size_from, string_source, string_values, tag_number, test_reading_by, text_in, texts_in, under_ask, variable_in}
-use Rattle.sieve_reading.specs.Role.{same_role}
-use Rattle.sieve_table.specs.Table.{naming_slot, tag_row, test_row}
+use Rattle.sieve_reading.specs.Reading.{Ask, Source, address_part_of, address_source, address_values, collation_by, compares_by, compares_from, envelope_source, envelope_values, exists_ask, exists_by, flag_source, flag_values, given_texts, given_variable, has_tag, header_source, header_values, in_role, is_tagged, labels_in, literal_in, match_type_of, number_in, over_ask, part_shape, reads_ask, size_by, size_from, string_source, string_values, test_reading_by, text_in, texts_in, under_ask, variable_in}
+use Rattle.sieve_table.specs.view.Number.{all_tags, tag_number}
+use Rattle.sieve_table.specs.Role.{same_role}
+use Rattle.sieve_table.specs.Table.{naming_slot, tag_row, test_row, same_kind}
 use Rattle.sieve_variables.specs.Part.{Part}
 use Rattle.sieve_reading.specs.Tree.{Argument, Test, Tests, TestList, no_tests, one_test, test_list}
-use Rattle.sieve_check.specs.Use.{has_repeated, is_of_kind, same_kind, tests_fit}
+use Rattle.sieve_check.specs.Use.{has_repeated, is_of_kind, tests_fit}
 use Rattle.sieve_reading.specs.declared.label.Label.{Label}
 use Rattle.sieve_reading.specs.declared.label.Label.TheVariants.{Tagged, OtherTag, Own, InSlot, Unfit}
 use Rattle.sieve_reading.specs.declared.label.Shape.{Shape}
@@ -36,7 +37,7 @@ use Rattle.sieve_table.specs.declared.table.Tag.TheVariants as tag
 use Rattle.sieve_table.specs.declared.table.TestKind.{TestKind}
 use Rattle.sieve_table.specs.declared.table.TestKind.TheVariants as kind
 use Rattle.sieve_check.proofs.Filled.{AsRowSays, as_parted, collation_good, collation_read, given_texts_read, given_variable_read, literal_good, literal_read, number_good, number_read, takes, text_good, text_good_alone, text_read, texts_read, variable_good, variable_read}
-use Rattle.sieve_check.proofs.Telling.{of_each_tag, one_kind, one_tag, own_kind}
+use Rattle.sieve_table.proofs.Telling.{of_each_tag, one_kind, one_tag, own_kind}
 use Rattle.sieve_check.proofs.Roles.{AllKeep, AllTake, MayTake, Takes, is_to_come, never_both, none_or, not_both, role_fits, role_found}
 
 -- A ROLE IN A ROW
@@ -175,12 +176,12 @@ differ true other = not other
 differ false other = other
 
 -- where no tag of a kind is there, none of that kind's tags is
-not_it : (wanted t : Tag) (b : Bool) → nat_eq (tag_number wanted) (tag_number t) ≡ b → same_kind (tag_row wanted).kind (tag_row t).kind ≡ false → b ≡ false
+not_it : (wanted t : Tag) (b : Bool) → same_tag wanted t ≡ b → same_kind (tag_row wanted).kind (tag_row t).kind ≡ false → b ≡ false
 not_it wanted t true e other = absurd (never_both (sym (own_kind (tag_row wanted).kind) ∙ ap (λ x. same_kind (tag_row wanted).kind (tag_row x).kind) (one_tag wanted t e) ∙ other))
 not_it wanted t false e other = refl
 
 not_tagged : (wanted : Tag) (label : Label) → is_of_kind (tag_row wanted).kind label ≡ false → is_tagged wanted label ≡ false
-not_tagged wanted (Tagged t) other = not_it wanted t (nat_eq (tag_number wanted) (tag_number t)) refl other
+not_tagged wanted (Tagged t) other = not_it wanted t (same_tag wanted t) refl other
 not_tagged wanted OtherTag other = refl
 not_tagged wanted (Own slot) other = refl
 not_tagged wanted (InSlot slot) other = refl
@@ -194,7 +195,7 @@ none_tagged wanted (label ∷ labels) none =
 
 -- a bound is one of the two
 abbrev is_bound : Tag → Bool
-is_bound t = not (same_kind tag_kind.Bound (tag_row t).kind) || differ (nat_eq (tag_number tag.Over) (tag_number t)) (nat_eq (tag_number tag.Under) (tag_number t))
+is_bound t = not (same_kind tag_kind.Bound (tag_row t).kind) || differ (same_tag tag.Over t) (same_tag tag.Under t)
 
 bounds : (t : Tag) → is_bound t ≡ true
 bounds = of_each_tag is_bound refl

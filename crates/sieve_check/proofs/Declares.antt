@@ -4,7 +4,8 @@ use Rattle.std.specs.Prelude.{if◌then◌else◌}
 use Rattle.sieve_syntax.specs.Tree.{Argument, strings, number, tag, Text, Node, node, Block, no_block, block, Nodes, end_nodes, more_nodes}
 use Rattle.sieve_check.specs.Context.{Context, behind, behind_block, behind_kind, behind_nodes, inside}
 use Rattle.sieve_check.specs.Parted.{command_labels, declared_behind, declared_behind_block, declared_behind_nodes}
-use Rattle.sieve_reading.specs.Role.{first_role, has_role}
+use Rattle.sieve_reading.specs.Role.{first_role}
+use Rattle.sieve_table.specs.Role.{has_role}
 use Rattle.sieve_check.specs.Scope.{Scope, assigning, assigning_argument, assigning_arguments, assigning_texts, declaring_arguments, is_new_local}
 use Rattle.sieve_reading.specs.Shape.{row_labels}
 use Rattle.sieve_reading.specs.declared.label.Label.{Label}

@@ -2,19 +2,19 @@
 use Rattle.std.proofs.Common.{◌≡◌, ℕ, suc, Bool, true, false, not, ◌&&◌, ◌||◌, List, [], ◌∷◌, map, length, drop, Option, None, Some, is_some, refl, sym, ap, ◌∙◌, subst, arith, append-nil}
 use Rattle.std.proofs.lemmas.Bool.{or_parts}
 use Rattle.std.proofs.lemmas.Bool.Decides.{nat_tests}
-use Rattle.std.specs.Option.{option_map}
+use Rattle.std.specs.Option.{option_and_then, option_map}
 use Rattle.std.specs.Prelude.{if◌then◌else◌, is_none, nat_eq, codes}
-use lib.Pointwise.{pointwise}
-use Rattle.match_text.specs.declared.comparators.Collation.TheVariants.{Octet, Casemap}
+use Rattle.match_text.specs.Comparator.{collation_named}
 use Rattle.sieve_syntax.specs.Tree as syntax
-use Rattle.sieve_check.specs.Breach.{breaches_at, breaches_in, is_comparator_name}
+use Rattle.sieve_check.specs.Breach.{breaches_at, breaches_in}
 use Rattle.sieve_check.specs.Context.{Context}
 use Rattle.sieve_check.specs.Element.{argument_elements, judged_labels, labelled_elements, row_elements, text_elements, the_text, the_number}
 use Rattle.sieve_reading.specs.Label.{fits, is_filled, labels_of}
 use Rattle.sieve_check.specs.Parted.{Cutting, parted_argument, parted_labelled, parted_text, parts_in}
 use Rattle.sieve_check.specs.Readable.{row_takes}
-use Rattle.sieve_reading.specs.Reading.{collation_by, given_texts, given_variable, literal_in, literal_in_parts, number_in, part_shape, plain_text, text_in, texts_in, variable_in, variable_in_parts}
-use Rattle.sieve_reading.specs.Role.{first_role, has_role}
+use Rattle.sieve_reading.specs.Reading.{collation_by, given_texts, given_variable, literal_in, literal_in_parts, number_in, part_shape, text_in, texts_in, variable_in, variable_in_parts}
+use Rattle.sieve_reading.specs.Role.{first_role}
+use Rattle.sieve_table.specs.Role.{has_role}
 use Rattle.sieve_reading.specs.Shape.{row_labels, shape_of, shapes_of, texts_shape}
 use Rattle.sieve_table.specs.Table.{Row}
 use Rattle.sieve_reading.specs.Tree.{Argument, strings, number, tag}
@@ -28,7 +28,7 @@ use Rattle.sieve_table.specs.declared.row.Role.TheVariants as role
 use Rattle.sieve_table.specs.declared.rule.Rule.TheVariants.{NumberTooLarge, UnknownComparator}
 use Rattle.sieve_table.specs.declared.table.Tag.{Tag}
 use Rattle.sieve_check.proofs.Roles.{AllKeep, Keeps, NamesWell, none_or, never_both, not_both}
-use Rattle.sieve_check.proofs.Telling.{one_role, only_in_role}
+use Rattle.sieve_table.proofs.Telling.{one_role, only_in_role}
 use Rattle.sieve_check.proofs.Unbroken.{keeps, none_in_both, none_in_front}
 
 -- PARTED ARGUMENTS
@@ -52,15 +52,15 @@ module _ (cutting : Cutting) where
 
 module _ (cutting : Cutting) (context : Context) where
   -- where none of their elements has a breach, their strings name comparators where they have to, and numbers have a value
-  names_well : (r : Option Role) (octets : List ℕ) → (has_role role.ComparatorName r && not (is_comparator_name octets)) ≡ false → (has_role role.ComparatorName r && not (is_comparator_name (plain_text (parts_in cutting r octets)))) ≡ false
+  names_well : (r : Option Role) (octets : List ℕ) → (has_role role.ComparatorName r && is_none (collation_named octets)) ≡ false → (has_role role.ComparatorName r && is_none (option_and_then collation_named (literal_in_parts (parts_in cutting r octets)))) ≡ false
   names_well r octets fine = by_role r (has_role role.ComparatorName r) refl fine
     where
-      by_role : (r : Option Role) (is : Bool) → has_role role.ComparatorName r ≡ is → (is && not (is_comparator_name octets)) ≡ false → (is && not (is_comparator_name (plain_text (parts_in cutting r octets)))) ≡ false
+      by_role : (r : Option Role) (is : Bool) → has_role role.ComparatorName r ≡ is → (is && is_none (collation_named octets)) ≡ false → (is && is_none (option_and_then collation_named (literal_in_parts (parts_in cutting r octets)))) ≡ false
       by_role r false e fine = refl
       by_role None true e fine = absurd (not_both e)
-      by_role (Some one) true e fine = ap (λ x. not (is_comparator_name (plain_text (parts_in cutting (Some x) octets)))) (sym (one_role role.ComparatorName one e)) ∙ ap (λ v. not (is_comparator_name v)) (append-nil octets) ∙ fine
+      by_role (Some one) true e fine = ap (λ x. is_none (option_and_then collation_named (literal_in_parts (parts_in cutting (Some x) octets)))) (sym (one_role role.ComparatorName one e)) ∙ fine
 
-  text_names : (r : Option Role) (t : syntax.Text) → breaches_at (the_text context r t) ≡ [] → (has_role role.ComparatorName r && not (is_comparator_name (plain_text (parts_in cutting r t.octets)))) ≡ false
+  text_names : (r : Option Role) (t : syntax.Text) → breaches_at (the_text context r t) ≡ [] → (has_role role.ComparatorName r && is_none (option_and_then collation_named (literal_in_parts (parts_in cutting r t.octets)))) ≡ false
   text_names r t none = names_well r t.octets (keeps (the_text context r t) none UnknownComparator)
 
   text_is_variable : (r : Option Role) (octets : List ℕ) → (has_role role.NameToSet r && is_none (variable_in_parts (parts_in cutting r octets))) ≡ false
@@ -161,15 +161,6 @@ number_good tags r (strings items bracketed) keeps fit = absurd (no_number (nat_
 number_good tags r (number value line) keeps fit = some_value value keeps
 number_good tags r (tag name line) keeps fit = absurd (not_both fit)
 
-named : (p q : Bool) → (p || q) ≡ true → is_some (if p then Some Octet else if q then Some Casemap else None) ≡ true
-named true q is = refl
-named false true is = refl
-named false false is = absurd (not_both is)
-
-is_named : (c d : Bool) → c ≡ true → (c && not d) ≡ false → d ≡ true
-is_named true d is e = not_false d e
-is_named false d is e = absurd (not_both is)
-
 not_one : (n : ℕ) → nat_eq (suc (suc n)) 1 ≡ false
 not_one n = grind (arith, nat_tests)
 
@@ -184,18 +175,16 @@ text_good_alone tags r (strings (t ∷ s ∷ ts) bracketed) keeps fit = absurd (
 text_good_alone tags r (number value line) keeps fit = absurd (not_both fit)
 text_good_alone tags r (tag name line) keeps fit = absurd (not_both fit)
 
-pub collation_good : (tags : List Tag) (r : Option Role) (a : Argument) → has_role role.ComparatorName r ≡ true → Keeps r a → fits form.One (part_shape tags a) ≡ true → is_some (collation_by (Some a)) ≡ true
-collation_good tags r (strings [] bracketed) is keeps fit = absurd (no_list (nat_eq 0 1 && not bracketed) refl fit)
-collation_good tags r (strings (t ∷ []) bracketed) is keeps fit =
-    let value = plain_text t.parts in
-    named (pointwise nat_eq (codes "i;octet") value) (pointwise nat_eq (codes "i;ascii-casemap") value) (is_named (has_role role.ComparatorName r) (is_comparator_name value) is keeps.0)
-collation_good tags r (strings (t ∷ s ∷ ts) bracketed) is keeps fit = absurd (two_are_no_text (length ts) bracketed fit)
-collation_good tags r (number value line) is keeps fit = absurd (not_both fit)
-collation_good tags r (tag name line) is keeps fit = absurd (not_both fit)
-
 is_some_of : {X : Type 0} (c : Bool) (o : Option X) → c ≡ true → (c && is_none o) ≡ false → is_some o ≡ true
 is_some_of c None is e = absurd (never_both (sym (ap (λ b. b && true) is) ∙ e))
 is_some_of c (Some x) is e = refl
+
+pub collation_good : (tags : List Tag) (r : Option Role) (a : Argument) → has_role role.ComparatorName r ≡ true → Keeps r a → fits form.One (part_shape tags a) ≡ true → is_some (collation_by (Some a)) ≡ true
+collation_good tags r (strings [] bracketed) is keeps fit = absurd (no_list (nat_eq 0 1 && not bracketed) refl fit)
+collation_good tags r (strings (t ∷ []) bracketed) is keeps fit = is_some_of (has_role role.ComparatorName r) (option_and_then collation_named (literal_in_parts t.parts)) is keeps.0
+collation_good tags r (strings (t ∷ s ∷ ts) bracketed) is keeps fit = absurd (two_are_no_text (length ts) bracketed fit)
+collation_good tags r (number value line) is keeps fit = absurd (not_both fit)
+collation_good tags r (tag name line) is keeps fit = absurd (not_both fit)
 
 pub variable_good : (tags : List Tag) (r : Option Role) (a : Argument) → has_role role.NameToSet r ≡ true → Keeps r a → fits form.One (part_shape tags a) ≡ true → is_some (variable_in (Some a)) ≡ true
 variable_good tags r (strings [] bracketed) is keeps fit = absurd (no_list (nat_eq 0 1 && not bracketed) refl fit)

@@ -8,7 +8,8 @@ use Rattle.sieve_syntax.specs.view.Tree.{argument_of, node_of, test_of, tests_of
 use Rattle.sieve_syntax.specs.declared.tree.Argument as arguments
 use Rattle.sieve_syntax.specs.declared.tree.Command as commands
 use Rattle.sieve_syntax.specs.declared.tree.Test as one_tests
-use Rattle.sieve_check.specs.Breach.{Breach, all_rules, breach_if, breaches_at, breaches_by, breaches_in, command_breaks, test_breaks}
+use Rattle.sieve_check.specs.Breach.{Breach, breach_if, breaches_at, breaches_by, breaches_in, command_breaks, test_breaks}
+use Rattle.sieve_table.specs.Rule.{all_rules}
 use Rattle.sieve_check.specs.CheckFault.{IsFirst}
 use Rattle.sieve_check.specs.Scope.{Scope, naming_arguments}
 use Rattle.sieve_check.specs.Context.{Context, behind, behind_block, behind_kind, behind_nodes, inside, is_require, continues_if}

@@ -2,7 +2,8 @@
 use Rattle.std.proofs.Common.{◌≡◌, Bool, true, false, List, [], ◌∷◌, ◌++◌, Some, None, refl, ap, ◌∙◌, subst, slice_get}
 use Rattle.std.specs.List.{flat_map}
 use Rattle.sieve_syntax.specs.Tree.{Node}
-use Rattle.sieve_check.specs.Breach.{Breach, all_rules, breach_if, breaches_at, breaches_by, breaches_in, breaches_of, breaks, first_breach, line_of, IsLeast, IsLeastBreach}
+use Rattle.sieve_check.specs.Breach.{Breach, breach_if, breaches_at, breaches_by, breaches_in, breaches_of, breaks, first_breach, line_of, IsLeast, IsLeastBreach}
+use Rattle.sieve_table.specs.Rule.{all_rules}
 use Rattle.sieve_check.specs.Element.{Element, elements_of}
 use Rattle.sieve_table.specs.declared.rule.Rule.{Rule}
 

@@ -3,14 +3,14 @@ use Rattle.std.proofs.Common.{◌≡◌, ℕ, Bool, true, false, ◌&&◌, ◌||
 use Rattle.std.specs.Prelude.{if◌then◌else◌}
 use Rattle.sieve_check.specs.Context.{takes_references}
 use Rattle.sieve_check.specs.Parted.{Cutting, parts_in}
-use Rattle.sieve_reading.specs.Role.{names_variable}
+use Rattle.sieve_table.specs.Role.{names_variable}
 use Rattle.sieve_table.specs.declared.row.Role.{Role}
 use Rattle.sieve_table.specs.declared.row.Role.TheVariants.{NameToSet, NamesToRead}
 use Rattle.sieve_variables.specs.Part.{Part, grouped, literal, scoped_part, variable_part}
 use Rattle.sieve_variables.specs.Reference.{Cuts, Piece}
 use Rattle.sieve_variables.specs.Scan.{parts_of, pieces_of}
 use Rattle.sieve_variables.specs.Variable.{scoped, variable_named}
-use Rattle.sieve_check.proofs.Telling.{only_in_role}
+use Rattle.sieve_table.proofs.Telling.{only_in_role}
 use Rattle.sieve_variables.proofs.Cut.{cuts_from}
 
 first_false : (a b : Bool) → (a && b) ≡ false → b ≡ true → a ≡ false

@@ -3,10 +3,12 @@ use Rattle.std.proofs.Common.{◌≡◌, Bool, true, false, not, ◌&&◌, ◌||
 use Rattle.std.proofs.lemmas.Bool.{or_parts}
 use Rattle.std.specs.List.{list_any}
 use Rattle.std.specs.Prelude.{if◌then◌else◌, is_none}
-use Rattle.sieve_check.specs.Breach.{is_comparator_name}
+use Rattle.std.specs.Option.{option_and_then}
+use Rattle.match_text.specs.Comparator.{collation_named}
 use Rattle.sieve_reading.specs.Label.{Expected, expected_behind, fits, is_unfit, label_at, labels_from, no_slots, slot_label, slots_left, value_label, value_slots}
-use Rattle.sieve_reading.specs.Reading.{in_role, literal_in_parts, part_shape, plain_text, variable_in_parts}
-use Rattle.sieve_reading.specs.Role.{first_role, has_role, role_of, same_role}
+use Rattle.sieve_reading.specs.Reading.{in_role, literal_in_parts, part_shape, variable_in_parts}
+use Rattle.sieve_reading.specs.Role.{first_role, role_of}
+use Rattle.sieve_table.specs.Role.{has_role, same_role}
 use Rattle.sieve_table.specs.Table.{tag_row}
 use Rattle.sieve_reading.specs.Tree.{Text, Argument, strings, number, tag}
 use Rattle.sieve_reading.specs.declared.label.Label.{Label}
@@ -31,7 +33,7 @@ never_both e = cc
 -- script's name stand for themselves
 abbrev pub NamesWell : Option Role → List Text → Type 0
 NamesWell r [] = Unit {0}
-NamesWell r (t ∷ ts) = ((has_role role.ComparatorName r && not (is_comparator_name (plain_text t.parts))) ≡ false) × ((has_role role.NameToSet r && is_none (variable_in_parts t.parts)) ≡ false) × ((has_role role.ScriptName r && is_none (literal_in_parts t.parts)) ≡ false) × NamesWell r ts
+NamesWell r (t ∷ ts) = ((has_role role.ComparatorName r && is_none (option_and_then collation_named (literal_in_parts t.parts))) ≡ false) × ((has_role role.NameToSet r && is_none (variable_in_parts t.parts)) ≡ false) × ((has_role role.ScriptName r && is_none (literal_in_parts t.parts)) ≡ false) × NamesWell r ts
 
 -- and a number has a value
 abbrev pub Keeps : Option Role → Argument → Type 0

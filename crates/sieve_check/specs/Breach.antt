@@ -10,7 +10,9 @@ use Rattle.sieve_variables.specs.Scan.{has_reference, has_namespace, has_foreign
 use Rattle.sieve_table.specs.Capability.{is_capability}
 use Rattle.sieve_check.specs.Context.{Context, Required, takes_references, is_require, continues_if}
 use Rattle.sieve_check.specs.Element.{Element, the_command, the_test, the_text, the_number, elements_of}
-use Rattle.sieve_reading.specs.Role.{has_role, names_variable}
+use Rattle.match_text.specs.Comparator.{collation_named}
+use Rattle.sieve_table.specs.Role.{has_role, names_variable}
+use Rattle.sieve_table.specs.Rule.{all_rules}
 use Rattle.sieve_check.specs.Scope.{Scope, is_assigned, is_new_local}
 use Rattle.sieve_reading.specs.Shape.{row_labels, shapes_of}
 use Rattle.sieve_table.specs.Table.{Row, command_named, test_named, command_row, test_row}
@@ -26,10 +28,6 @@ use Rattle.sieve_table.specs.declared.table.TestKind.{TestKind}
 pub record Breach : Type 0 where
   pub line : ℕ
   pub rule : Rule
-
--- the rules in the order of their numbers
-abbrev pub all_rules : List Rule
-all_rules = RequirePlace ∷ UnknownCapability ∷ UnknownCommand ∷ NotRequired ∷ ElsePlace ∷ BadTag ∷ BadArguments ∷ UnknownComparator ∷ BadVariableName ∷ GlobalAfterSet ∷ BadNamespace ∷ MatchIndex ∷ NumberTooLarge ∷ BadEnvelopePart ∷ NotAddressHeader ∷ TooManyVariables ∷ []
 
 -- WHAT BREAKS WHICH RULE
 
@@ -53,10 +51,6 @@ abbrev pub test_breaks : Context → Option TestKind → List Argument → Tests
 test_breaks context None args ts UnknownCommand = true
 test_breaks context None args ts rule = false
 test_breaks context (Some kind) args ts rule = row_breaks context.required (test_row kind) args ts false rule
-
--- the comparators that there are, octet for octet (RFC 4790, section 9)
-abbrev pub is_comparator_name : List ℕ → Bool
-is_comparator_name name = pointwise nat_eq (codes "i;octet") name || pointwise nat_eq (codes "i;ascii-casemap") name
 
 -- one that has no reference in it is known before the script runs
 abbrev pub is_known : Required → Option Role → List ℕ → Bool
@@ -89,7 +83,7 @@ is_past_locals octets scope = is_new_local octets scope && not (nat_lt (length s
 -- 6609, section 3.4.1), or one with references to variables (RFC 5229, sections 3 and 6)
 abbrev pub text_breaks : Context → Option Role → List ℕ → Rule → Bool
 text_breaks context role octets UnknownCapability = has_role Capabilities role && (context.leads && not (is_capability octets))
-text_breaks context role octets UnknownComparator = has_role ComparatorName role && not (is_comparator_name octets)
+text_breaks context role octets UnknownComparator = has_role ComparatorName role && is_none (collation_named octets)
 text_breaks context role octets BadVariableName = (names_variable role && is_bad_name octets) || is_no_declaration role octets
 text_breaks context role octets GlobalAfterSet = has_role NamesToDeclare role && is_assigned octets context.scope
 text_breaks context role octets BadNamespace = names_namespace context.required role octets

@@ -4,7 +4,8 @@
 use Rattle.std.specs.Prelude.{ℕ, List, [], ◌∷◌, Option, Some, None, map, drop, if◌then◌else◌}
 use Rattle.sieve_syntax.specs.Tree as syntax
 use Rattle.sieve_check.specs.Context.{Required, nothing_required, required_from, takes_references}
-use Rattle.sieve_reading.specs.Role.{first_role, names_variable}
+use Rattle.sieve_reading.specs.Role.{first_role}
+use Rattle.sieve_table.specs.Role.{names_variable}
 use Rattle.sieve_check.specs.Scope.{declaring_arguments}
 use Rattle.sieve_reading.specs.Shape.{row_labels}
 use Rattle.sieve_table.specs.Table.{command_named, test_named, command_row, test_row}

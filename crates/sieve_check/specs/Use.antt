@@ -1,10 +1,10 @@
 -- Whether a command or a test is used as its row says (RFC 5228, sections 2.5, 2.6, 2.8 and 2.9).
-use Rattle.std.specs.Prelude.{ℕ, Bool, true, false, not, ◌||◌, ◌&&◌, List, [], ◌∷◌, Option, Some, None, is_some, nat_eq, if◌then◌else◌}
+use Rattle.std.specs.Prelude.{Bool, true, false, not, ◌||◌, ◌&&◌, List, [], ◌∷◌, Option, Some, None, is_some, if◌then◌else◌}
 use Rattle.std.specs.List.{list_any}
 use Rattle.sieve_syntax.specs.Tree.{Tests, no_tests, one_test, test_list, Block, no_block, block}
 use Rattle.sieve_check.specs.Context.{Required, is_required}
 use Rattle.sieve_reading.specs.Label.{labels_of, is_filled}
-use Rattle.sieve_table.specs.Table.{Row, tag_row}
+use Rattle.sieve_table.specs.Table.{Row, same_kind, tag_row}
 use Rattle.sieve_reading.specs.declared.label.Label.{Label}
 use Rattle.sieve_reading.specs.declared.label.Label.TheVariants.{Tagged, OtherTag, Own, InSlot, Unfit}
 use Rattle.sieve_reading.specs.declared.label.Shape.{Shape}
@@ -12,7 +12,6 @@ use Rattle.sieve_table.specs.declared.capability.Capability.{Capability}
 use Rattle.sieve_table.specs.declared.row.Inner.{Inner}
 use Rattle.sieve_table.specs.declared.row.Inner.TheVariants as inner
 use Rattle.sieve_table.specs.declared.row.TagKind.{TagKind}
-use Rattle.sieve_table.specs.declared.row.TagKind.TheVariants as kind
 
 -- WHAT IS NEEDED
 
@@ -63,28 +62,6 @@ is_positional Unfit = true
 abbrev pub has_late_tag : List Label → Bool
 has_late_tag [] = false
 has_late_tag (label ∷ labels) = if is_positional label then list_any is_tag labels else has_late_tag labels
-
--- the kinds, each told by a number
-abbrev pub kind_number : TagKind → ℕ
-kind_number kind.Comparator = 0
-kind_number kind.MatchType = 1
-kind_number kind.AddressPart = 2
-kind_number kind.Bound = 3
-kind_number kind.Flags = 4
-kind_number kind.Location = 5
-kind_number kind.Once = 6
-kind_number kind.Optional = 7
-kind_number kind.Case = 8
-kind_number kind.FirstLetter = 9
-kind_number kind.QuoteWildcard = 10
-kind_number kind.Length = 11
-
--- the kinds in the order of their numbers
-abbrev pub all_kinds : List TagKind
-all_kinds = kind.Comparator ∷ kind.MatchType ∷ kind.AddressPart ∷ kind.Bound ∷ kind.Flags ∷ kind.Location ∷ kind.Once ∷ kind.Optional ∷ kind.Case ∷ kind.FirstLetter ∷ kind.QuoteWildcard ∷ kind.Length ∷ []
-
-abbrev pub same_kind : TagKind → TagKind → Bool
-same_kind a b = nat_eq (kind_number a) (kind_number b)
 
 -- a tag of that kind
 abbrev pub is_of_kind : TagKind → Label → Bool

@@ -2,10 +2,10 @@
 //! and numbers that are too large.
 ghost use Rattle.std.specs.Prelude.{◌≡◌, false, find, map, IfOk};
 ghost use Rattle.sieve_syntax.specs.view.Tree.{argument_of, tests_of, text_of};
-ghost use Rattle.sieve_check.specs.Breach.{breaches_at, has_unknown_namespace, is_bad_name, is_comparator_name, is_known, is_no_declaration, names_namespace, text_breaks};
+ghost use Rattle.sieve_check.specs.Breach.{breaches_at, has_unknown_namespace, is_bad_name, is_known, is_no_declaration, names_namespace, text_breaks};
 ghost use Rattle.sieve_check.specs.Context.{takes_references};
 ghost use Rattle.sieve_check.specs.Element.{argument_elements, labelled_elements, text_elements, the_number, the_text};
-ghost use Rattle.sieve_reading.specs.Role.{has_role, names_variable};
+ghost use Rattle.sieve_table.specs.Role.{has_role, names_variable};
 ghost use Rattle.sieve_reading.specs.Shape.{row_labels};
 ghost use Rattle.sieve_check.specs.view.Context.{context_as, required_as};
 ghost use Rattle.sieve_check.specs.view.Finds.{Finds, FindsIn};
@@ -16,21 +16,18 @@ ghost use Rattle.sieve_variables.specs.Name.{is_global_name, is_identifier};
 ghost use Rattle.sieve_variables.specs.Scan.{has_far_index, has_foreign_namespace, has_namespace, has_reference};
 
 use crate::context::{Context, Required, takes_references};
-use crate::role::{behind_first, first_role, names_variable};
+use crate::role::{behind_first, first_role};
 use crate::usage::{has_bad_arguments, has_bad_tag, lacks_required};
 use crate::validator::CheckFault;
-use sieve_reading::{Label, has_role, row_labels};
+use match_text::collation_named;
+use sieve_reading::{Label, row_labels};
 use sieve_syntax::{Argument, Tests, Text};
-use sieve_table::{Capability, Role, Row, Rule, is_address_field, is_capability, is_envelope_part};
+use sieve_table::{
+    Capability, Role, Row, Rule, has_role, is_address_field, is_capability, is_envelope_part,
+    names_variable,
+};
 use sieve_variables::{is_global_name, is_identifier, references_in};
 use std::alloc::{AllocError, Global};
-
-/// Whether there is such a comparator (RFC 4790).
-fn is_comparator_name(name: &[u8]) -> bool
-    ensures { result ≡ is_comparator_name name.now }
-{
-    b"i;octet".as_slice() == name || b"i;ascii-casemap".as_slice() == name
-}
 
 /// Whether a string is known before the script runs: no reference in it stands for a value.
 fn is_known(required: Required, role: Option<Role>, octets: &[u8]) -> bool
@@ -90,7 +87,7 @@ fn text_breaks(
             has_role(Role::Capabilities, role) && (context.spot.leads && !is_capability(octets))
         }
         Rule::UnknownComparator => {
-            has_role(Role::ComparatorName, role) && !is_comparator_name(octets)
+            has_role(Role::ComparatorName, role) && collation_named(octets).is_none()
         }
         Rule::BadVariableName => {
             (names_variable(role) && is_bad_name(octets)) || is_no_declaration(role, octets)

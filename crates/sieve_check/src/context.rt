@@ -9,7 +9,6 @@ ghost use Rattle.sieve_check.specs.view.Context.{at_spot, required_as};
 ghost use Rattle.sieve_check.specs.view.Scope.{ScopeState};
 ghost use Rattle.sieve_table.specs.Table.{command_row};
 
-use crate::role::is_expanded;
 use crate::scope::Scope;
 use sieve_syntax::{Argument, Command, Text};
 use sieve_table::{Capability, CommandKind, Role, command_named, is_name_of};

@@ -17,7 +17,6 @@ ghost use Rattle.sieve_variables.specs.Variable.{scoped, variable_named};
 ghost use Rattle.sieve_variables.specs.view.Part.{part_of};
 
 use crate::context::{Required, required_in, takes_references};
-use crate::role::names_variable;
 use crate::scope::declare_argument;
 use sieve_reading::{Argument, Command, Shaped, Test, Tests, Text, role_of, row_expected};
 use sieve_table::{Role, Row, command_named, test_named};

@@ -7,19 +7,18 @@ ghost use Rattle.sieve_syntax.specs.Token.{Spells};
 ghost use Rattle.sieve_syntax.specs.Tree.{Node, Nodes};
 ghost use Rattle.sieve_syntax.specs.Word.{words_of};
 ghost use Rattle.sieve_syntax.specs.declared.token.Token.{Token};
-ghost use Rattle.sieve_check.specs.Breach.{Breach, all_rules, breaches_at, breaches_of, breaks, first_breach, IsLeastBreach};
+ghost use Rattle.sieve_check.specs.Breach.{Breach, breaches_at, breaches_of, breaks, first_breach, IsLeastBreach};
 ghost use Rattle.sieve_check.specs.Context.{Context, Required, behind_nodes, is_required, requiring, takes_references};
 ghost use Rattle.sieve_check.specs.Element.{elements_of};
 ghost use Rattle.sieve_check.specs.Order.{IsInTextOrder};
 ghost use Rattle.sieve_check.specs.Parted.{Cutting, declared_behind_nodes, parted, parts_in};
 ghost use Rattle.sieve_check.specs.Readable.{IsReadable, DoesAll};
-ghost use Rattle.sieve_reading.specs.Reading.{all_tags, tag_number};
-ghost use Rattle.sieve_reading.specs.Role.{all_roles, names_variable, role_number};
+ghost use Rattle.sieve_table.specs.view.Number.{all_roles, role_number, all_tags, tag_number, all_kinds, kind_number};
+ghost use Rattle.sieve_table.specs.Role.{names_variable};
 ghost use Rattle.sieve_table.specs.Capability.{is_name_of};
-ghost use Rattle.sieve_table.specs.Rule.{rule_number};
+ghost use Rattle.sieve_table.specs.Rule.{rule_number, all_rules};
 ghost use Rattle.sieve_table.specs.Table.{command_named, command_row, test_named, test_row};
 ghost use Rattle.sieve_reading.specs.Tree as checked;
-ghost use Rattle.sieve_check.specs.Use.{all_kinds, kind_number};
 ghost use Rattle.sieve_table.specs.declared.capability.Capability.{Capability};
 ghost use Rattle.sieve_table.specs.declared.row.Role.{Role};
 ghost use Rattle.sieve_table.specs.declared.row.TagKind.{TagKind};
@@ -37,21 +36,6 @@ ghost use Rattle.sieve_variables.specs.Variable.{scoped, variable_named};
 pub fn first_breach_is_least()
     ensures order { (tree : List Node) → breaches_of tree ≡ flat_map breaches_at (elements_of tree) }
     ensures least { (tree : List Node) (breach : Breach) → first_breach tree ≡ Some breach → IsLeastBreach tree breach }
-{}
-
-/// The rules are tried in the order of their numbers: the rule of number n is the n-th of them, and there is no other.
-#[tactic(auto, using(crate::proofs::Numbers::rule_at))]
-pub fn rules_go_by_their_numbers()
-    ensures order { (rule : Rule) → slice_get all_rules (rule_number rule - 1) ≡ Some rule }
-    ensures all { length all_rules ≡ 16 }
-{}
-
-/// Roles, tags and kinds of tags have numbers of their own, by which the definitions tell them apart.
-#[tactic(auto, using(crate::proofs::Numbers::numbered))]
-pub fn numbers_tell_roles_tags_and_kinds()
-    ensures roles { (role : Role) → slice_get all_roles (role_number role) ≡ Some role }
-    ensures tags { (tag : Tag) → slice_get all_tags (tag_number tag) ≡ Some tag }
-    ensures kinds { (kind : TagKind) → slice_get all_kinds (kind_number kind) ≡ Some kind }
 {}
 
 /// Behind a string that a `require` names, what was required is, and what the string names.

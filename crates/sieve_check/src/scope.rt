@@ -9,7 +9,7 @@ ghost use Rattle.sieve_check.specs.Scope.{assigning, assigning_argument, assigni
 use crate::role::{behind_first, first_role};
 use sieve_base::Octets;
 use sieve_base::limits::MAX_LOCALS;
-use sieve_reading::{Label, has_role};
+use sieve_reading::Label;
 use sieve_syntax::{Argument, Text};
 use sieve_table::Role;
 use sieve_variables::{Names, folded, is_identifier};

@@ -4,14 +4,14 @@ ghost use Rattle.std.specs.List.{list_any};
 ghost use Rattle.sieve_syntax.specs.view.Tree.{argument_of, tests_of};
 ghost use Rattle.sieve_reading.specs.Label.{is_filled};
 ghost use Rattle.sieve_reading.specs.Shape.{shapes_of};
-ghost use Rattle.sieve_check.specs.Use.{are_bad, awaits, begins_own, has_bad_tag, has_late_tag, has_repeated, is_of_kind, is_other_tag, is_positional, is_repeated, is_tag, is_lacking, lacks_kind, lacks_needed, lacks_own, lacks_required, needed_by, same_kind, tests_fit};
+ghost use Rattle.sieve_check.specs.Use.{are_bad, awaits, begins_own, has_bad_tag, has_late_tag, has_repeated, is_of_kind, is_other_tag, is_positional, is_repeated, is_tag, is_lacking, lacks_kind, lacks_needed, lacks_own, lacks_required, needed_by, tests_fit};
 ghost use Rattle.sieve_check.specs.view.Context.{required_as};
 ghost use Rattle.sieve_table.specs.view.Row.{row_as};
 
 use crate::context::Required;
 use sieve_reading::{Label, row_is_filled};
 use sieve_syntax::{Argument, Tests};
-use sieve_table::{Capability, Inner, Row, TagKind};
+use sieve_table::{Capability, Inner, Row, TagKind, same_kind};
 
 /// Whether a capability has to be required and isn't.
 fn is_lacking(required: Required, capability: Capability) -> bool
@@ -122,13 +122,6 @@ fn has_late_tag(labels: &[Label]) -> bool
         left = rest;
     }
     false
-}
-
-/// Whether two kinds of tags are one.
-fn same_kind(a: TagKind, b: TagKind) -> bool
-    ensures { result ≡ same_kind a b }
-{
-    a as u8 == b as u8
 }
 
 /// Whether it is a tag of that kind.

@@ -3,9 +3,9 @@ use Rattle.std.specs.Prelude.{ℕ, Bool, true, false, List, [], ◌∷◌, ◌++
 use Rattle.std.specs.List.{flat_map}
 use Rattle.match_text.specs.declared.comparators.Collation.{Collation}
 use Rattle.match_text.specs.declared.comparators.Collation.TheVariants.{Octet, Casemap}
+use Rattle.sieve_base.specs.Name.{place_word}
 use Rattle.sieve_base.specs.Writers.{quoted}
 use Rattle.sieve_base.specs.declared.place.Place.{Place}
-use Rattle.sieve_base.specs.declared.place.Place.TheVariants.{Personal, Global}
 use Rattle.message_text.specs.declared.addressing.AddressPart.{AddressPart}
 use Rattle.message_text.specs.declared.addressing.AddressPart.TheVariants as address_part
 use Rattle.sieve_reading.specs.Reading.{header_values, address_values, envelope_values, string_values, flag_values, Ask, compares, exists_ask, over_ask, under_ask, Leaf, keep_leaf, fileinto_leaf, redirect_leaf, discard_leaf, set_leaf, flag_leaf, include_leaf}
@@ -146,11 +146,6 @@ change_word change.Remove = codes "removeflag"
 unfoldable pub changing_words : FlagChange → Option Variable → List ℕ
 changing_words how None = change_word how ++ codes " internal "
 changing_words how (Some variable) = change_word how ++ codes " " ++ scope_word variable ++ name_of variable ++ codes ") "
-
--- a place of scripts
-abbrev pub place_word : Place → List ℕ
-place_word Personal = codes "personal"
-place_word Global = codes "global"
 
 -- what is included
 unfoldable pub include_words : Place → (once optional : Bool) → List ℕ → List ℕ

@@ -3,7 +3,8 @@ ghost use Rattle.std.specs.Prelude.{◌≡◌, ◌++◌, codes, decimal, map, On
 ghost use Rattle.std.specs.List.{flat_map};
 ghost use Rattle.std.specs.Option.{option_map};
 ghost use Rattle.sieve_base.specs.Writers.{Wrote, WroteFront};
-ghost use Rattle.sieve_code.specs.Dump.{address_part_word, address_words, case_word, change_word, changing_words, collation_word, comparing_words, first_word, flag_lists, further_list, given_word, include_words, internal_list, line_text, list_text, match_word, modifier_words, name_of, operation_text, part_text, place_word, scope_word, separated, set_words, stored_flags, string_text, two_lists, worded_flags, worded_text, worded_variable};
+ghost use Rattle.sieve_code.specs.Dump.{address_part_word, address_words, case_word, change_word, changing_words, collation_word, comparing_words, first_word, flag_lists, further_list, given_word, include_words, internal_list, line_text, list_text, match_word, modifier_words, name_of, operation_text, part_text, scope_word, separated, set_words, stored_flags, string_text, two_lists, worded_flags, worded_text, worded_variable};
+ghost use Rattle.sieve_base.specs.Name.{place_word};
 ghost use Rattle.sieve_code.specs.view.Marked.{marked_part, marked_string};
 ghost use Rattle.sieve_code.specs.view.Op.{given_strings, op_as};
 ghost use Rattle.sieve_variables.specs.view.Part.{part_of, strings_of, variable_of};
@@ -533,16 +534,6 @@ fn write_flags<W: Sink>(
     write_number(b" @", line, writer)
 }
 
-/// The word of a place of scripts.
-pub fn place_word(place: Place) -> &'static [u8]
-    ensures { result.now ≡ place_word place }
-{
-    match place {
-        Place::Personal => b"personal",
-        Place::Global => b"global",
-    }
-}
-
 /// Writes what is included.
 #[tactic(auto, unfolding(crate::specs::Dump::include_words))]
 fn write_include_words<W: Sink>(
@@ -558,7 +549,7 @@ fn write_include_words<W: Sink>(
     write_pieces(
         &[
             Piece::Raw(b"include "),
-            Piece::Raw(place_word(place)),
+            Piece::Raw(place.word()),
             Piece::Raw(given_word(once, b" once")),
             Piece::Raw(given_word(optional, b" optional")),
             Piece::Raw(b" "),

@@ -14,6 +14,5 @@ mod test_code;
 
 pub use code::Code;
 pub use compiler::compile;
-pub use dump::place_word;
 pub use op::Op;
 pub use sieve_base::{Counted, Faults, Place, Sink, Source, WriteFault, write_out, write_quoted};

@@ -1,2 +1,1 @@
 mod Fusing
-mod Readings

@@ -2,18 +2,19 @@
 -- by the labels of their arguments, as the rules and the parts of strings are. What no row allows isn't read as anything.
 use Rattle.std.specs.Prelude.{ℕ, Bool, true, false, List, [], ◌∷◌, Option, Some, None, map, drop, length, nat_eq, if◌then◌else◌, codes}
 use Rattle.std.specs.List.{list_any, flat_map}
-use Rattle.std.specs.Option.{option_map}
-use lib.Pointwise.{pointwise}
+use Rattle.std.specs.Option.{option_and_then, option_map}
+use Rattle.match_text.specs.Comparator.{collation_named}
 use Rattle.match_text.specs.declared.comparators.Collation.{Collation}
-use Rattle.match_text.specs.declared.comparators.Collation.TheVariants.{Octet, Casemap}
+use Rattle.match_text.specs.declared.comparators.Collation.TheVariants.{Casemap}
 use Rattle.message_text.specs.declared.addressing.AddressPart.{AddressPart}
 use Rattle.message_text.specs.declared.addressing.AddressPart.TheVariants as part
 use Rattle.sieve_base.specs.declared.place.Place.{Place}
 use Rattle.sieve_base.specs.declared.place.Place.TheVariants.{Personal, Global}
 use Rattle.sieve_reading.specs.Label.{labels_of}
-use Rattle.sieve_reading.specs.Role.{has_role, first_role}
+use Rattle.sieve_reading.specs.Role.{first_role}
 use Rattle.sieve_reading.specs.Shape.{texts_shape}
-use Rattle.sieve_table.specs.Table.{Row, command_named, test_named, tag_named, test_row, command_row}
+use Rattle.sieve_table.specs.Role.{has_role}
+use Rattle.sieve_table.specs.Table.{Row, same_tag, command_named, test_named, tag_named, test_row, command_row}
 use Rattle.sieve_reading.specs.Tree.{Argument, strings, number, tag, Test, test, Node, node}
 use Rattle.sieve_reading.specs.declared.label.Label.{Label}
 use Rattle.sieve_reading.specs.declared.label.Label.TheVariants.{Tagged, OtherTag, Own, InSlot, Unfit}
@@ -148,35 +149,9 @@ number_in (Some (strings items bracketed)) = None
 number_in (Some (number value line)) = value
 number_in (Some (tag name line)) = None
 
--- the tags, each told by a number
-abbrev pub tag_number : Tag → ℕ
-tag_number tag.Comparator = 0
-tag_number tag.Is = 1
-tag_number tag.Contains = 2
-tag_number tag.Matches = 3
-tag_number tag.All = 4
-tag_number tag.LocalPart = 5
-tag_number tag.Domain = 6
-tag_number tag.Over = 7
-tag_number tag.Under = 8
-tag_number tag.Lower = 9
-tag_number tag.Upper = 10
-tag_number tag.LowerFirst = 11
-tag_number tag.UpperFirst = 12
-tag_number tag.QuoteWildcard = 13
-tag_number tag.Length = 14
-tag_number tag.Flags = 15
-tag_number tag.Personal = 16
-tag_number tag.Global = 17
-tag_number tag.Once = 18
-tag_number tag.Optional = 19
-
--- the tags in the order of their numbers
-abbrev pub all_tags : List Tag
-all_tags = tag.Comparator ∷ tag.Is ∷ tag.Contains ∷ tag.Matches ∷ tag.All ∷ tag.LocalPart ∷ tag.Domain ∷ tag.Over ∷ tag.Under ∷ tag.Lower ∷ tag.Upper ∷ tag.LowerFirst ∷ tag.UpperFirst ∷ tag.QuoteWildcard ∷ tag.Length ∷ tag.Flags ∷ tag.Personal ∷ tag.Global ∷ tag.Once ∷ tag.Optional ∷ []
-
+-- a tag that is taken
 abbrev pub is_tagged : Tag → Label → Bool
-is_tagged wanted (Tagged taken) = nat_eq (tag_number wanted) (tag_number taken)
+is_tagged wanted (Tagged taken) = same_tag wanted taken
 is_tagged wanted OtherTag = false
 is_tagged wanted (Own slot) = false
 is_tagged wanted (InSlot slot) = false
@@ -185,29 +160,12 @@ is_tagged wanted Unfit = false
 abbrev pub has_tag : Tag → List Label → Bool
 has_tag wanted labels = list_any (is_tagged wanted) labels
 
--- the octets of a part that stand for themselves, and those of a string
-abbrev pub plain_part : Part → List ℕ
-plain_part (literal octets) = octets
-plain_part (variable_part variable) = []
-plain_part (match_part index) = []
-
-abbrev pub plain_text : List Part → List ℕ
-plain_text parts = flat_map plain_part parts
-
 -- TESTS
-
--- the comparator of that name, octet for octet (RFC 4790, section 9)
-abbrev pub collation_named : List ℕ → Option Collation
-collation_named name = if pointwise nat_eq (codes "i;octet") name then Some Octet else if pointwise nat_eq (codes "i;ascii-casemap") name then Some Casemap else None
 
 -- the comparator, which is `i;ascii-casemap` where none is named (RFC 5228, section 2.7.3)
 abbrev pub collation_by : Option Argument → Option Collation
 collation_by None = Some Casemap
-collation_by (Some (strings [] bracketed)) = None
-collation_by (Some (strings (t ∷ []) bracketed)) = collation_named (plain_text t.parts)
-collation_by (Some (strings (t ∷ s ∷ ts) bracketed)) = None
-collation_by (Some (number value line)) = None
-collation_by (Some (tag name line)) = None
+collation_by (Some a) = option_and_then collation_named (literal_in (Some a))
 
 -- the match type, which is `:is` where none is given (RFC 5228, section 2.7.1)
 abbrev pub match_type_of : List Label → MatchType

@@ -1,17 +1,17 @@
 //! The arguments of a checked tree by their labels. None of it takes memory.
-ghost use Rattle.std.specs.Prelude.{◌≡◌, ◌↔◌, IsTrue, map, nat_eq};
+ghost use Rattle.std.specs.Prelude.{◌≡◌, map};
 ghost use Rattle.std.specs.Option.{option_map};
 ghost use Rattle.sieve_reading.specs.Label.{expecting, slots_of};
-ghost use Rattle.sieve_reading.specs.Reading.{has_tag, in_role, is_tagged, labels_in, part_shape, tag_number};
+ghost use Rattle.sieve_reading.specs.Reading.{has_tag, in_role, is_tagged, labels_in, part_shape};
 ghost use Rattle.sieve_reading.specs.view.Expected.{expected_as};
 ghost use Rattle.sieve_table.specs.view.Row.{row_as};
 ghost use Rattle.sieve_reading.specs.view.Tree.{argument_of};
 
 use crate::label::{Expected, Label, Shape, Shaped, expected_of};
-use crate::role::{has_role, role_of};
+use crate::role::role_of;
 use crate::shape::texts_shape;
 use crate::tree::Argument;
-use sieve_table::{Role, Row, Tag, tag_named};
+use sieve_table::{Role, Row, Tag, has_role, same_tag, tag_named};
 
 impl Shaped for Argument {
     ghost shape_in = { λ tags a. part_shape tags (argument_of a) };
@@ -46,14 +46,6 @@ pub(crate) fn argument_in<'a>(row: &Row, wanted: Role, args: &'a [Argument]) -> 
         expected = expected.behind(shape);
     }
     None
-}
-
-/// Whether two tags are one.
-fn same_tag(a: Tag, b: Tag) -> bool
-    ensures same { result ≡ nat_eq (tag_number a) (tag_number b) }
-    ensures exact { IsTrue result ↔ (a ≡ b) }
-{
-    a as u8 == b as u8
 }
 
 /// Whether it is this tag.

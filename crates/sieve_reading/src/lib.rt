@@ -11,7 +11,7 @@ mod tree;
 
 pub use label::{Expected, Label, Shape, Shaped};
 pub use reading::{Ask, CommandReading, FlagChange, Leaf, MatchType, Source, TestReading};
-pub use role::{has_role, role_of};
+pub use role::role_of;
 pub use shape::{row_expected, row_is_filled, row_labels};
 pub use sieve_base::Place;
 pub use sieve_table::{CommandKind, TestKind};

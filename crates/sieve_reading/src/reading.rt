@@ -3,7 +3,8 @@ ghost use Rattle.std.specs.Prelude.{◌≡◌, true, false, length, drop, Some, 
 ghost use Rattle.std.specs.Option.{option_map};
 ghost use Rattle.std.specs.List.{flat_map, starts_with};
 ghost use lib.Pointwise.{pointwise};
-ghost use Rattle.sieve_reading.specs.Reading.{acts, address_part_of, address_source, case_of, collation_by, collation_named, command_reading, command_reading_by, compares_by, envelope_source, exists_by, fileinto_by, flag_source, flags_by, given_texts, given_variable, has_tag, header_source, include_by, keep_by, kind_of, labels_in, literal_in, literal_in_parts, match_type_of, modifiers_of, number_in, place_of, plain_part, plain_text, reads_ask, redirect_by, set_by, size_by, string_source, test_reading, test_reading_by, text_in, texts_in, variable_in, variable_in_parts};
+ghost use Rattle.sieve_reading.specs.Reading.{acts, address_part_of, address_source, case_of, collation_by, command_reading, command_reading_by, compares_by, envelope_source, exists_by, fileinto_by, flag_source, flags_by, given_texts, given_variable, has_tag, header_source, include_by, keep_by, kind_of, labels_in, literal_in, literal_in_parts, match_type_of, modifiers_of, number_in, place_of, plain_part, plain_text, reads_ask, redirect_by, set_by, size_by, string_source, test_reading, test_reading_by, text_in, texts_in, variable_in, variable_in_parts};
+ghost use Rattle.match_text.specs.Comparator.{collation_named};
 ghost use Rattle.sieve_reading.specs.view.Reading.{ask_as, command_reading_as, source_as, test_reading_as, texts_as};
 ghost use Rattle.sieve_table.specs.view.Row.{row_as};
 ghost use Rattle.sieve_reading.specs.view.Tree.{argument_of, node_of, test_of, text_of};
@@ -11,7 +12,7 @@ ghost use Rattle.sieve_variables.specs.view.Part.{part_of, variable_of};
 
 use crate::labelled::{argument_in, has_tag};
 use crate::tree::{Argument, Command, Test, Text};
-use match_text::Collation;
+use match_text::{Collation, collation_named};
 use message_text::AddressPart;
 use sieve_base::Place;
 use sieve_table::{CommandKind, Role, Row, Tag, TestKind, command_named, test_named};
@@ -302,17 +303,6 @@ fn number_in(argument: Option<&Argument>) -> Option<u64>
     }
 }
 
-/// The octets of a part that stand for themselves.
-fn plain_part(part: &Part) -> &[u8]
-    ensures { result.now ≡ plain_part (part_of part.now) }
-{
-    match part {
-        Part::Literal(octets) => octets.as_slice(),
-        Part::Variable(_) => b"",
-        Part::Match(_) => b"",
-    }
-}
-
 /// The match type of a test, which is `:is` where no other is given.
 fn match_type_of(row: &Row, args: &[Argument]) -> MatchType
     ensures { result ≡ match_type_of (labels_in (row_as row.now) (map argument_of args.now)) }
@@ -326,57 +316,13 @@ fn match_type_of(row: &Row, args: &[Argument]) -> MatchType
     }
 }
 
-/// The octets behind a front, where they begin with it.
-fn behind<'a>(octets: &'a [u8], front: &[u8]) -> Option<&'a [u8]>
-    ensures { MatchOption result
-        (starts_with nat_eq octets.now front.now ≡ false)
-        (λ rest. (starts_with nat_eq octets.now front.now ≡ true) × (rest.now ≡ drop (length front.now) octets.now)) }
-{
-    if octets.starts_with(front) {
-        Some(&octets[front.len()..])
-    } else {
-        None
-    }
-}
-
-/// Whether parts are these octets.
-fn is_literally(octets: &[u8], parts: &[Part]) -> bool
-    ensures { result ≡ pointwise nat_eq octets.now (flat_map plain_part (map part_of parts.now)) }
-{
-    match parts {
-        [] => octets.is_empty(),
-        [part, rest @ ..] => match behind(octets, plain_part(part)) {
-            Some(left) => is_literally(left, rest),
-            None => false,
-        },
-    }
-}
-
-/// The comparator that a string names.
-fn collation_named(text: &Text) -> Option<Collation>
-    ensures { result ≡ collation_named (plain_text (text_of text.now).parts) }
-{
-    if is_literally(b"i;octet", &text.parts) {
-        Some(Collation::Octet)
-    } else if is_literally(b"i;ascii-casemap", &text.parts) {
-        Some(Collation::Casemap)
-    } else {
-        None
-    }
-}
-
 /// The comparator of a test, which is `i;ascii-casemap` where none is named.
 fn collation_by(argument: Option<&Argument>) -> Option<Collation>
     ensures { result ≡ collation_by (option_map (λ a. argument_of a.now) argument.entry) }
 {
     match argument {
+        Some(argument) => collation_named(literal_in(Some(argument))?),
         None => Some(Collation::Casemap),
-        Some(Argument::Strings { items, .. }) => match items.as_slice() {
-            [text] => collation_named(text),
-            _ => None,
-        },
-        Some(Argument::Number { .. }) => None,
-        Some(Argument::Tag { .. }) => None,
     }
 }
 

@@ -5,14 +5,14 @@ use Rattle.std.proofs.lemmas.List.{length_push}
 use Rattle.std.specs.Prelude.{if◌then◌else◌}
 use Rattle.sieve_base.specs.Limits.{include_depth}
 use Rattle.sieve_reading.specs.Tree.{Node}
-use Rattle.sieve_delivery.specs.Delivery.{Delivery, inside}
+use Rattle.sieve_effects.specs.Delivery.{Delivery, inside}
 use Rattle.sieve_run.specs.Depth.{IsDeepest, depth_left, entered_within}
 use Rattle.sieve_run.specs.Library.{Lookup}
-use Rattle.sieve_action.specs.Act.{Ending, goes_on, state_behind}
+use Rattle.sieve_effects.specs.Act.{Ending, goes_on, state_behind}
 use Rattle.sieve_run.specs.Run.{begun, delivery_to, include_of, included, is_running, is_script, run_of, running}
-use Rattle.sieve_delivery.specs.State.{RunState}
-use Rattle.sieve_delivery.specs.declared.envelope.Envelope.{Envelope}
-use Rattle.sieve_delivery.specs.declared.name.ScriptName.{ScriptName}
+use Rattle.sieve_effects.specs.State.{RunState}
+use Rattle.sieve_effects.specs.declared.envelope.Envelope.{Envelope}
+use Rattle.sieve_base.specs.declared.name.ScriptName.{ScriptName}
 
 -- the main script has all depth left
 pub main_first : (find : ScriptName → Lookup) (envelope : Envelope) (message : List ℕ) (main : ScriptName) (tree : List Node) → run_of find envelope message main tree ≡ running find (depth_left (delivery_to envelope message main)) (delivery_to envelope message main) tree (begun main)

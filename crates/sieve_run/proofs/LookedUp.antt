@@ -2,9 +2,9 @@
 use Rattle.std.proofs.Common.{◌≡◌, Bool, true, false, ◌||◌, List, [], ◌∷◌, ◌++◌, is_some, Some, cond, if◌then◌else◌, refl, sym, ap, ◌∙◌}
 use Rattle.std.specs.Map.{lookup}
 use Rattle.indexmap.specs.IndexMap as ordered
-use Rattle.sieve_delivery.specs.Name.{name_eq}
+use Rattle.sieve_base.specs.Name.{name_eq}
 use Rattle.sieve_run.specs.Run.{is_read, with_read}
-use Rattle.sieve_delivery.specs.declared.name.ScriptName.{ScriptName}
+use Rattle.sieve_base.specs.declared.name.ScriptName.{ScriptName}
 
 -- a name is found where it was looked up
 pub lookup_read : (is : ScriptName → Bool) (name : ScriptName) (reads : List (ScriptName × Bool)) → ((other : ScriptName) → is other ≡ name_eq name other) → is_some (lookup is reads) ≡ is_read name reads

@@ -20,21 +20,21 @@ use Rattle.sieve_base.specs.Limits.{include_depth, include_limit, name_limit}
 use Rattle.message_text.specs.Addresses.{addresses_of, envelope_address_of, marks_from}
 use Rattle.message_text.specs.declared.addressing.AddressPart.TheVariants as part
 use Rattle.sieve_table.specs.Address.{is_address_field}
-use Rattle.sieve_delivery.specs.Delivery.{Delivery}
+use Rattle.sieve_effects.specs.Delivery.{Delivery}
 use Rattle.sieve_run.specs.Library.{Lookup, missing, invalid, present, found_at}
-use Rattle.sieve_delivery.specs.Name.{name_eq}
+use Rattle.sieve_base.specs.Name.{name_eq}
 use Rattle.match_text.specs.Flags.{distinct, flag_keys, flag_keys_of_texts, flag_list, flag_text, flag_union, flags_of_texts, flags_without}
 use Rattle.match_text.specs.Wildcard.{least_fit, matched}
-use Rattle.sieve_delivery.specs.Matching.{keys_of, match_found, truth_of, values_behind, values_named, values_of, pairs_of}
-use Rattle.sieve_action.specs.Act.{Ending, goes_on, stopped, failed}
+use Rattle.sieve_effects.specs.Matching.{keys_of, match_found, truth_of, values_behind, values_named, values_of, pairs_of}
+use Rattle.sieve_effects.specs.Act.{Ending, goes_on, stopped, failed}
 use Rattle.sieve_run.specs.Run.{Answer, answer_of, act_of, decide, exec, begun, included, includes, looked_up, with_found_script, verdict_at, verdict_of, outcome_of}
-use Rattle.sieve_delivery.specs.State.{RunState}
-use Rattle.sieve_delivery.specs.declared.envelope.Envelope.{Envelope}
-use Rattle.sieve_delivery.specs.declared.name.ScriptName.{ScriptName}
-use Rattle.sieve_delivery.specs.declared.action.Action.{Action}
-use Rattle.sieve_delivery.specs.declared.action.Action.TheVariants.{Store, Redirect, Discard}
-use Rattle.sieve_action.specs.declared.error.RunError.{RunError}
-use Rattle.sieve_action.specs.declared.error.ErrorKind.TheVariants.{MissingScript, InvalidScript, RecursiveInclude, IncludeDepth, IncludeCount, BadAddress, BadMailbox}
+use Rattle.sieve_effects.specs.State.{RunState}
+use Rattle.sieve_effects.specs.declared.envelope.Envelope.{Envelope}
+use Rattle.sieve_base.specs.declared.name.ScriptName.{ScriptName}
+use Rattle.sieve_effects.specs.declared.action.Action.{Action}
+use Rattle.sieve_effects.specs.declared.action.Action.TheVariants.{Store, Redirect, Discard}
+use Rattle.sieve_effects.specs.declared.error.RunError.{RunError}
+use Rattle.sieve_effects.specs.declared.error.ErrorKind.TheVariants.{MissingScript, InvalidScript, RecursiveInclude, IncludeDepth, IncludeCount, BadAddress, BadMailbox}
 
 -- DELIVERIES
 
@@ -55,10 +55,10 @@ sent_by from = record { message = []; envelope = record { from = from; to = code
 
 -- a message of one header line, and of two, ended by line feeds
 abbrev headed : List ℕ → List ℕ
-headed line = line ++ (10 ∷ 10 ∷ [])
+headed line = line ++ codes "\n\n"
 
 abbrev headed_twice : List ℕ → List ℕ → List ℕ
-headed_twice line other = line ++ (10 ∷ other ++ (10 ∷ 10 ∷ []))
+headed_twice line other = line ++ (codes "\n" ++ (other ++ codes "\n\n"))
 
 -- a string without parts to expand
 abbrev text : List ℕ → List Part
@@ -133,7 +133,7 @@ values_row : values_named (fields_of (headed_twice (codes "A: 1") (codes "B: 2")
 unfolding fields_of field_groups
 values_row = refl
 
-order_row : values_named (fields_of (codes "A: 1" ++ (13 ∷ 10 ∷ codes "B: 2" ++ (13 ∷ 10 ∷ codes "a: 3" ++ (13 ∷ 10 ∷ 13 ∷ 10 ∷ []))))) (codes "A") ≡ codes "1" ∷ codes "3" ∷ []
+order_row : values_named (fields_of (codes "A: 1\r\nB: 2\r\na: 3\r\n\r\n")) (codes "A") ≡ codes "1" ∷ codes "3" ∷ []
 unfolding fields_of field_groups
 order_row = refl
 

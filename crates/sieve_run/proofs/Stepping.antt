@@ -7,19 +7,19 @@ use Rattle.sieve_reading.specs.Reading.{Ask, Leaf, exists_ask, over_ask, under_a
 use Rattle.sieve_code.specs.Operation.{Operation, asks, acts, stops, returns}
 use Rattle.sieve_code.specs.Walk as walk
 use Rattle.sieve_code.specs.Walk.{Walk, at_limit, code_walk, walk_from}
-use Rattle.sieve_delivery.specs.Delivery.{Delivery}
-use Rattle.sieve_delivery.specs.Matching.{behind_test, truth_of, values_behind}
+use Rattle.sieve_effects.specs.Delivery.{Delivery}
+use Rattle.sieve_effects.specs.Matching.{behind_test, truth_of, values_behind}
 use Rattle.sieve_run.specs.Perform.{perform}
-use Rattle.sieve_action.specs.Act.{goes_on}
+use Rattle.sieve_effects.specs.Act.{goes_on}
 use Rattle.sieve_run.specs.Run.{and_then, chosen}
-use Rattle.sieve_delivery.specs.State.{RunState}
+use Rattle.sieve_effects.specs.State.{RunState}
 use Rattle.sieve_variables.specs.Part.{Part}
-use Rattle.sieve_action.specs.declared.flow.Flow.{Flow}
-use Rattle.sieve_action.specs.declared.flow.Flow.TheVariants as flow
-use Rattle.sieve_action.specs.declared.flow.Flow.TheVariants.{GoesOn}
+use Rattle.sieve_effects.specs.declared.flow.Flow.{Flow}
+use Rattle.sieve_effects.specs.declared.flow.Flow.TheVariants as flow
+use Rattle.sieve_effects.specs.declared.flow.Flow.TheVariants.{GoesOn}
 use Rattle.sieve_run.specs.declared.steps.Step.{Step}
 use Rattle.sieve_run.specs.declared.steps.Step.TheVariants.{Next, Ended}
-use Rattle.sieve_action.specs.view.Flow.{ending_by}
+use Rattle.sieve_effects.specs.view.Flow.{ending_by}
 use Rattle.sieve_run.specs.view.Step.{step_after, Acts, Follows, StepsTo, doing, doing_after}
 
 left_over : {n turn : ℕ} → n ≤ turn → n - turn ≡ 0

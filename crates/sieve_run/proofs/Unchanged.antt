@@ -4,11 +4,11 @@ use Rattle.sieve_reading.specs.Reading.{Ask, Leaf, compares, exists_ask, over_as
 use Rattle.sieve_reading.specs.declared.reading.MatchType.{MatchType}
 use Rattle.sieve_reading.specs.declared.reading.MatchType.TheVariants.{Is, Contains, Matches}
 use Rattle.sieve_reading.specs.Script.{Condition, always, never, asks, negated, both, either, Commands, stops, returns}
-use Rattle.sieve_delivery.specs.Delivery.{Delivery}
-use Rattle.sieve_delivery.specs.Matching.{behind_test, match_found, values_behind, with_found}
-use Rattle.sieve_action.specs.Act.{Ending}
+use Rattle.sieve_effects.specs.Delivery.{Delivery}
+use Rattle.sieve_effects.specs.Matching.{behind_test, match_found, values_behind, with_found}
+use Rattle.sieve_effects.specs.Act.{Ending}
 use Rattle.sieve_run.specs.Run.{SetsMatched, Answer, answer_of, also, or_else, decide, exec}
-use Rattle.sieve_delivery.specs.State.{RunState}
+use Rattle.sieve_effects.specs.State.{RunState}
 use Rattle.sieve_variables.specs.Value.{with_matched}
 
 -- with what another match gave

@@ -2,12 +2,12 @@
 use Rattle.std.specs.Prelude.{ℕ, ◌-◌, ◌≤◌, List, length, Option, None, Some, if◌then◌else◌, nat_lt}
 use Rattle.sieve_base.specs.Limits.{include_depth}
 use Rattle.sieve_reading.specs.Tree.{Node}
-use Rattle.sieve_delivery.specs.Delivery.{Delivery, inside}
+use Rattle.sieve_effects.specs.Delivery.{Delivery, inside}
 use Rattle.sieve_run.specs.Library.{Lookup}
-use Rattle.sieve_action.specs.Act.{Ending}
+use Rattle.sieve_effects.specs.Act.{Ending}
 use Rattle.sieve_run.specs.Run.{running}
-use Rattle.sieve_delivery.specs.State.{RunState}
-use Rattle.sieve_delivery.specs.declared.name.ScriptName.{ScriptName}
+use Rattle.sieve_effects.specs.State.{RunState}
+use Rattle.sieve_base.specs.declared.name.ScriptName.{ScriptName}
 
 -- how deep scripts may include one another below the running one: it is deeper by each script that includes it
 abbrev pub depth_left : Delivery → ℕ

@@ -3,8 +3,8 @@ use Rattle.std.specs.Prelude.{◌≡◌, ℕ, Bool, true, List, Option}
 use Rattle.sieve_run.specs.Library.{lookup_of}
 use Rattle.sieve_run.specs.Run.{is_read, outcome_of}
 use Rattle.sieve_run.specs.Verdict.{Verdict}
-use Rattle.sieve_delivery.specs.declared.envelope.Envelope.{Envelope}
-use Rattle.sieve_delivery.specs.declared.name.ScriptName.{ScriptName}
+use Rattle.sieve_effects.specs.declared.envelope.Envelope.{Envelope}
+use Rattle.sieve_base.specs.declared.name.ScriptName.{ScriptName}
 
 -- a library: the text at each name, or none
 abbrev pub Texts : Type 0

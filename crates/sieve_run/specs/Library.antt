@@ -5,7 +5,7 @@ use Rattle.sieve_check.specs.Judgement.{Judgement, judgement_of, sound, faulty}
 use Rattle.sieve_reading.specs.Tree.{Node}
 use Rattle.sieve_code.specs.Compiles.{Compiles}
 use Rattle.sieve_code.specs.Operation.{Operation}
-use Rattle.sieve_delivery.specs.declared.name.ScriptName.{ScriptName}
+use Rattle.sieve_base.specs.declared.name.ScriptName.{ScriptName}
 
 -- nothing, a text with a fault, or the tree of a text without one
 pub data Lookup : Type 0 where

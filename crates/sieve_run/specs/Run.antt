@@ -5,15 +5,15 @@ use Rattle.sieve_base.specs.Limits.{include_depth, include_limit}
 use Rattle.sieve_reading.specs.Reading.{Ask, Leaf}
 use Rattle.sieve_reading.specs.Script.{Condition, always, never, asks, negated, both, either, Commands, no_commands, stops, returns, acts, chooses, script_of}
 use Rattle.sieve_reading.specs.Tree.{Node}
-use Rattle.sieve_delivery.specs.declared.name.ScriptName.{ScriptName}
-use Rattle.sieve_delivery.specs.declared.envelope.Envelope.{Envelope}
-use Rattle.sieve_action.specs.Act.{Ending, goes_on, returned, stopped, failed, fails_at, act_by}
-use Rattle.sieve_action.specs.declared.error.ErrorKind.TheVariants.{MissingScript, InvalidScript, RecursiveInclude, IncludeDepth, IncludeCount}
-use Rattle.sieve_delivery.specs.Delivery.{Delivery, inside}
-use Rattle.sieve_delivery.specs.Matching.{behind_test, truth_of}
+use Rattle.sieve_base.specs.declared.name.ScriptName.{ScriptName}
+use Rattle.sieve_effects.specs.declared.envelope.Envelope.{Envelope}
+use Rattle.sieve_effects.specs.Act.{Ending, goes_on, returned, stopped, failed, fails_at, act_by}
+use Rattle.sieve_effects.specs.declared.error.ErrorKind.TheVariants.{MissingScript, InvalidScript, RecursiveInclude, IncludeDepth, IncludeCount}
+use Rattle.sieve_effects.specs.Delivery.{Delivery, inside}
+use Rattle.sieve_effects.specs.Matching.{behind_test, truth_of}
 use Rattle.sieve_run.specs.Library.{Lookup, missing, invalid, present, found_at}
-use Rattle.sieve_delivery.specs.Name.{name_eq}
-use Rattle.sieve_delivery.specs.State.{RunState}
+use Rattle.sieve_base.specs.Name.{name_eq}
+use Rattle.sieve_effects.specs.State.{RunState}
 use Rattle.sieve_run.specs.Verdict.{Verdict}
 use Rattle.sieve_variables.specs.Value.{Values, begun_values, no_values, resumed_values, with_matched}
 

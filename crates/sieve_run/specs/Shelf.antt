@@ -2,8 +2,8 @@
 use Rattle.std.specs.Prelude.{ℕ, List, Option}
 use Rattle.std.specs.Map.{lookup}
 use Rattle.indexmap.specs.IndexMap as ordered
-use Rattle.sieve_delivery.specs.Name.{name_eq}
-use Rattle.sieve_delivery.specs.declared.name.ScriptName.{ScriptName}
+use Rattle.sieve_base.specs.Name.{name_eq}
+use Rattle.sieve_base.specs.declared.name.ScriptName.{ScriptName}
 
 -- the text of the script of that name
 abbrev pub text_on : List (ScriptName × List ℕ) → ScriptName → Option (List ℕ)

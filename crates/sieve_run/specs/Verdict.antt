@@ -1,8 +1,8 @@
 -- What a run answers.
 use Rattle.std.specs.Prelude.{ℕ, List, Bool, Option}
-use Rattle.sieve_delivery.specs.declared.name.ScriptName.{ScriptName}
-use Rattle.sieve_delivery.specs.declared.action.Action.{Action}
-use Rattle.sieve_action.specs.declared.error.RunError.{RunError}
+use Rattle.sieve_base.specs.declared.name.ScriptName.{ScriptName}
+use Rattle.sieve_effects.specs.declared.action.Action.{Action}
+use Rattle.sieve_effects.specs.declared.error.RunError.{RunError}
 
 -- the actions, the flags of the implicit keep where it stands, the error, and the names looked up, each present or missing
 pub record Verdict : Type 0 where

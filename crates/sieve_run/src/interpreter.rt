@@ -6,8 +6,8 @@ ghost use Rattle.sieve_run.specs.Run.{act_of, begun, delivery_to, outcome_of, ve
 ghost use Rattle.sieve_code.specs.Walk.{code_walk};
 ghost use Rattle.sieve_code.specs.view.Code.{ops_of};
 ghost use Rattle.sieve_base.specs.Limits.{action_limit, include_depth};
-ghost use Rattle.sieve_action.specs.view.Flow.{ending_by};
-ghost use Rattle.sieve_delivery.specs.view.State.{state_of};
+ghost use Rattle.sieve_effects.specs.view.Flow.{ending_by};
+ghost use Rattle.sieve_effects.specs.view.State.{state_of};
 ghost use Rattle.sieve_run.specs.view.Step.{doing};
 
 use crate::including::find;
@@ -18,10 +18,10 @@ use crate::steps::execute;
 use indexmap::IndexMap;
 use match_text::FlagList;
 use message_text::Message;
-use sieve_action::{ErrorKind, Flow, RunError};
+use sieve_base::ScriptName;
 use sieve_base::limits::MAX_INCLUDE_DEPTH;
 use sieve_code::Code;
-use sieve_delivery::{Delivery, Envelope, ScriptName, State};
+use sieve_effects::{Delivery, Envelope, ErrorKind, Flow, RunError, State};
 use sieve_variables::Values;
 use std::alloc::{AllocError, Global};
 

@@ -6,16 +6,16 @@ ghost use Rattle.sieve_reading.specs.Script.{Commands, Condition, returns, scrip
 ghost use Rattle.sieve_reading.specs.Tree.{Node};
 ghost use Rattle.sieve_code.specs.Walk.{gone, tree_walk};
 ghost use Rattle.sieve_base.specs.Limits.{action_limit, include_limit};
-ghost use Rattle.sieve_delivery.specs.Delivery.{Delivery};
+ghost use Rattle.sieve_effects.specs.Delivery.{Delivery};
 ghost use Rattle.sieve_run.specs.Depth.{IsDeepest, depth_left, entered_within};
 ghost use Rattle.sieve_run.specs.Frame.{Agree, Texts, outcome_over};
 ghost use Rattle.sieve_run.specs.Library.{Lookup};
-ghost use Rattle.sieve_delivery.specs.declared.envelope.Envelope.{Envelope};
+ghost use Rattle.sieve_effects.specs.declared.envelope.Envelope.{Envelope};
 ghost use Rattle.sieve_run.specs.Perform.{answers_of, do_gone, perform};
-ghost use Rattle.sieve_action.specs.Act.{Ending, state_behind};
+ghost use Rattle.sieve_effects.specs.Act.{Ending, state_behind};
 ghost use Rattle.sieve_run.specs.Run.{Answer, SetsMatched, answer_of, begun, decide, delivery_to, exec, include_of, included, outcome_of, run_of, running};
-ghost use Rattle.sieve_delivery.specs.State.{RunState};
-ghost use Rattle.sieve_delivery.specs.declared.name.ScriptName as names;
+ghost use Rattle.sieve_effects.specs.State.{RunState};
+ghost use Rattle.sieve_base.specs.declared.name.ScriptName as names;
 
 /// Commands behind a `stop` change nothing, whatever they are, whatever tests ask and whatever commands that act do
 /// (RFC 5228, section 3.3).

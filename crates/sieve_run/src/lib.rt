@@ -21,6 +21,5 @@ pub use meter::Meter;
 pub use outcome::Outcome;
 pub use script::Script;
 pub use shelf::Shelf;
-pub use sieve_action::{ErrorKind, RunError};
 pub use sieve_base::{Octets, Place};
-pub use sieve_delivery::{Action, Envelope, ScriptName};
+pub use sieve_effects::{Action, Envelope, ErrorKind, RunError};

@@ -1,8 +1,8 @@
 ghost use Rattle.sieve_run.specs.Library.{Lookup, lookup_of};
 ghost use Rattle.sieve_run.specs.view.Found.{FoundAs};
 
+use sieve_base::ScriptName;
 use sieve_code::Code;
-use sieve_delivery::ScriptName;
 
 /// What a library has at a name.
 #[derive(Drop)]
@@ -18,7 +18,7 @@ pub enum Found<'a> {
 /// Where a run finds scripts by their names.
 pub trait Library {
     ghost use Rattle.std.specs.Prelude.{◌≡◌, ℕ, List, Option};
-    ghost use Rattle.sieve_delivery.specs.declared.name.ScriptName.{ScriptName};
+    ghost use Rattle.sieve_base.specs.declared.name.ScriptName.{ScriptName};
 
     /// The text at each name.
     ghost texts: { Self → ScriptName → Option (List ℕ) };

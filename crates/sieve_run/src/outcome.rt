@@ -4,8 +4,8 @@ ghost use Rattle.std.specs.Option.{option_copied};
 
 use indexmap::IndexMap;
 use match_text::FlagList;
-use sieve_action::RunError;
-use sieve_delivery::{Action, ScriptName};
+use sieve_base::ScriptName;
+use sieve_effects::{Action, RunError};
 use std::marker::Model;
 
 /// The verdict on a message, and the scripts that it looked at. Only a run makes one.

@@ -6,9 +6,8 @@ ghost use Rattle.sieve_run.specs.view.Found.{FoundAs};
 use crate::library::{Found, Library};
 use crate::script::Script;
 use indexmap::IndexMap;
-use sieve_base::Octets;
 use sieve_base::limits::MAX_TEXT;
-use sieve_delivery::ScriptName;
+use sieve_base::{Octets, ScriptName};
 use std::alloc::{AllocError, Global};
 use std::marker::Model;
 
@@ -71,7 +70,7 @@ pub struct Shelf {
 
 impl Model for Shelf {
     ghost use Rattle.std.specs.Prelude.{ℕ, List};
-    ghost use Rattle.sieve_delivery.specs.declared.name.ScriptName.{ScriptName};
+    ghost use Rattle.sieve_base.specs.declared.name.ScriptName.{ScriptName};
 
     ghost Value = { List (ScriptName × List ℕ) };
 

@@ -5,12 +5,12 @@ ghost use Rattle.sieve_code.specs.view.Code.{ops_of};
 ghost use Rattle.sieve_code.specs.view.Op.{op_as};
 ghost use Rattle.sieve_run.specs.Library.{lookup_of};
 ghost use Rattle.sieve_run.specs.Run.{act_of, included};
-ghost use Rattle.sieve_delivery.specs.Delivery.{inside};
-ghost use Rattle.sieve_delivery.specs.view.Delivery.{delivery_as};
-ghost use Rattle.sieve_action.specs.view.Flow.{ending_by};
+ghost use Rattle.sieve_effects.specs.Delivery.{inside};
+ghost use Rattle.sieve_effects.specs.view.Delivery.{delivery_as};
+ghost use Rattle.sieve_effects.specs.view.Flow.{ending_by};
 ghost use Rattle.sieve_run.specs.view.Step.{step_after, Follows, StepsTo, doing};
 ghost use Rattle.sieve_run.specs.view.Include.{enters, looks_up};
-ghost use Rattle.sieve_delivery.specs.view.State.{state_of};
+ghost use Rattle.sieve_effects.specs.view.State.{state_of};
 ghost use Rattle.sieve_run.specs.declared.steps.Step.TheVariants.{Next};
 
 use crate::including::{
@@ -18,13 +18,12 @@ use crate::including::{
 };
 use crate::library::{Found, Library};
 use crate::reads::note_read;
-use sieve_action::{ErrorKind, Flow, change, discard, fail, file_into, keep, redirect, set};
 use sieve_base::Octets;
 use sieve_base::limits::MAX_INCLUDES;
 use sieve_code::{Code, Op};
-use sieve_delivery::{
-    Delivery, ScriptName, State, envelope_holds, exists, fields_hold, flags_hold, is_over,
-    is_under, strings_hold,
+use sieve_effects::{
+    Delivery, ErrorKind, Flow, ScriptName, State, change, discard, envelope_holds, exists, fail,
+    fields_hold, file_into, flags_hold, is_over, is_under, keep, redirect, set, strings_hold,
 };
 use std::alloc::AllocError;
 

@@ -33,14 +33,14 @@ comment_row : white_at (codes "/*/ */x") ≡ Some 6
 unfolding white_at bracket_comment comment_length
 comment_row = refl
 
-text_row : is_multi_line (codes "text:" ++ 10 ∷ codes "..a" ++ 10 ∷ 46 ∷ 10 ∷ []) ≡ true
+text_row : is_multi_line (codes "text:\n..a\n.\n") ≡ true
 unfolding is_multi_line are_multi_line lines_of is_opening ends_opening is_line_end is_dot_line end_at_dot
 text_row = refl
 
-stuffed_row : multi_line_octets (codes "text:" ++ 10 ∷ codes "..a" ++ 10 ∷ codes ".b" ++ 10 ∷ 46 ∷ 10 ∷ []) ≡ codes ".a" ++ 13 ∷ 10 ∷ codes ".b" ++ 13 ∷ 10 ∷ []
+stuffed_row : multi_line_octets (codes "text:\n..a\n.b\n.\n") ≡ codes ".a\r\n.b\r\n"
 unfolding multi_line_octets dot_lines lines_of is_dot_line is_line_end without_dot with_cr
 stuffed_row = refl
 
-cr_row : quoted_octets (34 ∷ 13 ∷ 92 ∷ 10 ∷ 34 ∷ []) ≡ 13 ∷ 13 ∷ 10 ∷ []
+cr_row : quoted_octets (codes "\"\r\\\n\"") ≡ codes "\r\r\n"
 unfolding quoted_octets unprotected with_cr
 cr_row = refl

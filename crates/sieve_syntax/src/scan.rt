@@ -4,8 +4,9 @@ ghost use Rattle.std.specs.Prelude.{◌≡◌, ◌≤◌, length, IfSome};
 ghost use Rattle.sieve_syntax.specs.Scan.{longest_at, mark_at, name_at, name_length, number_length, quoted_length, tag_at};
 
 use crate::multi_line::multi_line_length;
-use crate::octet::{begins_name, is_digit, is_name_octet, is_unit};
+use crate::octet::is_unit;
 use crate::token::TokenKind;
+use sieve_base::octet::{begins_name, is_digit, is_name_octet};
 
 /// How many octets of a name begin the text.
 #[tactic(auto, using(crate::proofs::Steps::name_steps))]

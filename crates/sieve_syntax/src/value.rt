@@ -6,8 +6,8 @@ ghost use Rattle.std.specs.List.{list_any};
 ghost use Rattle.sieve_syntax.specs.Value.{is_changed, is_protector, kept_octet, line_end, multi_line_octets, number_of, quoted_octets, unit_of, unprotected, with_cr, without_dot};
 
 use crate::line::{is_dot_line, line_length};
-use crate::octet::is_digit;
 use crate::tree::SmallOctets;
+use sieve_base::octet::is_digit;
 use std::alloc::{AllocError, Global};
 
 /// What a unit stands for.
@@ -24,7 +24,7 @@ fn unit_of(octet: u8) -> u64
 /// The number with one more digit, or `None` past 64 bits.
 fn add_digit(number: u64, digit: u8) -> Option<u64>
     requires { IsTrue (is_digit digit) }
-    ensures { SomeIff result (10 * number + (digit - 48) < 2 ^ 64) (10 * number + (digit - 48)) }
+    ensures { SomeIff result (10 * number + (digit - octet_of "0") < 2 ^ 64) (10 * number + (digit - octet_of "0")) }
 {
     number.checked_mul(10)?.checked_add(u64::from(digit - b'0'))
 }

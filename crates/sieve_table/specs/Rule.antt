@@ -1,5 +1,5 @@
 -- The words of the rules, as a report prints them, and their numbers.
-use Rattle.std.specs.Prelude.{ℕ, List, codes}
+use Rattle.std.specs.Prelude.{ℕ, List, [], ◌∷◌, codes}
 use Rattle.sieve_table.specs.declared.rule.Rule.{Rule}
 use Rattle.sieve_table.specs.declared.rule.Rule.TheVariants.{RequirePlace, UnknownCapability, UnknownCommand, NotRequired, ElsePlace, BadTag, BadArguments, UnknownComparator, BadVariableName, GlobalAfterSet, BadNamespace, MatchIndex, NumberTooLarge, BadEnvelopePart, NotAddressHeader, TooManyVariables}
 
@@ -39,3 +39,7 @@ rule_number NumberTooLarge = 13
 rule_number BadEnvelopePart = 14
 rule_number NotAddressHeader = 15
 rule_number TooManyVariables = 16
+
+-- the rules in the order of their numbers
+abbrev pub all_rules : List Rule
+all_rules = RequirePlace ∷ UnknownCapability ∷ UnknownCommand ∷ NotRequired ∷ ElsePlace ∷ BadTag ∷ BadArguments ∷ UnknownComparator ∷ BadVariableName ∷ GlobalAfterSet ∷ BadNamespace ∷ MatchIndex ∷ NumberTooLarge ∷ BadEnvelopePart ∷ NotAddressHeader ∷ TooManyVariables ∷ []

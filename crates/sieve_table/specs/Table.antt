@@ -1,5 +1,5 @@
 -- The table: a row for each command, test and tag that there is says what it takes.
-use Rattle.std.specs.Prelude.{ℕ, Bool, true, false, List, [], ◌∷◌, Option, Some, None, find, codes}
+use Rattle.std.specs.Prelude.{ℕ, Bool, true, false, List, [], ◌∷◌, Option, Some, None, find, nat_eq, codes}
 use Rattle.std.specs.Str.{str_eq_ignore_ascii_case}
 use Rattle.sieve_table.specs.declared.capability.Capability.{Capability}
 use Rattle.sieve_table.specs.declared.capability.Capability.TheVariants as capability
@@ -18,6 +18,7 @@ use Rattle.sieve_table.specs.declared.table.Tag.{Tag}
 use Rattle.sieve_table.specs.declared.table.Tag.TheVariants as tag
 use Rattle.sieve_table.specs.declared.table.TestKind.{TestKind}
 use Rattle.sieve_table.specs.declared.table.TestKind.TheVariants as test
+use Rattle.sieve_table.specs.view.Number.{kind_number, tag_number}
 
 -- WHAT A ROW SAYS
 
@@ -50,6 +51,13 @@ pub record TagRow : Type 0 where
   pub takes : Option Slot
   -- what has to be required for it
   pub needs : Option Capability
+
+-- whether two tags are one, and two kinds of tags
+abbrev pub same_tag : Tag → Tag → Bool
+same_tag a b = nat_eq (tag_number a) (tag_number b)
+
+abbrev pub same_kind : TagKind → TagKind → Bool
+same_kind a b = nat_eq (kind_number a) (kind_number b)
 
 -- an argument of this form and role, for which nothing need be required
 abbrev pub slot : Form → Role → Slot

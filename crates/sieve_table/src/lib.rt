@@ -5,6 +5,8 @@
 mod address;
 mod capability;
 mod command_rows;
+pub mod laws;
+mod role;
 mod row;
 mod rule;
 mod table;
@@ -12,6 +14,9 @@ mod test_rows;
 
 pub use address::{is_address_field, is_envelope_part};
 pub use capability::{Capability, is_capability, is_name_of};
+pub use role::{has_role, is_expanded, names_variable};
 pub use row::{Form, Inner, Role, Row, Slot, TagKind, TagRow};
 pub use rule::Rule;
-pub use table::{CommandKind, Tag, TestKind, command_named, tag_named, test_named};
+pub use table::{
+    CommandKind, Tag, TestKind, command_named, same_kind, same_tag, tag_named, test_named,
+};

@@ -1,13 +1,14 @@
 //! The names of variables (RFC 5229, section 3).
 ghost use Rattle.std.specs.Prelude.{◌≡◌, false, true, IfOk, MatchOption, drop, length};
 ghost use Rattle.std.specs.List.{list_all};
-ghost use Rattle.sieve_base.specs.Octet.{begins_name, is_digit, is_name_octet};
+ghost use Rattle.sieve_base.specs.Octet.{is_digit, is_name_octet};
 ghost use Rattle.sieve_variables.specs.Part.{is_shared};
 ghost use Rattle.sieve_variables.specs.Reference.{is_name};
 ghost use Rattle.sieve_variables.specs.Name.{folded_name, global_prefix, index_of, is_global_name, is_identifier, is_number};
 
 use crate::part::SmallOctets;
 use sieve_base::limits::MAX_MATCH;
+use sieve_base::octet::{begins_name, is_name_octet};
 use std::alloc::{AllocError, Global};
 
 /// The first number that no match variable has.
@@ -27,20 +28,6 @@ pub fn folded(alloc: Global, name: &[u8]) -> Result<SmallOctets, AllocError>
         octets.push(octet.to_ascii_lowercase())?;
     }
     Ok(octets)
-}
-
-/// Whether an identifier begins with the octet.
-fn begins_name(octet: u8) -> bool
-    ensures { result ≡ begins_name octet }
-{
-    matches!(octet, b'a'..=b'z' | b'A'..=b'Z' | b'_')
-}
-
-/// Whether an identifier goes on with the octet.
-pub(crate) fn is_name_octet(octet: u8) -> bool
-    ensures { result ≡ is_name_octet octet }
-{
-    begins_name(octet) || octet.is_ascii_digit()
 }
 
 /// Whether an identifier goes on with each of the octets.

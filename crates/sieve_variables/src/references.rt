@@ -7,10 +7,11 @@ ghost use Rattle.sieve_variables.specs.Reference.{is_legal, is_name, reference};
 ghost use Rattle.sieve_variables.specs.Scan.{before_brace, has_far_index, has_foreign_namespace, has_namespace, has_reference, inside_at, is_dot, is_far, is_foreign, is_inside, is_namespaced, parts_of, words_of};
 ghost use Rattle.sieve_variables.specs.view.Part.{added, literal_part, part_of};
 
-use crate::name::{folded, index_of, is_identifier, is_name, is_name_octet, is_number, is_shared};
+use crate::name::{folded, index_of, is_identifier, is_name, is_number, is_shared};
 use crate::part::{Part, Parts, SmallOctets};
 use crate::variable::Variable;
 use sieve_base::limits::MAX_MATCH;
+use sieve_base::octet::is_name_octet;
 use std::alloc::{AllocError, Global};
 
 /// What references a text has.

@@ -10,7 +10,7 @@ use Rattle.bench.specs.Bench.{BenchState}
 use Rattle.bench.specs.Content.{Content, Edit, after, unless, is_long, is_long_id, text_at, message_at, with_script, with_message}
 use Rattle.session_text.specs.view.Payload.{BreaksOff, Takes, FallsShort}
 use Rattle.sievebench.specs.Session.{dump_of, Ends, MatchFault, MatchSessionEnd, Reported, ReportRefused, Request, Served, served, Step, takes_memory, with_octets, dumps, edits, reports, truncated, Replies, refusal_line}
-use Rattle.sieve_delivery.specs.declared.name.ScriptName.{ScriptName}
+use Rattle.sieve_base.specs.declared.name.ScriptName.{ScriptName}
 use Rattle.bench.specs.Report.{report_text}
 use Rattle.bench.specs.Stale.{stale_after}
 use Rattle.sievebench.specs.view.Task.{edit_of, limit_of}

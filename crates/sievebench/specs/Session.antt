@@ -10,7 +10,7 @@ use Rattle.bench.specs.Content.{Content, Edit, put_script, put_message, set_main
 use Rattle.bench.specs.Dump.{script_code}
 use Rattle.bench.specs.Report.{report_text}
 use Rattle.bench.specs.Stale.{stale_after}
-use Rattle.sieve_delivery.specs.declared.name.ScriptName.{ScriptName}
+use Rattle.sieve_base.specs.declared.name.ScriptName.{ScriptName}
 use Rattle.session_text.specs.SessionLine.{Command, nothing, script, message, main, no_main, rename, drop_script, drop_message, envelope, mailbox, report, dump, first_line, command_of_line, is_long_so_far, line_so_far}
 use Rattle.bench.specs.declared.fault.EditFault.{EditFault}
 use Rattle.bench.specs.declared.fault.EditFault.TheVariants.{NoSuchScript, NameTaken, NoSuchMessage, Full, TooLarge, NoMemory}

@@ -12,6 +12,6 @@ pub use bench::{
 };
 pub use command_line::{Argument, Job, UsageFault, command_of};
 pub use server::session;
-pub use sieve_base::{Counted, Faults, Octets, Place, Sink, Source};
-pub use sieve_run::{Action, Meter, Outcome, ScriptName};
+pub use sieve_base::{Counted, Faults, Octets, Place, ScriptName, Sink, Source};
+pub use sieve_run::{Action, Meter, Outcome};
 pub use status::{End, SessionEnd, status_of};

@@ -15,8 +15,8 @@ use crate::status::SessionEnd;
 use crate::task::{Subject, Task, limit_of, task_of};
 use bench::{Bench, EditFault, ReportFault, write_code};
 use session_text::{Input, Line, Taken, take_octets};
-use sieve_base::{Octets, Sink, Source, WriteFault, write_out};
-use sieve_run::{Found, Meter, ScriptName};
+use sieve_base::{Octets, ScriptName, Sink, Source, WriteFault, write_out};
+use sieve_run::{Found, Meter};
 use std::alloc::Global;
 
 /// How a command went.

@@ -8,8 +8,7 @@ ghost use Rattle.sievebench.specs.view.Task.{IsTried, Tasks, limit_of};
 use bench::{Bench, EditFault};
 use session_text::{Command, Word, command_of_line};
 use sieve_base::limits::{MAX_ID, MAX_MESSAGE, MAX_TEXT};
-use sieve_base::{Octets, Place};
-use sieve_run::ScriptName;
+use sieve_base::{Octets, Place, ScriptName};
 use std::alloc::{AllocError, Global};
 
 /// What octets are put at: a script's name or a message's id.

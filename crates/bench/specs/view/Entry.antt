@@ -1,6 +1,6 @@
 -- What a message's entry in a bench stands for.
 use Rattle.std.specs.Prelude.{◌≡◌, ⊤, ℕ, Bool, false, List, [], ◌∷◌, map, Option, None, Some, is_none, is_some, cond, IfSome}
-use Rattle.sieve_delivery.specs.declared.name.ScriptName.{ScriptName}
+use Rattle.sieve_base.specs.declared.name.ScriptName.{ScriptName}
 use Rattle.sieve_run.specs.Meter.{next_run}
 use Rattle.sieve_run.specs.Run.{is_read}
 use Rattle.sieve_run.specs.Verdict.{Verdict}

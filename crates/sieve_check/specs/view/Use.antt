@@ -1,7 +1,8 @@
 -- What a search finds in a command or test of a row, apart from whether a `require` may stand there.
 use Rattle.std.specs.Prelude.{ℕ, Bool, List, ◌++◌}
 use Rattle.sieve_syntax.specs.Tree.{Argument, Tests}
-use Rattle.sieve_check.specs.Breach.{Breach, all_rules, breaches_by, breaches_in, row_breaks}
+use Rattle.sieve_check.specs.Breach.{Breach, breaches_by, breaches_in, row_breaks}
+use Rattle.sieve_table.specs.Rule.{all_rules}
 use Rattle.sieve_check.specs.Context.{Context, Required}
 use Rattle.sieve_check.specs.Element.{row_elements}
 use Rattle.sieve_table.specs.Table.{Row}

@@ -4,16 +4,16 @@ use Rattle.sieve_reading.specs.Reading.{Leaf}
 use Rattle.sieve_code.specs.Operation.{Operation}
 use Rattle.sieve_code.specs.Walk as walk
 use Rattle.sieve_code.specs.Walk.{Walk}
-use Rattle.sieve_delivery.specs.Delivery.{Delivery}
+use Rattle.sieve_effects.specs.Delivery.{Delivery}
 use Rattle.sieve_run.specs.Perform.{perform}
-use Rattle.sieve_action.specs.Act.{Ending}
+use Rattle.sieve_effects.specs.Act.{Ending}
 use Rattle.sieve_run.specs.Run.{answer_of}
-use Rattle.sieve_delivery.specs.State.{RunState}
-use Rattle.sieve_action.specs.declared.flow.Flow.{Flow}
-use Rattle.sieve_action.specs.declared.flow.Flow.TheVariants as flow
+use Rattle.sieve_effects.specs.State.{RunState}
+use Rattle.sieve_effects.specs.declared.flow.Flow.{Flow}
+use Rattle.sieve_effects.specs.declared.flow.Flow.TheVariants as flow
 use Rattle.sieve_run.specs.declared.steps.Step.{Step}
 use Rattle.sieve_run.specs.declared.steps.Step.TheVariants.{Next, Ended}
-use Rattle.sieve_action.specs.view.Flow.{ending_by}
+use Rattle.sieve_effects.specs.view.Flow.{ending_by}
 
 -- what commands do that act
 abbrev pub Acts : Type 0

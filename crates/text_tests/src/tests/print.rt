@@ -5,10 +5,10 @@ use sieve_syntax::{Argument, Command, Test, Tests, Text, Token, parse, tokens};
 use std::alloc::{AllocError, Global};
 use std::process::Abort;
 
-/// Octets as printed text: those outside 32 to 126 in hexadecimal.
+/// Octets as printed text: those that aren't printable in hexadecimal.
 fn print_octets(out: &mut String, octets: &[u8]) -> Result<(), AllocError> {
     for octet in octets {
-        if *octet >= 32 && *octet < 127 {
+        if (b' '..=b'~').contains(octet) {
             out.push(char::from(*octet))?;
         } else {
             out.push_str("\\x")?;

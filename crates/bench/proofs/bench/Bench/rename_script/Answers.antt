@@ -1,5 +1,5 @@
 use Rattle.std.proofs.Common.{ℕ, List, Option, refl}
-use Rattle.sieve_delivery.specs.declared.name.ScriptName.{ScriptName}
+use Rattle.sieve_base.specs.declared.name.ScriptName.{ScriptName}
 use Rattle.bench.specs.Content.{text_at, with_renamed}
 use Rattle.bench.specs.Report.{verdict_by}
 use Rattle.bench.proofs.Marks.{stale-marked_twice}

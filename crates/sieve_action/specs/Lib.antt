@@ -1,3 +1,0 @@
-pub mod Act
-pub mod ErrorKind
-pub mod view

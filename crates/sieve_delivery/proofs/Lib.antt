@@ -1,4 +1,0 @@
-mod Paths
-mod Rows
-pub mod Copying
-pub mod Searching

@@ -1,5 +1,0 @@
-pub mod Delivery
-pub mod Matching
-pub mod Name
-pub mod State
-pub mod view

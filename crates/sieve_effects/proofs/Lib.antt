@@ -1,0 +1,4 @@
+pub mod Copying
+mod Named
+mod Paths
+pub mod Searching

@@ -1,0 +1,219 @@
+-- What one field or one name gives, in what all of them give.
+use Rattle.std.proofs.Common.{◌≡◌, ℕ, zero, suc, ◌+◌, Bool, true, false, ◌||◌, List, [], ◌∷◌, ◌++◌, map, filter, length, drop, cond, Option, None, Some, Result, refl, subst, sym, ap, ◌∙◌, add-one}
+use Rattle.std.specs.Prelude.{IfOk, if◌then◌else◌}
+use Rattle.std.specs.List.{cons_option, flat_map, list_any, slice_get}
+use Rattle.std.specs.Option.{option_and_then, option_map, option_or}
+use Rattle.std.proofs.Math.Bool.{or-true}
+use Rattle.match_text.specs.declared.comparators.Collation.{Collation}
+use Rattle.message_text.specs.Addresses.{AddrSpec, addresses_of, envelope_address_of, part_of}
+use Rattle.message_text.specs.Fields.{Field, fields_of}
+use Rattle.message_text.specs.declared.addressing.AddressPart.{AddressPart}
+use Rattle.sieve_reading.specs.Reading.{envelope_values, flag_values, string_values}
+use Rattle.sieve_variables.specs.Part.{Part}
+use Rattle.sieve_variables.specs.Value.{text_value}
+use Rattle.sieve_reading.specs.declared.reading.MatchType.{MatchType}
+use Rattle.sieve_table.specs.Address.{is_address_field}
+use Rattle.sieve_effects.specs.Delivery.{Delivery}
+use Rattle.match_text.specs.Flags.{flag_keys_of_texts, flag_list}
+use Rattle.sieve_effects.specs.State.{RunState}
+use Rattle.sieve_effects.specs.Matching.{envelope_named, envelope_text, first_match, first_some, is_field_named, match_found, match_of, pairs_with, parts_in, parts_named, parts_of_envelope, parts_of_value, values_named, values_of, keys_from, keys_of}
+use Rattle.match_text.specs.Comparator.{fold_of}
+use Rattle.sieve_effects.specs.view.FieldTests.{field_source, name_found, part_found, path_found, path_name_found, value_found}
+
+-- a function of an element that is known at a place
+pub get-mapped : {X Y Z : Type 0} (h : X → Y) (k : Y → Z) (xs : List X) (i : ℕ) (y : Y) → slice_get (map h xs) i ≡ Some y → slice_get (map (λ x. k (h x)) xs) i ≡ Some (k y)
+get-mapped h k [] i y at = cc
+get-mapped h k (x ∷ xs) zero y at = ap (option_map k) at
+get-mapped h k (x ∷ xs) (suc i) y at = get-mapped h k xs i y at
+
+pub get_map : {X Y : Type 0} (f : X → Y) (xs : List X) (i : ℕ) (x : X) → slice_get xs i ≡ Some x → slice_get (map f xs) i ≡ Some (f x)
+get_map f [] i x at = cc
+get_map f (y ∷ ys) zero x at = ap (option_map f) at
+get_map f (y ∷ ys) (suc i) x at = get_map f ys i x at
+
+module _ {X Y : Type 0} (p : X → Bool) (f : X → Option Y) where
+  -- an element gives nothing where the test fails, and else what it gives
+  pub get-fails : (xs : List X) (i : ℕ) → slice_get (map p xs) i ≡ Some false → slice_get (map (λ x. if p x then f x else None) xs) i ≡ Some None
+  get-fails [] i at = cc
+  get-fails (x ∷ xs) zero at = let e : p x ≡ false = cc in ap (λ b. Some (if b then f x else None)) e
+  get-fails (x ∷ xs) (suc i) at = get-fails xs i at
+
+  pub get-passes : (xs : List X) (i : ℕ) (o : Option Y) → slice_get (map p xs) i ≡ Some true → slice_get (map f xs) i ≡ Some o → slice_get (map (λ x. if p x then f x else None) xs) i ≡ Some o
+  get-passes [] i o first second = cc
+  get-passes (x ∷ xs) zero o first second = let e : p x ≡ true = cc in ap (λ b. Some (if b then f x else None)) e ∙ second
+  get-passes (x ∷ xs) (suc i) o first second = get-passes xs i o first second
+
+module _ {X : Type 0} (q : X → Bool) where
+  -- an element that passes
+  pub any_at : (xs : List X) (i : ℕ) → slice_get (map q xs) i ≡ Some true → list_any q xs ≡ true
+  any_at [] i at = cc
+  any_at (x ∷ xs) zero at = let e : q x ≡ true = cc in ap (λ b. b || list_any q xs) e
+  any_at (x ∷ xs) (suc i) at = ap (λ b. q x || b) (any_at xs i at) ∙ or-true (q x)
+
+  any_past : (xs : List X) (i : ℕ) → slice_get (map q xs) i ≡ Some false → list_any q (drop (suc i) xs) ≡ list_any q (drop i xs)
+  any_past [] i at = cc
+  any_past (x ∷ xs) zero at = let e : q x ≡ false = cc in sym (ap (λ b. b || list_any q xs) e)
+  any_past (x ∷ xs) (suc i) at = any_past xs i at
+
+  -- an element that fails leaves it to those behind it
+  pub any_after : (xs : List X) (i : ℕ) (b : Bool) → list_any q (drop i xs) ≡ b → slice_get (map q xs) i ≡ Some false → list_any q (drop (i + 1) xs) ≡ b
+  any_after xs i b so at = ap (λ n. list_any q (drop n xs)) (add-one i) ∙ any_past xs i at ∙ so
+
+  pub any_of_none : (xs : List X) (n : ℕ) (b : Bool) → list_any q (drop n xs) ≡ b → n ≡ length xs → false ≡ b
+  any_of_none xs n b so all = sym (nothing xs) ∙ sym (ap (λ k. list_any q (drop k xs)) all) ∙ so
+    where
+      nothing : (ys : List X) → list_any q (drop (length ys) ys) ≡ false
+      nothing [] = refl
+      nothing (y ∷ ys) = nothing ys
+
+module _ {X Y : Type 0} (f : X → Option Y) where
+  -- an element that gives something
+  pub first_at : (xs : List X) (i : ℕ) (y : Y) (o : Option Y) → first_some f (drop i xs) ≡ o → slice_get (map f xs) i ≡ Some (Some y) → Some y ≡ o
+  first_at [] i y o so at = cc
+  first_at (x ∷ xs) zero y o so at = let e : f x ≡ Some y = cc in sym (ap (λ a. option_or a (first_some f xs)) e) ∙ so
+  first_at (x ∷ xs) (suc i) y o so at = first_at xs i y o so at
+
+  first_past : (xs : List X) (i : ℕ) → slice_get (map f xs) i ≡ Some None → first_some f (drop (suc i) xs) ≡ first_some f (drop i xs)
+  first_past [] i at = cc
+  first_past (x ∷ xs) zero at = let e : f x ≡ None = cc in sym (ap (λ a. option_or a (first_some f xs)) e)
+  first_past (x ∷ xs) (suc i) at = first_past xs i at
+
+  -- one that gives nothing leaves it to those behind it
+  pub first_after : (xs : List X) (i : ℕ) (o : Option Y) → first_some f (drop i xs) ≡ o → slice_get (map f xs) i ≡ Some None → first_some f (drop (i + 1) xs) ≡ o
+  first_after xs i o so at = ap (λ n. first_some f (drop n xs)) (add-one i) ∙ first_past xs i at ∙ so
+
+-- an answer by another equation
+pub answers_so : {A E : Type 0} (answer : Result A E) (x y : A) → x ≡ y → IfOk answer (λ found. found ≡ x) → IfOk answer (λ found. found ≡ y)
+answers_so answer x y same is = subst (λ b. IfOk answer (λ found. found ≡ b)) same is
+
+-- IN TURN
+
+or_in_turn : {Y : Type 0} (a b c : Option Y) → option_or (option_or a b) c ≡ option_or a (option_or b c)
+or_in_turn None b c = refl
+or_in_turn (Some y) b c = refl
+
+first_append : {X Y : Type 0} (f : X → Option Y) (xs ys : List X) → first_some f (xs ++ ys) ≡ option_or (first_some f xs) (first_some f ys)
+first_append f [] ys = refl
+first_append f (x ∷ xs) ys = ap (option_or (f x)) (first_append f xs ys) ∙ sym (or_in_turn (f x) (first_some f xs) (first_some f ys))
+
+first_flat : {X Y Z : Type 0} (f : Y → Option Z) (g : X → List Y) (xs : List X) → first_some f (flat_map g xs) ≡ first_some (λ x. first_some f (g x)) xs
+first_flat f g [] = refl
+first_flat f g (x ∷ xs) = first_append f (g x) (flat_map g xs) ∙ ap (option_or (first_some f (g x))) (first_flat f g xs)
+
+first_same : {X Y : Type 0} (f g : X → Option Y) → ((x : X) → f x ≡ g x) → (xs : List X) → first_some f xs ≡ first_some g xs
+first_same f g same [] = refl
+first_same f g same (x ∷ xs) = ap (λ o. option_or o (first_some f xs)) (same x) ∙ ap (option_or (g x)) (first_same f g same xs)
+
+or_none : {Y : Type 0} (o : Option Y) → option_or o None ≡ o
+or_none None = refl
+or_none (Some y) = refl
+
+-- VALUES
+
+module _ (find : List ℕ → Option (List (List ℕ))) where
+  one_field : (field : Field) (fields : List Field) (b : Bool) → first_some find (map (λ f. f.value) (cond b (field ∷ fields) fields)) ≡ option_or (if b then find field.value else None) (first_some find (map (λ f. f.value) fields))
+  one_field field fields true = refl
+  one_field field fields false = refl
+
+  -- what the values of a name give is what the fields give that have it
+  first_named : (name : List ℕ) (fields : List Field) → first_some find (values_named fields name) ≡ first_some (λ field. if is_field_named name field then find field.value else None) fields
+  first_named name [] = refl
+  first_named name (field ∷ fields) =
+      one_field field (filter (is_field_named name) fields) (is_field_named name field)
+      ∙ ap (option_or (if is_field_named name field then find field.value else None)) (first_named name fields)
+
+module _ (find : List ℕ → Option (List (List ℕ))) where
+  one_part : (o : Option (List ℕ)) (octets : List (List ℕ)) → first_some find (cons_option o octets) ≡ option_or (option_and_then find o) (first_some find octets)
+  one_part None octets = refl
+  one_part (Some x) octets = refl
+
+  -- what parts of addresses give is what the addresses give
+  first_part : (part : AddressPart) (addresses : List AddrSpec) → first_some find (parts_in part addresses) ≡ first_some (part_found find part) addresses
+  first_part part [] = refl
+  first_part part (address ∷ addresses) = one_part (part_of part address) (parts_in part addresses) ∙ ap (option_or (part_found find part address)) (first_part part addresses)
+
+  where_so : (b : Bool) (octets : List (List ℕ)) → first_some find (if b then octets else []) ≡ (if b then first_some find octets else None)
+  where_so true octets = refl
+  where_so false octets = refl
+
+  first_parts_named : (part : AddressPart) (fields : List Field) (name : List ℕ) → first_some find (parts_named part fields name) ≡ name_found find (Some part) fields name
+  first_parts_named part fields name =
+      where_so (is_address_field name) (flat_map (parts_of_value part) (values_named fields name))
+      ∙ ap (λ o. if is_address_field name then o else None)
+      (first_flat find (parts_of_value part) (values_named fields name)
+      ∙ first_same (λ value. first_some find (parts_of_value part value)) (value_found find (Some part)) (λ value. first_part part (addresses_of value)) (values_named fields name)
+      ∙ first_named (value_found find (Some part)) name fields)
+
+  first_of_names : (part : Option AddressPart) (delivery : Delivery) (state : RunState) (names : List (List Part)) → first_some find (values_of delivery state (field_source part names)) ≡ first_some (name_found find part (fields_of delivery.message)) (map (text_value state.values) names)
+  first_of_names None delivery state names =
+      first_flat find (values_named (fields_of delivery.message)) (map (text_value state.values) names)
+      ∙ first_same (λ name. first_some find (values_named (fields_of delivery.message) name)) (name_found find None (fields_of delivery.message)) (λ name. first_named find name (fields_of delivery.message)) (map (text_value state.values) names)
+  first_of_names (Some part) delivery state names =
+      first_flat find (parts_named part (fields_of delivery.message)) (map (text_value state.values) names)
+      ∙ first_same (λ name. first_some find (parts_named part (fields_of delivery.message) name)) (name_found find (Some part) (fields_of delivery.message)) (λ name. first_parts_named part (fields_of delivery.message) name) (map (text_value state.values) names)
+
+  first_of_path : (part : AddressPart) (path : Option (List ℕ)) → first_some find (parts_of_envelope part path) ≡ option_and_then (path_found find part) path
+  first_of_path part None = refl
+  first_of_path part (Some text) = one_part (part_of part (envelope_address_of text)) [] ∙ or_none (part_found find part (envelope_address_of text))
+
+  first_of_paths : (part : AddressPart) (delivery : Delivery) (state : RunState) (names : List (List Part)) → first_some find (values_of delivery state (envelope_values part names)) ≡ first_some (path_name_found find part delivery.envelope) (map (text_value state.values) names)
+  first_of_paths part delivery state names =
+      first_flat find (envelope_named part delivery.envelope) (map (text_value state.values) names)
+      ∙ first_same (λ name. first_some find (envelope_named part delivery.envelope name)) (path_name_found find part delivery.envelope) (λ name. first_of_path part (envelope_text delivery.envelope name)) (map (text_value state.values) names)
+
+-- TESTS
+
+-- tests of fields are asked for their keys as they are
+field_keys : (part : Option AddressPart) (names : List (List Part)) (texts : List (List ℕ)) → keys_from (field_source part names) texts ≡ texts
+field_keys None names texts = refl
+field_keys (Some part) names texts = refl
+
+module _ (match_type : MatchType) (collation : Collation) where
+  abbrev found_by : List (List ℕ) → List ℕ → Option (List (List ℕ))
+  found_by keys value = first_match match_type (fold_of collation) (pairs_with keys value)
+
+  -- what a test finds in fields, where these are its names' and its keys' octets
+  pub fields_found : (part : Option AddressPart) (delivery : Delivery) (state : RunState) (names keys : List (List Part)) (named keyed : List (List ℕ)) → named ≡ map (text_value state.values) names → keyed ≡ map (text_value state.values) keys
+      → first_some (name_found (λ value. first_match match_type (fold_of collation) (pairs_with keyed value)) part (fields_of delivery.message)) named ≡ match_found delivery state (field_source part names) match_type collation keys
+  unfolding match_found
+  fields_found part delivery state names keys named keyed n k =
+      ap (λ ns. first_some (name_found (found_by keyed) part (fields_of delivery.message)) ns) n
+      ∙ sym (first_of_names (found_by keyed) part delivery state names)
+      ∙ ap (λ ks. first_some (found_by ks) (values_of delivery state (field_source part names))) (k ∙ sym (field_keys part names (map (text_value state.values) keys)))
+      ∙ sym (first_flat (λ pair. match_of match_type (fold_of collation) pair.value pair.key) (pairs_with (keys_of state (field_source part names) keys)) (values_of delivery state (field_source part names)))
+
+  -- and what it finds in the envelope
+  pub paths_found : (part : AddressPart) (delivery : Delivery) (state : RunState) (names keys : List (List Part)) (named keyed : List (List ℕ)) → named ≡ map (text_value state.values) names → keyed ≡ map (text_value state.values) keys
+      → first_some (path_name_found (λ value. first_match match_type (fold_of collation) (pairs_with keyed value)) part delivery.envelope) named ≡ match_found delivery state (envelope_values part names) match_type collation keys
+  unfolding match_found
+  paths_found part delivery state names keys named keyed n k =
+      ap (λ ns. first_some (path_name_found (found_by keyed) part delivery.envelope) ns) n
+      ∙ sym (first_of_paths (found_by keyed) part delivery state names)
+      ∙ ap (λ ks. first_some (found_by ks) (values_of delivery state (envelope_values part names))) k
+      ∙ sym (first_flat (λ pair. match_of match_type (fold_of collation) pair.value pair.key) (pairs_with (map (text_value state.values) keys)) (values_of delivery state (envelope_values part names)))
+
+  -- and what it finds in strings
+  pub texts_found : (delivery : Delivery) (state : RunState) (texts keys : List (List Part)) (named keyed : List (List ℕ)) → named ≡ map (text_value state.values) texts → keyed ≡ map (text_value state.values) keys
+      → first_some (λ value. first_match match_type (fold_of collation) (pairs_with keyed value)) named ≡ match_found delivery state (string_values texts) match_type collation keys
+  unfolding match_found
+  texts_found delivery state texts keys named keyed n k =
+      ap (λ ns. first_some (found_by keyed) ns) n
+      ∙ ap (λ ks. first_some (found_by ks) (map (text_value state.values) texts)) k
+      ∙ sym (first_flat (λ pair. match_of match_type (fold_of collation) pair.value pair.key) (pairs_with (map (text_value state.values) keys)) (map (text_value state.values) texts))
+
+  -- and what it finds in flags, those of these texts, and the internal ones
+  pub flags_found : (delivery : Delivery) (state : RunState) (variables keys : List (List Part)) (named keyed cut : List (List ℕ)) → named ≡ map (text_value state.values) variables → keyed ≡ map (text_value state.values) keys → cut ≡ flag_keys_of_texts keyed
+      → first_some (λ text. first_some (found_by cut) (flag_list text)) named ≡ match_found delivery state (flag_values (Some variables)) match_type collation keys
+  unfolding match_found
+  flags_found delivery state variables keys named keyed cut n k c =
+      ap (λ ns. first_some (λ text. first_some (found_by cut) (flag_list text)) ns) n
+      ∙ sym (first_flat (found_by cut) flag_list (map (text_value state.values) variables))
+      ∙ ap (λ ks. first_some (found_by ks) (values_of delivery state (flag_values (Some variables)))) (c ∙ ap flag_keys_of_texts k)
+      ∙ sym (first_flat (λ pair. match_of match_type (fold_of collation) pair.value pair.key) (pairs_with (keys_of state (flag_values (Some variables)) keys)) (values_of delivery state (flag_values (Some variables))))
+
+  pub internal_found : (delivery : Delivery) (state : RunState) (keys : List (List Part)) (keyed cut : List (List ℕ)) → keyed ≡ map (text_value state.values) keys → cut ≡ flag_keys_of_texts keyed
+      → first_some (found_by cut) state.flags ≡ match_found delivery state (flag_values None) match_type collation keys
+  unfolding match_found
+  internal_found delivery state keys keyed cut k c =
+      ap (λ ks. first_some (found_by ks) state.flags) (c ∙ ap flag_keys_of_texts k)
+      ∙ sym (first_flat (λ pair. match_of match_type (fold_of collation) pair.value pair.key) (pairs_with (keys_of state (flag_values None) keys)) state.flags)

@@ -1,0 +1,185 @@
+-- What commands do that act (RFC 5228, sections 2.10 and 4; RFC 5229, section 4; RFC 5232, sections 3 and 5).
+use Rattle.std.specs.Prelude.{ℕ, List, [], ◌∷◌, ◌++◌, length, map, take, Bool, true, false, not, ◌&&◌, Option, None, Some, is_some, if◌then◌else◌, nat_eq, nat_lt, nat_le}
+use Rattle.std.specs.List.{list_all, list_any}
+use lib.Pointwise.{pointwise}
+use Rattle.match_text.specs.Flags.{flag_list, flag_text, flag_union, flags_of_texts, flags_without}
+use Rattle.message_text.specs.Addresses.{AddrSpec, addresses_of}
+use Rattle.sieve_base.specs.Limits.{action_limit, mailbox_limit, value_limit}
+use Rattle.sieve_reading.specs.Reading.{Leaf, keep_leaf, fileinto_leaf, redirect_leaf, discard_leaf, set_leaf, flag_leaf, include_leaf}
+use Rattle.sieve_reading.specs.declared.reading.FlagChange.{FlagChange}
+use Rattle.sieve_reading.specs.declared.reading.FlagChange.TheVariants as change
+use Rattle.sieve_base.specs.declared.name.ScriptName.{ScriptName}
+use Rattle.sieve_effects.specs.declared.action.Action.{Action}
+use Rattle.sieve_effects.specs.declared.action.Action.TheVariants.{Store, Redirect, Discard}
+use Rattle.sieve_effects.specs.declared.error.RunError.{RunError}
+use Rattle.sieve_effects.specs.declared.error.ErrorKind.{ErrorKind}
+use Rattle.sieve_effects.specs.declared.error.ErrorKind.TheVariants.{BadAddress, TooManyActions, TooManyGlobals, BadMailbox}
+use Rattle.sieve_effects.specs.Delivery.{Delivery}
+use Rattle.sieve_effects.specs.State.{RunState}
+use Rattle.sieve_variables.specs.Modifier.{modified}
+use Rattle.sieve_variables.specs.declared.modifier.Modifiers.{Modifiers}
+use Rattle.sieve_variables.specs.Part.{Part}
+use Rattle.sieve_variables.specs.Value.{has_room_for, text_value, variable_value, with_variable}
+use Rattle.sieve_variables.specs.Variable.{Variable}
+
+-- How a list of commands ends: it goes on behind it, its script ended by `return` (RFC 6609, section 3.3), or the run ended, by
+-- `stop` (RFC 5228, section 3.3) or by an error.
+pub data Ending : Type 0 where
+  goes_on : (state : RunState) → Ending
+  returned : (state : RunState) → Ending
+  stopped : (state : RunState) → Ending
+  failed : (error : RunError) (state : RunState) → Ending
+
+-- the state behind it
+abbrev pub state_behind : Ending → RunState
+state_behind (goes_on state) = state
+state_behind (returned state) = state
+state_behind (stopped state) = state
+state_behind (failed error state) = state
+
+-- ACTIONS
+
+-- whether two actions are one: stores into one mailbox (RFC 5228, section 2.10.3), redirects to one address, octet for octet, and
+-- discards
+abbrev pub same_action : Action → Action → Bool
+same_action (Store mailbox flags) (Store other there) = pointwise nat_eq mailbox other
+same_action (Store mailbox flags) (Redirect other) = false
+same_action (Store mailbox flags) Discard = false
+same_action (Redirect address) (Store other there) = false
+same_action (Redirect address) (Redirect other) = pointwise nat_eq address other
+same_action (Redirect address) Discard = false
+same_action Discard (Store other there) = false
+same_action Discard (Redirect other) = false
+same_action Discard Discard = true
+
+-- A store into a mailbox that is stored into already brings its flags to that store; other actions bring nothing. RFC 5232, section
+-- 5, lets the last list of flags stand in place of the union.
+abbrev pub with_flags_of : Action → Action → Action
+with_flags_of (Store mailbox flags) (Store other there) = Store other (flag_union there flags)
+with_flags_of (Store mailbox flags) (Redirect other) = Redirect other
+with_flags_of (Store mailbox flags) Discard = Discard
+with_flags_of (Redirect address) other = other
+with_flags_of Discard other = other
+
+-- an action that is there, joined with one that is performed, where the two are one
+abbrev pub joined_with : Action → Action → Action
+joined_with action there = if same_action action there then with_flags_of action there else there
+
+-- what becomes of the actions of a run where one is performed: they are then these, or there is one too many
+pub data Performed : Type 0 where
+  performed : (actions : List Action) → Performed
+  one_too_many : Performed
+
+-- one that is there already adds no entry, and none is taken away (RFC 5228, sections 2.10.1 and 2.10.3); past so many there is one
+-- too many (section 2.10.4)
+abbrev pub with_action : Action → List Action → Performed
+with_action action actions =
+    if list_any (same_action action) actions then performed (map (joined_with action) actions) else
+    if nat_lt (length actions) action_limit then performed (actions ++ action ∷ []) else one_too_many
+
+-- WHAT COMMANDS DO
+
+-- an error of the script that runs, at a line of it (RFC 5228, section 2.10.6)
+abbrev pub fails_at : Delivery → ℕ → ErrorKind → RunState → Ending
+fails_at delivery line kind state = failed (record { script = delivery.script; line = line; kind = kind }) state
+
+-- an action takes the place of the implicit keep (RFC 5228, section 2.10.2)
+abbrev pub ends_with : Delivery → ℕ → Performed → RunState → Ending
+ends_with delivery line (performed actions) state = goes_on (record state { actions = actions; cancelled = true })
+ends_with delivery line one_too_many state = fails_at delivery line TooManyActions state
+
+-- a command performs an action
+abbrev pub performs : Delivery → ℕ → Action → RunState → Ending
+performs delivery line action state = ends_with delivery line (with_action action state.actions) state
+
+-- no control character of ASCII
+abbrev pub is_no_control : ℕ → Bool
+is_no_control b = nat_le (octet_of " ") b && not (nat_eq b 127)
+
+-- a name of a mailbox (RFC 5228, section 4.1, leaves open which there are): one to 255 octets, of which none is a control character
+abbrev pub is_mailbox : List ℕ → Bool
+is_mailbox name = nat_lt 0 (length name) && (nat_le (length name) mailbox_limit && list_all is_no_control name)
+
+-- the one address, where it has a local part and a domain (RFC 5228, section 2.4.2.3)
+abbrev pub whole_address : AddrSpec → Option (List ℕ)
+whole_address address = if is_some address.local_part && is_some address.domain then Some address.all else None
+
+abbrev pub only_address : List AddrSpec → Option (List ℕ)
+only_address [] = None
+only_address (one ∷ []) = whole_address one
+only_address (one ∷ two ∷ more) = None
+
+-- to the mailbox of that name, where it may have it (RFC 5228, section 4.1)
+abbrev pub files : Delivery → ℕ → (name : List ℕ) → (flags : List (List ℕ)) → RunState → Ending
+files delivery line name flags state = if is_mailbox name then performs delivery line (Store name flags) state else fails_at delivery line BadMailbox state
+
+-- to an address, where there is one (RFC 5228, section 4.2)
+abbrev pub redirects : Delivery → ℕ → Option (List ℕ) → RunState → Ending
+redirects delivery line None state = fails_at delivery line BadAddress state
+redirects delivery line (Some address) state = performs delivery line (Redirect address) state
+
+-- FLAGS
+
+-- the flags that strings name (RFC 5232, section 2)
+abbrev pub flags_named : RunState → List (List Part) → List (List ℕ)
+flags_named state texts = flags_of_texts (map (text_value state.values) texts)
+
+-- the flags of what is stored: those that are named, or else the internal ones as they are then (RFC 5232, section 5)
+abbrev pub stored_flags : RunState → Option (List (List Part)) → List (List ℕ)
+stored_flags state None = state.flags
+stored_flags state (Some texts) = flags_named state texts
+
+-- flags after a command that names some: setflag (RFC 5232, section 3.1), addflag (section 3.2) and removeflag (section 3.3)
+abbrev pub changed_flags : FlagChange → List (List ℕ) → (named : List (List ℕ)) → List (List ℕ)
+changed_flags change.Set flags named = named
+changed_flags change.Add flags named = flag_union flags named
+changed_flags change.Remove flags named = flags_without flags named
+
+-- what a variable holds of flags; like each value it has a limit (RFC 5229, section 6)
+abbrev pub held_flags : List (List ℕ) → List ℕ
+held_flags flags = take value_limit (flag_text flags)
+
+-- VARIABLES
+
+-- a variable gets a value (RFC 5229, section 4), where there is room for it (section 6)
+abbrev pub gives : Delivery → ℕ → Variable → List ℕ → RunState → Ending
+gives delivery line variable value state =
+    if has_room_for variable state.values then goes_on (record state { values = with_variable variable value state.values }) else fails_at delivery line TooManyGlobals state
+
+-- a command changes the internal flags, or those that the value of a variable is read as (RFC 5232, section 3)
+abbrev pub changes : Delivery → ℕ → FlagChange → Option Variable → List (List Part) → RunState → Ending
+changes delivery line how None texts state = goes_on (record state { flags = changed_flags how state.flags (flags_named state texts) })
+changes delivery line how (Some variable) texts state = gives delivery line variable (held_flags (changed_flags how (flag_list (variable_value state.values variable)) (flags_named state texts))) state
+
+-- WHAT COMMANDS DO THAT ACT
+
+-- keep stores into the delivery's mailbox (RFC 5228, section 4.3)
+abbrev pub keeps : Delivery → Option (List (List Part)) → ℕ → RunState → Ending
+keeps delivery flags line state = performs delivery line (Store delivery.envelope.mailbox (stored_flags state flags)) state
+
+-- fileinto stores into the mailbox that it names (RFC 5228, section 4.1)
+abbrev pub files_into : Delivery → List Part → Option (List (List Part)) → ℕ → RunState → Ending
+files_into delivery mailbox flags line state = files delivery line (text_value state.values mailbox) (stored_flags state flags) state
+
+-- redirect sends the message on to an address (RFC 5228, section 4.2)
+abbrev pub sends : Delivery → List Part → ℕ → RunState → Ending
+sends delivery address line state = redirects delivery line (only_address (addresses_of (text_value state.values address))) state
+
+-- discard discards it (RFC 5228, section 4.4)
+abbrev pub discards : Delivery → ℕ → RunState → Ending
+discards delivery line state = performs delivery line Discard state
+
+-- set gives a variable a value (RFC 5229, section 4)
+abbrev pub sets : Delivery → Variable → Modifiers → List Part → ℕ → RunState → Ending
+sets delivery variable modifiers value line state = gives delivery line variable (modified modifiers (text_value state.values value)) state
+
+-- What a command does that acts, where `include` says what an include does: setflag, addflag and removeflag change flags (RFC 5232,
+-- section 3).
+abbrev pub act_by : (include : ScriptName → (once optional : Bool) → ℕ → RunState → Ending) → Delivery → Leaf → ℕ → RunState → Ending
+act_by include delivery (keep_leaf flags) line state = keeps delivery flags line state
+act_by include delivery (fileinto_leaf mailbox flags) line state = files_into delivery mailbox flags line state
+act_by include delivery (redirect_leaf address) line state = sends delivery address line state
+act_by include delivery discard_leaf line state = discards delivery line state
+act_by include delivery (set_leaf variable modifiers value) line state = sets delivery variable modifiers value line state
+act_by include delivery (flag_leaf how variable flags) line state = changes delivery line how variable flags state
+act_by include delivery (include_leaf place once optional name) line state = include (record { place = place; name = name }) once optional line state

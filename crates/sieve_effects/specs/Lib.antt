@@ -1,0 +1,6 @@
+pub mod Act
+pub mod Delivery
+pub mod ErrorKind
+pub mod Matching
+pub mod State
+pub mod view

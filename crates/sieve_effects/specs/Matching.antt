@@ -1,0 +1,141 @@
+-- What tests find in a delivery: fields, addresses and parts of the envelope by name, and whether a value matches a key (RFC 5228,
+-- sections 2.7 and 5).
+use Rattle.std.specs.Prelude.{ℕ, Bool, List, [], ◌∷◌, Option, None, Some, is_some, map, filter, length, nat_lt, if◌then◌else◌, codes}
+use Rattle.std.specs.List.{filter_map, flat_map, list_any, list_all}
+use Rattle.std.specs.Option.{option_or}
+use Rattle.std.specs.Str.{str_eq_ignore_ascii_case}
+use Rattle.match_text.specs.Comparator.{same, is_part, ascii_casemap, fold_of}
+use Rattle.match_text.specs.Flags.{flag_keys_of_texts, flag_list}
+use Rattle.match_text.specs.Wildcard.{matched}
+use Rattle.match_text.specs.declared.comparators.Collation.{Collation}
+use Rattle.message_text.specs.Addresses.{AddrSpec, part_of, addresses_of, envelope_address_of}
+use Rattle.message_text.specs.Fields.{Field, fields_of}
+use Rattle.message_text.specs.declared.addressing.AddressPart.{AddressPart}
+use Rattle.sieve_reading.specs.Reading.{Source, header_values, address_values, envelope_values, string_values, flag_values, Ask, compares, exists_ask, over_ask, under_ask}
+use Rattle.sieve_reading.specs.declared.reading.MatchType.{MatchType}
+use Rattle.sieve_reading.specs.declared.reading.MatchType.TheVariants.{Is, Contains, Matches}
+use Rattle.sieve_table.specs.Address.{is_address_field}
+use Rattle.sieve_effects.specs.Delivery.{Delivery}
+use Rattle.sieve_effects.specs.State.{RunState}
+use Rattle.sieve_effects.specs.declared.envelope.Envelope.{Envelope}
+use Rattle.sieve_variables.specs.Part.{Part}
+use Rattle.sieve_variables.specs.Value.{Values, text_value, with_matched}
+
+-- Whether a value matches a key (RFC 5228, section 2.7.1), and what `${0}`, `${1}` and so on are behind it (RFC 5229, section 3.2): under `:matches` the
+-- value and what each wildcard took; the other match types set none of them.
+abbrev pub match_of : MatchType → (ℕ → ℕ) → List ℕ → List ℕ → Option (List (List ℕ))
+match_of Is fold value key = if same fold value key then Some [] else None
+match_of Contains fold value key = if is_part fold value key then Some [] else None
+match_of Matches fold value key = matched fold value key
+
+-- a value and a key to compare
+pub record Pair : Type 0 where
+  pub value : List ℕ
+  pub key : List ℕ
+
+-- whether a field has that name; names of fields ignore the case of ASCII (RFC 5228, section 2.4.2.2)
+abbrev pub is_field_named : List ℕ → Field → Bool
+is_field_named name field = same ascii_casemap field.name name
+
+-- the values of the fields of that name, in order
+abbrev pub values_named : List Field → List ℕ → List (List ℕ)
+values_named fields name = map (λ field. field.value) (filter (is_field_named name) fields)
+
+-- a value with each key
+abbrev pub pairs_with : List (List ℕ) → List ℕ → List Pair
+pairs_with keys value = map (λ key. record { value = value; key = key }) keys
+
+-- the part of each of some addresses; one that lacks the part gives nothing (RFC 5228, section 2.7.4)
+abbrev pub parts_in : AddressPart → List AddrSpec → List (List ℕ)
+parts_in part addresses = filter_map (part_of part) addresses
+
+-- the parts of the addresses in a value
+abbrev pub parts_of_value : AddressPart → List ℕ → List (List ℕ)
+parts_of_value part value = parts_in part (addresses_of value)
+
+-- the parts of the addresses in the fields of a name, in order; a name that isn't of a field with addresses names nothing (RFC 5228, section 5.1)
+abbrev pub parts_named : AddressPart → List Field → List ℕ → List (List ℕ)
+parts_named part fields name = if is_address_field name then flat_map (parts_of_value part) (values_named fields name) else []
+
+-- the address of an envelope's part: the sender, or the recipient; another name names nothing (RFC 5228, section 5.4)
+abbrev pub envelope_text : Envelope → List ℕ → Option (List ℕ)
+envelope_text envelope name =
+    if str_eq_ignore_ascii_case (codes "from") name then Some envelope.from else
+    if str_eq_ignore_ascii_case (codes "to") name then Some envelope.to else None
+
+abbrev pub parts_of_envelope : AddressPart → Option (List ℕ) → List (List ℕ)
+parts_of_envelope part None = []
+parts_of_envelope part (Some text) = parts_in part (envelope_address_of text ∷ [])
+
+abbrev pub envelope_named : AddressPart → Envelope → List ℕ → List (List ℕ)
+envelope_named part envelope name = parts_of_envelope part (envelope_text envelope name)
+
+-- What a test compares with its keys, by names, then by fields, then by addresses; an absent field gives nothing. Strings stand for
+-- what they do when the test begins.
+abbrev pub values_of : Delivery → RunState → Source → List (List ℕ)
+values_of delivery state (header_values names) = flat_map (values_named (fields_of delivery.message)) (map (text_value state.values) names)
+values_of delivery state (address_values part names) = flat_map (parts_named part (fields_of delivery.message)) (map (text_value state.values) names)
+values_of delivery state (envelope_values part names) = flat_map (envelope_named part delivery.envelope) (map (text_value state.values) names)
+values_of delivery state (string_values texts) = map (text_value state.values) texts
+values_of delivery state (flag_values None) = state.flags
+values_of delivery state (flag_values (Some variables)) = flat_map flag_list (map (text_value state.values) variables)
+
+-- what a test compares values with: its keys; those of flags are cut at spaces (RFC 5232, section 4)
+abbrev pub keys_from : Source → List (List ℕ) → List (List ℕ)
+keys_from (header_values names) texts = texts
+keys_from (address_values part names) texts = texts
+keys_from (envelope_values part names) texts = texts
+keys_from (string_values strings) texts = texts
+keys_from (flag_values variables) texts = flag_keys_of_texts texts
+
+abbrev pub keys_of : RunState → Source → List (List Part) → List (List ℕ)
+keys_of state source keys = keys_from source (map (text_value state.values) keys)
+
+-- each value with each key, in this order (RFC 5228, section 5.7)
+abbrev pub pairs_of : List (List ℕ) → List (List ℕ) → List Pair
+pairs_of values keys = flat_map (pairs_with keys) values
+
+-- whether a field of that name is there (RFC 5228, section 5.5)
+abbrev pub has_field : List Field → List ℕ → Bool
+has_field fields name = list_any (is_field_named name) fields
+
+-- the answer of the first that has one
+abbrev pub first_some : {X Y : Type 0} → (X → Option Y) → List X → Option Y
+first_some f [] = None
+first_some f (x ∷ xs) = option_or (f x) (first_some f xs)
+
+-- what the first pair that matches gives (RFC 5228, section 5.7)
+abbrev pub first_match : MatchType → (ℕ → ℕ) → List Pair → Option (List (List ℕ))
+first_match match_type fold pairs = first_some (λ pair. match_of match_type fold pair.value pair.key) pairs
+
+-- what a test finds that compares values with keys
+unfoldable pub match_found : Delivery → RunState → Source → MatchType → Collation → List (List Part) → Option (List (List ℕ))
+match_found delivery state source match_type collation keys = first_match match_type (fold_of collation) (pairs_of (values_of delivery state source) (keys_of state source keys))
+
+-- Whether what a test asks is so: header, address, envelope, string and hasflag, where some pair matches (RFC 5228, sections 5.7, 5.1
+-- and 5.4; RFC 5229, section 5; RFC 5232, section 4), exists (RFC 5228, section 5.5), size (section 5.9), where a message of exactly
+-- the limit's octets is neither over nor under it.
+unfoldable pub truth_of : Delivery → RunState → Ask → Bool
+truth_of delivery state (compares source match_type collation keys) = is_some (match_found delivery state source match_type collation keys)
+truth_of delivery state (exists_ask names) = list_all (has_field (fields_of delivery.message)) (map (text_value state.values) names)
+truth_of delivery state (over_ask limit) = nat_lt limit (length delivery.message)
+truth_of delivery state (under_ask limit) = nat_lt (length delivery.message) limit
+
+-- under `:matches`, the match variables are what the first pair that matches gives; where none does, and under the other match
+-- types, they stay (RFC 5229, section 3.2)
+abbrev pub with_found : MatchType → Option (List (List ℕ)) → Values → Values
+with_found Matches (Some matched) values = with_matched matched values
+with_found Matches None values = values
+with_found Is found values = values
+with_found Contains found values = values
+
+-- the variables behind what a test asks
+unfoldable pub values_behind : Delivery → RunState → Ask → Values
+values_behind delivery state (compares source match_type collation keys) = with_found match_type (match_found delivery state source match_type collation keys) state.values
+values_behind delivery state (exists_ask names) = state.values
+values_behind delivery state (over_ask limit) = state.values
+values_behind delivery state (under_ask limit) = state.values
+
+-- the state behind what a test asks: match variables are set at most
+abbrev pub behind_test : Delivery → Ask → RunState → RunState
+behind_test delivery ask state = record state { values = values_behind delivery state ask }

@@ -1,0 +1,54 @@
+-- What tests find in one value, one field and one name.
+use Rattle.std.specs.Prelude.{ℕ, Bool, true, List, Option, None, Some, if◌then◌else◌}
+use Rattle.std.specs.Option.{option_and_then}
+use Rattle.message_text.specs.Addresses.{AddrSpec, addresses_of, envelope_address_of, part_of}
+use Rattle.message_text.specs.Fields.{Field}
+use Rattle.message_text.specs.declared.addressing.AddressPart.{AddressPart}
+use Rattle.sieve_reading.specs.Reading.{Source, address_values, header_values}
+use Rattle.sieve_variables.specs.Part.{Part}
+use Rattle.sieve_variables.specs.view.Value.{octets_of_each}
+use Rattle.sieve_table.specs.Address.{is_address_field}
+use Rattle.sieve_effects.specs.Matching.{envelope_text, first_match, first_some, is_field_named, pairs_with}
+use Rattle.match_text.specs.Comparator.{fold_of}
+use Rattle.sieve_effects.specs.declared.comparison.Comparison.{Comparison}
+use Rattle.sieve_effects.specs.declared.envelope.Envelope.{Envelope}
+
+-- what the first key gives that a value matches
+abbrev pub found_with : Comparison → List ℕ → Option (List (List ℕ))
+found_with comparison value = first_match comparison.match_type (fold_of comparison.collation) (pairs_with (octets_of_each comparison.keys.now) value)
+
+-- from where values are taken: all of the values of fields, or a part of the addresses in them
+abbrev pub field_source : Option AddressPart → List (List Part) → Source
+field_source None names = header_values names
+field_source (Some part) names = address_values part names
+
+-- whether fields of that name are looked at
+abbrev pub is_looked_at : Option AddressPart → List ℕ → Bool
+is_looked_at None name = true
+is_looked_at (Some part) name = is_address_field name
+
+-- where `find` says what a value that matches gives
+module _ (find : List ℕ → Option (List (List ℕ))) where
+  -- a part of an address that is there
+  abbrev pub part_found : AddressPart → AddrSpec → Option (List (List ℕ))
+  part_found part address = option_and_then find (part_of part address)
+
+  -- that part of an envelope's address, and of the address in the envelope's part of a name
+  abbrev pub path_found : AddressPart → List ℕ → Option (List (List ℕ))
+  path_found part text = part_found part (envelope_address_of text)
+
+  abbrev pub path_name_found : AddressPart → Envelope → List ℕ → Option (List (List ℕ))
+  path_name_found part envelope name = option_and_then (path_found part) (envelope_text envelope name)
+
+  -- all of a value, or that part of the addresses in it
+  abbrev pub value_found : Option AddressPart → List ℕ → Option (List (List ℕ))
+  value_found None value = find value
+  value_found (Some part) value = first_some (part_found part) (addresses_of value)
+
+  -- the value of a field, where it has that name
+  abbrev pub field_found : Option AddressPart → List ℕ → Field → Option (List (List ℕ))
+  field_found part name field = if is_field_named name field then value_found part field.value else None
+
+  -- the values of the fields of a name, where they are looked at
+  abbrev pub name_found : Option AddressPart → List Field → List ℕ → Option (List (List ℕ))
+  name_found part fields name = if is_looked_at part name then first_some (field_found part name) fields else None

@@ -1,0 +1,224 @@
+//! What commands do that act (RFC 5228, section 4).
+ghost use Rattle.std.specs.Prelude.{◌≡◌, IfOk, map};
+ghost use Rattle.std.specs.List.{list_all};
+ghost use Rattle.std.specs.Option.{option_map};
+ghost use Rattle.message_text.specs.Addresses.{addresses_of};
+ghost use Rattle.sieve_effects.specs.Act.{discards, files_into, gives, is_mailbox, is_no_control, keeps, only_address, performs, sends, sets, whole_address};
+ghost use Rattle.sieve_effects.specs.view.Delivery.{delivery_as};
+ghost use Rattle.sieve_effects.specs.view.Flow.{ending_by};
+ghost use Rattle.sieve_effects.specs.view.Acting.{mailbox_named};
+ghost use Rattle.sieve_effects.specs.view.State.{state_of};
+ghost use Rattle.sieve_variables.specs.Modifier.{modified};
+ghost use Rattle.sieve_variables.specs.Value.{text_value};
+ghost use Rattle.sieve_variables.specs.view.Part.{part_of, strings_of, variable_of};
+
+use crate::action::Action;
+use crate::delivery::Delivery;
+use crate::error::ErrorKind;
+use crate::flagging::stored_flags;
+use crate::flow::{Flow, fail};
+use crate::performed::add_action;
+use crate::state::State;
+use message_text::{Address, AddressPart, addresses};
+use sieve_base::Octets;
+use sieve_base::limits::MAX_MAILBOX;
+use sieve_variables::{Modifiers, Part, Parts, Values, Variable};
+use std::alloc::AllocError;
+
+/// Performs an action, which takes the place of the implicit keep (RFC 5228, section 2.10.2).
+fn perform(
+    delivery: &Delivery<'_>,
+    action: Action,
+    line: u64,
+    state: &mut State,
+) -> Result<Flow, AllocError>
+    ensures { IfOk result (λ flow. ending_by flow (state_of state.new) ≡ performs (delivery_as delivery.now) line action (state_of state.old)) }
+{
+    if add_action(delivery.alloc, &mut state.actions, action)? {
+        state.cancelled = true;
+        Ok(Flow::GoesOn)
+    } else {
+        fail(delivery, line, ErrorKind::TooManyActions)
+    }
+}
+
+/// Stores into the mailbox of the delivery (RFC 5228, section 4.3), with the flags that are named or else the internal ones (RFC 5232,
+/// section 5). One action too many is an error of the script (RFC 5228, section 2.10.4). Fails where memory is refused.
+pub fn keep(
+    delivery: &Delivery<'_>,
+    flags: &Option<Vec<Parts>>,
+    line: u64,
+    state: &mut State,
+) -> Result<Flow, AllocError>
+    ensures { IfOk result (λ flow. ending_by flow (state_of state.new) ≡ keeps (delivery_as delivery.now) (option_map (λ given. strings_of given.items) flags.now) line (state_of state.old)) }
+{
+    let mailbox = Octets::copied(delivery.alloc, delivery.envelope.mailbox.as_slice())?;
+    let flags = stored_flags(delivery, &*state, flags)?;
+    perform(delivery, Action::Store { mailbox, flags }, line, state)
+}
+
+/// Discards the message (RFC 5228, section 4.4). One action too many is an error of the script (section 2.10.4). Fails where memory is refused.
+pub fn discard(delivery: &Delivery<'_>, line: u64, state: &mut State) -> Result<Flow, AllocError>
+    ensures { IfOk result (λ flow. ending_by flow (state_of state.new) ≡ discards (delivery_as delivery.now) line (state_of state.old)) }
+{
+    perform(delivery, Action::Discard, line, state)
+}
+
+/// Whether an octet is no control character of ASCII.
+fn is_no_control(octet: u8) -> bool
+    ensures { result ≡ is_no_control octet }
+{
+    octet >= b' ' && octet != 127
+}
+
+/// Whether none of these octets is a control character of ASCII.
+fn has_no_control(name: &[u8]) -> bool
+    ensures { result ≡ list_all is_no_control name.now }
+{
+    name.iter().all(|octet| is_no_control(*octet))
+}
+
+/// Whether it is a name that a mailbox may have.
+fn is_mailbox(name: &[u8]) -> bool
+    ensures { result ≡ is_mailbox name.now }
+{
+    !name.is_empty() && name.len() <= MAX_MAILBOX && has_no_control(name)
+}
+
+/// The mailbox that a string names, where it is one.
+fn mailbox_named(
+    delivery: &Delivery<'_>,
+    values: &Values,
+    mailbox: &[Part],
+) -> Result<Option<Octets>, AllocError>
+    ensures { IfOk result (λ name. name ≡ mailbox_named values.now (map part_of mailbox.now)) }
+{
+    let name = values.expanded_string(delivery.alloc, mailbox)?;
+    if is_mailbox(name.as_slice()) {
+        Ok(Some(Octets::copied(delivery.alloc, name.as_slice())?))
+    } else {
+        Ok(None)
+    }
+}
+
+/// Stores into the mailbox of that name (RFC 5228, section 4.1), with the flags that are named or else the internal ones (RFC 5232,
+/// section 5). A name that no mailbox may have is an error of the script, and so is one action too many (RFC 5228, section 2.10.4).
+/// Fails where memory is refused.
+#[tactic(auto, using(crate::proofs::Named::filing))]
+pub fn file_into(
+    delivery: &Delivery<'_>,
+    mailbox: &[Part],
+    flags: &Option<Vec<Parts>>,
+    line: u64,
+    state: &mut State,
+) -> Result<Flow, AllocError>
+    ensures { IfOk result (λ flow. ending_by flow (state_of state.new) ≡ files_into (delivery_as delivery.now) (map part_of mailbox.now) (option_map (λ given. strings_of given.items) flags.now) line (state_of state.old)) }
+{
+    match mailbox_named(delivery, &state.values, mailbox)? {
+        Some(mailbox) => {
+            let flags = stored_flags(delivery, &*state, flags)?;
+            perform(delivery, Action::Store { mailbox, flags }, line, state)
+        }
+        None => fail(delivery, line, ErrorKind::BadMailbox),
+    }
+}
+
+/// All of an address that has a local part and a domain.
+fn whole_address(address: &Address) -> Option<&[u8]>
+    ensures { option_map (λ octets. octets.now) result ≡ whole_address address.now }
+{
+    if address.part(AddressPart::Local).is_some() && address.part(AddressPart::Domain).is_some() {
+        address.part(AddressPart::All)
+    } else {
+        None
+    }
+}
+
+/// The one address, where it has a local part and a domain.
+fn only_address(found: &[Address]) -> Option<&[u8]>
+    ensures { option_map (λ octets. octets.now) result ≡ only_address found.now }
+{
+    match found {
+        [one] => whole_address(one),
+        _ => None,
+    }
+}
+
+/// The address that a string gives, where it gives one with a local part and a domain.
+fn address_named(
+    delivery: &Delivery<'_>,
+    values: &Values,
+    address: &[Part],
+) -> Result<Option<Octets>, AllocError>
+    ensures { IfOk result (λ octets. octets ≡ only_address (addresses_of (text_value values.now (map part_of address.now)))) }
+{
+    let text = values.expanded_string(delivery.alloc, address)?;
+    let found = addresses(delivery.alloc, text.as_slice())?;
+    match only_address(&found) {
+        Some(octets) => Ok(Some(Octets::copied(delivery.alloc, octets)?)),
+        None => Ok(None),
+    }
+}
+
+/// Sends the message on to the address that a string gives (RFC 5228, section 4.2). Where it isn't exactly one, with a local part and a
+/// domain, that is an error of the script, and so is one action too many (section 2.10.4). Fails where memory is refused.
+#[tactic(auto, using(crate::proofs::Named::sending))]
+pub fn redirect(
+    delivery: &Delivery<'_>,
+    address: &[Part],
+    line: u64,
+    state: &mut State,
+) -> Result<Flow, AllocError>
+    ensures { IfOk result (λ flow. ending_by flow (state_of state.new) ≡ sends (delivery_as delivery.now) (map part_of address.now) line (state_of state.old)) }
+{
+    match address_named(delivery, &state.values, address)? {
+        Some(address) => perform(delivery, Action::Redirect { address }, line, state),
+        None => fail(delivery, line, ErrorKind::BadAddress),
+    }
+}
+
+/// The value that a `set` gives (RFC 5229, section 4.1).
+fn value_of(
+    delivery: &Delivery<'_>,
+    values: &Values,
+    modifiers: Modifiers,
+    value: &[Part],
+) -> Result<Octets, AllocError>
+    ensures { IfOk result (λ octets. octets ≡ modified modifiers (text_value values.now (map part_of value.now))) }
+{
+    let text = values.expanded_string(delivery.alloc, value)?;
+    Ok(Octets::from_vec(modifiers.modified(delivery.alloc, text.as_slice())?))
+}
+
+/// Gives a variable a value, where there is room for it (RFC 5229, sections 4 and 6).
+pub(crate) fn give(
+    delivery: &Delivery<'_>,
+    variable: &Variable,
+    value: Octets,
+    line: u64,
+    state: &mut State,
+) -> Result<Flow, AllocError>
+    ensures { IfOk result (λ flow. ending_by flow (state_of state.new) ≡ gives (delivery_as delivery.now) line (variable_of variable.now) value (state_of state.old)) }
+{
+    if !state.values.has_room_for(variable) {
+        return fail(delivery, line, ErrorKind::TooManyGlobals);
+    }
+    state.values.set(delivery.alloc, variable, value)?;
+    Ok(Flow::GoesOn)
+}
+
+/// Gives a variable the value that a `set` says (RFC 5229, section 4); one shared variable too many is an error of the script. Fails where
+/// memory is refused.
+pub fn set(
+    delivery: &Delivery<'_>,
+    variable: &Variable,
+    modifiers: Modifiers,
+    value: &[Part],
+    line: u64,
+    state: &mut State,
+) -> Result<Flow, AllocError>
+    ensures { IfOk result (λ flow. ending_by flow (state_of state.new) ≡ sets (delivery_as delivery.now) (variable_of variable.now) modifiers (map part_of value.now) line (state_of state.old)) }
+{
+    let octets = value_of(delivery, &state.values, modifiers, value)?;
+    give(delivery, variable, octets, line, state)
+}

@@ -1,0 +1,19 @@
+use crate::envelope::Envelope;
+use message_text::Message;
+use sieve_base::ScriptName;
+use std::alloc::Global;
+
+/// What tests and commands know of a delivery (RFC 5228, sections 5 and 4), and where they take memory from.
+#[derive(Clone, Copy)]
+pub struct Delivery<'a> {
+    /// Where memory is taken from.
+    pub alloc: Global,
+    /// The message.
+    pub message: &'a Message,
+    /// Its envelope, and the mailbox that `keep` stores into.
+    pub envelope: &'a Envelope,
+    /// The script that runs.
+    pub script: &'a ScriptName,
+    /// The scripts that include it, each by the one before, from the main script on (RFC 6609, section 3.2).
+    pub including: &'a [&'a ScriptName],
+}

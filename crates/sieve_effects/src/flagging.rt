@@ -1,0 +1,152 @@
+//! What commands do with flags (RFC 5232, sections 3 and 5).
+ghost use Rattle.std.specs.Prelude.{◌≡◌, IfOk, Some, None};
+ghost use Rattle.std.specs.Option.{option_map};
+ghost use Rattle.match_text.specs.Flags.{flag_list};
+ghost use Rattle.sieve_effects.specs.Act.{changed_flags, changes, flags_named, held_flags, stored_flags};
+ghost use Rattle.sieve_effects.specs.view.Delivery.{delivery_as};
+ghost use Rattle.sieve_effects.specs.view.Flow.{ending_by};
+ghost use Rattle.sieve_effects.specs.view.State.{state_of};
+ghost use Rattle.sieve_variables.specs.view.Part.{strings_of, variable_of};
+
+use crate::acting::give;
+use crate::delivery::Delivery;
+use crate::flow::Flow;
+use crate::state::State;
+use match_text::{FlagList, flag_text, flags_of, flags_of_texts, union, without};
+use sieve_base::Octets;
+use sieve_base::limits::MAX_VALUE;
+use sieve_reading::FlagChange;
+use sieve_variables::{Parts, Variable};
+use std::alloc::{AllocError, Global};
+
+/// The flags that strings name (RFC 5232, section 2).
+fn flags_named(
+    delivery: &Delivery<'_>,
+    state: &State,
+    texts: &[Parts],
+) -> Result<FlagList, AllocError>
+    ensures { IfOk result (λ list. list ≡ flags_named (state_of state.now) (strings_of texts.now)) }
+{
+    let texts = state.values.expanded(delivery.alloc, texts)?;
+    flags_of_texts(delivery.alloc, &texts)
+}
+
+/// The flags of what is stored: those that are named, or the internal ones (RFC 5232, section 5).
+pub(crate) fn stored_flags(
+    delivery: &Delivery<'_>,
+    state: &State,
+    texts: &Option<Vec<Parts>>,
+) -> Result<FlagList, AllocError>
+    ensures { IfOk result (λ list. list ≡ stored_flags (state_of state.now) (option_map (λ given. strings_of given.items) texts.now)) }
+{
+    match texts {
+        Some(texts) => flags_named(delivery, state, texts),
+        None => state.flags.copied(delivery.alloc),
+    }
+}
+
+/// Flags after a command that names some.
+fn changed_flags(
+    alloc: Global,
+    change: FlagChange,
+    flags: &FlagList,
+    named: FlagList,
+) -> Result<FlagList, AllocError>
+    ensures { IfOk result (λ list. list ≡ changed_flags change flags.now named) }
+{
+    match change {
+        FlagChange::Set => Ok(named),
+        FlagChange::Add => union(alloc, flags, &named),
+        FlagChange::Remove => without(alloc, flags, &named),
+    }
+}
+
+/// What a variable holds of flags: their text, its first 4,096 octets at most (RFC 5229, section 6).
+#[tactic(auto, unfolding(crate::specs::Act::held_flags))]
+fn held_flags(alloc: Global, flags: &FlagList) -> Result<Octets, AllocError>
+    ensures { IfOk result (λ octets. octets ≡ held_flags flags.now) }
+{
+    let mut text = flag_text(alloc, flags)?;
+    text.truncate(MAX_VALUE);
+    Ok(Octets::from_vec(text))
+}
+
+/// The flags of a value after a command that names some.
+fn changed_list(
+    alloc: Global,
+    change: FlagChange,
+    value: &[u8],
+    named: FlagList,
+) -> Result<FlagList, AllocError>
+    ensures { IfOk result (λ list. list ≡ changed_flags change (flag_list value.now) named) }
+{
+    let flags = flags_of(alloc, value)?;
+    changed_flags(alloc, change, &flags, named)
+}
+
+/// What a variable holds after a command that names some flags.
+fn changed_value(
+    alloc: Global,
+    change: FlagChange,
+    value: &[u8],
+    named: FlagList,
+) -> Result<Octets, AllocError>
+    ensures { IfOk result (λ octets. octets ≡ held_flags (changed_flags change (flag_list value.now) named)) }
+{
+    let flags = changed_list(alloc, change, value, named)?;
+    held_flags(alloc, &flags)
+}
+
+/// Changes the flags that a variable holds.
+fn change_variable(
+    delivery: &Delivery<'_>,
+    change: FlagChange,
+    variable: &Variable,
+    texts: &[Parts],
+    line: u64,
+    state: &mut State,
+) -> Result<Flow, AllocError>
+    ensures { IfOk result (λ flow. ending_by flow (state_of state.new) ≡ changes (delivery_as delivery.now) line change (Some (variable_of variable.now)) (strings_of texts.now) (state_of state.old)) }
+{
+    let named = flags_named(delivery, &*state, texts)?;
+    let value = changed_value(
+        delivery.alloc,
+        change,
+        state.values.variable(variable),
+        named,
+    )?;
+    give(delivery, variable, value, line, state)
+}
+
+/// Changes the internal flags.
+fn change_internal(
+    delivery: &Delivery<'_>,
+    change: FlagChange,
+    texts: &[Parts],
+    line: u64,
+    state: &mut State,
+) -> Result<Flow, AllocError>
+    ensures { IfOk result (λ flow. ending_by flow (state_of state.new) ≡ changes (delivery_as delivery.now) line change None (strings_of texts.now) (state_of state.old)) }
+{
+    let named = flags_named(delivery, &*state, texts)?;
+    state.flags = changed_flags(delivery.alloc, change, &state.flags, named)?;
+    Ok(Flow::GoesOn)
+}
+
+/// Changes the internal flags, or those that a variable holds (RFC 5232, section 3); one shared variable too many is an error of the
+/// script. Fails where memory is refused.
+pub fn change(
+    delivery: &Delivery<'_>,
+    change: FlagChange,
+    variable: &Option<Variable>,
+    texts: &[Parts],
+    line: u64,
+    state: &mut State,
+) -> Result<Flow, AllocError>
+    ensures { IfOk result (λ flow. ending_by flow (state_of state.new) ≡ changes (delivery_as delivery.now) line change (option_map variable_of variable.now) (strings_of texts.now) (state_of state.old)) }
+{
+    match variable {
+        Some(variable) => change_variable(delivery, change, variable, texts, line, state),
+        None => change_internal(delivery, change, texts, line, state),
+    }
+}

@@ -1,0 +1,24 @@
+//! The state of a run (RFC 5228, section 2.10; RFC 5229; RFC 5232, section 2; RFC 6609).
+
+use crate::action::Action;
+use indexmap::IndexMap;
+use match_text::FlagList;
+use sieve_base::ScriptName;
+use sieve_variables::Values;
+
+/// The state of a run. Where a call that may change it fails, it is of no further use.
+#[derive(Drop)]
+pub struct State {
+    /// The actions in their order (RFC 5228, section 2.10).
+    pub actions: Vec<Action>,
+    /// Whether an action took the place of the implicit keep (RFC 5228, section 2.10.2).
+    pub cancelled: bool,
+    /// The names looked up so far, and whether each was there.
+    pub reads: IndexMap<ScriptName, bool>,
+    /// The scripts that were entered, in turn, the main script first (RFC 6609, section 3.2).
+    pub entered: Vec<ScriptName>,
+    /// The variables of the script that runs (RFC 5229, section 3), and those that scripts share (RFC 6609, section 3.4).
+    pub values: Values,
+    /// The internal flags (RFC 5232, section 2).
+    pub flags: FlagList,
+}

@@ -1,0 +1,39 @@
+-- The roles of arguments: which are one, and what they say of their strings.
+use Rattle.std.specs.Prelude.{Bool, true, false, ◌||◌, Option, Some, None, nat_eq}
+use Rattle.sieve_table.specs.declared.row.Role.{Role}
+use Rattle.sieve_table.specs.declared.row.Role.TheVariants as role
+use Rattle.sieve_table.specs.view.Number.{role_number}
+
+abbrev pub same_role : Role → Role → Bool
+same_role a b = nat_eq (role_number a) (role_number b)
+
+-- whether it is that role
+abbrev pub has_role : Role → Option Role → Bool
+has_role wanted None = false
+has_role wanted (Some role) = same_role wanted role
+
+-- The roles of strings that name variables: one that is set (RFC 5229, section 4; RFC 5232, section 3), and some that are read
+-- (RFC 5232, section 4).
+abbrev pub names_variable : Option Role → Bool
+names_variable given = has_role role.NameToSet given || has_role role.NamesToRead given
+
+-- The roles of strings in which references to variables stand for values (RFC 5229, section 3). RFC 5229 leaves out
+-- the names of variables that are set (section 4), and RFC 6609 the names of scripts (section 3.2) and those that are declared (section
+-- 3.4.1). That the strings of `require`, comparators and the names that flag tests read are left out too is this project's choice: they
+-- are known before the script runs.
+abbrev pub is_expanded : Role → Bool
+is_expanded role.Capabilities = false
+is_expanded role.ComparatorName = false
+is_expanded role.FieldNames = true
+is_expanded role.AddressFields = true
+is_expanded role.EnvelopeParts = true
+is_expanded role.Keys = true
+is_expanded role.Limit = false
+is_expanded role.Mailbox = true
+is_expanded role.Address = true
+is_expanded role.Flags = true
+is_expanded role.NameToSet = false
+is_expanded role.NamesToRead = false
+is_expanded role.NamesToDeclare = false
+is_expanded role.ScriptName = false
+is_expanded role.Text = true

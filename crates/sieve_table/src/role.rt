@@ -1,0 +1,52 @@
+//! The roles of arguments: which are one, and what they say of their strings.
+ghost use Rattle.std.specs.Prelude.{◌≡◌};
+ghost use Rattle.sieve_table.specs.Role.{has_role, is_expanded, names_variable, same_role};
+
+use crate::row::Role;
+
+/// Whether two roles are one.
+fn same_role(a: Role, b: Role) -> bool
+    ensures { result ≡ same_role a b }
+{
+    a as u8 == b as u8
+}
+
+/// Whether it is that role.
+pub fn has_role(wanted: Role, role: Option<Role>) -> bool
+    ensures { result ≡ has_role wanted role }
+{
+    match role {
+        Some(role) => same_role(wanted, role),
+        None => false,
+    }
+}
+
+/// Whether strings of that role name variables (RFC 5229, section 4; RFC 5232, sections 3 and 4).
+pub fn names_variable(role: Option<Role>) -> bool
+    ensures { result ≡ names_variable role }
+{
+    has_role(Role::NameToSet, role) || has_role(Role::NamesToRead, role)
+}
+
+/// Whether references to variables stand for values in strings of that role (RFC 5229, section 3).
+pub fn is_expanded(role: Role) -> bool
+    ensures { result ≡ is_expanded role }
+{
+    match role {
+        Role::FieldNames
+        | Role::AddressFields
+        | Role::EnvelopeParts
+        | Role::Keys
+        | Role::Mailbox
+        | Role::Address
+        | Role::Flags
+        | Role::Text => true,
+        Role::Capabilities
+        | Role::ComparatorName
+        | Role::Limit
+        | Role::NameToSet
+        | Role::NamesToRead
+        | Role::NamesToDeclare
+        | Role::ScriptName => false,
+    }
+}
