@@ -1,16 +1,17 @@
 -- How the lines of a report are put together from their pieces.
-use Rattle.std.proofs.Common.{◌≡◌, ℕ, zero, suc, ◌<◌, ◌+◌, List, [], ◌∷◌, ◌++◌, length, take, get_or, slice_get, refl, sym, ap, ◌∙◌, append_assoc, append-nil, Option, None, Some, codes, decimal}
+use Rattle.std.proofs.Common.{◌≡◌, ℕ, List, [], ◌∷◌, ◌++◌, map, refl, sym, ap, ◌∙◌, append_assoc, append-nil, Option, None, Some, codes, decimal}
 use Rattle.std.proofs.lemmas.Grind.{flat_map-append}
-use Rattle.std.proofs.lemmas.List.{take_more}
-use Rattle.sieve_base.specs.Writers.{quoted}
+use Rattle.std.specs.List.{flat_map}
+use Rattle.sieve_base.specs.Writers.{name_text, quoted}
 use Rattle.sieve_check.specs.Judgement.{Judgement, sound, faulty, fault_of, fault_word, judgement_of}
 use Rattle.sieve_check.specs.declared.judged.FaultKind.{FaultKind}
-use Rattle.sieve_effects.specs.ErrorKind.{error_word}
 use Rattle.sieve_effects.specs.declared.envelope.Envelope.{Envelope}
 use Rattle.sieve_base.specs.declared.name.ScriptName.{ScriptName}
 use Rattle.sieve_effects.specs.declared.error.RunError.{RunError}
-use Rattle.sieve_base.specs.Name.{place_word}
-use Rattle.bench.specs.Report.{name_text, judgement_text, envelope_line, script_line, error_line, flag_word, flag_words, total_line}
+use Rattle.sieve_run.specs.Lines.{action_line, error_line, error_lines, implicit_line, implicit_lines, read_line, read_lines, verdict_lines}
+use Rattle.sieve_run.specs.Verdict.{Verdict}
+use Rattle.bench.specs.Report.{judgement_text, envelope_line, indented, script_line, total_line, verdict_text}
+use Rattle.bench.specs.view.Lines.{error_text, implicit_text, verdict_texts}
 
 -- the line of the envelope
 pub envelope_pieces : (envelope : Envelope) (from to mailbox : List ℕ) → from ≡ envelope.from → to ≡ envelope.to → mailbox ≡ envelope.mailbox
@@ -33,38 +34,38 @@ judgement_is (sound tree) = refl
 judgement_is (faulty line kind) = refl
 
 -- the line of a script without a fault
-pub sound_line : (name : ScriptName) (text word octets : List ℕ) (fault : Option (ℕ × FaultKind)) → word ≡ place_word name.place → octets ≡ name.name → fault ≡ fault_of (judgement_of text) → fault ≡ None
-    → script_line (name, text) ≡ codes "script " ++ (word ++ (codes " " ++ (quoted octets ++ (codes " ok\n" ++ []))))
+pub sound_line : (name : ScriptName) (text : List ℕ) (fault : Option (ℕ × FaultKind)) → fault ≡ fault_of (judgement_of text) → fault ≡ None → script_line (name, text) ≡ codes "script " ++ (name_text name ++ (codes " ok\n" ++ []))
 unfolding script_line
-sound_line name text word octets fault w o f is =
+sound_line name text fault f is =
     ap (λ (l : List ℕ). codes "script " ++ name_text name ++ codes " " ++ l ++ codes "\n") (judgement_is (judgement_of text) ∙ ap fault_text (sym f ∙ is))
-    ∙ rw (w, o) (simp append_assoc)
+    ∙ simp append_assoc
 
 -- the line of a script with a fault
-pub faulty_line : (name : ScriptName) (text word octets kind_word : List ℕ) (fault : Option (ℕ × FaultKind)) (line : ℕ) (kind : FaultKind) → word ≡ place_word name.place → octets ≡ name.name → fault ≡ fault_of (judgement_of text) → fault ≡ Some (line, kind) → kind_word ≡ fault_word kind
-    → script_line (name, text) ≡ codes "script " ++ (word ++ (codes " " ++ (quoted octets ++ (codes " line " ++ (decimal line ++ (codes " " ++ (kind_word ++ (codes "\n" ++ []))))))))
+pub faulty_line : (name : ScriptName) (text kind_word : List ℕ) (fault : Option (ℕ × FaultKind)) (line : ℕ) (kind : FaultKind) → fault ≡ fault_of (judgement_of text) → fault ≡ Some (line, kind) → kind_word ≡ fault_word kind
+    → script_line (name, text) ≡ codes "script " ++ (name_text name ++ (codes " line " ++ (decimal line ++ (codes " " ++ (kind_word ++ (codes "\n" ++ []))))))
 unfolding script_line
-faulty_line name text word octets kind_word fault line kind w o f is k =
+faulty_line name text kind_word fault line kind f is k =
     ap (λ (l : List ℕ). codes "script " ++ name_text name ++ codes " " ++ l ++ codes "\n") (judgement_is (judgement_of text) ∙ ap fault_text (sym f ∙ is))
-    ∙ rw (w, o, k) (simp append_assoc)
+    ∙ rw k (simp append_assoc)
 
--- the line of an error
-pub run_error_line : (error : RunError) (word octets kind_word : List ℕ) → word ≡ place_word error.script.place → octets ≡ error.script.name → kind_word ≡ error_word error.kind
-    → error_line (Some error) ≡ codes "  error " ++ (word ++ (codes " " ++ (quoted octets ++ (codes " line " ++ (decimal error.line ++ (codes " " ++ (kind_word ++ (codes "\n" ++ []))))))))
-unfolding error_line
-run_error_line error word octets kind_word w o k = rw (w, o, k) (simp append_assoc)
+-- the lines of a verdict are written in turn
+flat_map-map : {X Y : Type 0} (f : Y → List ℕ) (g : X → Y) (xs : List X) → flat_map f (map g xs) ≡ flat_map (λ x. f (g x)) xs
+flat_map-map f g [] = refl
+flat_map-map f g (x ∷ xs) = ap (λ l. f (g x) ++ l) (flat_map-map f g xs)
 
--- a flag at a place, and those up to it
-flag_at : (flags : List (List ℕ)) (i : ℕ) (flag : List ℕ) → slice_get flags i ≡ Some flag → flag ≡ get_or flags i flag
-flag_at [] i flag at = cc
-flag_at (x ∷ xs) zero flag at = cc
-flag_at (x ∷ xs) (suc i) flag at = flag_at xs i flag at
+implicit_is : (mailbox : List ℕ) (implicit : Option (List (List ℕ))) → flat_map indented (implicit_lines mailbox implicit) ≡ implicit_text mailbox implicit
+implicit_is mailbox None = refl
+implicit_is mailbox (Some flags) = append-nil (indented (implicit_line mailbox flags))
 
-pub flag_there : (flags : List (List ℕ)) (i : ℕ) (flag : List ℕ) → slice_get flags i ≡ Some flag → flag_word flag ≡ flag_word (get_or flags i flag)
-flag_there flags i flag at = ap flag_word (flag_at flags i flag at)
+error_is : (error : Option RunError) → flat_map indented (error_lines error) ≡ error_text error
+error_is None = refl
+error_is (Some error) = append-nil (indented (error_line error))
 
-pub flags_more : (flags : List (List ℕ)) (i : ℕ) (flag : List ℕ) → i < length flags → slice_get flags i ≡ Some flag → flag_words (take i flags) ++ flag_word flag ≡ flag_words (take (i + 1) flags)
-flags_more flags i flag below at =
-    ap (λ t. flag_words (take i flags) ++ t) (flag_there flags i flag at)
-    ∙ sym (ap flag_words (take_more flags i flag below) ∙ flat_map-append flag_word (take i flags) (get_or flags i flag ∷ [])
-    ∙ ap (λ t. flag_words (take i flags) ++ t) (append-nil (flag_word (get_or flags i flag))))
+pub verdict_in_turn : (mailbox : List ℕ) (verdict : Verdict) → verdict_text mailbox verdict ≡ verdict_texts mailbox verdict
+unfolding verdict_texts
+verdict_in_turn mailbox verdict =
+    flat_map-append indented (verdict_lines mailbox verdict) (read_lines verdict)
+    ∙ ap (λ l. l ++ flat_map indented (read_lines verdict))
+      (flat_map-append indented (map action_line verdict.actions) (implicit_lines mailbox verdict.implicit ++ error_lines verdict.error)
+      ∙ ap (λ l. flat_map indented (map action_line verdict.actions) ++ l) (flat_map-append indented (implicit_lines mailbox verdict.implicit) (error_lines verdict.error)))
+    ∙ rw (flat_map-map indented action_line verdict.actions, flat_map-map indented read_line verdict.reads, implicit_is mailbox verdict.implicit, error_is verdict.error) (simp append_assoc)

@@ -1,23 +1,15 @@
 -- The text of a report.
-use Rattle.std.specs.Prelude.{ℕ, Bool, true, false, List, [], ◌++◌, length, map, Option, None, Some, is_some, count_by, codes, decimal}
+use Rattle.std.specs.Prelude.{ℕ, List, ◌++◌, length, map, Option, None, Some, is_some, count_by, codes, decimal}
 use Rattle.std.specs.List.{flat_map}
-use Rattle.sieve_base.specs.Writers.{quoted}
+use Rattle.sieve_base.specs.Writers.{name_text, quoted}
 use Rattle.sieve_check.specs.Judgement.{Judgement, judgement_of, sound, faulty, fault_word}
-use Rattle.sieve_base.specs.Name.{place_word}
 use Rattle.sieve_base.specs.declared.name.ScriptName.{ScriptName}
 use Rattle.sieve_effects.specs.declared.envelope.Envelope.{Envelope}
-use Rattle.sieve_effects.specs.declared.action.Action.{Action}
-use Rattle.sieve_effects.specs.declared.action.Action.TheVariants.{Store, Redirect, Discard}
-use Rattle.sieve_effects.specs.declared.error.RunError.{RunError}
-use Rattle.sieve_effects.specs.ErrorKind.{error_word}
 use Rattle.sieve_run.specs.Library.{lookup_of}
+use Rattle.sieve_run.specs.Lines.{read_lines, verdict_lines}
 use Rattle.sieve_run.specs.Run.{outcome_of}
 use Rattle.sieve_run.specs.Verdict.{Verdict}
 use Rattle.bench.specs.Content.{Content, text_at}
-
--- a script's place and its quoted name
-abbrev pub name_text : ScriptName → List ℕ
-name_text name = place_word name.place ++ codes " " ++ quoted name.name
 
 -- the first line: the main script
 unfoldable pub main_line : Option ScriptName → List ℕ
@@ -37,45 +29,17 @@ judgement_text (faulty line kind) = codes "line " ++ decimal line ++ codes " " +
 unfoldable pub script_line : ScriptName × List ℕ → List ℕ
 script_line (name, text) = codes "script " ++ name_text name ++ codes " " ++ judgement_text (judgement_of text) ++ codes "\n"
 
--- a flag behind a space
-abbrev pub flag_word : List ℕ → List ℕ
-flag_word flag = codes " " ++ quoted flag
+-- what stands before each line of a verdict
+unfoldable pub indent : List ℕ
+indent = codes "  "
 
-abbrev pub flag_words : List (List ℕ) → List ℕ
-flag_words flags = flat_map flag_word flags
+-- a line of a verdict in a report
+abbrev pub indented : List ℕ → List ℕ
+indented line = indent ++ line ++ codes "\n"
 
--- a word and a mailbox
-unfoldable pub mailbox_words : List ℕ → List ℕ → List ℕ
-mailbox_words word mailbox = word ++ quoted mailbox
-
--- the line of a word and a mailbox with flags
-unfoldable pub mailbox_line : List ℕ → List ℕ → List (List ℕ) → List ℕ
-mailbox_line word mailbox flags = mailbox_words word mailbox ++ flag_words flags ++ codes "\n"
-
--- the line of an action
-unfoldable pub action_line : Action → List ℕ
-action_line (Store mailbox flags) = mailbox_line (codes "  store ") mailbox flags
-action_line (Redirect address) = codes "  redirect " ++ quoted address ++ codes "\n"
-action_line Discard = codes "  discard\n"
-
--- the line of the implicit keep with its flags, where it stands
-unfoldable pub implicit_line : List ℕ → Option (List (List ℕ)) → List ℕ
-implicit_line mailbox (Some flags) = mailbox_line (codes "  implicit ") mailbox flags
-implicit_line mailbox None = []
-
--- the line of the error, where there is one
-unfoldable pub error_line : Option RunError → List ℕ
-error_line None = []
-error_line (Some error) = codes "  error " ++ name_text error.script ++ codes " line " ++ decimal error.line ++ codes " " ++ error_word error.kind ++ codes "\n"
-
--- the line of a looked-up name, present or missing
-unfoldable pub read_line : ScriptName × Bool → List ℕ
-read_line (name, true) = codes "  read " ++ name_text name ++ codes "\n"
-read_line (name, false) = codes "  read " ++ name_text name ++ codes " missing\n"
-
--- the lines of a verdict
-unfoldable pub verdict_lines : List ℕ → Verdict → List ℕ
-verdict_lines mailbox verdict = flat_map action_line verdict.actions ++ (implicit_line mailbox verdict.implicit ++ (error_line verdict.error ++ flat_map read_line verdict.reads))
+-- the lines of a verdict, and of the names that it looked up
+abbrev pub verdict_text : (mailbox : List ℕ) → Verdict → List ℕ
+verdict_text mailbox verdict = flat_map indented (verdict_lines mailbox verdict ++ read_lines verdict)
 
 -- the first line of a message
 unfoldable pub message_line : List ℕ → List ℕ
@@ -83,7 +47,7 @@ message_line id = codes "message " ++ quoted id ++ codes "\n"
 
 -- the lines of a message with its verdict
 abbrev pub message_lines : List ℕ → List ℕ × Verdict → List ℕ
-message_lines mailbox (id, verdict) = message_line id ++ verdict_lines mailbox verdict
+message_lines mailbox (id, verdict) = message_line id ++ verdict_text mailbox verdict
 
 -- the verdict on a message
 abbrev pub verdict_by : Option ScriptName → Envelope → List (ScriptName × List ℕ) → List ℕ → Verdict

@@ -5,15 +5,16 @@ ghost use Rattle.indexmap.specs.IndexMap.{IsUnique};
 ghost use lib.Pointwise.{pointwise};
 ghost use Rattle.sieve_base.specs.Writers.{Wrote, WroteFront};
 ghost use Rattle.bench.specs.Bench.{RefusedAmong};
-ghost use Rattle.bench.specs.Report.{action_line, read_line, script_line, verdict_by, verdict_lines, message_lines, error_count, total_line, report_with};
+ghost use Rattle.bench.specs.Report.{script_line, verdict_by, message_lines, error_count, total_line, report_with};
+ghost use Rattle.bench.specs.view.Lines.{action_text, read_text, verdict_texts};
 ghost use Rattle.sieve_run.specs.Meter.{runs_after};
 ghost use Rattle.bench.specs.Test.{is_clean_with};
 ghost use Rattle.bench.specs.view.Entry.{KeepsDue, judged_of, messages_of, stale_of};
 
 use crate::entry::Entry;
 use crate::report_lines::{
-    write_action, write_envelope, write_error, write_implicit, write_main, write_message,
-    write_read, write_script, write_total,
+    write_action_line, write_envelope, write_error_line, write_implicit_line, write_main, write_message,
+    write_read_line, write_script, write_total,
 };
 use crate::scripts::Scripts;
 use indexmap::IndexMap;
@@ -50,12 +51,12 @@ pub(crate) fn run_stale(
 /// Writes the lines of the actions.
 #[tactic(auto, using(crate::proofs::Writing::writing))]
 fn write_actions<W: Sink>(outcome: &Outcome, writer: &mut W) -> Result<(), WriteFault>
-    ensures ok { OnOk result (Wrote W.contents W.fault_count writer.old writer.new (flat_map action_line outcome.now.actions)) }
-    ensures err { OnErr result (WroteFront W.contents W.fault_count writer.old writer.new (flat_map action_line outcome.now.actions)) }
+    ensures ok { OnOk result (Wrote W.contents W.fault_count writer.old writer.new (flat_map action_text outcome.now.actions)) }
+    ensures err { OnErr result (WroteFront W.contents W.fault_count writer.old writer.new (flat_map action_text outcome.now.actions)) }
 {
     let actions = outcome.actions();
     for action in actions {
-        write_action(action, writer)?;
+        write_action_line(action, writer)?;
     }
     Ok(())
 }
@@ -63,12 +64,12 @@ fn write_actions<W: Sink>(outcome: &Outcome, writer: &mut W) -> Result<(), Write
 /// Writes the lines of the looked-up names.
 #[tactic(auto, using(crate::proofs::Writing::writing))]
 fn write_reads<W: Sink>(outcome: &Outcome, writer: &mut W) -> Result<(), WriteFault>
-    ensures ok { OnOk result (Wrote W.contents W.fault_count writer.old writer.new (flat_map read_line outcome.now.reads)) }
-    ensures err { OnErr result (WroteFront W.contents W.fault_count writer.old writer.new (flat_map read_line outcome.now.reads)) }
+    ensures ok { OnOk result (Wrote W.contents W.fault_count writer.old writer.new (flat_map read_text outcome.now.reads)) }
+    ensures err { OnErr result (WroteFront W.contents W.fault_count writer.old writer.new (flat_map read_text outcome.now.reads)) }
 {
     let reads = outcome.reads();
     for (name, is_present) in reads {
-        write_read(name, *is_present, writer)?;
+        write_read_line(name, *is_present, writer)?;
     }
     Ok(())
 }
@@ -91,12 +92,12 @@ fn write_verdict<W: Sink>(
     outcome: &Outcome,
     writer: &mut W,
 ) -> Result<(), WriteFault>
-    ensures ok { OnOk result (Wrote W.contents W.fault_count writer.old writer.new (verdict_lines envelope.now.mailbox outcome.now)) }
-    ensures err { OnErr result (WroteFront W.contents W.fault_count writer.old writer.new (verdict_lines envelope.now.mailbox outcome.now)) }
+    ensures ok { OnOk result (Wrote W.contents W.fault_count writer.old writer.new (verdict_texts envelope.now.mailbox outcome.now)) }
+    ensures err { OnErr result (WroteFront W.contents W.fault_count writer.old writer.new (verdict_texts envelope.now.mailbox outcome.now)) }
 {
     write_actions(outcome, writer)?;
-    write_implicit(envelope, outcome, writer)?;
-    write_error(outcome, writer)?;
+    write_implicit_line(envelope, outcome, writer)?;
+    write_error_line(outcome, writer)?;
     write_reads(outcome, writer)
 }
 

@@ -1,10 +1,14 @@
 ghost use Rattle.std.specs.Prelude.{◌≡◌, OnOk, OnErr};
 ghost use Rattle.std.specs.Option.{option_copied};
 ghost use Rattle.sieve_base.specs.Writers.{Wrote, WroteFront};
-ghost use Rattle.bench.specs.Report.{main_line, envelope_line, script_line, flag_word, flag_words, mailbox_words, mailbox_line, action_line, implicit_line, error_line, read_line, message_line, total_line};
+ghost use Rattle.bench.specs.Report.{main_line, envelope_line, script_line, indent, indented, message_line, total_line};
+ghost use Rattle.bench.specs.view.Lines.{action_text, error_text, implicit_text, read_text};
+ghost use Rattle.sieve_run.specs.Lines.{error_line, implicit_line};
 
 use sieve_base::{Octets, Piece, ScriptName, Sink, WriteFault, write_out, write_pieces};
-use sieve_run::{Action, Envelope, FlagList, Outcome, Script};
+use sieve_run::{
+    Action, Envelope, FlagList, Outcome, RunError, Script, write_action, write_error, write_implicit, write_read,
+};
 
 /// Writes the line of the main script.
 #[tactic(auto, unfolding(crate::specs::Report::main_line))]
@@ -20,9 +24,7 @@ pub(crate) fn write_main<W: Sink>(
         Some(name) => write_pieces(
             &[
                 Piece::Raw(b"main "),
-                Piece::Raw(place_word(name.place)),
-                Piece::Raw(b" "),
-                Piece::Quoted(name.name.as_slice()),
+                Piece::Name(name),
                 Piece::Raw(b"\n"),
             ],
             writer,
@@ -62,9 +64,7 @@ pub(crate) fn write_script<W: Sink>(
         None => write_pieces(
             &[
                 Piece::Raw(b"script "),
-                Piece::Raw(place_word(name.place)),
-                Piece::Raw(b" "),
-                Piece::Quoted(name.name.as_slice()),
+                Piece::Name(name),
                 Piece::Raw(b" ok\n"),
             ],
             writer,
@@ -72,9 +72,7 @@ pub(crate) fn write_script<W: Sink>(
         Some((line, kind)) => write_pieces(
             &[
                 Piece::Raw(b"script "),
-                Piece::Raw(place_word(name.place)),
-                Piece::Raw(b" "),
-                Piece::Quoted(name.name.as_slice()),
+                Piece::Name(name),
                 Piece::Raw(b" line "),
                 Piece::Number(line),
                 Piece::Raw(b" "),
@@ -102,137 +100,91 @@ pub(crate) fn write_message<W: Sink>(id: &Octets, writer: &mut W) -> Result<(), 
     )
 }
 
-/// Writes a flag behind a space.
-fn write_flag<W: Sink>(flag: &[u8], writer: &mut W) -> Result<(), WriteFault>
-    ensures ok { OnOk result (Wrote W.contents W.fault_count writer.old writer.new (flag_word flag.now)) }
-    ensures err { OnErr result (WroteFront W.contents W.fault_count writer.old writer.new (flag_word flag.now)) }
+/// Writes what stands before each line of a verdict.
+#[tactic(auto, unfolding(crate::specs::Report::indent))]
+fn write_indent<W: Sink>(writer: &mut W) -> Result<(), WriteFault>
+    ensures ok { OnOk result (Wrote W.contents W.fault_count writer.old writer.new indent) }
+    ensures err { OnErr result (WroteFront W.contents W.fault_count writer.old writer.new indent) }
 {
-    write_pieces(&[Piece::Raw(b" "), Piece::Quoted(flag)], writer)
+    write_out(b"  ", writer)
 }
 
-/// Writes flags, each behind a space.
-#[tactic(auto, using(sieve_base::proofs::Writing::writing_items))]
-fn write_flags<W: Sink>(flags: &FlagList, writer: &mut W) -> Result<(), WriteFault>
-    ensures ok { OnOk result (Wrote W.contents W.fault_count writer.old writer.new (flag_words flags.now)) }
-    ensures err { OnErr result (WroteFront W.contents W.fault_count writer.old writer.new (flag_words flags.now)) }
+/// Writes the line of an action.
+#[tactic(auto, using(sieve_base::proofs::Writing::writing))]
+pub(crate) fn write_action_line<W: Sink>(action: &Action, writer: &mut W) -> Result<(), WriteFault>
+    ensures ok { OnOk result (Wrote W.contents W.fault_count writer.old writer.new (action_text action.now)) }
+    ensures err { OnErr result (WroteFront W.contents W.fault_count writer.old writer.new (action_text action.now)) }
 {
-    for i in 0..flags.len() {
-        write_flag(flags.get(i), writer)?;
-    }
-    Ok(())
+    write_indent(writer)?;
+    write_action(action, writer)?;
+    write_out(b"\n", writer)
 }
 
-/// Writes a word and a mailbox.
-#[tactic(auto, unfolding(crate::specs::Report::mailbox_words))]
-fn write_mailbox<W: Sink>(word: &[u8], mailbox: &[u8], writer: &mut W) -> Result<(), WriteFault>
-    ensures ok { OnOk result (Wrote W.contents W.fault_count writer.old writer.new (mailbox_words word.now mailbox.now)) }
-    ensures err { OnErr result (WroteFront W.contents W.fault_count writer.old writer.new (mailbox_words word.now mailbox.now)) }
-{
-    write_pieces(&[Piece::Raw(word), Piece::Quoted(mailbox)], writer)
-}
-
-/// Writes the line of a word and a mailbox with flags.
-#[tactic(auto, using(sieve_base::proofs::Writing::writing), unfolding(crate::specs::Report::mailbox_line))]
-fn write_mailbox_line<W: Sink>(
-    word: &[u8],
+/// Writes the line of the implicit keep with its flags.
+#[tactic(auto, using(sieve_base::proofs::Writing::writing))]
+fn write_kept_line<W: Sink>(
     mailbox: &[u8],
     flags: &FlagList,
     writer: &mut W,
 ) -> Result<(), WriteFault>
-    ensures ok { OnOk result (Wrote W.contents W.fault_count writer.old writer.new (mailbox_line word.now mailbox.now flags.now)) }
-    ensures err { OnErr result (WroteFront W.contents W.fault_count writer.old writer.new (mailbox_line word.now mailbox.now flags.now)) }
+    ensures ok { OnOk result (Wrote W.contents W.fault_count writer.old writer.new (indented (implicit_line mailbox.now flags.now))) }
+    ensures err { OnErr result (WroteFront W.contents W.fault_count writer.old writer.new (indented (implicit_line mailbox.now flags.now))) }
 {
-    write_mailbox(word, mailbox, writer)?;
-    write_flags(flags, writer)?;
+    write_indent(writer)?;
+    write_implicit(mailbox, flags, writer)?;
     write_out(b"\n", writer)
 }
 
-/// Writes the line of an action.
-#[tactic(auto, unfolding(crate::specs::Report::action_line))]
-pub(crate) fn write_action<W: Sink>(action: &Action, writer: &mut W) -> Result<(), WriteFault>
-    ensures ok { OnOk result (Wrote W.contents W.fault_count writer.old writer.new (action_line action.now)) }
-    ensures err { OnErr result (WroteFront W.contents W.fault_count writer.old writer.new (action_line action.now)) }
-{
-    match action {
-        Action::Store { mailbox, flags } => {
-            write_mailbox_line(b"  store ", mailbox.as_slice(), flags, writer)
-        }
-        Action::Redirect { address } => write_pieces(
-            &[
-                Piece::Raw(b"  redirect "),
-                Piece::Quoted(address.as_slice()),
-                Piece::Raw(b"\n"),
-            ],
-            writer,
-        ),
-        Action::Discard => write_pieces(&[Piece::Raw(b"  discard\n")], writer),
-    }
-}
-
-/// Writes the line of the implicit keep with its flags, where it stands.
-#[tactic(auto, unfolding(crate::specs::Report::implicit_line))]
-pub(crate) fn write_implicit<W: Sink>(
+/// Writes the line of the implicit keep, where it stands.
+pub(crate) fn write_implicit_line<W: Sink>(
     envelope: &Envelope,
     outcome: &Outcome,
     writer: &mut W,
 ) -> Result<(), WriteFault>
-    ensures ok { OnOk result (Wrote W.contents W.fault_count writer.old writer.new (implicit_line envelope.now.mailbox outcome.now.implicit)) }
-    ensures err { OnErr result (WroteFront W.contents W.fault_count writer.old writer.new (implicit_line envelope.now.mailbox outcome.now.implicit)) }
+    ensures ok { OnOk result (Wrote W.contents W.fault_count writer.old writer.new (implicit_text envelope.now.mailbox outcome.now.implicit)) }
+    ensures err { OnErr result (WroteFront W.contents W.fault_count writer.old writer.new (implicit_text envelope.now.mailbox outcome.now.implicit)) }
 {
     match outcome.implicit() {
-        Some(flags) => {
-            write_mailbox_line(b"  implicit ", envelope.mailbox.as_slice(), flags, writer)
-        }
-        None => write_pieces(&[], writer),
+        Some(flags) => write_kept_line(envelope.mailbox.as_slice(), flags, writer),
+        None => write_out(b"", writer),
     }
 }
 
+/// Writes the line of an error.
+#[tactic(auto, using(sieve_base::proofs::Writing::writing))]
+fn write_failed_line<W: Sink>(error: &RunError, writer: &mut W) -> Result<(), WriteFault>
+    ensures ok { OnOk result (Wrote W.contents W.fault_count writer.old writer.new (indented (error_line error.now))) }
+    ensures err { OnErr result (WroteFront W.contents W.fault_count writer.old writer.new (indented (error_line error.now))) }
+{
+    write_indent(writer)?;
+    write_error(error, writer)?;
+    write_out(b"\n", writer)
+}
+
 /// Writes the line of the error, where there is one.
-#[tactic(auto, unfolding(crate::specs::Report::error_line))]
-pub(crate) fn write_error<W: Sink>(outcome: &Outcome, writer: &mut W) -> Result<(), WriteFault>
-    ensures ok { OnOk result (Wrote W.contents W.fault_count writer.old writer.new (error_line outcome.now.error)) }
-    ensures err { OnErr result (WroteFront W.contents W.fault_count writer.old writer.new (error_line outcome.now.error)) }
+pub(crate) fn write_error_line<W: Sink>(outcome: &Outcome, writer: &mut W) -> Result<(), WriteFault>
+    ensures ok { OnOk result (Wrote W.contents W.fault_count writer.old writer.new (error_text outcome.now.error)) }
+    ensures err { OnErr result (WroteFront W.contents W.fault_count writer.old writer.new (error_text outcome.now.error)) }
 {
     match outcome.error() {
-        None => write_pieces(&[], writer),
-        Some(error) => write_pieces(
-            &[
-                Piece::Raw(b"  error "),
-                Piece::Raw(place_word(error.script.place)),
-                Piece::Raw(b" "),
-                Piece::Quoted(error.script.name.as_slice()),
-                Piece::Raw(b" line "),
-                Piece::Number(error.line),
-                Piece::Raw(b" "),
-                Piece::Raw(error.kind.word()),
-                Piece::Raw(b"\n"),
-            ],
-            writer,
-        ),
+        Some(error) => write_failed_line(error, writer),
+        None => write_out(b"", writer),
     }
 }
 
 /// Writes the line of a looked-up name.
-#[tactic(auto, unfolding(crate::specs::Report::read_line))]
-pub(crate) fn write_read<W: Sink>(
+#[tactic(auto, using(sieve_base::proofs::Writing::writing))]
+pub(crate) fn write_read_line<W: Sink>(
     name: &ScriptName,
     is_present: bool,
     writer: &mut W,
 ) -> Result<(), WriteFault>
-    ensures ok { OnOk result (Wrote W.contents W.fault_count writer.old writer.new (read_line (name.now, is_present))) }
-    ensures err { OnErr result (WroteFront W.contents W.fault_count writer.old writer.new (read_line (name.now, is_present))) }
+    ensures ok { OnOk result (Wrote W.contents W.fault_count writer.old writer.new (read_text (name.now, is_present))) }
+    ensures err { OnErr result (WroteFront W.contents W.fault_count writer.old writer.new (read_text (name.now, is_present))) }
 {
-    let end: &[u8] = if is_present { b"\n" } else { b" missing\n" };
-    write_pieces(
-        &[
-            Piece::Raw(b"  read "),
-            Piece::Raw(place_word(name.place)),
-            Piece::Raw(b" "),
-            Piece::Quoted(name.name.as_slice()),
-            Piece::Raw(end),
-        ],
-        writer,
-    )
+    write_indent(writer)?;
+    write_read(name, is_present, writer)?;
+    write_out(b"\n", writer)
 }
 
 /// Writes the last line: how many messages there are, and how many of them have an error.

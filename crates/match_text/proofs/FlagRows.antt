@@ -1,5 +1,5 @@
 -- Small lists of flags, computed.
-use Rattle.std.specs.Prelude.{◌≡◌, true, false, [], ◌∷◌, codes, filter, refl}
+use Rattle.std.specs.Prelude.{◌≡◌, true, false, [], ◌∷◌, ◌++◌, codes, filter, refl}
 use Rattle.match_text.specs.Flags.{distinct, flag_keys, flag_keys_of_texts, flag_list, flag_text, flag_union, flags_of_texts, flags_without, is_flag, is_flag_octet}
 
 first_spelling_row : flag_list (codes "\\Seen \\seen") ≡ codes "\\Seen" ∷ []

@@ -12,7 +12,9 @@ use Rattle.sieve_check.specs.Element.{test_arguments}
 use Rattle.sieve_reading.specs.Label.{expecting, fills, is_unfit, labels_from, no_slots, slots_left, slots_of, slots_with}
 use Rattle.sieve_check.specs.Parted.{Cutting, parted_labelled, parted_test, parted_test_list, parted_tests, test_labels}
 use Rattle.sieve_check.specs.Readable.{Joins, test_takes}
-use Rattle.sieve_reading.specs.Reading.{Ask, Source, address_part_of, address_source, address_values, collation_by, compares_by, compares_from, envelope_source, envelope_values, exists_ask, exists_by, flag_source, flag_values, given_texts, given_variable, has_tag, header_source, header_values, in_role, is_tagged, labels_in, literal_in, match_type_of, number_in, over_ask, part_shape, reads_ask, size_by, size_from, string_source, string_values, test_reading_by, text_in, texts_in, under_ask, variable_in}
+use Rattle.sieve_reading.specs.Reading.{Ask, Source, address_values, envelope_values, exists_ask, flag_values, header_values, over_ask, reads_ask, string_values, under_ask}
+use Rattle.sieve_reading.specs.TestReading.{address_source, compares_by, compares_from, envelope_source, exists_by, flag_source, header_source, size_by, size_from, string_source, test_reading_by}
+use Rattle.sieve_reading.specs.Given.{address_part_of, collation_by, given_texts, given_variable, has_tag, in_role, is_tagged, labels_in, literal_in, match_type_of, number_in, part_shape, text_in, texts_in, variable_in}
 use Rattle.sieve_table.specs.view.Number.{all_tags, tag_number}
 use Rattle.sieve_table.specs.Role.{same_role}
 use Rattle.sieve_table.specs.Table.{naming_slot, tag_row, test_row, same_kind}

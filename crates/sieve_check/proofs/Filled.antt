@@ -12,7 +12,7 @@ use Rattle.sieve_check.specs.Element.{argument_elements, judged_labels, labelled
 use Rattle.sieve_reading.specs.Label.{fits, is_filled, labels_of}
 use Rattle.sieve_check.specs.Parted.{Cutting, parted_argument, parted_labelled, parted_text, parts_in}
 use Rattle.sieve_check.specs.Readable.{row_takes}
-use Rattle.sieve_reading.specs.Reading.{collation_by, given_texts, given_variable, literal_in, literal_in_parts, number_in, part_shape, text_in, texts_in, variable_in, variable_in_parts}
+use Rattle.sieve_reading.specs.Given.{collation_by, given_texts, given_variable, literal_in, literal_in_parts, number_in, part_shape, text_in, texts_in, variable_in, variable_in_parts}
 use Rattle.sieve_reading.specs.Role.{first_role}
 use Rattle.sieve_table.specs.Role.{has_role}
 use Rattle.sieve_reading.specs.Shape.{row_labels, shape_of, shapes_of, texts_shape}

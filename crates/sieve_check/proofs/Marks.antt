@@ -3,7 +3,8 @@ use Rattle.std.proofs.Common.{◌≡◌, ℕ, Bool, true, false, List, [], ◌�
 use Rattle.std.proofs.lemmas.List.{append-nil, append_assoc}
 use Rattle.sieve_check.specs.Readable.{Mark, marks, own_marks, node_marks, block_marks, nodes_marks, choice_mark, stop_mark, return_mark, act_mark, may_go_on, Stands, ReadsNode, ReadsBlock, ReadsNodes, IsReadable, DoesAll}
 use Rattle.sieve_reading.specs.Reading as reading
-use Rattle.sieve_reading.specs.Reading.{CommandReading, command_reading}
+use Rattle.sieve_reading.specs.Reading.{CommandReading}
+use Rattle.sieve_reading.specs.CommandReading.{command_reading}
 use Rattle.sieve_reading.specs.Script.{no_commands, Chain, Condition, branch_condition, command_before, node_before, block_commands, chain_of, conditions_in}
 use Rattle.sieve_reading.specs.Tree.{Tests, Node, node, Block, no_block, block, Nodes, end_nodes, more_nodes, nodes}
 
@@ -34,14 +35,14 @@ module _ (line : ℕ) (condition : Condition) (ending : Block) (chain : Chain) (
   abbrev with_own : CommandReading → List Mark
   with_own r = (own_marks (Some r) line condition ++ block_marks ending) ++ all
 
-  at_open : (follows_if : Bool) → marks (block_commands ending) ≡ block_marks ending → Agrees true chain all → Agrees follows_if (before reading.opens) (with_own reading.opens)
+  at_open : (follows_if : Bool) → marks (block_commands ending) ≡ block_marks ending → Agrees true chain all → Agrees follows_if (before reading.reads_if) (with_own reading.reads_if)
   unfolding marks
   at_open follows_if inner so = record {
     same = ap (λ l. choice_mark condition ∷ (l ++ (marks chain.otherwise ++ marks chain.rest))) inner ∙ ap (λ l. choice_mark condition ∷ (block_marks ending ++ l)) so.same;
     no_branch = λ not. refl;
   }
 
-  at_continuing : (follows_if : Bool) → follows_if ≡ true → marks (block_commands ending) ≡ block_marks ending → Agrees true chain all → Agrees follows_if (before reading.continues) (with_own reading.continues)
+  at_continuing : (follows_if : Bool) → follows_if ≡ true → marks (block_commands ending) ≡ block_marks ending → Agrees true chain all → Agrees follows_if (before reading.reads_elsif) (with_own reading.reads_elsif)
   unfolding marks
   at_continuing follows_if follows inner so = record {
     same =
@@ -52,34 +53,34 @@ module _ (line : ℕ) (condition : Condition) (ending : Block) (chain : Chain) (
     no_branch = λ not. absurd (both_ways follows_if follows not);
   }
 
-  at_last : (follows_if : Bool) → follows_if ≡ true → marks (block_commands ending) ≡ block_marks ending → Agrees false chain all → Agrees follows_if (before reading.otherwise) (with_own reading.otherwise)
+  at_last : (follows_if : Bool) → follows_if ≡ true → marks (block_commands ending) ≡ block_marks ending → Agrees false chain all → Agrees follows_if (before reading.reads_else) (with_own reading.reads_else)
   at_last follows_if follows inner so = record {
     same = ap (λ l. l ++ marks chain.rest) inner ∙ ap (λ l. block_marks ending ++ l) (rest_alone chain all so);
     no_branch = λ not. absurd (both_ways follows_if follows not);
   }
 
-  at_stop : (follows_if : Bool) → ending ≡ no_block → Agrees false chain all → Agrees follows_if (before reading.stops) (with_own reading.stops)
+  at_stop : (follows_if : Bool) → ending ≡ no_block → Agrees false chain all → Agrees follows_if (before reading.reads_stop) (with_own reading.reads_stop)
   unfolding marks
   at_stop follows_if is so = record {
     same = ap (λ l. stop_mark ∷ l) (rest_alone chain all so) ∙ ap (λ l. stop_mark ∷ (l ++ all)) (sym (block_empty ending is));
     no_branch = λ not. refl;
   }
 
-  at_return : (follows_if : Bool) → ending ≡ no_block → Agrees false chain all → Agrees follows_if (before reading.returns) (with_own reading.returns)
+  at_return : (follows_if : Bool) → ending ≡ no_block → Agrees false chain all → Agrees follows_if (before reading.reads_return) (with_own reading.reads_return)
   unfolding marks
   at_return follows_if is so = record {
     same = ap (λ l. return_mark ∷ l) (rest_alone chain all so) ∙ ap (λ l. return_mark ∷ (l ++ all)) (sym (block_empty ending is));
     no_branch = λ not. refl;
   }
 
-  at_nothing : (follows_if : Bool) → ending ≡ no_block → Agrees false chain all → Agrees follows_if (before reading.nothing) (with_own reading.nothing)
+  at_nothing : (follows_if : Bool) → ending ≡ no_block → Agrees false chain all → Agrees follows_if (before reading.reads_nothing) (with_own reading.reads_nothing)
   unfolding marks
   at_nothing follows_if is so = record {
     same = rest_alone chain all so ∙ ap (λ l. l ++ all) (sym (block_empty ending is));
     no_branch = λ not. refl;
   }
 
-  at_act : (leaf : reading.Leaf) (follows_if : Bool) → ending ≡ no_block → Agrees false chain all → Agrees follows_if (before (reading.acts leaf)) (with_own (reading.acts leaf))
+  at_act : (leaf : reading.Leaf) (follows_if : Bool) → ending ≡ no_block → Agrees false chain all → Agrees follows_if (before (reading.reads_act leaf)) (with_own (reading.reads_act leaf))
   unfolding marks
   at_act leaf follows_if is so = record {
     same = ap (λ l. act_mark leaf line ∷ l) (rest_alone chain all so) ∙ ap (λ l. act_mark leaf line ∷ (l ++ all)) (sym (block_empty ending is));
@@ -90,13 +91,13 @@ module _ (line : ℕ) (condition : Condition) (ending : Block) (chain : Chain) (
   at_command : (r : Option CommandReading) (follows_if : Bool) (ts : Tests) → Stands follows_if r ts ending → marks (block_commands ending) ≡ block_marks ending → Agrees (may_go_on r) chain all
       → Agrees follows_if (command_before r line condition (block_commands ending) chain) ((own_marks r line condition ++ block_marks ending) ++ all)
   at_command None follows_if ts stands inner so = absurd stands
-  at_command (Some reading.opens) follows_if ts stands inner so = at_open follows_if inner so
-  at_command (Some reading.continues) follows_if ts stands inner so = at_continuing follows_if stands.0 inner so
-  at_command (Some reading.otherwise) follows_if ts stands inner so = at_last follows_if stands.0 inner so
-  at_command (Some reading.stops) follows_if ts stands inner so = at_stop follows_if stands.1 so
-  at_command (Some reading.returns) follows_if ts stands inner so = at_return follows_if stands.1 so
-  at_command (Some reading.nothing) follows_if ts stands inner so = at_nothing follows_if stands.1 so
-  at_command (Some (reading.acts leaf)) follows_if ts stands inner so = at_act leaf follows_if stands.1 so
+  at_command (Some reading.reads_if) follows_if ts stands inner so = at_open follows_if inner so
+  at_command (Some reading.reads_elsif) follows_if ts stands inner so = at_continuing follows_if stands.0 inner so
+  at_command (Some reading.reads_else) follows_if ts stands inner so = at_last follows_if stands.0 inner so
+  at_command (Some reading.reads_stop) follows_if ts stands inner so = at_stop follows_if stands.1 so
+  at_command (Some reading.reads_return) follows_if ts stands inner so = at_return follows_if stands.1 so
+  at_command (Some reading.reads_nothing) follows_if ts stands inner so = at_nothing follows_if stands.1 so
+  at_command (Some (reading.reads_act leaf)) follows_if ts stands inner so = at_act leaf follows_if stands.1 so
 
 -- THE TREE
 

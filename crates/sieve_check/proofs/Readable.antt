@@ -8,7 +8,9 @@ use Rattle.sieve_check.specs.Element.{block_elements, command_arguments, node_el
 use Rattle.sieve_check.specs.Parted.{Cutting, command_labels, cutting_at_start, declared_behind, declaring_command, parted, parted_block, parted_labelled, parted_node, parted_nodes, parted_test, parted_test_list, parted_tests}
 use Rattle.sieve_check.specs.Readable.{IsReadable, ReadsBlock, ReadsNode, ReadsNodes, ReadsTest, ReadsTestList, ReadsTests, Stands, command_takes, may_go_on}
 use Rattle.sieve_reading.specs.Reading as reading
-use Rattle.sieve_reading.specs.Reading.{Leaf, command_reading, command_reading_by, fileinto_from, flags_by, flags_from, has_tag, include_leaf, keep_leaf, labels_in, part_shape, place_of, redirect_leaf, set_from}
+use Rattle.sieve_reading.specs.Reading.{Leaf, include_leaf, keep_leaf, redirect_leaf}
+use Rattle.sieve_reading.specs.CommandReading.{command_reading, command_reading_by, fileinto_from, flags_by, flags_from, place_of, set_from}
+use Rattle.sieve_reading.specs.Given.{has_tag, labels_in, part_shape}
 use Rattle.sieve_reading.specs.Label.{slots_of}
 use Rattle.sieve_table.specs.Table.{command_named, command_row, flag_command, naming_slot, test_named}
 use Rattle.sieve_reading.specs.Tree.{Argument, Block, Tests, no_tests, Nodes, end_nodes, more_nodes, no_block, block, items, nodes}
@@ -65,20 +67,20 @@ module _ (cutting within : Cutting) (context : Context) where
   changes_all how (Some variable) None v f = absurd (not_both f)
   changes_all how (Some variable) (Some flags) v f = refl
 
-  stands_acting : (leaf : Option Leaf) (ts : Tests) (ending : Block) → is_some (option_map reading.acts leaf) ≡ true → ts ≡ no_tests → ending ≡ no_block → Stands context.follows_if (option_map reading.acts leaf) ts ending
+  stands_acting : (leaf : Option Leaf) (ts : Tests) (ending : Block) → is_some (option_map reading.reads_act leaf) ≡ true → ts ≡ no_tests → ending ≡ no_block → Stands context.follows_if (option_map reading.reads_act leaf) ts ending
   stands_acting None ts ending is none ends = absurd (not_both is)
   stands_acting (Some leaf) ts ending is none ends = (none, ends)
 
   -- a command that changes flags, whatever its name
   flags_stand : (how : FlagChange) (name : List ℕ) (args : List Argument) (ts : syntax.Tests) (ending : syntax.Block) → let row = flag_command name in
-      AsRowSays row (map (part_shape row.tags) args) args ts (has_block ending) → Stands context.follows_if (option_map reading.acts (flags_by how (labels_in row args) args)) (parted_tests cutting ts) (parted_block within ending)
+      AsRowSays row (map (part_shape row.tags) args) args ts (has_block ending) → Stands context.follows_if (option_map reading.reads_act (flags_by how (labels_in row args) args)) (parted_tests cutting ts) (parted_block within ending)
   flags_stand how name args ts ending says =
       let row = flag_command name in
       let shapes = map (part_shape row.tags) args in
       let slots = slots_of row shapes in
       let front = naming_slot form.One role.NameToSet in
       stands_acting _ (parted_tests cutting ts) (parted_block within ending)
-      (maps_some reading.acts _ (changes_all how _ _
+      (maps_some reading.reads_act _ (changes_all how _ _
       (given_variable_is_read row.tags slots args (either_slots (all_may_take role.NameToSet form.One) front row.slots shapes refl refl) says.keep)
       (texts_are_read row.tags slots args role.Flags refl (either_slots (all_may_take role.Flags form.List) front row.slots shapes refl refl) (either_slots (is_to_come role.Flags) front row.slots shapes refl refl) says.filled says.keep)))
       (none_fit cutting ts says.tests) (none_there ending says.block)
@@ -101,26 +103,26 @@ module _ (cutting within : Cutting) (context : Context) where
   stands command.Keep args ts ending says place =
       let row = command_row command.Keep in
       stands_acting _ (parted_tests cutting ts) (parted_block within ending)
-      (maps_some reading.acts _ (maps_some keep_leaf _ (given_texts_are_read row.tags row.slots args role.Flags refl refl says.keep)))
+      (maps_some reading.reads_act _ (maps_some keep_leaf _ (given_texts_are_read row.tags row.slots args role.Flags refl refl says.keep)))
       (none_fit cutting ts says.tests) (none_there ending says.block)
   stands command.Fileinto args ts ending says place =
       let row = command_row command.Fileinto in
       stands_acting _ (parted_tests cutting ts) (parted_block within ending)
-      (maps_some reading.acts _ (files_all _ _
+      (maps_some reading.reads_act _ (files_all _ _
       (text_is_read row.tags row.slots args role.Mailbox refl refl refl says.filled says.keep)
       (given_texts_are_read row.tags row.slots args role.Flags refl refl says.keep)))
       (none_fit cutting ts says.tests) (none_there ending says.block)
   stands command.Redirect args ts ending says place =
       let row = command_row command.Redirect in
       stands_acting _ (parted_tests cutting ts) (parted_block within ending)
-      (maps_some reading.acts _ (maps_some redirect_leaf _ (text_is_read row.tags row.slots args role.Address refl refl refl says.filled says.keep)))
+      (maps_some reading.reads_act _ (maps_some redirect_leaf _ (text_is_read row.tags row.slots args role.Address refl refl refl says.filled says.keep)))
       (none_fit cutting ts says.tests) (none_there ending says.block)
   stands command.Discard args ts ending says place = (none_fit cutting ts says.tests, none_there ending says.block)
   stands command.Stop args ts ending says place = (none_fit cutting ts says.tests, none_there ending says.block)
   stands command.Set args ts ending says place =
       let row = command_row command.Set in
       stands_acting _ (parted_tests cutting ts) (parted_block within ending)
-      (maps_some reading.acts _ (sets_all _ _ _
+      (maps_some reading.reads_act _ (sets_all _ _ _
       (variable_is_read row.tags row.slots args refl refl says.filled says.keep)
       (text_is_read row.tags row.slots args role.Text refl refl refl says.filled says.keep)))
       (none_fit cutting ts says.tests) (none_there ending says.block)
@@ -131,7 +133,7 @@ module _ (cutting within : Cutting) (context : Context) where
       let row = command_row command.Include in
       let labels = labels_in row args in
       stands_acting _ (parted_tests cutting ts) (parted_block within ending)
-      (maps_some reading.acts _ (maps_some (include_leaf (place_of labels) (has_tag tag.Once labels) (has_tag tag.Optional labels)) _ (literal_is_read row.tags row.slots args refl refl says.filled says.keep)))
+      (maps_some reading.reads_act _ (maps_some (include_leaf (place_of labels) (has_tag tag.Once labels) (has_tag tag.Optional labels)) _ (literal_is_read row.tags row.slots args refl refl says.filled says.keep)))
       (none_fit cutting ts says.tests) (none_there ending says.block)
   stands command.Return args ts ending says place = (none_fit cutting ts says.tests, none_there ending says.block)
   stands command.Global args ts ending says place = (none_fit cutting ts says.tests, none_there ending says.block)
@@ -144,7 +146,7 @@ module _ (cutting within : Cutting) (context : Context) where
       let says = as_parted cutting context (command_row k) args ts (has_block ending) (keeps BadTag) (keeps BadArguments) none in
       (takes (command_row k) _ ts (has_block ending) says, stands k _ ts ending says (keeps ElsePlace))
 
-  acting_ends : (leaf : Option Leaf) → false ≡ may_go_on (option_map reading.acts leaf)
+  acting_ends : (leaf : Option Leaf) → false ≡ may_go_on (option_map reading.reads_act leaf)
   acting_ends None = refl
   acting_ends (Some leaf) = refl
 

@@ -6,7 +6,7 @@ use Rattle.std.specs.Prelude.{if◌then◌else◌, is_none}
 use Rattle.std.specs.Option.{option_and_then}
 use Rattle.match_text.specs.Comparator.{collation_named}
 use Rattle.sieve_reading.specs.Label.{Expected, expected_behind, fits, is_unfit, label_at, labels_from, no_slots, slot_label, slots_left, value_label, value_slots}
-use Rattle.sieve_reading.specs.Reading.{in_role, literal_in_parts, part_shape, variable_in_parts}
+use Rattle.sieve_reading.specs.Given.{in_role, literal_in_parts, part_shape, variable_in_parts}
 use Rattle.sieve_reading.specs.Role.{first_role, role_of}
 use Rattle.sieve_table.specs.Role.{has_role, same_role}
 use Rattle.sieve_table.specs.Table.{tag_row}

@@ -3,7 +3,10 @@
 use Rattle.std.specs.Prelude.{◌≡◌, ℕ, Bool, true, false, not, ◌&&◌, List, [], ◌∷◌, ◌++◌, map, Option, Some, None}
 use Rattle.sieve_reading.specs.Label.{labels_of, is_filled}
 use Rattle.sieve_reading.specs.Reading as reading
-use Rattle.sieve_reading.specs.Reading.{TestReading, reads_always, reads_never, reads_ask, reads_all, reads_any, reads_not, CommandReading, Leaf, part_shape, test_reading, command_reading}
+use Rattle.sieve_reading.specs.Reading.{TestReading, reads_always, reads_never, reads_ask, reads_all, reads_any, reads_not, CommandReading, Leaf}
+use Rattle.sieve_reading.specs.CommandReading.{command_reading}
+use Rattle.sieve_reading.specs.TestReading.{test_reading}
+use Rattle.sieve_reading.specs.Given.{part_shape}
 use Rattle.sieve_reading.specs.Script.{Commands, no_commands, stops, returns, acts, chooses, Condition, branch_condition, conditions_in, script_of}
 use Rattle.sieve_table.specs.Table.{Row, command_named, test_named, command_row, test_row}
 use Rattle.sieve_reading.specs.Tree.{Argument, Test, test, Tests, no_tests, one_test, test_list, TestList, end_tests, more_tests, Node, node, Block, no_block, block, Nodes, end_nodes, more_nodes, nodes}
@@ -57,24 +60,24 @@ unfoldable mutual
 -- 3.1).
 abbrev pub Stands : (follows_if : Bool) → Option CommandReading → Tests → Block → Type 0
 Stands follows_if None ts ending = ⊥
-Stands follows_if (Some reading.opens) ts ending = (t : Test) × (ns : Nodes) × (ts ≡ one_test t) × (ending ≡ block ns)
-Stands follows_if (Some reading.continues) ts ending = (follows_if ≡ true) × (t : Test) × (ns : Nodes) × (ts ≡ one_test t) × (ending ≡ block ns)
-Stands follows_if (Some reading.otherwise) ts ending = (follows_if ≡ true) × (ns : Nodes) × (ts ≡ no_tests) × (ending ≡ block ns)
-Stands follows_if (Some reading.stops) ts ending = (ts ≡ no_tests) × (ending ≡ no_block)
-Stands follows_if (Some reading.returns) ts ending = (ts ≡ no_tests) × (ending ≡ no_block)
-Stands follows_if (Some reading.nothing) ts ending = (ts ≡ no_tests) × (ending ≡ no_block)
-Stands follows_if (Some (reading.acts leaf)) ts ending = (ts ≡ no_tests) × (ending ≡ no_block)
+Stands follows_if (Some reading.reads_if) ts ending = (t : Test) × (ns : Nodes) × (ts ≡ one_test t) × (ending ≡ block ns)
+Stands follows_if (Some reading.reads_elsif) ts ending = (follows_if ≡ true) × (t : Test) × (ns : Nodes) × (ts ≡ one_test t) × (ending ≡ block ns)
+Stands follows_if (Some reading.reads_else) ts ending = (follows_if ≡ true) × (ns : Nodes) × (ts ≡ no_tests) × (ending ≡ block ns)
+Stands follows_if (Some reading.reads_stop) ts ending = (ts ≡ no_tests) × (ending ≡ no_block)
+Stands follows_if (Some reading.reads_return) ts ending = (ts ≡ no_tests) × (ending ≡ no_block)
+Stands follows_if (Some reading.reads_nothing) ts ending = (ts ≡ no_tests) × (ending ≡ no_block)
+Stands follows_if (Some (reading.reads_act leaf)) ts ending = (ts ≡ no_tests) × (ending ≡ no_block)
 
 -- whether a branch may go on behind it
 abbrev pub may_go_on : Option CommandReading → Bool
 may_go_on None = false
-may_go_on (Some reading.opens) = true
-may_go_on (Some reading.continues) = true
-may_go_on (Some reading.otherwise) = false
-may_go_on (Some reading.stops) = false
-may_go_on (Some reading.returns) = false
-may_go_on (Some reading.nothing) = false
-may_go_on (Some (reading.acts leaf)) = false
+may_go_on (Some reading.reads_if) = true
+may_go_on (Some reading.reads_elsif) = true
+may_go_on (Some reading.reads_else) = false
+may_go_on (Some reading.reads_stop) = false
+may_go_on (Some reading.reads_return) = false
+may_go_on (Some reading.reads_nothing) = false
+may_go_on (Some (reading.reads_act leaf)) = false
 
 unfoldable mutual
   pub ReadsNode : (follows_if : Bool) → Node → Type 0
@@ -112,13 +115,13 @@ marks (chooses condition then_block otherwise rest) = choice_mark condition ∷ 
 -- what a command is of itself
 abbrev pub own_marks : Option CommandReading → ℕ → Condition → List Mark
 own_marks None line condition = []
-own_marks (Some reading.opens) line condition = choice_mark condition ∷ []
-own_marks (Some reading.continues) line condition = choice_mark condition ∷ []
-own_marks (Some reading.otherwise) line condition = []
-own_marks (Some reading.stops) line condition = stop_mark ∷ []
-own_marks (Some reading.returns) line condition = return_mark ∷ []
-own_marks (Some reading.nothing) line condition = []
-own_marks (Some (reading.acts leaf)) line condition = act_mark leaf line ∷ []
+own_marks (Some reading.reads_if) line condition = choice_mark condition ∷ []
+own_marks (Some reading.reads_elsif) line condition = choice_mark condition ∷ []
+own_marks (Some reading.reads_else) line condition = []
+own_marks (Some reading.reads_stop) line condition = stop_mark ∷ []
+own_marks (Some reading.reads_return) line condition = return_mark ∷ []
+own_marks (Some reading.reads_nothing) line condition = []
+own_marks (Some (reading.reads_act leaf)) line condition = act_mark leaf line ∷ []
 
 unfoldable mutual
   -- those of a tree: each command's own, and then those of its block

@@ -1,12 +1,13 @@
 -- The code of commands does what the abstract script does.
 use Rattle.std.proofs.Common.{◌≡◌, ℕ, Bool, true, false, ◌∷◌, length, Option, Some, None, refl, sym, subst}
 use Rattle.sieve_reading.specs.Reading as reading
-use Rattle.sieve_reading.specs.Reading.{CommandReading, command_reading}
+use Rattle.sieve_reading.specs.Reading.{CommandReading}
+use Rattle.sieve_reading.specs.CommandReading.{command_reading}
 use Rattle.sieve_reading.specs.Script as script
 use Rattle.sieve_reading.specs.Script.{Condition, Commands, no_commands, chooses, Chain, branch_condition, conditions_in, block_commands, chain_of}
 use Rattle.sieve_reading.specs.Tree.{Node, node, Block, no_block, block, Nodes, end_nodes, more_nodes}
 use Rattle.sieve_code.specs.Choice.{Tail, Branches, no_branch, past_branches, branch_before, command_before, node_before, block_before, nodes_before, first_before}
-use Rattle.sieve_code.specs.Operation.{jumps, jumps_if, acts, stops, returns}
+use Rattle.sieve_code.specs.Operation.{jump_op, jump_if_op, act_op, stop_op, return_op}
 use Rattle.sieve_code.specs.Walk.{Walk, by_stop, by_return, acted, condition_walk, commands_walk}
 use Rattle.sieve_code.proofs.Tails.{Walks, Ends, Forward, ends_self, ends_more, ends_trans, walks_acts, walks_stops, walks_returns, walks_jumps, walks_jumps_if, forward_plain, forward_jumps, forward_jumps_if, landed}
 use Rattle.sieve_code.proofs.Conditions.{IsCode, first_code}
@@ -52,22 +53,22 @@ branch_chain tail cs b chain behind next c g = record {
     apart e = cc
 
 -- an operation in front
-stops_before : (tail behind : Tail) (walk : Walk) → GoesBefore tail behind walk → GoesBefore (stops ∷ tail) behind by_stop
+stops_before : (tail behind : Tail) (walk : Walk) → GoesBefore tail behind walk → GoesBefore (stop_op ∷ tail) behind by_stop
 stops_before tail behind walk g = record {
-  ends = ends_more stops tail behind g.ends;
-  goes = record { forward = forward_plain stops tail refl g.goes.forward; walks = walks_stops tail };
+  ends = ends_more stop_op tail behind g.ends;
+  goes = record { forward = forward_plain stop_op tail refl g.goes.forward; walks = walks_stops tail };
 }
 
-returns_before : (tail behind : Tail) (walk : Walk) → GoesBefore tail behind walk → GoesBefore (returns ∷ tail) behind by_return
+returns_before : (tail behind : Tail) (walk : Walk) → GoesBefore tail behind walk → GoesBefore (return_op ∷ tail) behind by_return
 returns_before tail behind walk g = record {
-  ends = ends_more returns tail behind g.ends;
-  goes = record { forward = forward_plain returns tail refl g.goes.forward; walks = walks_returns tail };
+  ends = ends_more return_op tail behind g.ends;
+  goes = record { forward = forward_plain return_op tail refl g.goes.forward; walks = walks_returns tail };
 }
 
-acts_before : (leaf : reading.Leaf) (line : ℕ) (tail behind : Tail) (walk : Walk) → GoesBefore tail behind walk → GoesBefore (acts leaf line ∷ tail) behind (acted leaf line walk)
+acts_before : (leaf : reading.Leaf) (line : ℕ) (tail behind : Tail) (walk : Walk) → GoesBefore tail behind walk → GoesBefore (act_op leaf line ∷ tail) behind (acted leaf line walk)
 acts_before leaf line tail behind walk g = record {
-  ends = ends_more (acts leaf line) tail behind g.ends;
-  goes = record { forward = forward_plain (acts leaf line) tail refl g.goes.forward; walks = walks_acts tail (λ r. walk) g.goes.walks leaf line };
+  ends = ends_more (act_op leaf line) tail behind g.ends;
+  goes = record { forward = forward_plain (act_op leaf line) tail refl g.goes.forward; walks = walks_acts tail (λ r. walk) g.goes.walks leaf line };
 }
 
 -- BRANCHES
@@ -75,7 +76,7 @@ acts_before leaf line tail behind walk g = record {
 -- behind a block: what is behind the branches
 past_goes : (has : Bool) (w r behind : Tail) (other after : Walk) → Goes r after → GoesBefore w r other → (has ≡ false → w ≡ r) → GoesBefore (past_branches (record { has_branch = has; with_branch = w; behind_branches = r })) w after
 past_goes true w r behind other after rest branch alone = record {
-  ends = ends_more (jumps (length r)) w w (ends_self w);
+  ends = ends_more (jump_op (length r)) w w (ends_self w);
   goes = record { forward = forward_jumps w r branch.ends branch.goes.forward; walks = walks_jumps w r (λ q. after) branch.ends rest.walks };
 }
 past_goes false w r behind other after rest branch alone = record {
@@ -91,7 +92,7 @@ test_branch first inner condition cs b chain behind next f i c =
     let past = past_goes b.has_branch b.with_branch b.behind_branches behind other after c.rest.goes c.branch c.alone in
     let block_goes = i.at (past_branches b) after past.goes in
     let block_ends = ends_trans (inner (past_branches b)) (past_branches b) b.with_branch block_goes.ends past.ends in
-    let jump = jumps_if false (length b.with_branch) ∷ inner (past_branches b) in
+    let jump = jump_if_op false (length b.with_branch) ∷ inner (past_branches b) in
     record {
       ends = ends_trans (first jump) jump b.with_branch (f.ends jump) (ends_more _ (inner (past_branches b)) b.with_branch block_ends);
       goes = record {
@@ -106,20 +107,20 @@ module _ (first inner : Tail → Tail) (condition : Condition) (cs : Commands) (
   command_chain : (r : Option CommandReading) (line : ℕ) → IsChain (command_before r line first inner b) (script.command_before r line condition cs chain) behind next
   unfolding commands_walk
   command_chain None line = plain_chain b.behind_branches chain.rest behind next c.rest
-  command_chain (Some reading.opens) line =
+  command_chain (Some reading.reads_if) line =
       let g = test_branch first inner condition cs b chain behind next f i c in
       plain_chain (branch_before first inner b) (chooses condition cs chain.otherwise chain.rest) behind next
       (record { ends = ends_trans _ _ _ g.ends (ends_trans _ _ _ c.branch.ends c.rest.ends); goes = g.goes })
-  command_chain (Some reading.continues) line =
+  command_chain (Some reading.reads_elsif) line =
       let g = test_branch first inner condition cs b chain behind next f i c in
       branch_chain (branch_before first inner b) (chooses condition cs chain.otherwise no_commands) b chain behind next c
       (record { ends = ends_trans _ _ _ g.ends c.branch.ends; goes = g.goes })
-  command_chain (Some reading.otherwise) line =
+  command_chain (Some reading.reads_else) line =
       branch_chain (inner b.behind_branches) cs b chain behind next c (i.at b.behind_branches (commands_walk chain.rest next) c.rest.goes)
-  command_chain (Some reading.stops) line = plain_chain (stops ∷ b.behind_branches) (script.stops chain.rest) behind next (stops_before _ _ _ c.rest)
-  command_chain (Some reading.returns) line = plain_chain (returns ∷ b.behind_branches) (script.returns chain.rest) behind next (returns_before _ _ _ c.rest)
-  command_chain (Some reading.nothing) line = plain_chain b.behind_branches chain.rest behind next c.rest
-  command_chain (Some (reading.acts leaf)) line = plain_chain (acts leaf line ∷ b.behind_branches) (script.acts leaf line chain.rest) behind next (acts_before leaf line _ _ _ c.rest)
+  command_chain (Some reading.reads_stop) line = plain_chain (stop_op ∷ b.behind_branches) (script.stops chain.rest) behind next (stops_before _ _ _ c.rest)
+  command_chain (Some reading.reads_return) line = plain_chain (return_op ∷ b.behind_branches) (script.returns chain.rest) behind next (returns_before _ _ _ c.rest)
+  command_chain (Some reading.reads_nothing) line = plain_chain b.behind_branches chain.rest behind next c.rest
+  command_chain (Some (reading.reads_act leaf)) line = plain_chain (act_op leaf line ∷ b.behind_branches) (script.acts leaf line chain.rest) behind next (acts_before leaf line _ _ _ c.rest)
 
 -- TREES
 

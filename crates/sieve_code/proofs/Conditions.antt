@@ -1,11 +1,12 @@
 -- The code of tests asks what their conditions ask.
 use Rattle.std.proofs.Common.{◌≡◌, Bool, true, false, not, List, [], ◌∷◌, length, Option, Some, None, refl, ◌∙◌}
-use Rattle.sieve_reading.specs.Reading.{Ask, TestReading, reads_always, reads_never, reads_ask, reads_all, reads_any, reads_not, test_reading}
+use Rattle.sieve_reading.specs.Reading.{Ask, TestReading, reads_always, reads_never, reads_ask, reads_all, reads_any, reads_not}
+use Rattle.sieve_reading.specs.TestReading.{test_reading}
 use Rattle.sieve_reading.specs.Script as script
 use Rattle.sieve_reading.specs.Script.{Condition, always, never, negated, both, either, all_of, any_of, negation_of, joined, branch_condition, condition_of, conditions_in, conditions}
 use Rattle.sieve_reading.specs.Tree.{Test, test, Tests, no_tests, one_test, test_list, TestList, end_tests, more_tests}
 use Rattle.sieve_code.specs.Choice.{Tail, reading_before, test_before, tests_before, list_before, first_before}
-use Rattle.sieve_code.specs.Operation.{sets, inverts, asks, jumps_if}
+use Rattle.sieve_code.specs.Operation.{set_op, invert_op, test_op, jump_if_op}
 use Rattle.sieve_code.specs.Walk.{Walk, condition_walk}
 use Rattle.sieve_code.proofs.Tails.{Walks, Ends, Forward, ends_self, ends_more, ends_trans, walks_sets, walks_inverts, walks_asks, walks_jumps_if, forward_plain, forward_jumps_if, landed}
 
@@ -15,36 +16,36 @@ pub record IsCode (before : Tail → Tail) (c : Condition) : Type 0 where
   pub forward : (behind : Tail) → Forward behind → Forward (before behind)
   pub walks : (behind : Tail) (does : Bool → Walk) → Walks behind does → Walks (before behind) (λ r. condition_walk c (does true) (does false))
 
-always_code : IsCode (λ behind. sets true ∷ behind) always
+always_code : IsCode (λ behind. set_op true ∷ behind) always
 unfolding condition_walk
 always_code = record {
-  ends = λ behind. ends_more (sets true) behind behind (ends_self behind);
-  forward = λ behind f. forward_plain (sets true) behind refl f;
+  ends = λ behind. ends_more (set_op true) behind behind (ends_self behind);
+  forward = λ behind f. forward_plain (set_op true) behind refl f;
   walks = λ behind does w. walks_sets behind does w true;
 }
 
-never_code : IsCode (λ behind. sets false ∷ behind) never
+never_code : IsCode (λ behind. set_op false ∷ behind) never
 unfolding condition_walk
 never_code = record {
-  ends = λ behind. ends_more (sets false) behind behind (ends_self behind);
-  forward = λ behind f. forward_plain (sets false) behind refl f;
+  ends = λ behind. ends_more (set_op false) behind behind (ends_self behind);
+  forward = λ behind f. forward_plain (set_op false) behind refl f;
   walks = λ behind does w. walks_sets behind does w false;
 }
 
-asks_code : (ask : Ask) → IsCode (λ behind. asks ask ∷ behind) (script.asks ask)
+asks_code : (ask : Ask) → IsCode (λ behind. test_op ask ∷ behind) (script.asks ask)
 unfolding condition_walk
 asks_code ask = record {
-  ends = λ behind. ends_more (asks ask) behind behind (ends_self behind);
-  forward = λ behind f. forward_plain (asks ask) behind refl f;
+  ends = λ behind. ends_more (test_op ask) behind behind (ends_self behind);
+  forward = λ behind f. forward_plain (test_op ask) behind refl f;
   walks = λ behind does w. walks_asks behind does w ask;
 }
 
-negated_code : (before : Tail → Tail) (c : Condition) → IsCode before c → IsCode (λ behind. before (inverts ∷ behind)) (negated c)
+negated_code : (before : Tail → Tail) (c : Condition) → IsCode before c → IsCode (λ behind. before (invert_op ∷ behind)) (negated c)
 unfolding condition_walk
 negated_code before c code = record {
-  ends = λ behind. ends_trans (before (inverts ∷ behind)) (inverts ∷ behind) behind (code.ends (inverts ∷ behind)) (ends_more inverts behind behind (ends_self behind));
-  forward = λ behind f. code.forward (inverts ∷ behind) (forward_plain inverts behind refl f);
-  walks = λ behind does w. code.walks (inverts ∷ behind) (λ r. does (not r)) (walks_inverts behind does w);
+  ends = λ behind. ends_trans (before (invert_op ∷ behind)) (invert_op ∷ behind) behind (code.ends (invert_op ∷ behind)) (ends_more invert_op behind behind (ends_self behind));
+  forward = λ behind f. code.forward (invert_op ∷ behind) (forward_plain invert_op behind refl f);
+  walks = λ behind does w. code.walks (invert_op ∷ behind) (λ r. does (not r)) (walks_inverts behind does w);
 }
 
 -- two conditions that have one walk
@@ -62,7 +63,7 @@ abbrev pub joined_by : Bool → List Condition → Condition
 joined_by false cs = all_of cs
 joined_by true cs = any_of cs
 
-none_code : (truth : Bool) → IsCode (λ behind. sets (not truth) ∷ behind) (joined_by truth [])
+none_code : (truth : Bool) → IsCode (λ behind. set_op (not truth) ∷ behind) (joined_by truth [])
 none_code true = never_code
 none_code false = always_code
 
@@ -73,19 +74,19 @@ one_code false before c code = like_code before c (both c always) (λ h f. refl)
 
 -- a test, a jump past the others, and the others
 abbrev more_before : Bool → (before others : Tail → Tail) → Tail → Tail
-more_before truth before others behind = before (jumps_if truth (length behind) ∷ others behind)
+more_before truth before others behind = before (jump_if_op truth (length behind) ∷ others behind)
 
 joint_code : (truth : Bool) (before others : Tail → Tail) (c : Condition) (cs : List Condition) → IsCode before c → IsCode others (joined_by truth cs) → IsCode (more_before truth before others) (joined_by truth (c ∷ cs))
 unfolding condition_walk
 joint_code true before others c cs code more = record {
-  ends = λ behind. ends_trans _ _ behind (code.ends (jumps_if true (length behind) ∷ others behind)) (ends_more _ _ behind (more.ends behind));
+  ends = λ behind. ends_trans _ _ behind (code.ends (jump_if_op true (length behind) ∷ others behind)) (ends_more _ _ behind (more.ends behind));
   forward = λ behind f. code.forward _ (forward_jumps_if true _ behind (more.ends behind) (more.forward behind f));
-  walks = λ behind does w. code.walks (jumps_if true (length behind) ∷ others behind) (λ r. landed true r (does r) (condition_walk (any_of cs) (does true) (does false))) (walks_jumps_if (others behind) behind does (more.ends behind) w true _ (more.walks behind does w));
+  walks = λ behind does w. code.walks (jump_if_op true (length behind) ∷ others behind) (λ r. landed true r (does r) (condition_walk (any_of cs) (does true) (does false))) (walks_jumps_if (others behind) behind does (more.ends behind) w true _ (more.walks behind does w));
 }
 joint_code false before others c cs code more = record {
-  ends = λ behind. ends_trans _ _ behind (code.ends (jumps_if false (length behind) ∷ others behind)) (ends_more _ _ behind (more.ends behind));
+  ends = λ behind. ends_trans _ _ behind (code.ends (jump_if_op false (length behind) ∷ others behind)) (ends_more _ _ behind (more.ends behind));
   forward = λ behind f. code.forward _ (forward_jumps_if false _ behind (more.ends behind) (more.forward behind f));
-  walks = λ behind does w. code.walks (jumps_if false (length behind) ∷ others behind) (λ r. landed false r (does r) (condition_walk (all_of cs) (does true) (does false))) (walks_jumps_if (others behind) behind does (more.ends behind) w false _ (more.walks behind does w));
+  walks = λ behind does w. code.walks (jump_if_op false (length behind) ∷ others behind) (λ r. landed false r (does r) (condition_walk (all_of cs) (does true) (does false))) (walks_jumps_if (others behind) behind does (more.ends behind) w false _ (more.walks behind does w));
 }
 
 -- what is known of a list of tests: of all, and of the first
@@ -114,7 +115,7 @@ first_list_code (more_tests t ts) code = code
 
 -- TESTS
 
-not_code : (first : Tail → Tail) (cs : List Condition) → IsCode first (branch_condition cs) → IsCode (λ behind. first (inverts ∷ behind)) (negation_of cs)
+not_code : (first : Tail → Tail) (cs : List Condition) → IsCode first (branch_condition cs) → IsCode (λ behind. first (invert_op ∷ behind)) (negation_of cs)
 unfolding condition_walk
 not_code first [] code = like_code _ (negated never) always (λ h f. refl) (negated_code first never code)
 not_code first (c ∷ cs) code = negated_code first c code

@@ -10,7 +10,7 @@ use Rattle.sieve_variables.specs.declared.part.Part.{Part}
 use Rattle.sieve_code.specs.Dump.{case_word, first_word, given_word, list_text, modifier_words, part_text, separated, string_text}
 use Rattle.sieve_variables.specs.declared.modifier.Modifiers.{Modifiers}
 use Rattle.sieve_code.specs.view.Marked.{marked_part, marked_string}
-use Rattle.sieve_code.specs.view.Op.{parts_of}
+use Rattle.sieve_effects.specs.view.Ops.{parts_of}
 use Rattle.sieve_variables.specs.view.Part.{strings_of}
 
 pub marked_part_at : (parts : List Part) (i : ℕ) (part : Part) → part ≡ get_or parts i part → codes "+" ++ part_text (part_of part) ≡ marked_part (get_or parts i part)

@@ -4,7 +4,7 @@ use Rattle.std.proofs.lemmas.List.{length-map}
 use Rattle.std.specs.Prelude.{slice_get}
 use Rattle.sieve_reading.specs.Tree.{Node, nodes}
 use Rattle.sieve_code.specs.Choice.{Tail, AllGoForward, code_of, placed, tail_of}
-use Rattle.sieve_code.specs.Operation.{Operation, sets, inverts, asks, jumps, jumps_if, acts, stops, returns, target_of, targeting}
+use Rattle.sieve_code.specs.Operation.{Operation, set_op, invert_op, test_op, jump_op, jump_if_op, act_op, stop_op, return_op, target_of, targeting}
 use Rattle.sieve_code.specs.Walk.{at_end, asked, acted, at_limit, step, walk_from, code_walk, tree_walk}
 use Rattle.sieve_code.specs.view.Branches.{last}
 use Rattle.sieve_code.proofs.Tails.{Forward, tail_step, tail_walk, walks_none}
@@ -58,19 +58,19 @@ same_target n same front op rest r left le f =
 
 -- one operation
 same_step : (n : ℕ) → Same n → (front : Tail) (op : Operation) (rest : Tail) (r : Bool) → Forward (op ∷ rest) → step (walk_from (placed (front ++ op ∷ rest)) n) (Some (put (length (front ++ op ∷ rest)) op)) (length front) r ≡ tail_step (tail_walk n) (op ∷ rest) r
-same_step n same front (sets truth) rest r f = same_next n same front (sets truth) rest truth f.1
-same_step n same front inverts rest r f = same_next n same front inverts rest (not r) f.1
-same_step n same front (asks ask) rest r f =
-    ap (λ w. asked ask w (walk_from (placed (front ++ asks ask ∷ rest)) n (length front + 1) false)) (same_next n same front (asks ask) rest true f.1)
-    ∙ ap (λ w. asked ask (tail_walk n rest true) w) (same_next n same front (asks ask) rest false f.1)
-same_step n same front (jumps left) rest r f = same_target n same front (jumps left) rest r left (f.0 left refl) f.1
-same_step n same front (jumps_if true left) rest true f = same_target n same front (jumps_if true left) rest true left (f.0 left refl) f.1
-same_step n same front (jumps_if true left) rest false f = same_next n same front (jumps_if true left) rest false f.1
-same_step n same front (jumps_if false left) rest true f = same_next n same front (jumps_if false left) rest true f.1
-same_step n same front (jumps_if false left) rest false f = same_target n same front (jumps_if false left) rest false left (f.0 left refl) f.1
-same_step n same front (acts leaf line) rest r f = ap (acted leaf line) (same_next n same front (acts leaf line) rest r f.1)
-same_step n same front stops rest r f = refl
-same_step n same front returns rest r f = refl
+same_step n same front (set_op truth) rest r f = same_next n same front (set_op truth) rest truth f.1
+same_step n same front invert_op rest r f = same_next n same front invert_op rest (not r) f.1
+same_step n same front (test_op ask) rest r f =
+    ap (λ w. asked ask w (walk_from (placed (front ++ test_op ask ∷ rest)) n (length front + 1) false)) (same_next n same front (test_op ask) rest true f.1)
+    ∙ ap (λ w. asked ask (tail_walk n rest true) w) (same_next n same front (test_op ask) rest false f.1)
+same_step n same front (jump_op left) rest r f = same_target n same front (jump_op left) rest r left (f.0 left refl) f.1
+same_step n same front (jump_if_op true left) rest true f = same_target n same front (jump_if_op true left) rest true left (f.0 left refl) f.1
+same_step n same front (jump_if_op true left) rest false f = same_next n same front (jump_if_op true left) rest false f.1
+same_step n same front (jump_if_op false left) rest true f = same_next n same front (jump_if_op false left) rest true f.1
+same_step n same front (jump_if_op false left) rest false f = same_target n same front (jump_if_op false left) rest false left (f.0 left refl) f.1
+same_step n same front (act_op leaf line) rest r f = ap (acted leaf line) (same_next n same front (act_op leaf line) rest r f.1)
+same_step n same front stop_op rest r f = refl
+same_step n same front return_op rest r f = refl
 
 same_walk : (n : ℕ) → Same n
 unfolding walk_from placed
@@ -100,14 +100,14 @@ code_walks tree =
 
 -- a jump in front of a tail
 jump_at : (count : ℕ) (op : Operation) (rest : Tail) → Forward (op ∷ rest) → (target : ℕ) → target_of (put count op) ≡ Some target → (left : ℕ) × (target ≡ count - left) × (left < length (op ∷ rest))
-jump_at count (sets truth) rest f target is = absurd cc
-jump_at count inverts rest f target is = absurd cc
-jump_at count (asks ask) rest f target is = absurd cc
-jump_at count (jumps left) rest f target is = (left, cc, omega (arith, f.0 left refl))
-jump_at count (jumps_if truth left) rest f target is = (left, cc, omega (arith, f.0 left refl))
-jump_at count (acts leaf line) rest f target is = absurd cc
-jump_at count stops rest f target is = absurd cc
-jump_at count returns rest f target is = absurd cc
+jump_at count (set_op truth) rest f target is = absurd cc
+jump_at count invert_op rest f target is = absurd cc
+jump_at count (test_op ask) rest f target is = absurd cc
+jump_at count (jump_op left) rest f target is = (left, cc, omega (arith, f.0 left refl))
+jump_at count (jump_if_op truth left) rest f target is = (left, cc, omega (arith, f.0 left refl))
+jump_at count (act_op leaf line) rest f target is = absurd cc
+jump_at count stop_op rest f target is = absurd cc
+jump_at count return_op rest f target is = absurd cc
 
 same_op : (op other : Operation) (target : ℕ) → Some other ≡ Some op → target_of op ≡ Some target → target_of other ≡ Some target
 same_op op other target is has = let e : other ≡ op = cc in ap target_of e ∙ has

@@ -5,31 +5,18 @@ use Rattle.sieve_reading.specs.Tree.{Node}
 use Rattle.sieve_code.specs.Choice.{Tail, code_of, placed, tail_of}
 use Rattle.sieve_code.specs.Operation.{targeting}
 use Rattle.sieve_code.specs.declared.op.Op.{Op}
-use Rattle.sieve_code.specs.declared.op.Op.TheVariants.{True, False, Not, Header, Address, Envelope, String, HasFlag, Exists, SizeOver, SizeUnder, Jump, JumpIfFalse, JumpIfTrue, Keep, Fileinto, Redirect, Discard, Set, Flags, Include, Stop, Return}
+use Rattle.sieve_code.specs.declared.op.Op.TheVariants.{True, False, Not, Test, Jump, JumpIfFalse, JumpIfTrue, Command, Stop, Return}
 use Rattle.sieve_code.specs.view.Op.{op_as, with_place_of}
 
 place_seen : (count : ℕ) (op : Op) → op_as (with_place_of count op) ≡ targeting (λ left. count - left) (op_as op)
 place_seen count True = refl
 place_seen count False = refl
 place_seen count Not = refl
-place_seen count (Header match_type collation names keys) = refl
-place_seen count (Address match_type collation part names keys) = refl
-place_seen count (Envelope match_type collation part names keys) = refl
-place_seen count (String match_type collation texts keys) = refl
-place_seen count (HasFlag match_type collation variables keys) = refl
-place_seen count (Exists names) = refl
-place_seen count (SizeOver limit) = refl
-place_seen count (SizeUnder limit) = refl
+place_seen count (Test test) = refl
 place_seen count (Jump left) = refl
 place_seen count (JumpIfFalse left) = refl
 place_seen count (JumpIfTrue left) = refl
-place_seen count (Keep flags line) = refl
-place_seen count (Fileinto mailbox flags line) = refl
-place_seen count (Redirect address line) = refl
-place_seen count (Discard line) = refl
-place_seen count (Set variable modifiers value line) = refl
-place_seen count (Flags change variable flags line) = refl
-place_seen count (Include place once optional name line) = refl
+place_seen count (Command command line) = refl
 place_seen count Stop = refl
 place_seen count Return = refl
 

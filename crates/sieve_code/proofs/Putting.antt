@@ -5,7 +5,9 @@ use borrow.Author.Tests.{ltb-true, ltb-false}
 use Rattle.std.specs.declared.alloc.Global.{Global}
 use Rattle.std.specs.declared.boxed.Box.{Box}
 use Rattle.std.specs.declared.vec.Vec.{Vec}
-use Rattle.sieve_reading.specs.Reading.{TestReading, CommandReading, test_reading, command_reading}
+use Rattle.sieve_reading.specs.Reading.{TestReading, CommandReading}
+use Rattle.sieve_reading.specs.CommandReading.{command_reading}
+use Rattle.sieve_reading.specs.TestReading.{test_reading}
 use Rattle.sieve_reading.specs.Tree.{TestList, test_list, tests, Node, node, nodes}
 use Rattle.sieve_reading.specs.view.Tree.{node_of, test_of, tests_of}
 use Rattle.sieve_reading.specs.declared.tree.Command as commands
@@ -13,7 +15,7 @@ use Rattle.sieve_reading.specs.declared.tree.Command.TheViews as command_views
 use Rattle.sieve_reading.specs.declared.tree.Test as one_tests
 use Rattle.sieve_reading.specs.declared.tree.Tests.TheVariants as test_variants
 use Rattle.sieve_code.specs.Choice.{Tail, Branches, no_branch, past_branches, joint, reading_before, test_before, tests_before, list_before, first_before, command_before, node_before, block_before, nodes_before}
-use Rattle.sieve_code.specs.Operation.{Operation, sets, jumps, jumps_if}
+use Rattle.sieve_code.specs.Operation.{Operation, set_op, jump_op, jump_if_op}
 use Rattle.sieve_code.specs.view.Branches.{block_at, branch_at, branches_as, first_at, last}
 use Rattle.sieve_code.specs.declared.command_code.Front.{Front}
 use Rattle.sieve_code.proofs.Tails.{Ends, last_of}
@@ -42,7 +44,7 @@ all_kept xs count le = let none : length xs - count ≡ 0 = omega arith in ap (�
 
 -- TESTS
 
-pub first_none : (ts : test_variants.the_data) (behind : Tail) → ts ≡ test_variants.None → sets false ∷ behind ≡ first_before (tests_of ts) behind
+pub first_none : (ts : test_variants.the_data) (behind : Tail) → ts ≡ test_variants.None → set_op false ∷ behind ≡ first_before (tests_of ts) behind
 unfolding first_before
 first_none ts behind is = sym (ap (λ x. first_before x behind) (seen_none ts is))
 
@@ -50,7 +52,7 @@ pub first_one : (ts : test_variants.the_data) (b : Box one_tests.Test Global) (t
 unfolding first_before
 first_one ts b t behind is same = sym (ap (λ x. first_before x behind) (seen_one ts b t is same))
 
-pub all_none : (truth : Bool) (ts : test_variants.the_data) (behind : Tail) → ts ≡ test_variants.None → sets (not truth) ∷ behind ≡ tests_before truth (tests_of ts) behind
+pub all_none : (truth : Bool) (ts : test_variants.the_data) (behind : Tail) → ts ≡ test_variants.None → set_op (not truth) ∷ behind ≡ tests_before truth (tests_of ts) behind
 unfolding tests_before
 all_none truth ts behind is = sym (ap (λ x. tests_before truth x behind) (seen_none ts is))
 
@@ -61,7 +63,7 @@ all_one truth ts b t behind is same = sym (ap (λ x. tests_before truth x behind
 pub all_list : (truth : Bool) (ts : test_variants.the_data) (v : Vec one_tests.Test Global) (list : List one_tests.Test) (behind : Tail) → ts ≡ test_variants.List v → list ≡ v.items → tests_before truth (test_list (tests (map test_of list))) behind ≡ tests_before truth (tests_of ts) behind
 all_list truth ts v list behind is same = sym (ap (λ x. tests_before truth x behind) (seen_list ts v list is same))
 
-first_of_none : (list : List one_tests.Test) (behind : Tail) → length list ≤ 0 → sets false ∷ behind ≡ first_before (test_list (tests (map test_of list))) behind
+first_of_none : (list : List one_tests.Test) (behind : Tail) → length list ≤ 0 → set_op false ∷ behind ≡ first_before (test_list (tests (map test_of list))) behind
 unfolding first_before
 first_of_none [] behind le = refl
 first_of_none (t ∷ list) behind le = absurd (omega (arith, le))
@@ -71,7 +73,7 @@ unfolding first_before
 first_of_some [] t behind some is = absurd (omega (arith, some))
 first_of_some (u ∷ list) t behind some is = ap (λ x. test_before (test_of x) behind) is
 
-pub first_empty : (ts : test_variants.the_data) (v : Vec one_tests.Test Global) (list : List one_tests.Test) (behind : Tail) → ts ≡ test_variants.List v → list ≡ v.items → length list ≤ 0 → sets false ∷ behind ≡ first_before (tests_of ts) behind
+pub first_empty : (ts : test_variants.the_data) (v : Vec one_tests.Test Global) (list : List one_tests.Test) (behind : Tail) → ts ≡ test_variants.List v → list ≡ v.items → length list ≤ 0 → set_op false ∷ behind ≡ first_before (tests_of ts) behind
 first_empty ts v list behind is same none = first_of_none list behind none ∙ sym (ap (λ x. first_before x behind) (seen_list ts v list is same))
 
 pub first_listed : (ts : test_variants.the_data) (v : Vec one_tests.Test Global) (list : List one_tests.Test) (t : one_tests.Test) (behind : Tail) → ts ≡ test_variants.List v → list ≡ v.items → 0 < length list → t ≡ get_or list 0 t → test_before (test_of t) behind ≡ first_before (tests_of ts) behind
@@ -88,7 +90,7 @@ test_put t r behind is =
 abbrev pub list_on : List one_tests.Test → TestList
 list_on list = tests (map test_of list)
 
-pub list_empty : (truth : Bool) (list : List one_tests.Test) (behind : Tail) → length list ≤ 0 → sets (not truth) ∷ behind ≡ tests_before truth (test_list (list_on list)) behind
+pub list_empty : (truth : Bool) (list : List one_tests.Test) (behind : Tail) → length list ≤ 0 → set_op (not truth) ∷ behind ≡ tests_before truth (test_list (list_on list)) behind
 unfolding tests_before
 list_empty truth [] behind none = refl
 list_empty truth (t ∷ list) behind none = absurd (omega (arith, none))
@@ -102,7 +104,7 @@ pub list_none : (truth : Bool) (list : List one_tests.Test) (i : ℕ) (behind : 
 unfolding list_before
 list_none truth list i behind all = at_drop_all (λ l. list_before truth (list_on l) behind) list i all
 
-joint_by : (truth : Bool) (list : List one_tests.Test) (follows : Bool) (behind others : Tail) → (follows ≡ true → 0 < length list) → (follows ≡ false → length list ≤ 0) → joint truth (list_on list) behind others ≡ (if follows then jumps_if truth (length behind) ∷ others else others)
+joint_by : (truth : Bool) (list : List one_tests.Test) (follows : Bool) (behind others : Tail) → (follows ≡ true → 0 < length list) → (follows ≡ false → length list ≤ 0) → joint truth (list_on list) behind others ≡ (if follows then jump_if_op truth (length behind) ∷ others else others)
 joint_by truth [] true behind others some none = absurd (omega (arith, some refl))
 joint_by truth [] false behind others some none = refl
 joint_by truth (t ∷ list) true behind others some none = refl
@@ -119,10 +121,10 @@ none_left : (list : List one_tests.Test) (i : ℕ) (follows : Bool) → follows 
 none_left list i follows is fails = let le : length list ≤ i + 1 = ltb-false (i + 1) (length list) (sym is ∙ fails) in omega (arith, le, length-drop (i + 1) list)
 
 -- a test of a list in front of the others
-pub list_put : (truth : Bool) (list : List one_tests.Test) (i : ℕ) (t : one_tests.Test) (behind others new : Tail) (follows : Bool) → i < length list → t ≡ get_or list i t → follows ≡ nat_lt (i + 1) (length list) → others ≡ list_before truth (list_on (drop (i + 1) list)) behind → new ≡ test_before (test_of t) (if follows then jumps_if truth (length behind) ∷ others else others) → new ≡ list_before truth (list_on (drop i list)) behind
+pub list_put : (truth : Bool) (list : List one_tests.Test) (i : ℕ) (t : one_tests.Test) (behind others new : Tail) (follows : Bool) → i < length list → t ≡ get_or list i t → follows ≡ nat_lt (i + 1) (length list) → others ≡ list_before truth (list_on (drop (i + 1) list)) behind → new ≡ test_before (test_of t) (if follows then jump_if_op truth (length behind) ∷ others else others) → new ≡ list_before truth (list_on (drop i list)) behind
 list_put truth list i t behind others new follows below is more before after =
     after
-    ∙ ap (λ o. test_before (test_of t) (if follows then jumps_if truth (length behind) ∷ o else o)) before
+    ∙ ap (λ o. test_before (test_of t) (if follows then jump_if_op truth (length behind) ∷ o else o)) before
     ∙ ap (test_before (test_of t)) (sym (joint_by truth (drop (i + 1) list) follows behind (list_before truth (list_on (drop (i + 1) list)) behind) (some_left list i follows more) (none_left list i follows more)))
     ∙ ap (λ x. test_before (test_of x) (joint truth (list_on (drop (i + 1) list)) behind (list_before truth (list_on (drop (i + 1) list)) behind))) is
     ∙ sym (list_first truth (get_or list i t) (drop (i + 1) list) behind)
@@ -137,8 +139,8 @@ pub length_last : (count : ℕ) (tail : Tail) → count ≤ length tail → leng
 length_last count tail le = omega (arith, length-drop (length tail - count) tail)
 
 -- a jump past the branches
-pub past : (front : Front) (tail : Tail) → front.behind ≤ length tail → past_branches (branches_as front tail) ≡ (if front.has_branch then jumps front.behind ∷ tail else tail)
-past front tail le = ap (λ n. if front.has_branch then jumps n ∷ tail else tail) (length_last front.behind tail le)
+pub past : (front : Front) (tail : Tail) → front.behind ≤ length tail → past_branches (branches_as front tail) ≡ (if front.has_branch then jump_op front.behind ∷ tail else tail)
+past front tail le = ap (λ n. if front.has_branch then jump_op n ∷ tail else tail) (length_last front.behind tail le)
 
 -- a tail without a branch in front
 pub alone : (front : Front) (tail : Tail) → front.has_branch ≡ false → front.behind ≡ length tail → branches_as front tail ≡ no_branch tail

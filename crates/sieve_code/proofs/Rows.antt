@@ -16,7 +16,7 @@ use Rattle.sieve_reading.specs.declared.reading.FlagChange.TheVariants.{Set, Add
 use Rattle.sieve_reading.specs.declared.reading.MatchType.TheVariants.{Contains, Is, Matches}
 use Rattle.sieve_code.specs.Choice.{code_of, placed, test_before, tests_before, list_before, first_before, node_before, block_before, nodes_before}
 use Rattle.sieve_code.specs.Dump.{address_words, ask_text, changing_words, comparing_words, flag_lists, further_list, include_words, internal_list, line_text, list_text, modifier_words, operation_text, set_words, stored_flags, string_text, two_lists, worded_flags, worded_text, worded_variable}
-use Rattle.sieve_code.specs.Operation.{Operation, sets, inverts, asks, jumps, jumps_if, acts, stops, returns}
+use Rattle.sieve_code.specs.Operation.{Operation, set_op, invert_op, test_op, jump_op, jump_if_op, act_op, stop_op, return_op}
 use Rattle.sieve_base.specs.declared.place.Place.TheVariants.{Personal, Global}
 use Rattle.sieve_code.specs.Walk.{Walk, at_end, by_stop, by_return, cut_off, asked, acted, code_walk, walk_from, tree_walk, commands_walk, condition_walk, gone, met_ask, met_leaf, ended, unanswered}
 
@@ -66,13 +66,13 @@ list_ask = compares (header_values ((literal (codes "Subject") ∷ []) ∷ [])) 
 
 abbrev worked_code : List Operation
 worked_code =
-    asks list_ask
-    ∷ jumps_if true 3
-    ∷ asks (over_ask 1048576)
-    ∷ jumps_if false 6
-    ∷ acts (keep_leaf None) 2
-    ∷ jumps 7
-    ∷ acts discard_leaf 4
+    test_op list_ask
+    ∷ jump_if_op true 3
+    ∷ test_op (over_ask 1048576)
+    ∷ jump_if_op false 6
+    ∷ act_op (keep_leaf None) 2
+    ∷ jump_op 7
+    ∷ act_op discard_leaf 4
     ∷ []
 
 worked_row : code_of worked ≡ worked_code
@@ -91,34 +91,34 @@ require_row = refl
 
 -- if not anyof (allof (true, false), true) { }
 nested_row : code_of (testing (codes "if") 1 (test (codes "not") 1 [] (one_test (list_of (codes "anyof") (list_of (codes "allof") (constant (codes "true") ∷ constant (codes "false") ∷ []) ∷ constant (codes "true") ∷ [])))) [] ∷ [])
-    ≡ sets true ∷ jumps_if false 3 ∷ sets false ∷ jumps_if true 5 ∷ sets true ∷ inverts ∷ jumps_if false 7 ∷ []
+    ≡ set_op true ∷ jump_if_op false 3 ∷ set_op false ∷ jump_if_op true 5 ∷ set_op true ∷ invert_op ∷ jump_if_op false 7 ∷ []
 unfolding placed nodes_before node_before block_before test_before tests_before list_before first_before command_named test_named
 nested_row = refl
 
 -- if allof (true) { keep; }: one test in the list is that test alone
-single_row : code_of (testing (codes "if") 1 (list_of (codes "allof") (constant (codes "true") ∷ [])) (keep_at 1 ∷ []) ∷ []) ≡ sets true ∷ jumps_if false 3 ∷ acts (keep_leaf None) 1 ∷ []
+single_row : code_of (testing (codes "if") 1 (list_of (codes "allof") (constant (codes "true") ∷ [])) (keep_at 1 ∷ []) ∷ []) ≡ set_op true ∷ jump_if_op false 3 ∷ act_op (keep_leaf None) 1 ∷ []
 unfolding placed nodes_before node_before block_before test_before tests_before list_before first_before command_named test_named
 single_row = refl
 
 -- if true { keep; } elsif false { discard; } stop;
 without_else_row : code_of (testing (codes "if") 1 (constant (codes "true")) (keep_at 1 ∷ []) ∷ testing (codes "elsif") 2 (constant (codes "false")) (discard_at 2 ∷ []) ∷ stop_at 3 ∷ [])
-    ≡ sets true ∷ jumps_if false 4 ∷ acts (keep_leaf None) 1 ∷ jumps 7 ∷ sets false ∷ jumps_if false 7 ∷ acts discard_leaf 2 ∷ stops ∷ []
+    ≡ set_op true ∷ jump_if_op false 4 ∷ act_op (keep_leaf None) 1 ∷ jump_op 7 ∷ set_op false ∷ jump_if_op false 7 ∷ act_op discard_leaf 2 ∷ stop_op ∷ []
 unfolding placed nodes_before node_before block_before test_before tests_before list_before first_before command_named test_named
 without_else_row = refl
 
 -- if true { keep; } elsif false { discard; } else { stop; }
 with_else_row : code_of (testing (codes "if") 1 (constant (codes "true")) (keep_at 1 ∷ []) ∷ testing (codes "elsif") 2 (constant (codes "false")) (discard_at 2 ∷ []) ∷ last_branch (stop_at 3 ∷ []) ∷ [])
-    ≡ sets true ∷ jumps_if false 4 ∷ acts (keep_leaf None) 1 ∷ jumps 9 ∷ sets false ∷ jumps_if false 8 ∷ acts discard_leaf 2 ∷ jumps 9 ∷ stops ∷ []
+    ≡ set_op true ∷ jump_if_op false 4 ∷ act_op (keep_leaf None) 1 ∷ jump_op 9 ∷ set_op false ∷ jump_if_op false 8 ∷ act_op discard_leaf 2 ∷ jump_op 9 ∷ stop_op ∷ []
 unfolding placed nodes_before node_before block_before test_before tests_before list_before first_before command_named test_named
 with_else_row = refl
 
 -- if true { } else { }: a branch follows, so the jump is there
-empty_blocks_row : code_of (testing (codes "if") 1 (constant (codes "true")) [] ∷ last_branch [] ∷ []) ≡ sets true ∷ jumps_if false 3 ∷ jumps 3 ∷ []
+empty_blocks_row : code_of (testing (codes "if") 1 (constant (codes "true")) [] ∷ last_branch [] ∷ []) ≡ set_op true ∷ jump_if_op false 3 ∷ jump_op 3 ∷ []
 unfolding placed nodes_before node_before block_before test_before tests_before list_before first_before command_named test_named
 empty_blocks_row = refl
 
 -- stop; keep;
-behind_stop_row : code_of (stop_at 1 ∷ keep_at 2 ∷ []) ≡ stops ∷ acts (keep_leaf None) 2 ∷ []
+behind_stop_row : code_of (stop_at 1 ∷ keep_at 2 ∷ []) ≡ stop_op ∷ act_op (keep_leaf None) 2 ∷ []
 unfolding placed nodes_before node_before block_before command_named
 behind_stop_row = refl
 
@@ -140,7 +140,7 @@ cut_row : code_walk worked_code 5 ≡ asked list_ask (acted (keep_leaf None) 2 a
 unfolding walk_from
 cut_row = refl
 
-stop_row : code_walk (stops ∷ acts (keep_leaf None) 2 ∷ []) 2 ≡ by_stop
+stop_row : code_walk (stop_op ∷ act_op (keep_leaf None) 2 ∷ []) 2 ≡ by_stop
 unfolding walk_from
 stop_row = refl
 
@@ -154,33 +154,33 @@ unanswered_row = refl
 
 -- DUMP
 
-header_line_row : line_text 0 (asks list_ask) ≡ codes "0: header contains casemap [\"Subject\"] [\"[list]\"]\n"
+header_line_row : line_text 0 (test_op list_ask) ≡ codes "0: header contains casemap [\"Subject\"] [\"[list]\"]\n"
 unfolding line_text operation_text digits ask_text comparing_words two_lists further_list list_text string_text quoted
 header_line_row = refl
 
-jump_line_row : line_text 1 (jumps_if true 3) ≡ codes "1: jump-if-true 3\n"
+jump_line_row : line_text 1 (jump_if_op true 3) ≡ codes "1: jump-if-true 3\n"
 unfolding line_text operation_text digits
 jump_line_row = refl
 
-size_line_row : line_text 2 (asks (over_ask 1048576)) ≡ codes "2: size over 1048576\n"
+size_line_row : line_text 2 (test_op (over_ask 1048576)) ≡ codes "2: size over 1048576\n"
 unfolding line_text operation_text digits ask_text
 size_line_row = refl
 
-keep_line_row : line_text 4 (acts (keep_leaf None) 2) ≡ codes "4: keep internal @2\n"
+keep_line_row : line_text 4 (act_op (keep_leaf None) 2) ≡ codes "4: keep internal @2\n"
 unfolding line_text operation_text digits worded_flags stored_flags
 keep_line_row = refl
 
-discard_line_row : line_text 6 (acts discard_leaf 4) ≡ codes "6: discard @4\n"
+discard_line_row : line_text 6 (act_op discard_leaf 4) ≡ codes "6: discard @4\n"
 unfolding line_text operation_text digits
 discard_line_row = refl
 
 -- set :length :lower "N" "${007}a${Box}";
-set_line_row : line_text 0 (acts (set_leaf (local_variable (codes "n")) (record { letter_case = Some letter_case.Lower; first_letter = None; quote_wildcard = false; length = true }) (match_part 7 ∷ literal (codes "a") ∷ local_part (codes "box") ∷ [])) 2)
+set_line_row : line_text 0 (act_op (set_leaf (local_variable (codes "n")) (record { letter_case = Some letter_case.Lower; first_letter = None; quote_wildcard = false; length = true }) (match_part 7 ∷ literal (codes "a") ∷ local_part (codes "box") ∷ [])) 2)
     ≡ codes "0: set local(n) lower length match(7)+\"a\"+local(box) @2\n"
 unfolding line_text operation_text digits worded_text set_words modifier_words worded_variable string_text quoted
 set_line_row = refl
 
-string_line_row : line_text 0 (asks (compares (string_values ((local_part (codes "a") ∷ []) ∷ [])) Matches Octet ((literal (codes "x*") ∷ []) ∷ []))) ≡ codes "0: string matches octet [local(a)] [\"x*\"]\n"
+string_line_row : line_text 0 (test_op (compares (string_values ((local_part (codes "a") ∷ []) ∷ [])) Matches Octet ((literal (codes "x*") ∷ []) ∷ []))) ≡ codes "0: string matches octet [local(a)] [\"x*\"]\n"
 unfolding line_text operation_text digits ask_text comparing_words two_lists further_list list_text string_text quoted
 string_line_row = refl
 
@@ -192,67 +192,67 @@ strings_row = refl
 abbrev one_text : List ℕ → List Part
 one_text octets = literal octets ∷ []
 
-address_line_row : line_text 0 (asks (compares (address_values part.Local (one_text (codes "from") ∷ one_text (codes "To") ∷ [])) Is Casemap (one_text (codes "jane") ∷ []))) ≡ codes "0: address is casemap localpart [\"from\", \"To\"] [\"jane\"]\n"
+address_line_row : line_text 0 (test_op (compares (address_values part.Local (one_text (codes "from") ∷ one_text (codes "To") ∷ [])) Is Casemap (one_text (codes "jane") ∷ []))) ≡ codes "0: address is casemap localpart [\"from\", \"To\"] [\"jane\"]\n"
 unfolding line_text operation_text digits ask_text address_words comparing_words two_lists further_list list_text string_text quoted
 address_line_row = refl
 
-envelope_line_row : line_text 4 (asks (compares (envelope_values part.All (one_text (codes "from") ∷ [])) Is Octet (one_text [] ∷ one_text (codes "x") ∷ []))) ≡ codes "4: envelope is octet all [\"from\"] [\"\", \"x\"]\n"
+envelope_line_row : line_text 4 (test_op (compares (envelope_values part.All (one_text (codes "from") ∷ [])) Is Octet (one_text [] ∷ one_text (codes "x") ∷ []))) ≡ codes "4: envelope is octet all [\"from\"] [\"\", \"x\"]\n"
 unfolding line_text operation_text digits ask_text address_words comparing_words two_lists further_list list_text string_text quoted
 envelope_line_row = refl
 
-redirect_line_row : line_text 2 (acts (redirect_leaf (one_text (codes "a@b.example"))) 2) ≡ codes "2: redirect \"a@b.example\" @2\n"
+redirect_line_row : line_text 2 (act_op (redirect_leaf (one_text (codes "a@b.example"))) 2) ≡ codes "2: redirect \"a@b.example\" @2\n"
 unfolding line_text operation_text digits worded_text string_text quoted
 redirect_line_row = refl
 
-fileinto_line_row : line_text 6 (acts (fileinto_leaf (one_text (codes "A")) None) 3) ≡ codes "6: fileinto \"A\" internal @3\n"
+fileinto_line_row : line_text 6 (act_op (fileinto_leaf (one_text (codes "A")) None) 3) ≡ codes "6: fileinto \"A\" internal @3\n"
 unfolding line_text operation_text digits worded_text stored_flags string_text quoted
 fileinto_line_row = refl
 
-keep_flags_line_row : line_text 0 (acts (keep_leaf (Some (one_text (codes "d") ∷ []))) 2) ≡ codes "0: keep flags [\"d\"] @2\n"
+keep_flags_line_row : line_text 0 (act_op (keep_leaf (Some (one_text (codes "d") ∷ []))) 2) ≡ codes "0: keep flags [\"d\"] @2\n"
 unfolding line_text operation_text digits worded_flags stored_flags list_text string_text quoted
 keep_flags_line_row = refl
 
-fileinto_flags_line_row : line_text 0 (acts (fileinto_leaf (one_text (codes "A")) (Some (one_text (codes "e") ∷ []))) 2) ≡ codes "0: fileinto \"A\" flags [\"e\"] @2\n"
+fileinto_flags_line_row : line_text 0 (act_op (fileinto_leaf (one_text (codes "A")) (Some (one_text (codes "e") ∷ []))) 2) ≡ codes "0: fileinto \"A\" flags [\"e\"] @2\n"
 unfolding line_text operation_text digits worded_text stored_flags list_text string_text quoted
 fileinto_flags_line_row = refl
 
 -- setflag "F" ["a", "b"];
-setflag_line_row : line_text 0 (acts (flag_leaf Set (Some (local_variable (codes "f"))) (one_text (codes "a") ∷ one_text (codes "b") ∷ [])) 2) ≡ codes "0: setflag local(f) [\"a\", \"b\"] @2\n"
+setflag_line_row : line_text 0 (act_op (flag_leaf Set (Some (local_variable (codes "f"))) (one_text (codes "a") ∷ one_text (codes "b") ∷ [])) 2) ≡ codes "0: setflag local(f) [\"a\", \"b\"] @2\n"
 unfolding line_text operation_text digits changing_words list_text string_text quoted
 setflag_line_row = refl
 
-addflag_line_row : line_text 1 (acts (flag_leaf Add None (one_text (codes "c") ∷ [])) 2) ≡ codes "1: addflag internal [\"c\"] @2\n"
+addflag_line_row : line_text 1 (act_op (flag_leaf Add None (one_text (codes "c") ∷ [])) 2) ≡ codes "1: addflag internal [\"c\"] @2\n"
 unfolding line_text operation_text digits changing_words list_text string_text quoted
 addflag_line_row = refl
 
 -- hasflag :contains ["f", "G"] "a"
-variables_line_row : line_text 0 (asks (compares (flag_values (Some ((local_part (codes "f") ∷ []) ∷ (local_part (codes "g") ∷ []) ∷ []))) Contains Casemap (one_text (codes "a") ∷ []))) ≡ codes "0: hasflag contains casemap [local(f), local(g)] [\"a\"]\n"
+variables_line_row : line_text 0 (test_op (compares (flag_values (Some ((local_part (codes "f") ∷ []) ∷ (local_part (codes "g") ∷ []) ∷ []))) Contains Casemap (one_text (codes "a") ∷ []))) ≡ codes "0: hasflag contains casemap [local(f), local(g)] [\"a\"]\n"
 unfolding line_text operation_text digits ask_text comparing_words flag_lists internal_list further_list list_text string_text quoted
 variables_line_row = refl
 
-internal_line_row : line_text 0 (asks (compares (flag_values None) Is Casemap (one_text (codes "a") ∷ []))) ≡ codes "0: hasflag is casemap internal [\"a\"]\n"
+internal_line_row : line_text 0 (test_op (compares (flag_values None) Is Casemap (one_text (codes "a") ∷ []))) ≡ codes "0: hasflag is casemap internal [\"a\"]\n"
 unfolding line_text operation_text digits ask_text comparing_words flag_lists internal_list further_list list_text string_text quoted
 internal_line_row = refl
 
 -- VARIABLES THAT SCRIPTS SHARE, AND SCRIPTS THAT ARE INCLUDED
 
-set_global_line_row : line_text 0 (acts (set_leaf (global_variable (codes "g")) (record { letter_case = None; first_letter = None; quote_wildcard = false; length = false }) (one_text (codes "x"))) 2) ≡ codes "0: set global(g) \"x\" @2\n"
+set_global_line_row : line_text 0 (act_op (set_leaf (global_variable (codes "g")) (record { letter_case = None; first_letter = None; quote_wildcard = false; length = false }) (one_text (codes "x"))) 2) ≡ codes "0: set global(g) \"x\" @2\n"
 unfolding line_text operation_text digits set_words modifier_words worded_variable worded_text string_text quoted
 set_global_line_row = refl
 
-addflag_global_line_row : line_text 1 (acts (flag_leaf Add (Some (global_variable (codes "h"))) (one_text (codes "y") ∷ [])) 2) ≡ codes "1: addflag global(h) [\"y\"] @2\n"
+addflag_global_line_row : line_text 1 (act_op (flag_leaf Add (Some (global_variable (codes "h"))) (one_text (codes "y") ∷ [])) 2) ≡ codes "1: addflag global(h) [\"y\"] @2\n"
 unfolding line_text operation_text digits changing_words list_text string_text quoted
 addflag_global_line_row = refl
 
-include_line_row : line_text 2 (acts (include_leaf Global true false (codes "k")) 3) ≡ codes "2: include global once \"k\" @3\n"
+include_line_row : line_text 2 (act_op (include_leaf Global true false (codes "k")) 3) ≡ codes "2: include global once \"k\" @3\n"
 unfolding line_text operation_text digits include_words quoted
 include_line_row = refl
 
-optional_line_row : line_text 6 (acts (include_leaf Personal false true (codes "x")) 5) ≡ codes "6: include personal optional \"x\" @5\n"
+optional_line_row : line_text 6 (act_op (include_leaf Personal false true (codes "x")) 5) ≡ codes "6: include personal optional \"x\" @5\n"
 unfolding line_text operation_text digits include_words quoted
 optional_line_row = refl
 
-return_line_row : line_text 3 returns ≡ codes "3: return\n"
+return_line_row : line_text 3 return_op ≡ codes "3: return\n"
 unfolding line_text operation_text digits
 return_line_row = refl
 
@@ -260,6 +260,6 @@ global_parts_row : string_text (literal (codes "a") ∷ global_part (codes "box"
 unfolding string_text quoted
 global_parts_row = refl
 
-return_row : code_walk (returns ∷ acts (keep_leaf None) 2 ∷ []) 2 ≡ by_return
+return_row : code_walk (return_op ∷ act_op (keep_leaf None) 2 ∷ []) 2 ≡ by_return
 unfolding walk_from
 return_row = refl

@@ -1,10 +1,11 @@
 -- What is put in front of a tail ends with the tail.
 use Rattle.std.proofs.Common.{ℕ, Bool, true, false, ◌∷◌, length, Option, Some, None}
 use Rattle.sieve_reading.specs.Reading as reading
-use Rattle.sieve_reading.specs.Reading.{CommandReading, command_reading}
+use Rattle.sieve_reading.specs.Reading.{CommandReading}
+use Rattle.sieve_reading.specs.CommandReading.{command_reading}
 use Rattle.sieve_reading.specs.Tree.{Node, node, Block, no_block, block, Nodes, end_nodes, more_nodes}
 use Rattle.sieve_code.specs.Choice.{Tail, Branches, no_branch, past_branches, branch_before, command_before, node_before, block_before, nodes_before, first_before}
-use Rattle.sieve_code.specs.Operation.{jumps, jumps_if, acts, stops, returns}
+use Rattle.sieve_code.specs.Operation.{jump_op, jump_if_op, act_op, stop_op, return_op}
 use Rattle.sieve_code.proofs.Tails.{Ends, ends_self, ends_more, ends_trans}
 use Rattle.sieve_code.proofs.Conditions.{first_code}
 
@@ -20,23 +21,23 @@ apart_alone : (tail behind : Tail) → Ends tail behind → Apart (no_branch tai
 apart_alone tail behind e = record { rest = e; branch = ends_self tail }
 
 past_ends : (has : Bool) (w r : Tail) → Ends (past_branches (record { has_branch = has; with_branch = w; behind_branches = r })) w
-past_ends true w r = ends_more (jumps (length r)) w w (ends_self w)
+past_ends true w r = ends_more (jump_op (length r)) w w (ends_self w)
 past_ends false w r = ends_self w
 
 pub branch_ends : (first inner : Tail → Tail) (b : Branches) → Extends first → Extends inner → Ends (branch_before first inner b) b.with_branch
 branch_ends first inner b f i =
-    ends_trans _ _ _ (f (jumps_if false (length b.with_branch) ∷ inner (past_branches b)))
+    ends_trans _ _ _ (f (jump_if_op false (length b.with_branch) ∷ inner (past_branches b)))
     (ends_more _ _ _ (ends_trans _ _ _ (i (past_branches b)) (past_ends b.has_branch b.with_branch b.behind_branches)))
 
 command_apart : (r : Option CommandReading) (line : ℕ) (first inner : Tail → Tail) (b : Branches) (behind : Tail) → Extends first → Extends inner → Apart b behind → Apart (command_before r line first inner b) behind
 command_apart None line first inner b behind f i a = apart_alone b.behind_branches behind a.rest
-command_apart (Some reading.opens) line first inner b behind f i a = apart_alone (branch_before first inner b) behind (ends_trans _ _ _ (branch_ends first inner b f i) (ends_trans _ _ _ a.branch a.rest))
-command_apart (Some reading.continues) line first inner b behind f i a = record { rest = a.rest; branch = ends_trans _ _ _ (branch_ends first inner b f i) a.branch }
-command_apart (Some reading.otherwise) line first inner b behind f i a = record { rest = a.rest; branch = i b.behind_branches }
-command_apart (Some reading.stops) line first inner b behind f i a = apart_alone (stops ∷ b.behind_branches) behind (ends_more _ _ _ a.rest)
-command_apart (Some reading.returns) line first inner b behind f i a = apart_alone (returns ∷ b.behind_branches) behind (ends_more _ _ _ a.rest)
-command_apart (Some reading.nothing) line first inner b behind f i a = apart_alone b.behind_branches behind a.rest
-command_apart (Some (reading.acts leaf)) line first inner b behind f i a = apart_alone (acts leaf line ∷ b.behind_branches) behind (ends_more _ _ _ a.rest)
+command_apart (Some reading.reads_if) line first inner b behind f i a = apart_alone (branch_before first inner b) behind (ends_trans _ _ _ (branch_ends first inner b f i) (ends_trans _ _ _ a.branch a.rest))
+command_apart (Some reading.reads_elsif) line first inner b behind f i a = record { rest = a.rest; branch = ends_trans _ _ _ (branch_ends first inner b f i) a.branch }
+command_apart (Some reading.reads_else) line first inner b behind f i a = record { rest = a.rest; branch = i b.behind_branches }
+command_apart (Some reading.reads_stop) line first inner b behind f i a = apart_alone (stop_op ∷ b.behind_branches) behind (ends_more _ _ _ a.rest)
+command_apart (Some reading.reads_return) line first inner b behind f i a = apart_alone (return_op ∷ b.behind_branches) behind (ends_more _ _ _ a.rest)
+command_apart (Some reading.reads_nothing) line first inner b behind f i a = apart_alone b.behind_branches behind a.rest
+command_apart (Some (reading.reads_act leaf)) line first inner b behind f i a = apart_alone (act_op leaf line ∷ b.behind_branches) behind (ends_more _ _ _ a.rest)
 
 mutual
   unfolding node_before block_before nodes_before

@@ -2,22 +2,22 @@
 use Rattle.std.proofs.Common.{◌≡◌, ℕ, zero, suc, ◌-◌, ◌≤◌, Bool, true, false, not, if◌then◌else◌, [], ◌∷◌, ◌++◌, length, drop, Some, None, refl, sym, ap, ◌∙◌, arith, append_assoc, length-append}
 use Rattle.sieve_reading.specs.Reading.{Ask, Leaf}
 use Rattle.sieve_code.specs.Choice.{Tail}
-use Rattle.sieve_code.specs.Operation.{Operation, sets, inverts, asks, jumps, jumps_if, acts, stops, returns, target_of}
+use Rattle.sieve_code.specs.Operation.{Operation, set_op, invert_op, test_op, jump_op, jump_if_op, act_op, stop_op, return_op, target_of}
 use Rattle.sieve_code.specs.Walk.{Walk, at_end, by_stop, by_return, cut_off, asked, acted}
 use Rattle.sieve_code.specs.view.Branches.{last}
 
 -- one operation of a tail
 abbrev pub tail_step : (Tail → Bool → Walk) → Tail → Bool → Walk
 tail_step go [] r = at_end
-tail_step go (sets truth ∷ rest) r = go rest truth
-tail_step go (inverts ∷ rest) r = go rest (not r)
-tail_step go (asks ask ∷ rest) r = asked ask (go rest true) (go rest false)
-tail_step go (jumps left ∷ rest) r = go (last left rest) r
-tail_step go (jumps_if true left ∷ rest) r = if r then go (last left rest) r else go rest r
-tail_step go (jumps_if false left ∷ rest) r = if r then go rest r else go (last left rest) r
-tail_step go (acts leaf line ∷ rest) r = acted leaf line (go rest r)
-tail_step go (stops ∷ rest) r = by_stop
-tail_step go (returns ∷ rest) r = by_return
+tail_step go (set_op truth ∷ rest) r = go rest truth
+tail_step go (invert_op ∷ rest) r = go rest (not r)
+tail_step go (test_op ask ∷ rest) r = asked ask (go rest true) (go rest false)
+tail_step go (jump_op left ∷ rest) r = go (last left rest) r
+tail_step go (jump_if_op true left ∷ rest) r = if r then go (last left rest) r else go rest r
+tail_step go (jump_if_op false left ∷ rest) r = if r then go rest r else go (last left rest) r
+tail_step go (act_op leaf line ∷ rest) r = acted leaf line (go rest r)
+tail_step go (stop_op ∷ rest) r = by_stop
+tail_step go (return_op ∷ rest) r = by_return
 
 -- a tail in at most so many operations
 abbrev pub tail_walk : ℕ → Tail → Bool → Walk
@@ -79,23 +79,23 @@ walks_none = record { by = none }
     none (suc n) le r = refl
 
 module _ (rest : Tail) (does : Bool → Walk) (walks : Walks rest does) where
-  pub walks_sets : (truth : Bool) → Walks (sets truth ∷ rest) (λ r. does truth)
-  walks_sets truth = walks_more (sets truth) rest _ (λ n le r. walks.by n le truth)
+  pub walks_sets : (truth : Bool) → Walks (set_op truth ∷ rest) (λ r. does truth)
+  walks_sets truth = walks_more (set_op truth) rest _ (λ n le r. walks.by n le truth)
 
-  pub walks_inverts : Walks (inverts ∷ rest) (λ r. does (not r))
-  walks_inverts = walks_more inverts rest _ (λ n le r. walks.by n le (not r))
+  pub walks_inverts : Walks (invert_op ∷ rest) (λ r. does (not r))
+  walks_inverts = walks_more invert_op rest _ (λ n le r. walks.by n le (not r))
 
-  pub walks_asks : (ask : Ask) → Walks (asks ask ∷ rest) (λ r. asked ask (does true) (does false))
-  walks_asks ask = walks_more (asks ask) rest _ (λ n le r. ap (λ w. asked ask w (tail_walk n rest false)) (walks.by n le true) ∙ ap (λ w. asked ask (does true) w) (walks.by n le false))
+  pub walks_asks : (ask : Ask) → Walks (test_op ask ∷ rest) (λ r. asked ask (does true) (does false))
+  walks_asks ask = walks_more (test_op ask) rest _ (λ n le r. ap (λ w. asked ask w (tail_walk n rest false)) (walks.by n le true) ∙ ap (λ w. asked ask (does true) w) (walks.by n le false))
 
-  pub walks_acts : (leaf : Leaf) (line : ℕ) → Walks (acts leaf line ∷ rest) (λ r. acted leaf line (does r))
-  walks_acts leaf line = walks_more (acts leaf line) rest _ (λ n le r. ap (acted leaf line) (walks.by n le r))
+  pub walks_acts : (leaf : Leaf) (line : ℕ) → Walks (act_op leaf line ∷ rest) (λ r. acted leaf line (does r))
+  walks_acts leaf line = walks_more (act_op leaf line) rest _ (λ n le r. ap (acted leaf line) (walks.by n le r))
 
-pub walks_stops : (rest : Tail) → Walks (stops ∷ rest) (λ r. by_stop)
-walks_stops rest = walks_more stops rest _ (λ n le r. refl)
+pub walks_stops : (rest : Tail) → Walks (stop_op ∷ rest) (λ r. by_stop)
+walks_stops rest = walks_more stop_op rest _ (λ n le r. refl)
 
-pub walks_returns : (rest : Tail) → Walks (returns ∷ rest) (λ r. by_return)
-walks_returns rest = walks_more returns rest _ (λ n le r. refl)
+pub walks_returns : (rest : Tail) → Walks (return_op ∷ rest) (λ r. by_return)
+walks_returns rest = walks_more return_op rest _ (λ n le r. refl)
 
 -- where a jump with that truth leads: there, or on
 abbrev pub landed : (truth r : Bool) → (there on : Walk) → Walk
@@ -106,13 +106,13 @@ module _ (rest target : Tail) (there : Bool → Walk) (ends : Ends rest target) 
   target_walk : (n : ℕ) → length rest ≤ n → (r : Bool) → tail_walk n (last (length target) rest) r ≡ there r
   target_walk n le r = ap (λ t. tail_walk n t r) (last_of rest target ends) ∙ walks.by n (omega (arith, le, ends_below rest target ends)) r
 
-  pub walks_jumps : Walks (jumps (length target) ∷ rest) there
-  walks_jumps = walks_more (jumps (length target)) rest there target_walk
+  pub walks_jumps : Walks (jump_op (length target) ∷ rest) there
+  walks_jumps = walks_more (jump_op (length target)) rest there target_walk
 
-  pub walks_jumps_if : (truth : Bool) (on : Bool → Walk) → Walks rest on → Walks (jumps_if truth (length target) ∷ rest) (λ r. landed truth r (there r) (on r))
-  walks_jumps_if truth on w = walks_more (jumps_if truth (length target)) rest (λ r. landed truth r (there r) (on r)) (λ n le r. way truth n le r)
+  pub walks_jumps_if : (truth : Bool) (on : Bool → Walk) → Walks rest on → Walks (jump_if_op truth (length target) ∷ rest) (λ r. landed truth r (there r) (on r))
+  walks_jumps_if truth on w = walks_more (jump_if_op truth (length target)) rest (λ r. landed truth r (there r) (on r)) (λ n le r. way truth n le r)
     where
-      way : (t : Bool) (n : ℕ) → length rest ≤ n → (r : Bool) → tail_step (tail_walk n) (jumps_if t (length target) ∷ rest) r ≡ landed t r (there r) (on r)
+      way : (t : Bool) (n : ℕ) → length rest ≤ n → (r : Bool) → tail_step (tail_walk n) (jump_if_op t (length target) ∷ rest) r ≡ landed t r (there r) (on r)
       way true n le true = target_walk n le true
       way true n le false = w.by n le false
       way false n le true = w.by n le true
@@ -126,8 +126,8 @@ forward_plain op rest none f = ((λ left is. absurd (apart (sym none ∙ is))), 
     apart : {left : ℕ} → None ≡ Some left → ⊥
     apart e = cc
 
-pub forward_jumps : (rest target : Tail) → Ends rest target → Forward rest → Forward (jumps (length target) ∷ rest)
+pub forward_jumps : (rest target : Tail) → Ends rest target → Forward rest → Forward (jump_op (length target) ∷ rest)
 forward_jumps rest target e f = ((λ left is. let same : length target ≡ left = cc in omega (arith, same, ends_below rest target e)), f)
 
-pub forward_jumps_if : (truth : Bool) (rest target : Tail) → Ends rest target → Forward rest → Forward (jumps_if truth (length target) ∷ rest)
+pub forward_jumps_if : (truth : Bool) (rest target : Tail) → Ends rest target → Forward rest → Forward (jump_if_op truth (length target) ∷ rest)
 forward_jumps_if truth rest target e f = ((λ left is. let same : length target ≡ left = cc in omega (arith, same, ends_below rest target e)), f)

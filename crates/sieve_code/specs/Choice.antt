@@ -2,9 +2,11 @@
 -- 3.1, 3.3 and 4) in the order of the text, with jumps between them.
 use Rattle.std.specs.Prelude.{ℕ, ◌-◌, ◌<◌, ◌≤◌, ◌≡◌, Bool, true, false, not, if◌then◌else◌, List, [], ◌∷◌, length, map, Option, Some, None, slice_get}
 use Rattle.sieve_reading.specs.Reading as reading
-use Rattle.sieve_reading.specs.Reading.{TestReading, reads_always, reads_never, reads_ask, reads_all, reads_any, reads_not, CommandReading, test_reading, command_reading}
+use Rattle.sieve_reading.specs.Reading.{TestReading, reads_always, reads_never, reads_ask, reads_all, reads_any, reads_not, CommandReading}
+use Rattle.sieve_reading.specs.CommandReading.{command_reading}
+use Rattle.sieve_reading.specs.TestReading.{test_reading}
 use Rattle.sieve_reading.specs.Tree.{Test, test, Tests, no_tests, one_test, test_list, TestList, end_tests, more_tests, Node, node, Block, no_block, block, Nodes, end_nodes, more_nodes, nodes}
-use Rattle.sieve_code.specs.Operation.{Operation, sets, inverts, asks, jumps, jumps_if, acts, stops, returns, target_of, targeting}
+use Rattle.sieve_code.specs.Operation.{Operation, set_op, invert_op, test_op, jump_op, jump_if_op, act_op, stop_op, return_op, target_of, targeting}
 
 -- Operations up to the end of the code. Here a jump has for its target how many operations there are from the target to the
 -- end, so that what stands in front doesn't matter.
@@ -17,18 +19,18 @@ Tail = List Operation
 -- of them comes to that truth
 abbrev pub joint : Bool → TestList → Tail → Tail → Tail
 joint truth end_tests behind others = others
-joint truth (more_tests t ts) behind others = jumps_if truth (length behind) ∷ others
+joint truth (more_tests t ts) behind others = jump_if_op truth (length behind) ∷ others
 
 -- A test in front of a tail, where `all` and `any` are the tests in it, joined, and `first` is the first of them. A test that
 -- isn't read as anything, which no checked script has, is false.
 abbrev pub reading_before : Option TestReading → (all any first : Tail → Tail) → Tail → Tail
-reading_before None all any first behind = sets false ∷ behind
-reading_before (Some reads_always) all any first behind = sets true ∷ behind
-reading_before (Some reads_never) all any first behind = sets false ∷ behind
-reading_before (Some (reads_ask ask)) all any first behind = asks ask ∷ behind
+reading_before None all any first behind = set_op false ∷ behind
+reading_before (Some reads_always) all any first behind = set_op true ∷ behind
+reading_before (Some reads_never) all any first behind = set_op false ∷ behind
+reading_before (Some (reads_ask ask)) all any first behind = test_op ask ∷ behind
 reading_before (Some reads_all) all any first behind = all behind
 reading_before (Some reads_any) all any first behind = any behind
-reading_before (Some reads_not) all any first behind = first (inverts ∷ behind)
+reading_before (Some reads_not) all any first behind = first (invert_op ∷ behind)
 
 unfoldable mutual
   -- the operations of a test in front of a tail
@@ -39,9 +41,9 @@ unfoldable mutual
   -- those of all tests: behind each but the last, a jump past the last one where it comes to that truth; without a test, the
   -- other truth
   pub tests_before : Bool → Tests → Tail → Tail
-  tests_before truth no_tests behind = sets (not truth) ∷ behind
+  tests_before truth no_tests behind = set_op (not truth) ∷ behind
   tests_before truth (one_test t) behind = test_before t behind
-  tests_before truth (test_list end_tests) behind = sets (not truth) ∷ behind
+  tests_before truth (test_list end_tests) behind = set_op (not truth) ∷ behind
   tests_before truth (test_list (more_tests t ts)) behind = list_before truth (more_tests t ts) behind
 
   pub list_before : Bool → TestList → Tail → Tail
@@ -50,9 +52,9 @@ unfoldable mutual
 
   -- those of the first test; without one, false
   pub first_before : Tests → Tail → Tail
-  first_before no_tests behind = sets false ∷ behind
+  first_before no_tests behind = set_op false ∷ behind
   first_before (one_test t) behind = test_before t behind
-  first_before (test_list end_tests) behind = sets false ∷ behind
+  first_before (test_list end_tests) behind = set_op false ∷ behind
   first_before (test_list (more_tests t ts)) behind = test_before t behind
 
 -- COMMANDS
@@ -69,23 +71,23 @@ no_branch tail = record { has_branch = false; with_branch = tail; behind_branche
 
 -- behind a block: where a branch follows, a jump past the branches
 abbrev pub past_branches : Branches → Tail
-past_branches branches = if branches.has_branch then jumps (length branches.behind_branches) ∷ branches.with_branch else branches.with_branch
+past_branches branches = if branches.has_branch then jump_op (length branches.behind_branches) ∷ branches.with_branch else branches.with_branch
 
 -- a branch with a test: the test, a jump to the next branch or the chain's end where it is false, and the block
 abbrev pub branch_before : (first inner : Tail → Tail) → Branches → Tail
-branch_before first inner branches = first (jumps_if false (length branches.with_branch) ∷ inner (past_branches branches))
+branch_before first inner branches = first (jump_if_op false (length branches.with_branch) ∷ inner (past_branches branches))
 
 -- a command in front of a tail, with its first test and its block; one that isn't read as anything, which no checked script
 -- has, gives nothing
 abbrev pub command_before : Option CommandReading → ℕ → (first inner : Tail → Tail) → Branches → Branches
 command_before None line first inner branches = no_branch branches.behind_branches
-command_before (Some reading.opens) line first inner branches = no_branch (branch_before first inner branches)
-command_before (Some reading.continues) line first inner branches = record { has_branch = true; with_branch = branch_before first inner branches; behind_branches = branches.behind_branches }
-command_before (Some reading.otherwise) line first inner branches = record { has_branch = true; with_branch = inner branches.behind_branches; behind_branches = branches.behind_branches }
-command_before (Some reading.stops) line first inner branches = no_branch (stops ∷ branches.behind_branches)
-command_before (Some reading.returns) line first inner branches = no_branch (returns ∷ branches.behind_branches)
-command_before (Some reading.nothing) line first inner branches = no_branch branches.behind_branches
-command_before (Some (reading.acts leaf)) line first inner branches = no_branch (acts leaf line ∷ branches.behind_branches)
+command_before (Some reading.reads_if) line first inner branches = no_branch (branch_before first inner branches)
+command_before (Some reading.reads_elsif) line first inner branches = record { has_branch = true; with_branch = branch_before first inner branches; behind_branches = branches.behind_branches }
+command_before (Some reading.reads_else) line first inner branches = record { has_branch = true; with_branch = inner branches.behind_branches; behind_branches = branches.behind_branches }
+command_before (Some reading.reads_stop) line first inner branches = no_branch (stop_op ∷ branches.behind_branches)
+command_before (Some reading.reads_return) line first inner branches = no_branch (return_op ∷ branches.behind_branches)
+command_before (Some reading.reads_nothing) line first inner branches = no_branch branches.behind_branches
+command_before (Some (reading.reads_act leaf)) line first inner branches = no_branch (act_op leaf line ∷ branches.behind_branches)
 
 unfoldable mutual
   pub node_before : Node → Branches → Branches

@@ -8,7 +8,7 @@ use Rattle.sieve_base.specs.Writers.{quoted}
 use Rattle.sieve_base.specs.declared.place.Place.{Place}
 use Rattle.message_text.specs.declared.addressing.AddressPart.{AddressPart}
 use Rattle.message_text.specs.declared.addressing.AddressPart.TheVariants as address_part
-use Rattle.sieve_reading.specs.Reading.{header_values, address_values, envelope_values, string_values, flag_values, Ask, compares, exists_ask, over_ask, under_ask, Leaf, keep_leaf, fileinto_leaf, redirect_leaf, discard_leaf, set_leaf, flag_leaf, include_leaf}
+use Rattle.sieve_reading.specs.Reading.{header_values, address_values, envelope_values, string_values, flag_values, ValueSource, Ask, compares, exists_ask, over_ask, under_ask, Leaf, keep_leaf, fileinto_leaf, redirect_leaf, discard_leaf, set_leaf, flag_leaf, include_leaf}
 use Rattle.sieve_reading.specs.declared.reading.FlagChange.{FlagChange}
 use Rattle.sieve_reading.specs.declared.reading.FlagChange.TheVariants as change
 use Rattle.sieve_reading.specs.declared.reading.MatchType.{MatchType}
@@ -18,7 +18,7 @@ use Rattle.sieve_variables.specs.Variable.{Variable, local_variable, global_vari
 use Rattle.sieve_variables.specs.declared.modifier.LetterCase.{LetterCase}
 use Rattle.sieve_variables.specs.declared.modifier.LetterCase.TheVariants as letter_case
 use Rattle.sieve_variables.specs.declared.modifier.Modifiers.{Modifiers}
-use Rattle.sieve_code.specs.Operation.{Operation, sets, inverts, asks, jumps, jumps_if, acts, stops, returns}
+use Rattle.sieve_code.specs.Operation.{Operation, set_op, invert_op, test_op, jump_op, jump_if_op, act_op, stop_op, return_op}
 
 -- the texts of items in order, each but the first behind a mark
 abbrev pub separated : {X : Type 0} → List ℕ → (X → List ℕ) → List X → List ℕ
@@ -74,25 +74,21 @@ address_words test match_type collation part = comparing_words test match_type c
 unfoldable pub further_list : List (List Part) → List ℕ
 further_list strings = codes " " ++ list_text strings
 
--- its names and its keys
-unfoldable pub two_lists : List (List Part) → List (List Part) → List ℕ
-two_lists names keys = further_list names ++ further_list keys
-
 -- the flags of the variables that are named, or the internal ones
 unfoldable pub internal_list : Option (List (List Part)) → List ℕ
 internal_list None = codes " internal"
 internal_list (Some variables) = further_list variables
 
--- the flags and the keys of a `hasflag`
-unfoldable pub flag_lists : Option (List (List Part)) → List (List Part) → List ℕ
-flag_lists variables keys = internal_list variables ++ further_list keys
+-- how a test compares, and its values
+unfoldable pub source_text : ValueSource → MatchType → Collation → List ℕ
+source_text (header_values names) match_type collation = comparing_words (codes "header") match_type collation ++ further_list names
+source_text (address_values part names) match_type collation = address_words (codes "address") match_type collation part ++ further_list names
+source_text (envelope_values part names) match_type collation = address_words (codes "envelope") match_type collation part ++ further_list names
+source_text (string_values texts) match_type collation = comparing_words (codes "string") match_type collation ++ further_list texts
+source_text (flag_values variables) match_type collation = comparing_words (codes "hasflag") match_type collation ++ internal_list variables
 
 unfoldable pub ask_text : Ask → List ℕ
-ask_text (compares (header_values names) match_type collation keys) = comparing_words (codes "header") match_type collation ++ two_lists names keys
-ask_text (compares (address_values part names) match_type collation keys) = address_words (codes "address") match_type collation part ++ two_lists names keys
-ask_text (compares (envelope_values part names) match_type collation keys) = address_words (codes "envelope") match_type collation part ++ two_lists names keys
-ask_text (compares (string_values texts) match_type collation keys) = comparing_words (codes "string") match_type collation ++ two_lists texts keys
-ask_text (compares (flag_values variables) match_type collation keys) = comparing_words (codes "hasflag") match_type collation ++ flag_lists variables keys
+ask_text (compares source match_type collation keys) = source_text source match_type collation ++ further_list keys
 ask_text (exists_ask names) = codes "exists " ++ list_text names
 ask_text (over_ask limit) = codes "size over " ++ decimal limit
 ask_text (under_ask limit) = codes "size under " ++ decimal limit
@@ -151,7 +147,7 @@ changing_words how (Some variable) = change_word how ++ codes " " ++ scope_word 
 unfoldable pub include_words : Place → (once optional : Bool) → List ℕ → List ℕ
 include_words place once optional name = codes "include " ++ place_word place ++ given_word once (codes " once") ++ given_word optional (codes " optional") ++ codes " " ++ quoted name
 
-abbrev pub leaf_text : Leaf → List ℕ
+unfoldable pub leaf_text : Leaf → List ℕ
 leaf_text (keep_leaf flags) = worded_flags (codes "keep") flags
 leaf_text (fileinto_leaf mailbox flags) = worded_text (codes "fileinto ") mailbox ++ stored_flags flags
 leaf_text (redirect_leaf address) = worded_text (codes "redirect ") address
@@ -160,17 +156,21 @@ leaf_text (set_leaf variable modifiers value) = worded_text (set_words variable 
 leaf_text (flag_leaf how variable flags) = changing_words how variable ++ list_text flags
 leaf_text (include_leaf place once optional name) = include_words place once optional name
 
+-- a command's line behind what it does
+abbrev pub at_line : ℕ → List ℕ
+at_line line = codes " @" ++ decimal line
+
 unfoldable pub operation_text : Operation → List ℕ
-operation_text (sets true) = codes "true"
-operation_text (sets false) = codes "false"
-operation_text inverts = codes "not"
-operation_text (asks ask) = ask_text ask
-operation_text (jumps target) = codes "jump " ++ decimal target
-operation_text (jumps_if false target) = codes "jump-if-false " ++ decimal target
-operation_text (jumps_if true target) = codes "jump-if-true " ++ decimal target
-operation_text (acts leaf line) = leaf_text leaf ++ (codes " @" ++ decimal line)
-operation_text stops = codes "stop"
-operation_text returns = codes "return"
+operation_text (set_op true) = codes "true"
+operation_text (set_op false) = codes "false"
+operation_text invert_op = codes "not"
+operation_text (test_op ask) = ask_text ask
+operation_text (jump_op target) = codes "jump " ++ decimal target
+operation_text (jump_if_op false target) = codes "jump-if-false " ++ decimal target
+operation_text (jump_if_op true target) = codes "jump-if-true " ++ decimal target
+operation_text (act_op leaf line) = leaf_text leaf ++ at_line line
+operation_text stop_op = codes "stop"
+operation_text return_op = codes "return"
 
 -- the line of an operation: its place and what it is
 unfoldable pub line_text : ℕ → Operation → List ℕ

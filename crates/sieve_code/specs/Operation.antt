@@ -5,33 +5,33 @@ use Rattle.sieve_reading.specs.Reading.{Ask, Leaf}
 -- An operation: it sets the register, inverts it, sets it to what a test asks of the delivery, goes to another operation,
 -- always or where the register has that truth, does what a command does, with its line, ends the run, or ends its script.
 pub data Operation : Type 0 where
-  sets : (truth : Bool) → Operation
-  inverts : Operation
-  asks : (ask : Ask) → Operation
-  jumps : (target : ℕ) → Operation
-  jumps_if : (truth : Bool) (target : ℕ) → Operation
-  acts : (leaf : Leaf) (line : ℕ) → Operation
-  stops : Operation
-  returns : Operation
+  set_op : (truth : Bool) → Operation
+  invert_op : Operation
+  test_op : (ask : Ask) → Operation
+  jump_op : (target : ℕ) → Operation
+  jump_if_op : (truth : Bool) (target : ℕ) → Operation
+  act_op : (leaf : Leaf) (line : ℕ) → Operation
+  stop_op : Operation
+  return_op : Operation
 
 -- an operation with another target
 abbrev pub targeting : (ℕ → ℕ) → Operation → Operation
-targeting f (sets truth) = sets truth
-targeting f inverts = inverts
-targeting f (asks ask) = asks ask
-targeting f (jumps target) = jumps (f target)
-targeting f (jumps_if truth target) = jumps_if truth (f target)
-targeting f (acts leaf line) = acts leaf line
-targeting f stops = stops
-targeting f returns = returns
+targeting f (set_op truth) = set_op truth
+targeting f invert_op = invert_op
+targeting f (test_op ask) = test_op ask
+targeting f (jump_op target) = jump_op (f target)
+targeting f (jump_if_op truth target) = jump_if_op truth (f target)
+targeting f (act_op leaf line) = act_op leaf line
+targeting f stop_op = stop_op
+targeting f return_op = return_op
 
 -- the target of a jump
 abbrev pub target_of : Operation → Option ℕ
-target_of (sets truth) = None
-target_of inverts = None
-target_of (asks ask) = None
-target_of (jumps target) = Some target
-target_of (jumps_if truth target) = Some target
-target_of (acts leaf line) = None
-target_of stops = None
-target_of returns = None
+target_of (set_op truth) = None
+target_of invert_op = None
+target_of (test_op ask) = None
+target_of (jump_op target) = Some target
+target_of (jump_if_op truth target) = Some target
+target_of (act_op leaf line) = None
+target_of stop_op = None
+target_of return_op = None

@@ -4,7 +4,7 @@ use Rattle.sieve_reading.specs.Reading.{Ask, Leaf}
 use Rattle.sieve_reading.specs.Script as script
 use Rattle.sieve_reading.specs.Script.{Condition, always, never, negated, both, either, Commands, no_commands, chooses, script_of}
 use Rattle.sieve_reading.specs.Tree.{Node}
-use Rattle.sieve_code.specs.Operation.{Operation, sets, inverts, asks, jumps, jumps_if, acts, stops, returns}
+use Rattle.sieve_code.specs.Operation.{Operation, set_op, invert_op, test_op, jump_op, jump_if_op, act_op, stop_op, return_op}
 
 -- A walk: it has come to the end, it was ended by `stop` (RFC 5228, section 3.3) or by `return` (RFC 6609, section 3.3), or its
 -- operations were used up; it asks something of the delivery, and goes on by the answer; or it does what a command does, with the command's line, and goes on.
@@ -45,15 +45,15 @@ tree_walk tree = commands_walk (script_of tree) at_end
 -- the operation at a place, or the end where there is none; `go` goes on at a place with a truth in the register
 abbrev pub step : (go : ℕ → Bool → Walk) → Option Operation → (place : ℕ) (register : Bool) → Walk
 step go None place register = at_end
-step go (Some (sets truth)) place register = go (place + 1) truth
-step go (Some inverts) place register = go (place + 1) (not register)
-step go (Some (asks ask)) place register = asked ask (go (place + 1) true) (go (place + 1) false)
-step go (Some (jumps target)) place register = go target register
-step go (Some (jumps_if true target)) place register = if register then go target register else go (place + 1) register
-step go (Some (jumps_if false target)) place register = if register then go (place + 1) register else go target register
-step go (Some (acts leaf line)) place register = acted leaf line (go (place + 1) register)
-step go (Some stops) place register = by_stop
-step go (Some returns) place register = by_return
+step go (Some (set_op truth)) place register = go (place + 1) truth
+step go (Some invert_op) place register = go (place + 1) (not register)
+step go (Some (test_op ask)) place register = asked ask (go (place + 1) true) (go (place + 1) false)
+step go (Some (jump_op target)) place register = go target register
+step go (Some (jump_if_op true target)) place register = if register then go target register else go (place + 1) register
+step go (Some (jump_if_op false target)) place register = if register then go (place + 1) register else go target register
+step go (Some (act_op leaf line)) place register = acted leaf line (go (place + 1) register)
+step go (Some stop_op) place register = by_stop
+step go (Some return_op) place register = by_return
 
 -- without a further operation: the end, where the code ends there
 abbrev pub at_limit : Option Operation → Walk

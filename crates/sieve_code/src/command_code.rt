@@ -7,7 +7,7 @@ ghost use Rattle.sieve_code.specs.view.Branches.{block_at, branch_at, branches_a
 ghost use Rattle.sieve_code.specs.view.Op.{op_as};
 
 use crate::op::Op;
-use crate::strings::leaf_op;
+use crate::strings::command_op;
 use crate::tail::Tail;
 use crate::test_code::put_first;
 use sieve_reading::{Command, CommandReading};
@@ -116,7 +116,10 @@ fn put_command(
             })
         }
         Some(CommandReading::Acts(leaf)) => {
-            let op = leaf_op(alloc, leaf, command.line)?;
+            let op = Op::Command {
+                command: command_op(alloc, leaf)?,
+                line: command.line,
+            };
             put_alone(op, front, tail)
         }
         Some(CommandReading::Stops) => put_alone(Op::Stop, front, tail),

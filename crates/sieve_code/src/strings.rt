@@ -1,16 +1,13 @@
-//! Copies of the strings of tests, and the operations of tests and commands that stand alone.
+//! What code keeps of tests and commands: copies of what is read, with strings of their own.
 ghost use Rattle.std.specs.Prelude.{◌≡◌, map, IfOk};
 ghost use Rattle.std.specs.Option.{option_map};
-ghost use Rattle.sieve_reading.specs.Reading.{compares};
 ghost use Rattle.sieve_reading.specs.view.Reading.{ask_as, leaf_as, source_as, texts_as};
 ghost use Rattle.sieve_reading.specs.view.Tree.{text_of};
-ghost use Rattle.sieve_code.specs.Operation.{asks, acts};
-ghost use Rattle.sieve_code.specs.view.Op.{given_strings, op_as, parts_of};
+ghost use Rattle.sieve_effects.specs.view.Ops.{command_op_as, given_strings, parts_of, source_op_as, test_op_as};
 ghost use Rattle.sieve_variables.specs.view.Part.{part_of, strings_of, variable_of};
 
-use crate::op::Op;
-use match_text::Collation;
-use sieve_reading::{Ask, Leaf, MatchType, Source, Text};
+use sieve_effects::{CommandOp, SourceOp, TestOp};
+use sieve_reading::{Ask, Leaf, Text, ValueSource};
 use sieve_variables::{Part, Parts, SmallOctets, Variable};
 use std::alloc::{AllocError, Global};
 
@@ -70,55 +67,34 @@ fn given_variable(
     }
 }
 
-/// The operation that compares values with keys.
-fn comparing_op(
-    alloc: Global,
-    source: &Source<'_>,
-    match_type: MatchType,
-    collation: Collation,
-    keys: Vec<Parts>,
-) -> Result<Op, AllocError>
-    ensures { IfOk result (λ op. op_as op ≡ asks (compares (source_as source.now) match_type collation (strings_of keys.items))) }
+/// From where a test takes values, with strings of its own.
+fn source_op(alloc: Global, source: &ValueSource<'_>) -> Result<SourceOp, AllocError>
+    ensures { IfOk result (λ op. source_op_as op ≡ source_as source.now) }
 {
     match source {
-        Source::Header { names } => Ok(Op::Header {
-            match_type,
-            collation,
+        ValueSource::Header { names } => Ok(SourceOp::Header {
             names: copied_strings(alloc, names)?,
-            keys,
         }),
-        Source::Address { part, names } => Ok(Op::Address {
-            match_type,
-            collation,
+        ValueSource::Address { part, names } => Ok(SourceOp::Address {
             part: *part,
             names: copied_strings(alloc, names)?,
-            keys,
         }),
-        Source::Envelope { part, names } => Ok(Op::Envelope {
-            match_type,
-            collation,
+        ValueSource::Envelope { part, names } => Ok(SourceOp::Envelope {
             part: *part,
             names: copied_strings(alloc, names)?,
-            keys,
         }),
-        Source::String { texts } => Ok(Op::String {
-            match_type,
-            collation,
+        ValueSource::String { texts } => Ok(SourceOp::String {
             texts: copied_strings(alloc, texts)?,
-            keys,
         }),
-        Source::Flags { variables } => Ok(Op::HasFlag {
-            match_type,
-            collation,
+        ValueSource::Flags { variables } => Ok(SourceOp::Flags {
             variables: given_strings(alloc, *variables)?,
-            keys,
         }),
     }
 }
 
-/// The operation that asks something of the delivery.
-pub(crate) fn ask_op(alloc: Global, ask: &Ask<'_>) -> Result<Op, AllocError>
-    ensures { IfOk result (λ op. op_as op ≡ asks (ask_as ask.now)) }
+/// What a test asks of the delivery, with strings of its own.
+pub(crate) fn test_op(alloc: Global, ask: &Ask<'_>) -> Result<TestOp, AllocError>
+    ensures { IfOk result (λ op. test_op_as op ≡ ask_as ask.now) }
 {
     match ask {
         Ask::Compares {
@@ -126,68 +102,64 @@ pub(crate) fn ask_op(alloc: Global, ask: &Ask<'_>) -> Result<Op, AllocError>
             match_type,
             collation,
             keys,
-        } => {
-            let keys = copied_strings(alloc, keys)?;
-            comparing_op(alloc, source, *match_type, *collation, keys)
-        }
-        Ask::Exists { names } => Ok(Op::Exists {
+        } => Ok(TestOp::Compares {
+            source: source_op(alloc, source)?,
+            match_type: *match_type,
+            collation: *collation,
+            keys: copied_strings(alloc, keys)?,
+        }),
+        Ask::Exists { names } => Ok(TestOp::Exists {
             names: copied_strings(alloc, names)?,
         }),
-        Ask::Over { limit } => Ok(Op::SizeOver(*limit)),
-        Ask::Under { limit } => Ok(Op::SizeUnder(*limit)),
+        Ask::Over { limit } => Ok(TestOp::Over { limit: *limit }),
+        Ask::Under { limit } => Ok(TestOp::Under { limit: *limit }),
     }
 }
 
-/// The operation that does what a command does, with the command's line.
-pub(crate) fn leaf_op(alloc: Global, leaf: Leaf<'_>, line: u64) -> Result<Op, AllocError>
-    ensures { IfOk result (λ op. op_as op ≡ acts (leaf_as leaf.entry) line) }
+/// What a command does, with strings of its own.
+pub(crate) fn command_op(alloc: Global, leaf: Leaf<'_>) -> Result<CommandOp, AllocError>
+    ensures { IfOk result (λ op. command_op_as op ≡ leaf_as leaf.entry) }
 {
     match leaf {
-        Leaf::Keep { flags } => {
-            let flags = given_strings(alloc, flags)?;
-            Ok(Op::Keep { flags, line })
-        }
-        Leaf::Fileinto { mailbox, flags } => Ok(Op::Fileinto {
+        Leaf::Keep { flags } => Ok(CommandOp::Keep {
+            flags: given_strings(alloc, flags)?,
+        }),
+        Leaf::Fileinto { mailbox, flags } => Ok(CommandOp::Fileinto {
             mailbox: copied_parts(alloc, mailbox)?,
             flags: given_strings(alloc, flags)?,
-            line,
         }),
-        Leaf::Redirect { address } => {
-            let address = copied_parts(alloc, address)?;
-            Ok(Op::Redirect { address, line })
-        }
-        Leaf::Discard => Ok(Op::Discard(line)),
+        Leaf::Redirect { address } => Ok(CommandOp::Redirect {
+            address: copied_parts(alloc, address)?,
+        }),
+        Leaf::Discard => Ok(CommandOp::Discard),
         Leaf::Set {
             variable,
             modifiers,
             value,
-        } => Ok(Op::Set {
+        } => Ok(CommandOp::Set {
             variable: variable.copied(alloc)?,
             modifiers,
             value: copied_parts(alloc, value)?,
-            line,
         }),
         Leaf::Flags {
             change,
             variable,
             flags,
-        } => Ok(Op::Flags {
+        } => Ok(CommandOp::Flags {
             change,
             variable: given_variable(alloc, variable)?,
             flags: copied_strings(alloc, flags)?,
-            line,
         }),
         Leaf::Include {
             place,
             once,
             optional,
             name,
-        } => Ok(Op::Include {
+        } => Ok(CommandOp::Include {
             place,
             once,
             optional,
             name: SmallOctets::from_slice(alloc, name)?,
-            line,
         }),
     }
 }

@@ -3,25 +3,25 @@ ghost use Rattle.std.specs.Prelude.{◌≡◌, ◌∷◌, if◌then◌else◌, m
 ghost use Rattle.sieve_reading.specs.Tree.{test_list, tests};
 ghost use Rattle.sieve_reading.specs.view.Tree.{test_of, tests_of};
 ghost use Rattle.sieve_code.specs.Choice.{first_before, test_before, tests_before};
-ghost use Rattle.sieve_code.specs.Operation.{jumps_if, sets};
+ghost use Rattle.sieve_code.specs.Operation.{jump_if_op, set_op};
 ghost use Rattle.sieve_code.specs.view.Op.{op_as};
 
 use crate::op::Op;
-use crate::strings::ask_op;
+use crate::strings::test_op;
 use crate::tail::Tail;
 use sieve_reading::{Test, TestReading, Tests};
 use std::alloc::{AllocError, Global};
 
 /// The operation that sets the register.
 fn constant(truth: bool) -> Op
-    ensures { op_as result ≡ sets truth }
+    ensures { op_as result ≡ set_op truth }
 {
     if truth { Op::True } else { Op::False }
 }
 
 /// The operation that jumps where the register has that truth.
 fn jump_if(truth: bool, target: usize) -> Op
-    ensures { op_as result ≡ jumps_if truth target }
+    ensures { op_as result ≡ jump_if_op truth target }
 {
     if truth {
         Op::JumpIfTrue(target)
@@ -32,7 +32,7 @@ fn jump_if(truth: bool, target: usize) -> Op
 
 /// Puts a jump in front of a tail where other tests follow there.
 fn put_joint(follows: bool, truth: bool, end: usize, tail: &mut Tail) -> Result<(), AllocError>
-    ensures { OnOk result (tail.new ≡ (if follows then jumps_if truth end ∷ tail.old else tail.old)) }
+    ensures { OnOk result (tail.new ≡ (if follows then jump_if_op truth end ∷ tail.old else tail.old)) }
 {
     if follows {
         tail.put(jump_if(truth, end))
@@ -50,7 +50,7 @@ fn put_test(alloc: Global, test: &Test, tail: &mut Tail) -> Result<(), AllocErro
         Some(TestReading::Always) => tail.put(Op::True),
         Some(TestReading::Never) => tail.put(Op::False),
         None => tail.put(Op::False),
-        Some(TestReading::Asks(ask)) => tail.put(ask_op(alloc, &ask)?),
+        Some(TestReading::Asks(ask)) => tail.put(Op::Test(test_op(alloc, &ask)?)),
         Some(TestReading::AllOf) => put_tests(alloc, false, &test.tests, tail),
         Some(TestReading::AnyOf) => put_tests(alloc, true, &test.tests, tail),
         Some(TestReading::Not) => {

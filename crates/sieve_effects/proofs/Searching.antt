@@ -8,7 +8,7 @@ use Rattle.match_text.specs.declared.comparators.Collation.{Collation}
 use Rattle.message_text.specs.Addresses.{AddrSpec, addresses_of, envelope_address_of, part_of}
 use Rattle.message_text.specs.Fields.{Field, fields_of}
 use Rattle.message_text.specs.declared.addressing.AddressPart.{AddressPart}
-use Rattle.sieve_reading.specs.Reading.{envelope_values, flag_values, string_values}
+use Rattle.sieve_reading.specs.Reading.{ValueSource, address_values, envelope_values, flag_values, header_values, string_values}
 use Rattle.sieve_variables.specs.Part.{Part}
 use Rattle.sieve_variables.specs.Value.{text_value}
 use Rattle.sieve_reading.specs.declared.reading.MatchType.{MatchType}
@@ -18,7 +18,7 @@ use Rattle.match_text.specs.Flags.{flag_keys_of_texts, flag_list}
 use Rattle.sieve_effects.specs.State.{RunState}
 use Rattle.sieve_effects.specs.Matching.{envelope_named, envelope_text, first_match, first_some, is_field_named, match_found, match_of, pairs_with, parts_in, parts_named, parts_of_envelope, parts_of_value, values_named, values_of, keys_from, keys_of}
 use Rattle.match_text.specs.Comparator.{fold_of}
-use Rattle.sieve_effects.specs.view.FieldTests.{field_source, name_found, part_found, path_found, path_name_found, value_found}
+use Rattle.sieve_effects.specs.view.FieldTests.{cuts_keys, field_source, name_found, part_found, path_found, path_name_found, value_found}
 
 -- a function of an element that is known at a place
 pub get-mapped : {X Y Z : Type 0} (h : X → Y) (k : Y → Z) (xs : List X) (i : ℕ) (y : Y) → slice_get (map h xs) i ≡ Some y → slice_get (map (λ x. k (h x)) xs) i ≡ Some (k y)
@@ -81,6 +81,9 @@ module _ {X Y : Type 0} (f : X → Option Y) where
   -- one that gives nothing leaves it to those behind it
   pub first_after : (xs : List X) (i : ℕ) (o : Option Y) → first_some f (drop i xs) ≡ o → slice_get (map f xs) i ≡ Some None → first_some f (drop (i + 1) xs) ≡ o
   first_after xs i o so at = ap (λ n. first_some f (drop n xs)) (add-one i) ∙ first_past xs i at ∙ so
+
+not_both : false ≡ true → ⊥
+not_both e = cc
 
 -- an answer by another equation
 pub answers_so : {A E : Type 0} (answer : Result A E) (x y : A) → x ≡ y → IfOk answer (λ found. found ≡ x) → IfOk answer (λ found. found ≡ y)
@@ -161,59 +164,36 @@ module _ (find : List ℕ → Option (List (List ℕ))) where
       first_flat find (envelope_named part delivery.envelope) (map (text_value state.values) names)
       ∙ first_same (λ name. first_some find (envelope_named part delivery.envelope name)) (path_name_found find part delivery.envelope) (λ name. first_of_path part (envelope_text delivery.envelope name)) (map (text_value state.values) names)
 
--- TESTS
+-- where these are the octets of a test's strings, what they give is what the values of its source give
+module _ (find : List ℕ → Option (List (List ℕ))) (delivery : Delivery) (state : RunState) where
+  pub named_values : (part : Option AddressPart) (names : List (List Part)) (named : List (List ℕ)) → named ≡ map (text_value state.values) names → first_some (name_found find part (fields_of delivery.message)) named ≡ first_some find (values_of delivery state (field_source part names))
+  named_values part names named is = ap (first_some (name_found find part (fields_of delivery.message))) is ∙ sym (first_of_names find part delivery state names)
 
--- tests of fields are asked for their keys as they are
-field_keys : (part : Option AddressPart) (names : List (List Part)) (texts : List (List ℕ)) → keys_from (field_source part names) texts ≡ texts
-field_keys None names texts = refl
-field_keys (Some part) names texts = refl
+  pub path_values : (part : AddressPart) (names : List (List Part)) (named : List (List ℕ)) → named ≡ map (text_value state.values) names → first_some (path_name_found find part delivery.envelope) named ≡ first_some find (values_of delivery state (envelope_values part names))
+  path_values part names named is = ap (first_some (path_name_found find part delivery.envelope)) is ∙ sym (first_of_paths find part delivery state names)
 
-module _ (match_type : MatchType) (collation : Collation) where
-  abbrev found_by : List (List ℕ) → List ℕ → Option (List (List ℕ))
-  found_by keys value = first_match match_type (fold_of collation) (pairs_with keys value)
+  pub held_values : (variables : List (List Part)) (held : List (List ℕ)) → held ≡ map (text_value state.values) variables → first_some (λ text. first_some find (flag_list text)) held ≡ first_some find (values_of delivery state (flag_values (Some variables)))
+  held_values variables held is = ap (first_some (λ text. first_some find (flag_list text))) is ∙ sym (first_flat find flag_list (map (text_value state.values) variables))
 
-  -- what a test finds in fields, where these are its names' and its keys' octets
-  pub fields_found : (part : Option AddressPart) (delivery : Delivery) (state : RunState) (names keys : List (List Part)) (named keyed : List (List ℕ)) → named ≡ map (text_value state.values) names → keyed ≡ map (text_value state.values) keys
-      → first_some (name_found (λ value. first_match match_type (fold_of collation) (pairs_with keyed value)) part (fields_of delivery.message)) named ≡ match_found delivery state (field_source part names) match_type collation keys
+-- what a test finds, where these are its keys' octets
+module _ (match_type : MatchType) (collation : Collation) (delivery : Delivery) (state : RunState) where
+  pub keyed_found : (source : ValueSource) (keys : List (List Part)) (keyed : List (List ℕ)) → keyed ≡ keys_of state source keys → first_some (λ value. first_match match_type (fold_of collation) (pairs_with keyed value)) (values_of delivery state source) ≡ match_found delivery state source match_type collation keys
   unfolding match_found
-  fields_found part delivery state names keys named keyed n k =
-      ap (λ ns. first_some (name_found (found_by keyed) part (fields_of delivery.message)) ns) n
-      ∙ sym (first_of_names (found_by keyed) part delivery state names)
-      ∙ ap (λ ks. first_some (found_by ks) (values_of delivery state (field_source part names))) (k ∙ sym (field_keys part names (map (text_value state.values) keys)))
-      ∙ sym (first_flat (λ pair. match_of match_type (fold_of collation) pair.value pair.key) (pairs_with (keys_of state (field_source part names) keys)) (values_of delivery state (field_source part names)))
+  keyed_found source keys keyed is =
+      ap (λ ks. first_some (λ value. first_match match_type (fold_of collation) (pairs_with ks value)) (values_of delivery state source)) is
+      ∙ sym (first_flat (λ pair. match_of match_type (fold_of collation) pair.value pair.key) (pairs_with (keys_of state source keys)) (values_of delivery state source))
 
-  -- and what it finds in the envelope
-  pub paths_found : (part : AddressPart) (delivery : Delivery) (state : RunState) (names keys : List (List Part)) (named keyed : List (List ℕ)) → named ≡ map (text_value state.values) names → keyed ≡ map (text_value state.values) keys
-      → first_some (path_name_found (λ value. first_match match_type (fold_of collation) (pairs_with keyed value)) part delivery.envelope) named ≡ match_found delivery state (envelope_values part names) match_type collation keys
-  unfolding match_found
-  paths_found part delivery state names keys named keyed n k =
-      ap (λ ns. first_some (path_name_found (found_by keyed) part delivery.envelope) ns) n
-      ∙ sym (first_of_paths (found_by keyed) part delivery state names)
-      ∙ ap (λ ks. first_some (found_by ks) (values_of delivery state (envelope_values part names))) k
-      ∙ sym (first_flat (λ pair. match_of match_type (fold_of collation) pair.value pair.key) (pairs_with (map (text_value state.values) keys)) (values_of delivery state (envelope_values part names)))
+-- the keys of a test, cut where they are
+pub cut_keys : (source : ValueSource) (texts : List (List ℕ)) → cuts_keys source ≡ true → flag_keys_of_texts texts ≡ keys_from source texts
+cut_keys (header_values names) texts cut = absurd (not_both cut)
+cut_keys (address_values part names) texts cut = absurd (not_both cut)
+cut_keys (envelope_values part names) texts cut = absurd (not_both cut)
+cut_keys (string_values strings) texts cut = absurd (not_both cut)
+cut_keys (flag_values variables) texts cut = refl
 
-  -- and what it finds in strings
-  pub texts_found : (delivery : Delivery) (state : RunState) (texts keys : List (List Part)) (named keyed : List (List ℕ)) → named ≡ map (text_value state.values) texts → keyed ≡ map (text_value state.values) keys
-      → first_some (λ value. first_match match_type (fold_of collation) (pairs_with keyed value)) named ≡ match_found delivery state (string_values texts) match_type collation keys
-  unfolding match_found
-  texts_found delivery state texts keys named keyed n k =
-      ap (λ ns. first_some (found_by keyed) ns) n
-      ∙ ap (λ ks. first_some (found_by ks) (map (text_value state.values) texts)) k
-      ∙ sym (first_flat (λ pair. match_of match_type (fold_of collation) pair.value pair.key) (pairs_with (map (text_value state.values) keys)) (map (text_value state.values) texts))
-
-  -- and what it finds in flags, those of these texts, and the internal ones
-  pub flags_found : (delivery : Delivery) (state : RunState) (variables keys : List (List Part)) (named keyed cut : List (List ℕ)) → named ≡ map (text_value state.values) variables → keyed ≡ map (text_value state.values) keys → cut ≡ flag_keys_of_texts keyed
-      → first_some (λ text. first_some (found_by cut) (flag_list text)) named ≡ match_found delivery state (flag_values (Some variables)) match_type collation keys
-  unfolding match_found
-  flags_found delivery state variables keys named keyed cut n k c =
-      ap (λ ns. first_some (λ text. first_some (found_by cut) (flag_list text)) ns) n
-      ∙ sym (first_flat (found_by cut) flag_list (map (text_value state.values) variables))
-      ∙ ap (λ ks. first_some (found_by ks) (values_of delivery state (flag_values (Some variables)))) (c ∙ ap flag_keys_of_texts k)
-      ∙ sym (first_flat (λ pair. match_of match_type (fold_of collation) pair.value pair.key) (pairs_with (keys_of state (flag_values (Some variables)) keys)) (values_of delivery state (flag_values (Some variables))))
-
-  pub internal_found : (delivery : Delivery) (state : RunState) (keys : List (List Part)) (keyed cut : List (List ℕ)) → keyed ≡ map (text_value state.values) keys → cut ≡ flag_keys_of_texts keyed
-      → first_some (found_by cut) state.flags ≡ match_found delivery state (flag_values None) match_type collation keys
-  unfolding match_found
-  internal_found delivery state keys keyed cut k c =
-      ap (λ ks. first_some (found_by ks) state.flags) (c ∙ ap flag_keys_of_texts k)
-      ∙ sym (first_flat (λ pair. match_of match_type (fold_of collation) pair.value pair.key) (pairs_with (keys_of state (flag_values None) keys)) state.flags)
+pub whole_keys : (source : ValueSource) (texts : List (List ℕ)) → cuts_keys source ≡ false → texts ≡ keys_from source texts
+whole_keys (header_values names) texts whole = refl
+whole_keys (address_values part names) texts whole = refl
+whole_keys (envelope_values part names) texts whole = refl
+whole_keys (string_values strings) texts whole = refl
+whole_keys (flag_values variables) texts whole = absurd (not_both (sym whole))

@@ -11,7 +11,7 @@ use Rattle.match_text.specs.declared.comparators.Collation.{Collation}
 use Rattle.message_text.specs.Addresses.{AddrSpec, part_of, addresses_of, envelope_address_of}
 use Rattle.message_text.specs.Fields.{Field, fields_of}
 use Rattle.message_text.specs.declared.addressing.AddressPart.{AddressPart}
-use Rattle.sieve_reading.specs.Reading.{Source, header_values, address_values, envelope_values, string_values, flag_values, Ask, compares, exists_ask, over_ask, under_ask}
+use Rattle.sieve_reading.specs.Reading.{ValueSource, header_values, address_values, envelope_values, string_values, flag_values, Ask, compares, exists_ask, over_ask, under_ask}
 use Rattle.sieve_reading.specs.declared.reading.MatchType.{MatchType}
 use Rattle.sieve_reading.specs.declared.reading.MatchType.TheVariants.{Is, Contains, Matches}
 use Rattle.sieve_table.specs.Address.{is_address_field}
@@ -72,7 +72,7 @@ envelope_named part envelope name = parts_of_envelope part (envelope_text envelo
 
 -- What a test compares with its keys, by names, then by fields, then by addresses; an absent field gives nothing. Strings stand for
 -- what they do when the test begins.
-abbrev pub values_of : Delivery → RunState → Source → List (List ℕ)
+abbrev pub values_of : Delivery → RunState → ValueSource → List (List ℕ)
 values_of delivery state (header_values names) = flat_map (values_named (fields_of delivery.message)) (map (text_value state.values) names)
 values_of delivery state (address_values part names) = flat_map (parts_named part (fields_of delivery.message)) (map (text_value state.values) names)
 values_of delivery state (envelope_values part names) = flat_map (envelope_named part delivery.envelope) (map (text_value state.values) names)
@@ -81,14 +81,14 @@ values_of delivery state (flag_values None) = state.flags
 values_of delivery state (flag_values (Some variables)) = flat_map flag_list (map (text_value state.values) variables)
 
 -- what a test compares values with: its keys; those of flags are cut at spaces (RFC 5232, section 4)
-abbrev pub keys_from : Source → List (List ℕ) → List (List ℕ)
+abbrev pub keys_from : ValueSource → List (List ℕ) → List (List ℕ)
 keys_from (header_values names) texts = texts
 keys_from (address_values part names) texts = texts
 keys_from (envelope_values part names) texts = texts
 keys_from (string_values strings) texts = texts
 keys_from (flag_values variables) texts = flag_keys_of_texts texts
 
-abbrev pub keys_of : RunState → Source → List (List Part) → List (List ℕ)
+abbrev pub keys_of : RunState → ValueSource → List (List Part) → List (List ℕ)
 keys_of state source keys = keys_from source (map (text_value state.values) keys)
 
 -- each value with each key, in this order (RFC 5228, section 5.7)
@@ -109,7 +109,7 @@ abbrev pub first_match : MatchType → (ℕ → ℕ) → List Pair → Option (L
 first_match match_type fold pairs = first_some (λ pair. match_of match_type fold pair.value pair.key) pairs
 
 -- what a test finds that compares values with keys
-unfoldable pub match_found : Delivery → RunState → Source → MatchType → Collation → List (List Part) → Option (List (List ℕ))
+unfoldable pub match_found : Delivery → RunState → ValueSource → MatchType → Collation → List (List Part) → Option (List (List ℕ))
 match_found delivery state source match_type collation keys = first_match match_type (fold_of collation) (pairs_of (values_of delivery state source) (keys_of state source keys))
 
 -- Whether what a test asks is so: header, address, envelope, string and hasflag, where some pair matches (RFC 5228, sections 5.7, 5.1

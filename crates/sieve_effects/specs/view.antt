@@ -3,5 +3,6 @@ pub mod Acting
 pub mod Delivery
 pub mod FieldTests
 pub mod Flow
+pub mod Ops
 pub mod Performed
 pub mod State

@@ -4,29 +4,29 @@
 
 mod acting;
 mod action;
+mod asking;
 mod comparison;
 mod delivery;
 mod envelope;
-mod envelope_tests;
 mod error;
-mod flag_tests;
+mod field_values;
+mod flag_values;
 mod flagging;
 mod flow;
 pub mod laws;
-mod matching;
+mod ops;
+mod path_values;
 mod performed;
 mod state;
-mod string_tests;
+mod string_values;
 
 pub use acting::{discard, file_into, keep, redirect, set};
 pub use action::Action;
+pub use asking::holds;
 pub use delivery::Delivery;
 pub use envelope::Envelope;
-pub use envelope_tests::envelope_holds;
 pub use error::{ErrorKind, RunError};
-pub use flag_tests::flags_hold;
 pub use flagging::change;
 pub use flow::{Flow, fail};
-pub use matching::{exists, fields_hold, is_over, is_under};
+pub use ops::{CommandOp, SourceOp, TestOp};
 pub use state::State;
-pub use string_tests::strings_hold;

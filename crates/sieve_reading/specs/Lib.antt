@@ -1,7 +1,10 @@
+pub mod CommandReading
+pub mod Given
 pub mod Label
 pub mod Reading
 pub mod Role
 pub mod Script
 pub mod Shape
+pub mod TestReading
 pub mod Tree
 pub mod view

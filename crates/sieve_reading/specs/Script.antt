@@ -2,7 +2,9 @@
 -- Whoever runs a script goes by this.
 use Rattle.std.specs.Prelude.{ℕ, List, [], ◌∷◌, Option, Some, None}
 use Rattle.sieve_reading.specs.Reading as reading
-use Rattle.sieve_reading.specs.Reading.{Ask, Leaf, TestReading, reads_always, reads_never, reads_ask, reads_all, reads_any, reads_not, CommandReading, test_reading, command_reading}
+use Rattle.sieve_reading.specs.Reading.{Ask, Leaf, TestReading, reads_always, reads_never, reads_ask, reads_all, reads_any, reads_not, CommandReading}
+use Rattle.sieve_reading.specs.CommandReading.{command_reading}
+use Rattle.sieve_reading.specs.TestReading.{test_reading}
 use Rattle.sieve_reading.specs.Tree.{Test, test, Tests, no_tests, one_test, test_list, TestList, end_tests, more_tests, Node, node, Block, no_block, block, Nodes, end_nodes, more_nodes, nodes}
 
 -- a condition: what tests ask, joined
@@ -77,13 +79,13 @@ pub record Chain : Type 0 where
 -- a command in front of others; one that isn't read as anything, which no faultless script has, does nothing
 abbrev pub command_before : Option CommandReading → ℕ → Condition → Commands → Chain → Chain
 command_before None line condition inner chain = record { otherwise = no_commands; rest = chain.rest }
-command_before (Some reading.opens) line condition inner chain = record { otherwise = no_commands; rest = chooses condition inner chain.otherwise chain.rest }
-command_before (Some reading.continues) line condition inner chain = record { otherwise = chooses condition inner chain.otherwise no_commands; rest = chain.rest }
-command_before (Some reading.otherwise) line condition inner chain = record { otherwise = inner; rest = chain.rest }
-command_before (Some reading.stops) line condition inner chain = record { otherwise = no_commands; rest = stops chain.rest }
-command_before (Some reading.returns) line condition inner chain = record { otherwise = no_commands; rest = returns chain.rest }
-command_before (Some reading.nothing) line condition inner chain = record { otherwise = no_commands; rest = chain.rest }
-command_before (Some (reading.acts leaf)) line condition inner chain = record { otherwise = no_commands; rest = acts leaf line chain.rest }
+command_before (Some reading.reads_if) line condition inner chain = record { otherwise = no_commands; rest = chooses condition inner chain.otherwise chain.rest }
+command_before (Some reading.reads_elsif) line condition inner chain = record { otherwise = chooses condition inner chain.otherwise no_commands; rest = chain.rest }
+command_before (Some reading.reads_else) line condition inner chain = record { otherwise = inner; rest = chain.rest }
+command_before (Some reading.reads_stop) line condition inner chain = record { otherwise = no_commands; rest = stops chain.rest }
+command_before (Some reading.reads_return) line condition inner chain = record { otherwise = no_commands; rest = returns chain.rest }
+command_before (Some reading.reads_nothing) line condition inner chain = record { otherwise = no_commands; rest = chain.rest }
+command_before (Some (reading.reads_act leaf)) line condition inner chain = record { otherwise = no_commands; rest = acts leaf line chain.rest }
 
 unfoldable mutual
   pub node_before : Node → Chain → Chain

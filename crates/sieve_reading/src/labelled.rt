@@ -2,7 +2,7 @@
 ghost use Rattle.std.specs.Prelude.{◌≡◌, map};
 ghost use Rattle.std.specs.Option.{option_map};
 ghost use Rattle.sieve_reading.specs.Label.{expecting, slots_of};
-ghost use Rattle.sieve_reading.specs.Reading.{has_tag, in_role, is_tagged, labels_in, part_shape};
+ghost use Rattle.sieve_reading.specs.Given.{has_tag, in_role, is_tagged, labels_in, part_shape};
 ghost use Rattle.sieve_reading.specs.view.Expected.{expected_as};
 ghost use Rattle.sieve_table.specs.view.Row.{row_as};
 ghost use Rattle.sieve_reading.specs.view.Tree.{argument_of};

@@ -2,15 +2,18 @@
 //! tests are, read from it.
 #![tactic(auto)]
 
+mod command_reading;
+mod given;
 mod label;
 mod labelled;
 mod reading;
 mod role;
 mod shape;
+mod test_reading;
 mod tree;
 
 pub use label::{Expected, Label, Shape, Shaped};
-pub use reading::{Ask, CommandReading, FlagChange, Leaf, MatchType, Source, TestReading};
+pub use reading::{Ask, CommandReading, FlagChange, Leaf, MatchType, TestReading, ValueSource};
 pub use role::role_of;
 pub use shape::{row_expected, row_is_filled, row_labels};
 pub use sieve_base::Place;

@@ -5,5 +5,6 @@ pub mod Unchanged
 pub mod Frame
 pub mod Includes
 pub mod Performing
+mod Lines
 pub mod LookedUp
 pub mod Stepping

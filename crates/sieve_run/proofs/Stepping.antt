@@ -4,7 +4,7 @@ use Rattle.std.proofs.lemmas.Option.{slice_get_past}
 use Rattle.std.proofs.lemmas.Result.{IfOk-at_ok, IfOk-weaker}
 use Rattle.std.specs.Prelude.{nat_lt, slice_get}
 use Rattle.sieve_reading.specs.Reading.{Ask, Leaf, exists_ask, over_ask, under_ask}
-use Rattle.sieve_code.specs.Operation.{Operation, asks, acts, stops, returns}
+use Rattle.sieve_code.specs.Operation.{Operation, test_op, act_op, stop_op, return_op}
 use Rattle.sieve_code.specs.Walk as walk
 use Rattle.sieve_code.specs.Walk.{Walk, at_limit, code_walk, walk_from}
 use Rattle.sieve_effects.specs.Delivery.{Delivery}
@@ -22,6 +22,10 @@ use Rattle.sieve_run.specs.declared.steps.Step.TheVariants.{Next, Ended}
 use Rattle.sieve_effects.specs.view.Flow.{ending_by}
 use Rattle.sieve_run.specs.view.Step.{step_after, Acts, Follows, StepsTo, doing, doing_after}
 
+-- what a command does, where it is that one
+pub does_so : {E : Type 0} (called : Result Flow E) (new : RunState) (act : Acts) (leaf other : Leaf) (line : ℕ) (old : RunState) → leaf ≡ other → IfOk called (λ flow. ending_by flow new ≡ act leaf line old) → IfOk called (λ flow. ending_by flow new ≡ act other line old)
+does_so called new act leaf other line old same does = subst (λ l. IfOk called (λ flow. ending_by flow new ≡ act l line old)) same does
+
 left_over : {n turn : ℕ} → n ≤ turn → n - turn ≡ 0
 left_over all = omega arith
 
@@ -38,7 +42,7 @@ module _ (act : Acts) (delivery : Delivery) where
   by_answer false f s = refl
 
   -- a test that comes to a truth, and leaves a state
-  pub asks_steps : (ask : Ask) (truth : Bool) (behind : ℕ) (register : Bool) (old new : RunState) → truth ≡ truth_of delivery old ask → new ≡ behind_test delivery ask old → StepsTo act delivery (asks ask) behind register old (Next behind truth) new
+  pub asks_steps : (ask : Ask) (truth : Bool) (behind : ℕ) (register : Bool) (old new : RunState) → truth ≡ truth_of delivery old ask → new ≡ behind_test delivery ask old → StepsTo act delivery (test_op ask) behind register old (Next behind truth) new
   unfolding perform
   asks_steps ask truth behind register old new is moves = record {
     before = λ place go at.
@@ -48,19 +52,6 @@ module _ (act : Acts) (delivery : Delivery) where
         ∙ on_behind go truth behind place new at;
   }
 
-  -- one that looks at the message alone
-  pub exists_steps : (names : List (List Part)) (truth : Bool) (behind : ℕ) (register : Bool) (s : RunState) → truth ≡ truth_of delivery s (exists_ask names) → StepsTo act delivery (asks (exists_ask names)) behind register s (Next behind truth) s
-  unfolding values_behind
-  exists_steps names truth behind register s is = asks_steps (exists_ask names) truth behind register s s is refl
-
-  pub over_steps : (limit : ℕ) (truth : Bool) (behind : ℕ) (register : Bool) (s : RunState) → truth ≡ nat_lt limit (length delivery.message) → StepsTo act delivery (asks (over_ask limit)) behind register s (Next behind truth) s
-  unfolding values_behind truth_of
-  over_steps limit truth behind register s is = asks_steps (over_ask limit) truth behind register s s is refl
-
-  pub under_steps : (limit : ℕ) (truth : Bool) (behind : ℕ) (register : Bool) (s : RunState) → truth ≡ nat_lt (length delivery.message) limit → StepsTo act delivery (asks (under_ask limit)) behind register s (Next behind truth) s
-  unfolding values_behind truth_of
-  under_steps limit truth behind register s is = asks_steps (under_ask limit) truth behind register s s is refl
-
   -- what follows a command that ended so
   by_flow : (flow : Flow) (go : ℕ → Bool → Walk) (behind place : ℕ) (register : Bool) (new : RunState) → behind ≡ place + 1 → and_then (ending_by flow new) (doing act delivery (go (place + 1) register)) ≡ doing_after act delivery go (step_after flow behind register) new
   by_flow GoesOn go behind place register new at = on_behind go register behind place new at
@@ -68,7 +59,7 @@ module _ (act : Acts) (delivery : Delivery) where
   by_flow flow.Stopped go behind place register new at = refl
   by_flow (flow.Failed error) go behind place register new at = refl
 
-  pub acts_steps : (leaf : Leaf) (line behind : ℕ) (register : Bool) (flow : Flow) (step : Step) (old new : RunState) → step ≡ step_after flow behind register → ending_by flow new ≡ act leaf line old → StepsTo act delivery (acts leaf line) behind register old step new
+  pub acts_steps : (leaf : Leaf) (line behind : ℕ) (register : Bool) (flow : Flow) (step : Step) (old new : RunState) → step ≡ step_after flow behind register → ending_by flow new ≡ act leaf line old → StepsTo act delivery (act_op leaf line) behind register old step new
   unfolding perform
   acts_steps leaf line behind register flow step old new to does = record {
     before = λ place go at.
@@ -79,25 +70,16 @@ module _ (act : Acts) (delivery : Delivery) where
 
   -- WHERE A CALL MAY RUN OUT OF MEMORY
 
-  pub asks_follow : {E : Type 0} (ask : Ask) (op : Operation) (called : Result Bool E) (step : Result Step E) (behind : ℕ) (register : Bool) (old new : RunState) → op ≡ asks ask
+  pub asks_follow : {E : Type 0} (ask : Ask) (op : Operation) (called : Result Bool E) (step : Result Step E) (behind : ℕ) (register : Bool) (old new : RunState) → op ≡ test_op ask
       → IfOk called (λ truth. truth ≡ truth_of delivery old ask) → IfOk called (λ _. new ≡ behind_test delivery ask old) → IfOk step (Follows called (λ truth. Next behind truth))
       → IfOk step (λ taken. StepsTo act delivery op behind register old taken new)
   asks_follow ask op called step behind register old new is truth moves follows = IfOk-weaker step (Follows called (λ truth. Next behind truth)) _
       (λ taken f. subst (λ o. StepsTo act delivery o behind register old taken new) (sym is)
-      (subst (λ r. StepsTo act delivery (asks ask) behind register old r new) (sym f.2)
+      (subst (λ r. StepsTo act delivery (test_op ask) behind register old r new) (sym f.2)
       (asks_steps ask f.0 behind register old new (IfOk-at_ok (λ t. t ≡ truth_of delivery old ask) f.1 truth) (IfOk-at_ok (λ _. new ≡ behind_test delivery ask old) f.1 moves))))
       follows
 
-  pub exists_follow : {E : Type 0} (names : List (List Part)) (op : Operation) (called : Result Bool E) (step : Result Step E) (behind : ℕ) (register : Bool) (s : RunState) → op ≡ asks (exists_ask names)
-      → IfOk called (λ truth. truth ≡ truth_of delivery s (exists_ask names)) → IfOk step (Follows called (λ truth. Next behind truth))
-      → IfOk step (λ taken. StepsTo act delivery op behind register s taken s)
-  exists_follow names op called step behind register s is truth follows = IfOk-weaker step (Follows called (λ truth. Next behind truth)) _
-      (λ taken f. subst (λ o. StepsTo act delivery o behind register s taken s) (sym is)
-      (subst (λ r. StepsTo act delivery (asks (exists_ask names)) behind register s r s) (sym f.2)
-      (exists_steps names f.0 behind register s (IfOk-at_ok (λ t. t ≡ truth_of delivery s (exists_ask names)) f.1 truth))))
-      follows
-
-  pub acts_follow : {E : Type 0} (leaf : Leaf) (line : ℕ) (op : Operation) (called : Result Flow E) (step : Result Step E) (behind : ℕ) (register : Bool) (old new : RunState) → op ≡ acts leaf line
+  pub acts_follow : {E : Type 0} (leaf : Leaf) (line : ℕ) (op : Operation) (called : Result Flow E) (step : Result Step E) (behind : ℕ) (register : Bool) (old new : RunState) → op ≡ act_op leaf line
       → IfOk called (λ flow. ending_by flow new ≡ act leaf line old) → IfOk step (Follows called (λ flow. step_after flow behind register))
       → IfOk step (λ taken. StepsTo act delivery op behind register old taken new)
   acts_follow leaf line op called step behind register old new is does follows = IfOk-weaker step (Follows called (λ flow. step_after flow behind register)) _
@@ -105,11 +87,11 @@ module _ (act : Acts) (delivery : Delivery) where
       (acts_steps leaf line behind register f.0 taken old new f.2 (IfOk-at_ok (λ flow. ending_by flow new ≡ act leaf line old) f.1 does)))
       follows
 
-  pub stop_steps : (behind : ℕ) (register : Bool) (s : RunState) → StepsTo act delivery stops behind register s (Ended flow.Stopped) s
+  pub stop_steps : (behind : ℕ) (register : Bool) (s : RunState) → StepsTo act delivery stop_op behind register s (Ended flow.Stopped) s
   unfolding perform
   stop_steps behind register s = record { before = λ place go is. refl }
 
-  pub return_steps : (behind : ℕ) (register : Bool) (s : RunState) → StepsTo act delivery returns behind register s (Ended flow.Returned) s
+  pub return_steps : (behind : ℕ) (register : Bool) (s : RunState) → StepsTo act delivery return_op behind register s (Ended flow.Returned) s
   unfolding perform
   return_steps behind register s = record { before = λ place go is. refl }
 

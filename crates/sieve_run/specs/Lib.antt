@@ -1,6 +1,7 @@
 pub mod Depth
 pub mod Frame
 pub mod Library
+pub mod Lines
 pub mod Meter
 pub mod Perform
 pub mod Run

@@ -8,6 +8,7 @@ ghost use Rattle.sieve_run.specs.Run.{act_of, included};
 ghost use Rattle.sieve_effects.specs.Delivery.{inside};
 ghost use Rattle.sieve_effects.specs.view.Delivery.{delivery_as};
 ghost use Rattle.sieve_effects.specs.view.Flow.{ending_by};
+ghost use Rattle.sieve_effects.specs.view.Ops.{command_op_as};
 ghost use Rattle.sieve_run.specs.view.Step.{step_after, Follows, StepsTo, doing};
 ghost use Rattle.sieve_run.specs.view.Include.{enters, looks_up};
 ghost use Rattle.sieve_effects.specs.view.State.{state_of};
@@ -18,12 +19,12 @@ use crate::including::{
 };
 use crate::library::{Found, Library};
 use crate::reads::note_read;
-use sieve_base::Octets;
 use sieve_base::limits::MAX_INCLUDES;
+use sieve_base::{Octets, ScriptName};
 use sieve_code::{Code, Op};
 use sieve_effects::{
-    Delivery, ErrorKind, Flow, ScriptName, State, change, discard, envelope_holds, exists, fail,
-    fields_hold, file_into, flags_hold, is_over, is_under, keep, redirect, set, strings_hold,
+    CommandOp, Delivery, ErrorKind, Flow, State, change, discard, fail, file_into, holds, keep,
+    redirect, set,
 };
 use std::alloc::AllocError;
 
@@ -80,7 +81,7 @@ pub(crate) fn execute<L: Library>(
 
 /// Carries out an operation, where this is the place behind it.
 #[cycle(execute)]
-#[tactic(auto, using(crate::proofs::Stepping::over_steps, crate::proofs::Stepping::under_steps, crate::proofs::Stepping::stop_steps, crate::proofs::Stepping::return_steps))]
+#[tactic(auto, using(crate::proofs::Stepping::stop_steps, crate::proofs::Stepping::return_steps))]
 fn carry_out<L: Library>(
     lib: &L,
     depth: usize,
@@ -97,126 +98,61 @@ fn carry_out<L: Library>(
         Op::True => Ok(proceed(true, behind)),
         Op::False => Ok(proceed(false, behind)),
         Op::Not => Ok(proceed(!register, behind)),
-        Op::Header {
-            match_type,
-            collation,
-            names,
-            keys,
-        } => {
-            let truth = fields_hold(delivery, None, *match_type, *collation, names, keys, state);
+        Op::Test(test) => {
+            let truth = holds(delivery, test, state);
             tested(truth, behind)
         }
-        Op::Address {
-            match_type,
-            collation,
-            part,
-            names,
-            keys,
-        } => {
-            let part = Some(*part);
-            let truth = fields_hold(delivery, part, *match_type, *collation, names, keys, state);
-            tested(truth, behind)
-        }
-        Op::Envelope {
-            match_type,
-            collation,
-            part,
-            names,
-            keys,
-        } => {
-            let truth = envelope_holds(
-                delivery,
-                *part,
-                *match_type,
-                *collation,
-                names,
-                keys,
-                state,
-            );
-            tested(truth, behind)
-        }
-        Op::String {
-            match_type,
-            collation,
-            texts,
-            keys,
-        } => {
-            let truth = strings_hold(delivery, *match_type, *collation, texts, keys, state);
-            tested(truth, behind)
-        }
-        Op::HasFlag {
-            match_type,
-            collation,
-            variables,
-            keys,
-        } => {
-            let truth = flags_hold(delivery, *match_type, *collation, variables, keys, state);
-            tested(truth, behind)
-        }
-        Op::Exists { names } => {
-            let truth = exists(delivery, &*state, names);
-            tested(truth, behind)
-        }
-        Op::SizeOver(limit) => Ok(proceed(is_over(delivery, *limit), behind)),
-        Op::SizeUnder(limit) => Ok(proceed(is_under(delivery, *limit), behind)),
         Op::Jump(target) => Ok(proceed(register, *target)),
         Op::JumpIfFalse(target) => Ok(proceed(register, chosen(register, behind, *target))),
         Op::JumpIfTrue(target) => Ok(proceed(register, chosen(register, *target, behind))),
-        Op::Keep { flags, line } => {
-            let flow = keep(delivery, flags, *line, state);
-            acted(flow, behind, register)
-        }
-        Op::Fileinto {
-            mailbox,
-            flags,
-            line,
-        } => {
-            let flow = file_into(delivery, mailbox, flags, *line, state);
-            acted(flow, behind, register)
-        }
-        Op::Redirect { address, line } => {
-            let flow = redirect(delivery, address, *line, state);
-            acted(flow, behind, register)
-        }
-        Op::Discard(line) => {
-            let flow = discard(delivery, *line, state);
-            acted(flow, behind, register)
-        }
-        Op::Set {
-            variable,
-            modifiers,
-            value,
-            line,
-        } => {
-            let flow = set(delivery, variable, *modifiers, value, *line, state);
-            acted(flow, behind, register)
-        }
-        Op::Flags {
-            change: how,
-            variable,
-            flags,
-            line,
-        } => {
-            let flow = change(delivery, *how, variable, flags, *line, state);
-            acted(flow, behind, register)
-        }
-        Op::Include {
-            place,
-            once,
-            optional,
-            name,
-            line,
-        } => {
-            let octets = Octets::copied(delivery.alloc, name)?;
-            let name = ScriptName {
-                place: *place,
-                name: octets,
-            };
-            let flow = include(lib, depth, delivery, &name, *once, *optional, *line, state);
+        Op::Command { command, line } => {
+            let flow = act(lib, depth, delivery, command, *line, state);
             acted(flow, behind, register)
         }
         Op::Stop => Ok(Step::Ended(Flow::Stopped)),
         Op::Return => Ok(Step::Ended(Flow::Returned)),
+    }
+}
+
+/// Does what a command does that acts.
+#[cycle(execute)]
+fn act<L: Library>(
+    lib: &L,
+    depth: usize,
+    delivery: &Delivery<'_>,
+    command: &CommandOp,
+    line: u64,
+    state: &mut State,
+) -> Result<Flow, AllocError>
+    ensures { IfOk result (λ flow. ending_by flow (state_of state.new) ≡ act_of (λ name. lookup_of (L.texts lib.now name)) depth (delivery_as delivery.now) (command_op_as command.now) line (state_of state.old)) }
+{
+    match command {
+        CommandOp::Keep { flags } => keep(delivery, flags, line, state),
+        CommandOp::Fileinto { mailbox, flags } => file_into(delivery, mailbox, flags, line, state),
+        CommandOp::Redirect { address } => redirect(delivery, address, line, state),
+        CommandOp::Discard => discard(delivery, line, state),
+        CommandOp::Set {
+            variable,
+            modifiers,
+            value,
+        } => set(delivery, variable, *modifiers, value, line, state),
+        CommandOp::Flags {
+            change: how,
+            variable,
+            flags,
+        } => change(delivery, *how, variable, flags, line, state),
+        CommandOp::Include {
+            place,
+            once,
+            optional,
+            name,
+        } => {
+            let name = ScriptName {
+                place: *place,
+                name: Octets::copied(delivery.alloc, name)?,
+            };
+            include(lib, depth, delivery, &name, *once, *optional, line, state)
+        }
     }
 }
 

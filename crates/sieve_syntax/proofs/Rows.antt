@@ -1,5 +1,5 @@
 -- Worked rows of the definitions.
-use Rattle.std.proofs.Common.{◌≡◌, true, false, [], ◌∷◌, ◌++◌, Some, None, refl, codes}
+use Rattle.std.proofs.Common.{◌≡◌, true, false, Some, None, refl, codes}
 use Rattle.sieve_syntax.specs.Line.{lines_of, is_dot_line, is_line_end}
 use Rattle.sieve_syntax.specs.Spelling.{is_identifier, is_tag, is_number, ends_number, is_quoted, ends_quoted, is_multi_line, are_multi_line, is_opening, ends_opening, end_at_dot}
 use Rattle.sieve_syntax.specs.Value.{number_from, number_of, quoted_octets, with_cr, unprotected, multi_line_octets, dot_lines, without_dot}

@@ -1,7 +1,7 @@
 //! What numbers and strings stand for (RFC 5228, section 2.4).
 
 ghost use Rattle.std.specs.Prelude.{◌≡◌, ◌+◌, ◌-◌, ◌*◌, ◌^◌, ◌<◌, ◌++◌, false, IfOk, IsTrue, OnOk, SomeIff};
-ghost use Rattle.sieve_base.specs.Octet.{is_digit};
+ghost use Rattle.sieve_base.specs.Octet.{is_digit, octet_of};
 ghost use Rattle.std.specs.List.{list_any};
 ghost use Rattle.sieve_syntax.specs.Value.{is_changed, is_protector, kept_octet, line_end, multi_line_octets, number_of, quoted_octets, unit_of, unprotected, with_cr, without_dot};
 

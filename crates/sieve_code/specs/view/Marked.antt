@@ -4,7 +4,7 @@ use Rattle.smallvec.specs.SmallVec.{SmallVec}
 use Rattle.sieve_variables.specs.view.Part.{part_of}
 use Rattle.sieve_variables.specs.declared.part.Part.{Part}
 use Rattle.sieve_code.specs.Dump.{part_text, string_text}
-use Rattle.sieve_code.specs.view.Op.{parts_of}
+use Rattle.sieve_effects.specs.view.Ops.{parts_of}
 
 unfoldable pub marked_part : Part → List ℕ
 marked_part part = codes "+" ++ part_text (part_of part)

@@ -1,10 +1,10 @@
 -- What tests find in one value, one field and one name.
-use Rattle.std.specs.Prelude.{ℕ, Bool, true, List, Option, None, Some, if◌then◌else◌}
+use Rattle.std.specs.Prelude.{ℕ, Bool, true, false, List, Option, None, Some, if◌then◌else◌}
 use Rattle.std.specs.Option.{option_and_then}
 use Rattle.message_text.specs.Addresses.{AddrSpec, addresses_of, envelope_address_of, part_of}
 use Rattle.message_text.specs.Fields.{Field}
 use Rattle.message_text.specs.declared.addressing.AddressPart.{AddressPart}
-use Rattle.sieve_reading.specs.Reading.{Source, address_values, header_values}
+use Rattle.sieve_reading.specs.Reading.{ValueSource, address_values, envelope_values, flag_values, header_values, string_values}
 use Rattle.sieve_variables.specs.Part.{Part}
 use Rattle.sieve_variables.specs.view.Value.{octets_of_each}
 use Rattle.sieve_table.specs.Address.{is_address_field}
@@ -18,9 +18,17 @@ abbrev pub found_with : Comparison → List ℕ → Option (List (List ℕ))
 found_with comparison value = first_match comparison.match_type (fold_of comparison.collation) (pairs_with (octets_of_each comparison.keys.now) value)
 
 -- from where values are taken: all of the values of fields, or a part of the addresses in them
-abbrev pub field_source : Option AddressPart → List (List Part) → Source
+abbrev pub field_source : Option AddressPart → List (List Part) → ValueSource
 field_source None names = header_values names
 field_source (Some part) names = address_values part names
+
+-- whether a test's keys are cut at spaces
+abbrev pub cuts_keys : ValueSource → Bool
+cuts_keys (header_values names) = false
+cuts_keys (address_values part names) = false
+cuts_keys (envelope_values part names) = false
+cuts_keys (string_values texts) = false
+cuts_keys (flag_values variables) = true
 
 -- whether fields of that name are looked at
 abbrev pub is_looked_at : Option AddressPart → List ℕ → Bool

@@ -11,8 +11,8 @@ use Rattle.sieve_reading.specs.declared.reading.CommandReading.{CommandReading}
 use Rattle.sieve_reading.specs.declared.reading.CommandReading.TheVariants.{Opens, Continues, Otherwise, Stops, Returns, Nothing, Acts}
 use Rattle.sieve_reading.specs.declared.reading.Leaf.{Leaf}
 use Rattle.sieve_reading.specs.declared.reading.Leaf.TheVariants.{Keep, Fileinto, Redirect, Discard, Set, Flags, Include}
-use Rattle.sieve_reading.specs.declared.reading.Source.{Source}
-use Rattle.sieve_reading.specs.declared.reading.Source.TheVariants as source
+use Rattle.sieve_reading.specs.declared.reading.ValueSource.{ValueSource}
+use Rattle.sieve_reading.specs.declared.reading.ValueSource.TheVariants as source
 use Rattle.sieve_reading.specs.declared.reading.TestReading.{TestReading}
 use Rattle.sieve_reading.specs.declared.reading.TestReading.TheVariants.{Always, Never, Asks, AllOf, AnyOf, Not}
 use Rattle.sieve_reading.specs.declared.tree.Text.{Text}
@@ -21,7 +21,7 @@ use Rattle.sieve_reading.specs.declared.tree.Text.{Text}
 abbrev pub texts_as : List Text → List (List Part)
 texts_as texts = map (λ t. t.parts) (map text_of texts)
 
-abbrev pub source_as : Source → reading.Source
+abbrev pub source_as : ValueSource → reading.ValueSource
 source_as (source.Header names) = reading.header_values (texts_as names.now)
 source_as (source.Address part names) = reading.address_values part (texts_as names.now)
 source_as (source.Envelope part names) = reading.envelope_values part (texts_as names.now)
@@ -52,10 +52,10 @@ leaf_as (Flags change variable flags) = reading.flag_leaf change (option_map (λ
 leaf_as (Include place once optional name) = reading.include_leaf place once optional name.now
 
 abbrev pub command_reading_as : CommandReading → reading.CommandReading
-command_reading_as Opens = reading.opens
-command_reading_as Continues = reading.continues
-command_reading_as Otherwise = reading.otherwise
-command_reading_as Stops = reading.stops
-command_reading_as Returns = reading.returns
-command_reading_as Nothing = reading.nothing
-command_reading_as (Acts leaf) = reading.acts (leaf_as leaf)
+command_reading_as Opens = reading.reads_if
+command_reading_as Continues = reading.reads_elsif
+command_reading_as Otherwise = reading.reads_else
+command_reading_as Stops = reading.reads_stop
+command_reading_as Returns = reading.reads_return
+command_reading_as Nothing = reading.reads_nothing
+command_reading_as (Acts leaf) = reading.reads_act (leaf_as leaf)

@@ -1,15 +1,15 @@
 use Rattle.std.proofs.Common.{◌≡◌, ◌∷◌, ap}
 use Rattle.std.specs.List.{flat_map}
-use Rattle.bench.specs.Report.{read_line}
+use Rattle.bench.specs.view.Lines.{read_text}
 use Rattle.bench.proofs.Writing.{goes_on_from, stops}
 use Rattle.bench.proofs.report.write_reads.Goals as goal
 
 pub loop-name-preserved : goal.loop-name-preserved
 loop-name-preserved g c =
     let cut : c.loop-name.name-iterator ≡ (c.in-Some.name.now, c.in-Some.is_present.now) ∷ c.next.new.self = c.in-Some.ensures.steps in
-    goes_on_from _ _ _ _ _ (read_line (c.in-Some.name.now, c.in-Some.is_present.now)) (flat_map read_line c.next.new.self) _ _ c.loop-name.invariant (ap (flat_map read_line) cut) c.in_ok-write_read.ensures.ok
+    goes_on_from _ _ _ _ _ (read_text (c.in-Some.name.now, c.in-Some.is_present.now)) (flat_map read_text c.next.new.self) _ _ c.loop-name.invariant (ap (flat_map read_text) cut) c.in_ok-write_read_line.ensures.ok
 
-pub returns-in_err-write_read-clause-err : goal.returns-in_err-write_read-clause-err
-returns-in_err-write_read-clause-err g c =
+pub returns-in_err-write_read_line-clause-err : goal.returns-in_err-write_read_line-clause-err
+returns-in_err-write_read_line-clause-err g c =
     let cut : c.loop-name.name-iterator ≡ (c.in-Some.name.now, c.in-Some.is_present.now) ∷ c.next.new.self = c.in-Some.ensures.steps in
-    stops _ _ _ _ _ _ (read_line (c.in-Some.name.now, c.in-Some.is_present.now)) (flat_map read_line c.next.new.self) _ _ c.loop-name.invariant (ap (flat_map read_line) cut) c.in_err-write_read.ensures.err
+    stops _ _ _ _ _ _ (read_text (c.in-Some.name.now, c.in-Some.is_present.now)) (flat_map read_text c.next.new.self) _ _ c.loop-name.invariant (ap (flat_map read_text) cut) c.in_err-write_read_line.ensures.err

@@ -3,7 +3,7 @@ use Rattle.sieve_reading.specs.Reading as reading
 use Rattle.sieve_reading.specs.view.Reading.{command_reading_as, leaf_as}
 use Rattle.sieve_reading.specs.view.Tree.{node_of}
 use Rattle.sieve_code.specs.Choice.{no_branch}
-use Rattle.sieve_code.specs.Operation.{acts, jumps_if}
+use Rattle.sieve_code.specs.Operation.{act_op, jump_if_op}
 use Rattle.sieve_code.specs.view.Branches.{block_at, branch_at, branches_as, first_at, last}
 use Rattle.sieve_code.proofs.Tails.{ends_below}
 use Rattle.sieve_code.proofs.Putting.{alone, block_at_ends, block_none, block_some, branch_at_ends, branches_on, command_listed, command_put, commands_none, first_seen, fronts_along, last_branch, length_last, line_at, line_seen, made, on_ok_along, with_front}
@@ -23,8 +23,8 @@ put_branch-returns t c =
     (first_seen c.args.command.now c.put.new.self
     ∙ ap (first_at n)
     (c.in_ok-put.ensures
-    ∙ ap (λ k. jumps_if false k ∷ c.put_block.new.tail) c.len-next.ensures
-    ∙ ap (λ tail. jumps_if false (length c.args.tail.now) ∷ tail) (c.in_ok-put_block.ensures ∙ ap (block_at n) c.in_ok-put_past.ensures)))
+    ∙ ap (λ k. jump_if_op false k ∷ c.put_block.new.tail) c.len-next.ensures
+    ∙ ap (λ tail. jump_if_op false (length c.args.tail.now) ∷ tail) (c.in_ok-put_block.ensures ∙ ap (block_at n) c.in_ok-put_past.ensures)))
     c.put_first.ensures
 
 pub put_command-returns-in_ok-put_branch-in-Some-Opens-clause-value :
@@ -32,7 +32,7 @@ pub put_command-returns-in_ok-put_branch-in-Some-Opens-clause-value :
 put_command-returns-in_ok-put_branch-in-Some-Opens-clause-value t c =
     alone c.without_branch.result c.put_branch.new.tail c.without_branch.ensures.branches c.without_branch.ensures.behind
     ∙ ap no_branch c.in_ok-put_branch-in-Some-Opens.ensures
-    ∙ command_put (node_of c.args.command.now) (Some reading.opens) (branches_as c.args.front c.args.tail.now)
+    ∙ command_put (node_of c.args.command.now) (Some reading.reads_if) (branches_as c.args.front c.args.tail.now)
     (ap (λ r. Some (command_reading_as r)) (sym c.in-Some-Opens.field-0-is) ∙ c.in-Some-Opens.ensures)
 
 pub put_command-returns-in_ok-put_branch-in-Some-Continues-clause-within :
@@ -49,7 +49,7 @@ put_command-returns-in_ok-put_branch-in-Some-Continues-clause-value t c =
     let b = branches_as c.args.front c.args.tail.now in
     ap (λ tail. made true tail (last c.args.front.behind tail)) c.in_ok-put_branch-in-Some-Continues.ensures
     ∙ ap (made true (branch_at n b)) (with_front c.args.front.behind c.args.tail.now (branch_at n b) c.requires (branch_at_ends n b))
-    ∙ command_put n (Some reading.continues) b
+    ∙ command_put n (Some reading.reads_elsif) b
     (ap (λ r. Some (command_reading_as r)) (sym c.in-Some-Continues.field-0-is) ∙ c.in-Some-Continues.ensures)
 
 pub put_command-returns-in_ok-put_block-in-Some-Otherwise-clause-within :
@@ -64,18 +64,18 @@ pub put_command-returns-in_ok-put_block-in-Some-Otherwise-clause-value :
 put_command-returns-in_ok-put_block-in-Some-Otherwise-clause-value t c =
     let n = node_of c.args.command.now in
     last_branch n c.args.front.behind c.args.tail.now c.keep_last.new.self c.put_block.new.tail c.requires c.keep_last.ensures c.in_ok-put_block-in-Some-Otherwise.ensures
-    ∙ command_put n (Some reading.otherwise) (branches_as c.args.front c.args.tail.now)
+    ∙ command_put n (Some reading.reads_else) (branches_as c.args.front c.args.tail.now)
     (ap (λ r. Some (command_reading_as r)) (sym c.in-Some-Otherwise.field-0-is) ∙ c.in-Some-Otherwise.ensures)
 
-pub put_command-returns-in_ok-op-in-Some-Acts-clause-value :
-    goal.put_command-returns-in_ok-op-in-Some-Acts-clause-value
-put_command-returns-in_ok-op-in-Some-Acts-clause-value t c =
+pub put_command-returns-in_ok-command_op-in-Some-Acts-clause-value :
+    goal.put_command-returns-in_ok-command_op-in-Some-Acts-clause-value
+put_command-returns-in_ok-command_op-in-Some-Acts-clause-value t c =
     let b = branches_as c.args.front c.args.tail.now in
     let leaf = leaf_as c.in-Some-Acts.leaf in
     fronts_along _ _ _ _
-    (ap (λ op. no_branch (op ∷ b.behind_branches)) c.in_ok-op-in-Some-Acts.ensures
-    ∙ ap (λ line. no_branch (acts leaf line ∷ b.behind_branches)) (sym (line_seen c.args.command.now))
-    ∙ command_put (node_of c.args.command.now) (Some (reading.acts leaf)) b
+    (ap (λ kept. no_branch (act_op kept _ ∷ b.behind_branches)) c.in_ok-command_op-in-Some-Acts.ensures
+    ∙ ap (λ line. no_branch (act_op leaf line ∷ b.behind_branches)) (sym (line_seen c.args.command.now))
+    ∙ command_put (node_of c.args.command.now) (Some (reading.reads_act leaf)) b
     (ap (λ r. Some (command_reading_as r)) (sym c.in-Some-Acts.field-0-is) ∙ c.in-Some-Acts.ensures))
     c.put_alone.ensures.value
 
@@ -83,7 +83,7 @@ pub put_command-returns-in-Some-Stops-clause-value :
     goal.put_command-returns-in-Some-Stops-clause-value
 put_command-returns-in-Some-Stops-clause-value t c =
     fronts_along _ _ _ _
-    (command_put (node_of c.args.command.now) (Some reading.stops) (branches_as c.args.front c.args.tail.now)
+    (command_put (node_of c.args.command.now) (Some reading.reads_stop) (branches_as c.args.front c.args.tail.now)
     (ap (λ r. Some (command_reading_as r)) (sym c.in-Some-Stops.field-0-is) ∙ c.in-Some-Stops.ensures))
     c.put_alone-in-Some-Stops.ensures.value
 
@@ -91,7 +91,7 @@ pub put_command-returns-in-Some-Returns-clause-value :
     goal.put_command-returns-in-Some-Returns-clause-value
 put_command-returns-in-Some-Returns-clause-value t c =
     fronts_along _ _ _ _
-    (command_put (node_of c.args.command.now) (Some reading.returns) (branches_as c.args.front c.args.tail.now)
+    (command_put (node_of c.args.command.now) (Some reading.reads_return) (branches_as c.args.front c.args.tail.now)
     (ap (λ r. Some (command_reading_as r)) (sym c.in-Some-Returns.field-0-is) ∙ c.in-Some-Returns.ensures))
     c.put_alone-in-Some-Returns.ensures.value
 
@@ -99,7 +99,7 @@ pub put_command-returns-in-Some-Nothing-clause-value :
     goal.put_command-returns-in-Some-Nothing-clause-value
 put_command-returns-in-Some-Nothing-clause-value t c =
     c.drop_branches.ensures.value
-    ∙ command_put (node_of c.args.command.now) (Some reading.nothing) (branches_as c.args.front c.args.tail.now)
+    ∙ command_put (node_of c.args.command.now) (Some reading.reads_nothing) (branches_as c.args.front c.args.tail.now)
     (ap (λ r. Some (command_reading_as r)) (sym c.in-Some-Nothing.field-0-is) ∙ c.in-Some-Nothing.ensures)
 
 pub put_command-returns-in-None-clause-value : goal.put_command-returns-in-None-clause-value

@@ -4,7 +4,8 @@ use Rattle.sieve_reading.specs.Reading as reading
 use Rattle.sieve_reading.specs.view.Reading.{ask_as, test_reading_as}
 use Rattle.sieve_reading.specs.view.Tree.{test_of, tests_of}
 use Rattle.sieve_code.specs.Choice.{first_before, list_before, test_before}
-use Rattle.sieve_code.specs.Operation.{jumps_if}
+use Rattle.sieve_code.specs.Operation as operation
+use Rattle.sieve_code.specs.Operation.{jump_if_op}
 use Rattle.sieve_code.proofs.Putting.{all_list, all_none, all_one, first_empty, first_listed, first_none, first_one, list_empty, list_none, list_on, list_put, list_some, on_ok_along, test_put}
 use Rattle.sieve_code.proofs.test_code.+test_code.Goals as goal
 
@@ -52,7 +53,7 @@ put_list-loop-i-preserved t c =
     let below : c.loop-i.i - 1 < length c.args.list.now = omega arith in
     list_put truth list i c.index-list-i.result old c.loop-i.tail c.put_test.new.tail (nat_lt (i + 1) (length list)) below c.index-list-i.is refl
     (c.loop-i.invariant ∙ ap (λ n. list_before truth (list_on (drop n list)) old) back)
-    (c.in_ok-put_test.ensures ∙ ap (test_before (test_of c.index-list-i.result)) (c.in_ok-put_joint.ensures ∙ ap (λ n. if nat_lt (i + 1) (length list) then jumps_if truth n ∷ c.loop-i.tail else c.loop-i.tail) c.len-end.ensures))
+    (c.in_ok-put_test.ensures ∙ ap (test_before (test_of c.index-list-i.result)) (c.in_ok-put_joint.ensures ∙ ap (λ n. if nat_lt (i + 1) (length list) then jump_if_op truth n ∷ c.loop-i.tail else c.loop-i.tail) c.len-end.ensures))
 
 pub put_list-returns : goal.put_list-returns
 put_list-returns t c =
@@ -70,10 +71,10 @@ pub put_test-returns-in-Some-Never : goal.put_test-returns-in-Some-Never
 put_test-returns-in-Some-Never t c =
     on_ok_along _ _ _ _ (test_put c.args.test.now (Some reading.reads_never) c.args.tail.now (ap (λ r. Some (test_reading_as r)) (sym c.in-Some-Never.field-0-is) ∙ c.in-Some-Never.ensures)) c.put-in-Some-Never.ensures
 
-pub put_test-returns-in_ok-ask_op-in-Some-Asks : goal.put_test-returns-in_ok-ask_op-in-Some-Asks
-put_test-returns-in_ok-ask_op-in-Some-Asks t c =
+pub put_test-returns-in_ok-test_op-in-Some-Asks : goal.put_test-returns-in_ok-test_op-in-Some-Asks
+put_test-returns-in_ok-test_op-in-Some-Asks t c =
     on_ok_along _ _ _ _
-    (ap (λ op. op ∷ c.args.tail.now) c.in_ok-ask_op-in-Some-Asks.ensures
+    (ap (λ ask. operation.test_op ask ∷ c.args.tail.now) c.in_ok-test_op-in-Some-Asks.ensures
     ∙ test_put c.args.test.now (Some (reading.reads_ask (ask_as c.in-Some-Asks.ask))) c.args.tail.now (ap (λ r. Some (test_reading_as r)) (sym c.in-Some-Asks.field-0-is) ∙ c.in-Some-Asks.ensures))
     c.put-in-Some-Asks.ensures
 

@@ -1,6 +1,6 @@
 use Rattle.std.proofs.Common.{◌≡◌, drop, map}
 use Rattle.sieve_reading.specs.Label.{labels_from}
-use Rattle.sieve_reading.specs.Reading.{has_tag, labels_in, part_shape}
+use Rattle.sieve_reading.specs.Given.{has_tag, labels_in, part_shape}
 use Rattle.sieve_reading.specs.view.Expected.{expected_as}
 use Rattle.sieve_table.specs.view.Row.{row_as}
 use Rattle.sieve_reading.specs.view.Tree.{argument_of}

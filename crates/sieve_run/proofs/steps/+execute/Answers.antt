@@ -3,12 +3,12 @@ use Rattle.std.proofs.lemmas.Bool.Decides.{nat_tests}
 use Rattle.std.proofs.lemmas.Result.{IfOk-weaker}
 use Rattle.sieve_code.specs.Walk.{code_walk, walk_from}
 use Rattle.sieve_code.specs.view.Code.{ops_of}
-use Rattle.sieve_code.specs.view.Op.{given_strings, op_as}
-use Rattle.sieve_code.specs.Operation.{acts, asks}
+use Rattle.sieve_code.specs.view.Op.{op_as}
+use Rattle.sieve_effects.specs.view.Ops.{command_op_as, given_strings, test_op_as}
 use Rattle.sieve_variables.specs.view.Part.{part_of, strings_of, variable_of}
 use Rattle.std.specs.Option.{option_map}
 use Rattle.sieve_base.specs.Limits.{include_limit}
-use Rattle.sieve_reading.specs.Reading.{address_values, compares, discard_leaf, envelope_values, exists_ask, fileinto_leaf, flag_leaf, flag_values, header_values, include_leaf, keep_leaf, redirect_leaf, set_leaf, string_values}
+use Rattle.sieve_reading.specs.Reading.{discard_leaf, fileinto_leaf, flag_leaf, include_leaf, keep_leaf, redirect_leaf, set_leaf}
 use Rattle.sieve_run.specs.Library.{Lookup, found_at, lookup_of}
 use Rattle.sieve_run.specs.Run.{act_of, included, is_script}
 use Rattle.sieve_effects.specs.declared.flow.Flow.{Flow}
@@ -24,126 +24,79 @@ use Rattle.sieve_effects.specs.view.State.{state_of}
 use Rattle.sieve_run.specs.view.Step.{doing, doing_after}
 use Rattle.sieve_variables.specs.Value.{with_own}
 use Rattle.sieve_run.proofs.Includes.{enters_by, fails_deep, fails_many, fails_running, looks_included, looks_present, not_entered, not_once, skips_included}
-use Rattle.sieve_run.proofs.Stepping.{acts_follow, asks_follow, exists_follow, past_end, runs_out, turns}
+use Rattle.sieve_run.proofs.Stepping.{acts_follow, asks_follow, does_so, past_end, runs_out, turns}
 use Rattle.sieve_run.proofs.steps.+execute.Goals as goal
 use Rattle.sieve_run.proofs.steps.+execute.Goals.{include-else-once-via-then-once+else-is_script, include-else-once-via-else-once}
 
-pub carry_out-returns-in-Header : goal.carry_out-returns-in-Header
-carry_out-returns-in-Header g t c =
+pub carry_out-returns-in-Test : goal.carry_out-returns-in-Test
+carry_out-returns-in-Test g t c =
     let find : ScriptName → Lookup = λ name. lookup_of (g.L.Library.texts c.args.lib.now name) in
     let d = delivery_as c.args.delivery.now in
-    let i = c.in-Header in
-    asks_follow (act_of find c.args.depth d) d (compares (header_values (strings_of c.deref.result.now)) i.match_type i.collation (strings_of c.deref-in-Header.result.now)) _ _ _ _ _ _ _
-    (ap op_as i.is ∙ ap₂ (λ names keys. asks (compares (header_values (strings_of names)) i.match_type i.collation (strings_of keys))) (sym c.deref.ensures.value) (sym c.deref-in-Header.ensures.value))
-    c.fields_hold-truth.ensures.truth c.fields_hold-truth.ensures.behind c.tested.ensures
+    asks_follow (act_of find c.args.depth d) d (test_op_as c.in-Test.test.now) _ _ _ _ _ _ _ (ap op_as c.in-Test.is) c.holds-truth.ensures.truth c.holds-truth.ensures.behind c.tested.ensures
 
-pub carry_out-returns-in-Address : goal.carry_out-returns-in-Address
-carry_out-returns-in-Address g t c =
+pub carry_out-returns-in-Command : goal.carry_out-returns-in-Command
+carry_out-returns-in-Command g t c =
     let find : ScriptName → Lookup = λ name. lookup_of (g.L.Library.texts c.args.lib.now name) in
     let d = delivery_as c.args.delivery.now in
-    let i = c.in-Address in
-    asks_follow (act_of find c.args.depth d) d (compares (address_values i.part (strings_of c.deref-in-Address.result.now)) i.match_type i.collation (strings_of c.deref-in-Address-2.result.now)) _ _ _ _ _ _ _
-    (ap op_as i.is ∙ ap₂ (λ names keys. asks (compares (address_values i.part (strings_of names)) i.match_type i.collation (strings_of keys))) (sym c.deref-in-Address.ensures.value) (sym c.deref-in-Address-2.ensures.value))
-    c.fields_hold-truth-in-Address.ensures.truth c.fields_hold-truth-in-Address.ensures.behind c.tested-in-Address.ensures
+    let i = c.in-Command in
+    acts_follow (act_of find c.args.depth d) d (command_op_as i.command) i.line _ _ _ _ _ _ _ (ap op_as i.is) c.act-flow.ensures c.acted.ensures
 
-pub carry_out-returns-in-Envelope : goal.carry_out-returns-in-Envelope
-carry_out-returns-in-Envelope g t c =
+pub act-returns-in-Keep : goal.act-returns-in-Keep
+act-returns-in-Keep g t c =
     let find : ScriptName → Lookup = λ name. lookup_of (g.L.Library.texts c.args.lib.now name) in
     let d = delivery_as c.args.delivery.now in
-    let i = c.in-Envelope in
-    asks_follow (act_of find c.args.depth d) d (compares (envelope_values i.part (strings_of c.deref-in-Envelope.result.now)) i.match_type i.collation (strings_of c.deref-in-Envelope-2.result.now)) _ _ _ _ _ _ _
-    (ap op_as i.is ∙ ap₂ (λ names keys. asks (compares (envelope_values i.part (strings_of names)) i.match_type i.collation (strings_of keys))) (sym c.deref-in-Envelope.ensures.value) (sym c.deref-in-Envelope-2.ensures.value))
-    c.envelope_holds-truth.ensures.truth c.envelope_holds-truth.ensures.behind c.tested-in-Envelope.ensures
+    does_so c.keep.result (state_of c.keep.new.state) (act_of find c.args.depth d) (keep_leaf (given_strings c.in-Keep.flags)) _ c.args.line (state_of c.args.state.now)
+    (ap command_op_as (sym c.in-Keep.is))
+    c.keep.ensures
 
-pub carry_out-returns-in-String : goal.carry_out-returns-in-String
-carry_out-returns-in-String g t c =
+pub act-returns-in-Fileinto : goal.act-returns-in-Fileinto
+act-returns-in-Fileinto g t c =
     let find : ScriptName → Lookup = λ name. lookup_of (g.L.Library.texts c.args.lib.now name) in
     let d = delivery_as c.args.delivery.now in
-    let i = c.in-String in
-    asks_follow (act_of find c.args.depth d) d (compares (string_values (strings_of c.deref-in-String.result.now)) i.match_type i.collation (strings_of c.deref-in-String-2.result.now)) _ _ _ _ _ _ _
-    (ap op_as i.is ∙ ap₂ (λ texts keys. asks (compares (string_values (strings_of texts)) i.match_type i.collation (strings_of keys))) (sym c.deref-in-String.ensures.value) (sym c.deref-in-String-2.ensures.value))
-    c.strings_hold-truth.ensures.truth c.strings_hold-truth.ensures.behind c.tested-in-String.ensures
+    does_so c.file_into.result (state_of c.file_into.new.state) (act_of find c.args.depth d) (fileinto_leaf (map part_of c.deref-in-Fileinto.result.now) (given_strings c.in-Fileinto.flags)) _ c.args.line (state_of c.args.state.now)
+    (ap (λ mailbox. fileinto_leaf (map part_of mailbox) (given_strings c.in-Fileinto.flags)) c.deref-in-Fileinto.ensures ∙ ap command_op_as (sym c.in-Fileinto.is))
+    c.file_into.ensures
 
-pub carry_out-returns-in-HasFlag : goal.carry_out-returns-in-HasFlag
-carry_out-returns-in-HasFlag g t c =
+pub act-returns-in-Redirect : goal.act-returns-in-Redirect
+act-returns-in-Redirect g t c =
     let find : ScriptName → Lookup = λ name. lookup_of (g.L.Library.texts c.args.lib.now name) in
     let d = delivery_as c.args.delivery.now in
-    let i = c.in-HasFlag in
-    asks_follow (act_of find c.args.depth d) d (compares (flag_values (given_strings i.variables)) i.match_type i.collation (strings_of c.deref-in-HasFlag.result.now)) _ _ _ _ _ _ _
-    (ap op_as i.is ∙ ap (λ keys. asks (compares (flag_values (given_strings i.variables)) i.match_type i.collation (strings_of keys))) (sym c.deref-in-HasFlag.ensures.value))
-    c.flags_hold-truth.ensures.truth c.flags_hold-truth.ensures.behind c.tested-in-HasFlag.ensures
+    does_so c.redirect.result (state_of c.redirect.new.state) (act_of find c.args.depth d) (redirect_leaf (map part_of c.deref-in-Redirect.result.now)) _ c.args.line (state_of c.args.state.now)
+    (ap (λ address. redirect_leaf (map part_of address)) c.deref-in-Redirect.ensures ∙ ap command_op_as (sym c.in-Redirect.is))
+    c.redirect.ensures
 
-pub carry_out-returns-in-Exists : goal.carry_out-returns-in-Exists
-carry_out-returns-in-Exists g t c =
+pub act-returns-in-Discard : goal.act-returns-in-Discard
+act-returns-in-Discard g t c =
     let find : ScriptName → Lookup = λ name. lookup_of (g.L.Library.texts c.args.lib.now name) in
     let d = delivery_as c.args.delivery.now in
-    let i = c.in-Exists in
-    exists_follow (act_of find c.args.depth d) d (strings_of c.deref-in-Exists.result.now) _ _ _ _ _ _
-    (ap op_as i.is ∙ ap (λ names. asks (exists_ask (strings_of names))) (sym c.deref-in-Exists.ensures.value))
-    c.exists-truth.ensures c.tested-in-Exists.ensures
+    does_so c.discard.result (state_of c.discard.new.state) (act_of find c.args.depth d) (discard_leaf) _ c.args.line (state_of c.args.state.now)
+    (ap command_op_as (sym c.in-Discard.is))
+    c.discard.ensures
 
-pub carry_out-returns-in-Keep : goal.carry_out-returns-in-Keep
-carry_out-returns-in-Keep g t c =
+pub act-returns-in-Set : goal.act-returns-in-Set
+act-returns-in-Set g t c =
     let find : ScriptName → Lookup = λ name. lookup_of (g.L.Library.texts c.args.lib.now name) in
     let d = delivery_as c.args.delivery.now in
-    let i = c.in-Keep in
-    acts_follow (act_of find c.args.depth d) d (keep_leaf (given_strings i.flags)) i.line _ _ _ _ _ _ _
-    (ap op_as i.is)
-    c.keep-flow.ensures c.acted.ensures
+    does_so c.set.result (state_of c.set.new.state) (act_of find c.args.depth d) (set_leaf (variable_of c.in-Set.variable) c.in-Set.modifiers (map part_of c.deref-in-Set.result.now)) _ c.args.line (state_of c.args.state.now)
+    (ap (λ value. set_leaf (variable_of c.in-Set.variable) c.in-Set.modifiers (map part_of value)) c.deref-in-Set.ensures ∙ ap command_op_as (sym c.in-Set.is))
+    c.set.ensures
 
-pub carry_out-returns-in-Fileinto : goal.carry_out-returns-in-Fileinto
-carry_out-returns-in-Fileinto g t c =
+pub act-returns-in-Flags : goal.act-returns-in-Flags
+act-returns-in-Flags g t c =
     let find : ScriptName → Lookup = λ name. lookup_of (g.L.Library.texts c.args.lib.now name) in
     let d = delivery_as c.args.delivery.now in
-    let i = c.in-Fileinto in
-    acts_follow (act_of find c.args.depth d) d (fileinto_leaf (map part_of c.deref-in-Fileinto.result.now) (given_strings i.flags)) i.line _ _ _ _ _ _ _
-    (ap op_as i.is ∙ ap (λ mailbox. acts (fileinto_leaf (map part_of mailbox) (given_strings i.flags)) i.line) (sym c.deref-in-Fileinto.ensures))
-    c.file_into-flow.ensures c.acted-in-Fileinto.ensures
+    does_so c.change.result (state_of c.change.new.state) (act_of find c.args.depth d) (flag_leaf c.in-Flags.how (option_map variable_of c.in-Flags.variable) (strings_of c.deref-in-Flags.result.now)) _ c.args.line (state_of c.args.state.now)
+    (ap (λ flags. flag_leaf c.in-Flags.how (option_map variable_of c.in-Flags.variable) (strings_of flags)) c.deref-in-Flags.ensures.value ∙ ap command_op_as (sym c.in-Flags.is))
+    c.change.ensures
 
-pub carry_out-returns-in-Redirect : goal.carry_out-returns-in-Redirect
-carry_out-returns-in-Redirect g t c =
-    let find : ScriptName → Lookup = λ name. lookup_of (g.L.Library.texts c.args.lib.now name) in
-    let d = delivery_as c.args.delivery.now in
-    let i = c.in-Redirect in
-    acts_follow (act_of find c.args.depth d) d (redirect_leaf (map part_of c.deref-in-Redirect.result.now)) i.line _ _ _ _ _ _ _
-    (ap op_as i.is ∙ ap (λ address. acts (redirect_leaf (map part_of address)) i.line) (sym c.deref-in-Redirect.ensures))
-    c.redirect-flow.ensures c.acted-in-Redirect.ensures
-
-pub carry_out-returns-in-Discard : goal.carry_out-returns-in-Discard
-carry_out-returns-in-Discard g t c =
-    let find : ScriptName → Lookup = λ name. lookup_of (g.L.Library.texts c.args.lib.now name) in
-    let d = delivery_as c.args.delivery.now in
-    let i = c.in-Discard in
-    acts_follow (act_of find c.args.depth d) d (discard_leaf) i.line _ _ _ _ _ _ _
-    (ap op_as i.is)
-    c.discard-flow.ensures c.acted-in-Discard.ensures
-
-pub carry_out-returns-in-Set : goal.carry_out-returns-in-Set
-carry_out-returns-in-Set g t c =
-    let find : ScriptName → Lookup = λ name. lookup_of (g.L.Library.texts c.args.lib.now name) in
-    let d = delivery_as c.args.delivery.now in
-    let i = c.in-Set in
-    acts_follow (act_of find c.args.depth d) d (set_leaf (variable_of i.variable) i.modifiers (map part_of c.deref-in-Set.result.now)) i.line _ _ _ _ _ _ _
-    (ap op_as i.is ∙ ap (λ value. acts (set_leaf (variable_of i.variable) i.modifiers (map part_of value)) i.line) (sym c.deref-in-Set.ensures))
-    c.set-flow.ensures c.acted-in-Set.ensures
-
-pub carry_out-returns-in-Flags : goal.carry_out-returns-in-Flags
-carry_out-returns-in-Flags g t c =
-    let find : ScriptName → Lookup = λ name. lookup_of (g.L.Library.texts c.args.lib.now name) in
-    let d = delivery_as c.args.delivery.now in
-    let i = c.in-Flags in
-    acts_follow (act_of find c.args.depth d) d (flag_leaf i.how (option_map variable_of i.variable) (strings_of c.deref-in-Flags.result.now)) i.line _ _ _ _ _ _ _
-    (ap op_as i.is ∙ ap (λ flags. acts (flag_leaf i.how (option_map variable_of i.variable) (strings_of flags)) i.line) (sym c.deref-in-Flags.ensures.value))
-    c.change-flow.ensures c.acted-in-Flags.ensures
-
-pub carry_out-returns-in_ok-octets-in-Include : goal.carry_out-returns-in_ok-octets-in-Include
-carry_out-returns-in_ok-octets-in-Include g t c =
+pub act-returns-in_ok-copied-in-Include : goal.act-returns-in_ok-copied-in-Include
+act-returns-in_ok-copied-in-Include g t c =
     let find : ScriptName → Lookup = λ name. lookup_of (g.L.Library.texts c.args.lib.now name) in
     let d = delivery_as c.args.delivery.now in
     let i = c.in-Include in
-    acts_follow (act_of find c.args.depth d) d (include_leaf i.place i.once i.optional c.in_ok-octets-in-Include.octets) i.line _ _ _ _ _ _ _
-    (ap op_as i.is ∙ ap (λ name. acts (include_leaf i.place i.once i.optional name) i.line) (sym (c.in_ok-octets-in-Include.ensures ∙ c.deref-in-Include.ensures)))
-    c.include-flow.ensures c.acted-in-Include.ensures
+    does_so c.include.result (state_of c.include.new.state) (act_of find c.args.depth d) (include_leaf i.place i.once i.optional c.in_ok-copied-in-Include.copied) _ c.args.line (state_of c.args.state.now)
+    (ap (include_leaf i.place i.once i.optional) (c.in_ok-copied-in-Include.ensures ∙ c.deref-in-Include.ensures) ∙ ap command_op_as (sym i.is))
+    c.include.ensures
 
 pub execute_inside-returns : goal.execute_inside-returns
 execute_inside-returns g t c =

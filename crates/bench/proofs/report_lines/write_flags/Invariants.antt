@@ -1,8 +1,0 @@
-use Rattle.std.proofs.Common.{take}
-use Rattle.std.specs.List.{flat_map}
-use Rattle.sieve_base.specs.Writers.{Wrote}
-use Rattle.bench.specs.Report.{flag_word}
-use Rattle.bench.proofs.report_lines.write_flags.Given as goal
-
-abbrev pub invariant-loop-i : goal.invariant-loop-i
-invariant-loop-i g l = Wrote g.W.Sink.contents g.W.Faults.fault_count l.initial.writer l.writer (flat_map flag_word (take l.i l.flags))

@@ -1,0 +1,27 @@
+-- The lines of a verdict in a report, one by one.
+use Rattle.std.specs.Prelude.{ℕ, Bool, List, [], ◌++◌, Option, None, Some}
+use Rattle.std.specs.List.{flat_map}
+use Rattle.sieve_base.specs.declared.name.ScriptName.{ScriptName}
+use Rattle.sieve_effects.specs.declared.action.Action.{Action}
+use Rattle.sieve_effects.specs.declared.error.RunError.{RunError}
+use Rattle.sieve_run.specs.Lines.{action_line, error_line, implicit_line, read_line}
+use Rattle.sieve_run.specs.Verdict.{Verdict}
+use Rattle.bench.specs.Report.{indented}
+
+abbrev pub action_text : Action → List ℕ
+action_text action = indented (action_line action)
+
+abbrev pub implicit_text : (mailbox : List ℕ) → Option (List (List ℕ)) → List ℕ
+implicit_text mailbox None = []
+implicit_text mailbox (Some flags) = indented (implicit_line mailbox flags)
+
+abbrev pub error_text : Option RunError → List ℕ
+error_text None = []
+error_text (Some error) = indented (error_line error)
+
+abbrev pub read_text : ScriptName × Bool → List ℕ
+read_text read = indented (read_line read)
+
+-- the same as they are written, in turn
+unfoldable pub verdict_texts : (mailbox : List ℕ) → Verdict → List ℕ
+verdict_texts mailbox verdict = flat_map action_text verdict.actions ++ (implicit_text mailbox verdict.implicit ++ (error_text verdict.error ++ flat_map read_text verdict.reads))

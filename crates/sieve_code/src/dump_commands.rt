@@ -1,0 +1,266 @@
+//! The commands of a dump.
+ghost use Rattle.std.specs.Prelude.{◌≡◌, ◌++◌, codes, map, OnOk, OnErr};
+ghost use Rattle.std.specs.Option.{option_map};
+ghost use Rattle.sieve_base.specs.Writers.{Wrote, WroteFront};
+ghost use Rattle.sieve_code.specs.Dump.{case_word, change_word, changing_words, first_word, given_word, include_words, leaf_text, list_text, modifier_words, set_words, stored_flags, worded_flags, worded_text, worded_variable};
+ghost use Rattle.sieve_effects.specs.view.Ops.{command_op_as, given_strings};
+ghost use Rattle.sieve_variables.specs.view.Part.{part_of, strings_of, variable_of};
+
+use crate::dump_strings::{name_of, scope_word, write_list, write_string};
+use sieve_base::{Piece, Place, Sink, WriteFault, write_out, write_pieces};
+use sieve_effects::CommandOp;
+use sieve_reading::FlagChange;
+use sieve_variables::{LetterCase, Modifiers, Part, Parts, Variable};
+
+/// Writes a command's word and then a string.
+#[tactic(auto, unfolding(crate::specs::Dump::worded_text))]
+fn write_worded<W: Sink>(word: &[u8], string: &[Part], writer: &mut W) -> Result<(), WriteFault>
+    ensures ok { OnOk result (Wrote W.contents W.fault_count writer.old writer.new (worded_text word.now (map part_of string.now))) }
+    ensures err { OnErr result (WroteFront W.contents W.fault_count writer.old writer.new (worded_text word.now (map part_of string.now))) }
+{
+    write_string(word, string, writer)
+}
+
+/// Writes the flags of what is stored: those that are named, or that these are the internal ones.
+#[tactic(auto, unfolding(crate::specs::Dump::stored_flags))]
+fn write_stored_flags<W: Sink>(flags: &Option<Vec<Parts>>, writer: &mut W) -> Result<(), WriteFault>
+    ensures ok { OnOk result (Wrote W.contents W.fault_count writer.old writer.new (stored_flags (given_strings flags.now))) }
+    ensures err { OnErr result (WroteFront W.contents W.fault_count writer.old writer.new (stored_flags (given_strings flags.now))) }
+{
+    match flags {
+        Some(flags) => write_list(b" flags ", flags, writer),
+        None => write_out(b" internal", writer),
+    }
+}
+
+/// Writes a command's word and then the flags of what is stored.
+#[tactic(auto, using(sieve_base::proofs::Writing::writing), unfolding(crate::specs::Dump::worded_flags))]
+fn write_worded_flags<W: Sink>(
+    word: &[u8],
+    flags: &Option<Vec<Parts>>,
+    writer: &mut W,
+) -> Result<(), WriteFault>
+    ensures ok { OnOk result (Wrote W.contents W.fault_count writer.old writer.new (worded_flags word.now (given_strings flags.now))) }
+    ensures err { OnErr result (WroteFront W.contents W.fault_count writer.old writer.new (worded_flags word.now (given_strings flags.now))) }
+{
+    write_out(word, writer)?;
+    write_stored_flags(flags, writer)
+}
+
+/// Writes a `fileinto`.
+#[tactic(auto, using(sieve_base::proofs::Writing::writing))]
+fn write_fileinto<W: Sink>(
+    mailbox: &[Part],
+    flags: &Option<Vec<Parts>>,
+    writer: &mut W,
+) -> Result<(), WriteFault>
+    ensures ok { OnOk result (Wrote W.contents W.fault_count writer.old writer.new (worded_text (codes "fileinto ") (map part_of mailbox.now) ++ stored_flags (given_strings flags.now))) }
+    ensures err { OnErr result (WroteFront W.contents W.fault_count writer.old writer.new (worded_text (codes "fileinto ") (map part_of mailbox.now) ++ stored_flags (given_strings flags.now))) }
+{
+    write_worded(b"fileinto ", mailbox, writer)?;
+    write_stored_flags(flags, writer)
+}
+
+/// The word of a modifier of letters.
+fn case_word(case: Option<LetterCase>) -> &'static [u8]
+    ensures { result.now ≡ case_word case }
+{
+    match case {
+        None => b"",
+        Some(LetterCase::Lower) => b" lower",
+        Some(LetterCase::Upper) => b" upper",
+    }
+}
+
+/// The word of a modifier of the first letter.
+fn first_word(case: Option<LetterCase>) -> &'static [u8]
+    ensures { result.now ≡ first_word case }
+{
+    match case {
+        None => b"",
+        Some(LetterCase::Lower) => b" lowerfirst",
+        Some(LetterCase::Upper) => b" upperfirst",
+    }
+}
+
+/// A word, where it is given.
+fn given_word<'a>(is_given: bool, word: &'a [u8]) -> &'a [u8]
+    ensures { result.now ≡ given_word is_given word.now }
+{
+    if is_given { word } else { b"" }
+}
+
+/// Writes a word and then a variable.
+#[tactic(auto, unfolding(crate::specs::Dump::worded_variable))]
+fn write_variable<'x, W: Sink>(
+    word: &'x [u8],
+    variable: &'x Variable,
+    writer: &mut W,
+) -> Result<(), WriteFault>
+    ensures ok { OnOk result (Wrote W.contents W.fault_count writer.old writer.new (worded_variable word.now (variable_of variable.now))) }
+    ensures err { OnErr result (WroteFront W.contents W.fault_count writer.old writer.new (worded_variable word.now (variable_of variable.now))) }
+{
+    write_pieces(
+        &[
+            Piece::Raw(word),
+            Piece::Raw(scope_word(variable)),
+            Piece::Raw(name_of(variable)),
+            Piece::Raw(b")"),
+        ],
+        writer,
+    )
+}
+
+/// Writes the modifiers of a `set`.
+#[tactic(auto, unfolding(crate::specs::Dump::modifier_words))]
+fn write_modifiers<W: Sink>(modifiers: Modifiers, writer: &mut W) -> Result<(), WriteFault>
+    ensures ok { OnOk result (Wrote W.contents W.fault_count writer.old writer.new (modifier_words modifiers)) }
+    ensures err { OnErr result (WroteFront W.contents W.fault_count writer.old writer.new (modifier_words modifiers)) }
+{
+    write_pieces(
+        &[
+            Piece::Raw(case_word(modifiers.letter_case)),
+            Piece::Raw(first_word(modifiers.first_letter)),
+            Piece::Raw(given_word(modifiers.quote_wildcard, b" quotewildcard")),
+            Piece::Raw(given_word(modifiers.length, b" length")),
+            Piece::Raw(b" "),
+        ],
+        writer,
+    )
+}
+
+/// Writes what a `set` does, apart from the value.
+#[tactic(auto, using(sieve_base::proofs::Writing::writing), unfolding(crate::specs::Dump::set_words))]
+fn write_set_words<W: Sink>(
+    variable: &Variable,
+    modifiers: Modifiers,
+    writer: &mut W,
+) -> Result<(), WriteFault>
+    ensures ok { OnOk result (Wrote W.contents W.fault_count writer.old writer.new (set_words (variable_of variable.now) modifiers)) }
+    ensures err { OnErr result (WroteFront W.contents W.fault_count writer.old writer.new (set_words (variable_of variable.now) modifiers)) }
+{
+    write_variable(b"set ", variable, writer)?;
+    write_modifiers(modifiers, writer)
+}
+
+/// Writes a `set`.
+#[tactic(auto, using(sieve_base::proofs::Writing::writing), unfolding(crate::specs::Dump::worded_text))]
+fn write_set<W: Sink>(
+    variable: &Variable,
+    modifiers: Modifiers,
+    value: &[Part],
+    writer: &mut W,
+) -> Result<(), WriteFault>
+    ensures ok { OnOk result (Wrote W.contents W.fault_count writer.old writer.new (worded_text (set_words (variable_of variable.now) modifiers) (map part_of value.now))) }
+    ensures err { OnErr result (WroteFront W.contents W.fault_count writer.old writer.new (worded_text (set_words (variable_of variable.now) modifiers) (map part_of value.now))) }
+{
+    write_set_words(variable, modifiers, writer)?;
+    write_string(b"", value, writer)
+}
+
+/// The word of a command that changes flags.
+fn change_word(change: FlagChange) -> &'static [u8]
+    ensures { result.now ≡ change_word change }
+{
+    match change {
+        FlagChange::Set => b"setflag",
+        FlagChange::Add => b"addflag",
+        FlagChange::Remove => b"removeflag",
+    }
+}
+
+/// Writes whose flags a command changes.
+#[tactic(auto, unfolding(crate::specs::Dump::changing_words))]
+fn write_changing_words<W: Sink>(
+    change: FlagChange,
+    variable: &Option<Variable>,
+    writer: &mut W,
+) -> Result<(), WriteFault>
+    ensures ok { OnOk result (Wrote W.contents W.fault_count writer.old writer.new (changing_words change (option_map variable_of variable.now))) }
+    ensures err { OnErr result (WroteFront W.contents W.fault_count writer.old writer.new (changing_words change (option_map variable_of variable.now))) }
+{
+    let word = change_word(change);
+    match variable {
+        Some(variable) => write_pieces(
+            &[
+                Piece::Raw(word),
+                Piece::Raw(b" "),
+                Piece::Raw(scope_word(variable)),
+                Piece::Raw(name_of(variable)),
+                Piece::Raw(b") "),
+            ],
+            writer,
+        ),
+        None => write_pieces(&[Piece::Raw(word), Piece::Raw(b" internal ")], writer),
+    }
+}
+
+/// Writes a command that changes flags.
+#[tactic(auto, using(sieve_base::proofs::Writing::writing))]
+fn write_flags<W: Sink>(
+    change: FlagChange,
+    variable: &Option<Variable>,
+    flags: &[Parts],
+    writer: &mut W,
+) -> Result<(), WriteFault>
+    ensures ok { OnOk result (Wrote W.contents W.fault_count writer.old writer.new (changing_words change (option_map variable_of variable.now) ++ list_text (strings_of flags.now))) }
+    ensures err { OnErr result (WroteFront W.contents W.fault_count writer.old writer.new (changing_words change (option_map variable_of variable.now) ++ list_text (strings_of flags.now))) }
+{
+    write_changing_words(change, variable, writer)?;
+    write_list(b"", flags, writer)
+}
+
+/// Writes what is included.
+#[tactic(auto, unfolding(crate::specs::Dump::include_words))]
+fn write_include<W: Sink>(
+    place: Place,
+    once: bool,
+    optional: bool,
+    name: &[u8],
+    writer: &mut W,
+) -> Result<(), WriteFault>
+    ensures ok { OnOk result (Wrote W.contents W.fault_count writer.old writer.new (include_words place once optional name.now)) }
+    ensures err { OnErr result (WroteFront W.contents W.fault_count writer.old writer.new (include_words place once optional name.now)) }
+{
+    write_pieces(
+        &[
+            Piece::Raw(b"include "),
+            Piece::Raw(place.word()),
+            Piece::Raw(given_word(once, b" once")),
+            Piece::Raw(given_word(optional, b" optional")),
+            Piece::Raw(b" "),
+            Piece::Quoted(name),
+        ],
+        writer,
+    )
+}
+
+/// Writes what a command does.
+#[tactic(auto, unfolding(crate::specs::Dump::leaf_text))]
+pub(crate) fn write_command<W: Sink>(command: &CommandOp, writer: &mut W) -> Result<(), WriteFault>
+    ensures ok { OnOk result (Wrote W.contents W.fault_count writer.old writer.new (leaf_text (command_op_as command.now))) }
+    ensures err { OnErr result (WroteFront W.contents W.fault_count writer.old writer.new (leaf_text (command_op_as command.now))) }
+{
+    match command {
+        CommandOp::Keep { flags } => write_worded_flags(b"keep", flags, writer),
+        CommandOp::Fileinto { mailbox, flags } => write_fileinto(mailbox, flags, writer),
+        CommandOp::Redirect { address } => write_worded(b"redirect ", address, writer),
+        CommandOp::Discard => write_out(b"discard", writer),
+        CommandOp::Set {
+            variable,
+            modifiers,
+            value,
+        } => write_set(variable, *modifiers, value, writer),
+        CommandOp::Flags {
+            change,
+            variable,
+            flags,
+        } => write_flags(*change, variable, flags, writer),
+        CommandOp::Include {
+            place,
+            once,
+            optional,
+            name,
+        } => write_include(*place, *once, *optional, name, writer),
+    }
+}

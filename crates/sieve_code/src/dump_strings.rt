@@ -1,0 +1,147 @@
+//! The parts and strings of a dump.
+ghost use Rattle.std.specs.Prelude.{◌≡◌, ◌++◌, codes, map, OnOk, OnErr};
+ghost use Rattle.std.specs.List.{flat_map};
+ghost use Rattle.sieve_base.specs.Writers.{Wrote, WroteFront};
+ghost use Rattle.sieve_code.specs.Dump.{further_list, list_text, name_of, part_text, scope_word, separated, string_text};
+ghost use Rattle.sieve_code.specs.view.Marked.{marked_part, marked_string};
+ghost use Rattle.sieve_variables.specs.view.Part.{part_of, strings_of, variable_of};
+
+use sieve_base::{Piece, Sink, WriteFault, write_out, write_pieces};
+use sieve_variables::{Part, Parts, Variable};
+
+/// The word that says whose a variable is.
+pub(crate) fn scope_word(variable: &Variable) -> &'static [u8]
+    ensures { result.now ≡ scope_word (variable_of variable.now) }
+{
+    match variable {
+        Variable::Local(_) => b"local(",
+        Variable::Global(_) => b"global(",
+    }
+}
+
+/// The name of a variable.
+pub(crate) fn name_of(variable: &Variable) -> &[u8]
+    ensures { result.now ≡ name_of (variable_of variable.now) }
+{
+    match variable {
+        Variable::Local(name) => name.as_slice(),
+        Variable::Global(name) => name.as_slice(),
+    }
+}
+
+/// Writes these octets and then a part of a string.
+fn write_part<'x, W: Sink>(
+    front: &'x [u8],
+    part: &'x Part,
+    writer: &mut W,
+) -> Result<(), WriteFault>
+    ensures ok { OnOk result (Wrote W.contents W.fault_count writer.old writer.new (front.now ++ part_text (part_of part.now))) }
+    ensures err { OnErr result (WroteFront W.contents W.fault_count writer.old writer.new (front.now ++ part_text (part_of part.now))) }
+{
+    match part {
+        Part::Literal(octets) => write_pieces(&[Piece::Raw(front), Piece::Quoted(octets)], writer),
+        Part::Variable(variable) => write_pieces(
+            &[
+                Piece::Raw(front),
+                Piece::Raw(scope_word(variable)),
+                Piece::Raw(name_of(variable)),
+                Piece::Raw(b")"),
+            ],
+            writer,
+        ),
+        Part::Match(index) => write_pieces(
+            &[
+                Piece::Raw(front),
+                Piece::Raw(b"match("),
+                Piece::Number(u64::from(*index)),
+                Piece::Raw(b")"),
+            ],
+            writer,
+        ),
+    }
+}
+
+/// Writes parts behind another.
+#[tactic(auto, using(sieve_base::proofs::Writing::writing_items), unfolding(crate::specs::view::Marked::marked_part))]
+fn write_marked_parts<W: Sink>(parts: &[Part], writer: &mut W) -> Result<(), WriteFault>
+    ensures ok { OnOk result (Wrote W.contents W.fault_count writer.old writer.new (flat_map marked_part parts.now)) }
+    ensures err { OnErr result (WroteFront W.contents W.fault_count writer.old writer.new (flat_map marked_part parts.now)) }
+{
+    for part in parts {
+        write_part(b"+", part, writer)?;
+    }
+    Ok(())
+}
+
+/// Writes these octets and then a string.
+#[tactic(auto, using(sieve_base::proofs::Writing::writing))]
+pub(crate) fn write_string<W: Sink>(
+    front: &[u8],
+    parts: &[Part],
+    writer: &mut W,
+) -> Result<(), WriteFault>
+    ensures ok { OnOk result (Wrote W.contents W.fault_count writer.old writer.new (front.now ++ string_text (map part_of parts.now))) }
+    ensures err { OnErr result (WroteFront W.contents W.fault_count writer.old writer.new (front.now ++ string_text (map part_of parts.now))) }
+{
+    match parts {
+        [] => write_pieces(&[Piece::Raw(front), Piece::Raw(b"\"\"")], writer),
+        [part, others @ ..] => {
+            write_part(front, part, writer)?;
+            write_marked_parts(others, writer)
+        }
+    }
+}
+
+/// Writes strings behind another.
+#[tactic(auto, using(sieve_base::proofs::Writing::writing_items), unfolding(crate::specs::view::Marked::marked_string))]
+fn write_marked_strings<W: Sink>(strings: &[Parts], writer: &mut W) -> Result<(), WriteFault>
+    ensures ok { OnOk result (Wrote W.contents W.fault_count writer.old writer.new (flat_map marked_string strings.now)) }
+    ensures err { OnErr result (WroteFront W.contents W.fault_count writer.old writer.new (flat_map marked_string strings.now)) }
+{
+    for string in strings {
+        write_string(b", ", string, writer)?;
+    }
+    Ok(())
+}
+
+/// Writes these octets and then strings with commas between them.
+#[tactic(auto, using(sieve_base::proofs::Writing::writing))]
+fn write_strings<W: Sink>(front: &[u8], strings: &[Parts], writer: &mut W) -> Result<(), WriteFault>
+    ensures ok { OnOk result (Wrote W.contents W.fault_count writer.old writer.new (front.now ++ separated (codes ", ") string_text (strings_of strings.now))) }
+    ensures err { OnErr result (WroteFront W.contents W.fault_count writer.old writer.new (front.now ++ separated (codes ", ") string_text (strings_of strings.now))) }
+{
+    match strings {
+        [] => write_out(front, writer),
+        [string, others @ ..] => {
+            write_string(front, string, writer)?;
+            write_marked_strings(others, writer)
+        }
+    }
+}
+
+/// Writes these octets and then strings in brackets.
+#[tactic(auto, using(sieve_base::proofs::Writing::writing))]
+pub(crate) fn write_list<W: Sink>(
+    front: &[u8],
+    strings: &[Parts],
+    writer: &mut W,
+) -> Result<(), WriteFault>
+    ensures ok { OnOk result (Wrote W.contents W.fault_count writer.old writer.new (front.now ++ list_text (strings_of strings.now))) }
+    ensures err { OnErr result (WroteFront W.contents W.fault_count writer.old writer.new (front.now ++ list_text (strings_of strings.now))) }
+{
+    write_out(front, writer)?;
+    write_strings(b"[", strings, writer)?;
+    write_out(b"]", writer)
+}
+
+/// Writes strings in brackets behind a space.
+#[tactic(auto, unfolding(crate::specs::Dump::further_list))]
+pub(crate) fn write_further_list<W: Sink>(
+    strings: &[Parts],
+    writer: &mut W,
+) -> Result<(), WriteFault>
+    ensures ok { OnOk result (Wrote W.contents W.fault_count writer.old writer.new (further_list (strings_of strings.now))) }
+    ensures err { OnErr result (WroteFront W.contents W.fault_count writer.old writer.new (further_list (strings_of strings.now))) }
+{
+    write_list(b" ", strings, writer)
+}

@@ -1,0 +1,222 @@
+//! The tests of a dump.
+ghost use Rattle.std.specs.Prelude.{◌≡◌, ◌++◌, codes, decimal, OnOk, OnErr};
+ghost use Rattle.sieve_base.specs.Writers.{Wrote, WroteFront};
+ghost use Rattle.sieve_code.specs.Dump.{address_part_word, address_words, ask_text, collation_word, comparing_words, further_list, internal_list, match_word, source_text};
+ghost use Rattle.sieve_effects.specs.view.Ops.{given_strings, source_op_as, test_op_as};
+ghost use Rattle.sieve_variables.specs.view.Part.{strings_of};
+
+use crate::dump_strings::{write_further_list, write_list};
+use match_text::Collation;
+use message_text::AddressPart;
+use sieve_base::{Piece, Sink, WriteFault, write_out, write_pieces};
+use sieve_effects::{SourceOp, TestOp};
+use sieve_reading::MatchType;
+use sieve_variables::Parts;
+
+/// The word of a match type.
+fn match_word(match_type: MatchType) -> &'static [u8]
+    ensures { result.now ≡ match_word match_type }
+{
+    match match_type {
+        MatchType::Is => b"is",
+        MatchType::Contains => b"contains",
+        MatchType::Matches => b"matches",
+    }
+}
+
+/// The word of a comparator.
+fn collation_word(collation: Collation) -> &'static [u8]
+    ensures { result.now ≡ collation_word collation }
+{
+    match collation {
+        Collation::Octet => b"octet",
+        Collation::Casemap => b"casemap",
+    }
+}
+
+/// The word of a part of an address.
+fn address_part_word(part: AddressPart) -> &'static [u8]
+    ensures { result.now ≡ address_part_word part }
+{
+    match part {
+        AddressPart::All => b"all",
+        AddressPart::Local => b"localpart",
+        AddressPart::Domain => b"domain",
+    }
+}
+
+/// Writes the words of a test that compares values with keys.
+#[tactic(auto, unfolding(crate::specs::Dump::comparing_words))]
+fn write_comparing<W: Sink>(
+    test: &[u8],
+    match_type: MatchType,
+    collation: Collation,
+    writer: &mut W,
+) -> Result<(), WriteFault>
+    ensures ok { OnOk result (Wrote W.contents W.fault_count writer.old writer.new (comparing_words test.now match_type collation)) }
+    ensures err { OnErr result (WroteFront W.contents W.fault_count writer.old writer.new (comparing_words test.now match_type collation)) }
+{
+    write_pieces(
+        &[
+            Piece::Raw(test),
+            Piece::Raw(b" "),
+            Piece::Raw(match_word(match_type)),
+            Piece::Raw(b" "),
+            Piece::Raw(collation_word(collation)),
+        ],
+        writer,
+    )
+}
+
+/// Writes the words of a test that compares a part of addresses.
+#[tactic(auto, using(sieve_base::proofs::Writing::writing), unfolding(crate::specs::Dump::address_words))]
+fn write_address_words<W: Sink>(
+    test: &[u8],
+    match_type: MatchType,
+    collation: Collation,
+    part: AddressPart,
+    writer: &mut W,
+) -> Result<(), WriteFault>
+    ensures ok { OnOk result (Wrote W.contents W.fault_count writer.old writer.new (address_words test.now match_type collation part)) }
+    ensures err { OnErr result (WroteFront W.contents W.fault_count writer.old writer.new (address_words test.now match_type collation part)) }
+{
+    write_comparing(test, match_type, collation, writer)?;
+    write_pieces(
+        &[Piece::Raw(b" "), Piece::Raw(address_part_word(part))],
+        writer,
+    )
+}
+
+/// Writes the variables whose flags a test looks at, or that these are the internal ones.
+#[tactic(auto, unfolding(crate::specs::Dump::internal_list))]
+fn write_internal_list<W: Sink>(
+    variables: &Option<Vec<Parts>>,
+    writer: &mut W,
+) -> Result<(), WriteFault>
+    ensures ok { OnOk result (Wrote W.contents W.fault_count writer.old writer.new (internal_list (given_strings variables.now))) }
+    ensures err { OnErr result (WroteFront W.contents W.fault_count writer.old writer.new (internal_list (given_strings variables.now))) }
+{
+    match variables {
+        Some(variables) => write_further_list(variables, writer),
+        None => write_out(b" internal", writer),
+    }
+}
+
+/// Writes a test of this name that compares values, with its values.
+#[tactic(auto, using(sieve_base::proofs::Writing::writing))]
+fn write_values<W: Sink>(
+    test: &[u8],
+    match_type: MatchType,
+    collation: Collation,
+    values: &[Parts],
+    writer: &mut W,
+) -> Result<(), WriteFault>
+    ensures ok { OnOk result (Wrote W.contents W.fault_count writer.old writer.new (comparing_words test.now match_type collation ++ further_list (strings_of values.now))) }
+    ensures err { OnErr result (WroteFront W.contents W.fault_count writer.old writer.new (comparing_words test.now match_type collation ++ further_list (strings_of values.now))) }
+{
+    write_comparing(test, match_type, collation, writer)?;
+    write_further_list(values, writer)
+}
+
+/// Writes a test of this name that compares a part of addresses, with its names.
+#[tactic(auto, using(sieve_base::proofs::Writing::writing))]
+fn write_address<W: Sink>(
+    test: &[u8],
+    match_type: MatchType,
+    collation: Collation,
+    part: AddressPart,
+    names: &[Parts],
+    writer: &mut W,
+) -> Result<(), WriteFault>
+    ensures ok { OnOk result (Wrote W.contents W.fault_count writer.old writer.new (address_words test.now match_type collation part ++ further_list (strings_of names.now))) }
+    ensures err { OnErr result (WroteFront W.contents W.fault_count writer.old writer.new (address_words test.now match_type collation part ++ further_list (strings_of names.now))) }
+{
+    write_address_words(test, match_type, collation, part, writer)?;
+    write_further_list(names, writer)
+}
+
+/// Writes a `hasflag` with the variables whose flags it looks at.
+#[tactic(auto, using(sieve_base::proofs::Writing::writing))]
+fn write_hasflag<W: Sink>(
+    match_type: MatchType,
+    collation: Collation,
+    variables: &Option<Vec<Parts>>,
+    writer: &mut W,
+) -> Result<(), WriteFault>
+    ensures ok { OnOk result (Wrote W.contents W.fault_count writer.old writer.new (comparing_words (codes "hasflag") match_type collation ++ internal_list (given_strings variables.now))) }
+    ensures err { OnErr result (WroteFront W.contents W.fault_count writer.old writer.new (comparing_words (codes "hasflag") match_type collation ++ internal_list (given_strings variables.now))) }
+{
+    write_comparing(b"hasflag", match_type, collation, writer)?;
+    write_internal_list(variables, writer)
+}
+
+/// Writes how a test compares, and its values.
+#[tactic(auto, unfolding(crate::specs::Dump::source_text))]
+fn write_source<W: Sink>(
+    source: &SourceOp,
+    match_type: MatchType,
+    collation: Collation,
+    writer: &mut W,
+) -> Result<(), WriteFault>
+    ensures ok { OnOk result (Wrote W.contents W.fault_count writer.old writer.new (source_text (source_op_as source.now) match_type collation)) }
+    ensures err { OnErr result (WroteFront W.contents W.fault_count writer.old writer.new (source_text (source_op_as source.now) match_type collation)) }
+{
+    match source {
+        SourceOp::Header { names } => write_values(b"header", match_type, collation, names, writer),
+        SourceOp::Address { part, names } => {
+            write_address(b"address", match_type, collation, *part, names, writer)
+        }
+        SourceOp::Envelope { part, names } => {
+            write_address(b"envelope", match_type, collation, *part, names, writer)
+        }
+        SourceOp::String { texts } => write_values(b"string", match_type, collation, texts, writer),
+        SourceOp::Flags { variables } => write_hasflag(match_type, collation, variables, writer),
+    }
+}
+
+/// Writes a test that compares values with keys.
+#[tactic(auto, using(sieve_base::proofs::Writing::writing))]
+fn write_compares<W: Sink>(
+    source: &SourceOp,
+    match_type: MatchType,
+    collation: Collation,
+    keys: &[Parts],
+    writer: &mut W,
+) -> Result<(), WriteFault>
+    ensures ok { OnOk result (Wrote W.contents W.fault_count writer.old writer.new (source_text (source_op_as source.now) match_type collation ++ further_list (strings_of keys.now))) }
+    ensures err { OnErr result (WroteFront W.contents W.fault_count writer.old writer.new (source_text (source_op_as source.now) match_type collation ++ further_list (strings_of keys.now))) }
+{
+    write_source(source, match_type, collation, writer)?;
+    write_further_list(keys, writer)
+}
+
+/// Writes a word and a number.
+pub(crate) fn write_number<W: Sink>(
+    word: &[u8],
+    number: u64,
+    writer: &mut W,
+) -> Result<(), WriteFault>
+    ensures ok { OnOk result (Wrote W.contents W.fault_count writer.old writer.new (word.now ++ decimal number)) }
+    ensures err { OnErr result (WroteFront W.contents W.fault_count writer.old writer.new (word.now ++ decimal number)) }
+{
+    write_pieces(&[Piece::Raw(word), Piece::Number(number)], writer)
+}
+
+/// Writes what a test asks.
+#[tactic(auto, unfolding(crate::specs::Dump::ask_text))]
+pub(crate) fn write_test<W: Sink>(test: &TestOp, writer: &mut W) -> Result<(), WriteFault>
+    ensures ok { OnOk result (Wrote W.contents W.fault_count writer.old writer.new (ask_text (test_op_as test.now))) }
+    ensures err { OnErr result (WroteFront W.contents W.fault_count writer.old writer.new (ask_text (test_op_as test.now))) }
+{
+    match test {
+        TestOp::Compares {
+            source,
+            match_type,
+            collation,
+            keys,
+        } => write_compares(source, *match_type, *collation, keys, writer),
+        TestOp::Exists { names } => write_list(b"exists ", names, writer),
+        TestOp::Over { limit } => write_number(b"size over ", *limit, writer),
+        TestOp::Under { limit } => write_number(b"size under ", *limit, writer),
+    }
+}

@@ -1,0 +1,10 @@
+use Rattle.std.proofs.Common.{◌≡◌, drop}
+use Rattle.sieve_effects.specs.Matching.{first_some}
+use Rattle.sieve_effects.specs.view.FieldTests.{found_with, part_found}
+use Rattle.sieve_effects.proofs.field_values.find_in_addresses.Given as goal
+
+-- the addresses that are left decide
+abbrev pub invariant-loop-address : goal.invariant-loop-address
+invariant-loop-address l =
+    let find = part_found (found_with l.comparison) l.fn.part in
+    first_some find (drop l.address-index l.addresses) ≡ first_some find l.addresses

@@ -1,0 +1,161 @@
+//! What tests ask of a delivery, and what they find (RFC 5228, sections 2.7 and 5).
+ghost use Rattle.std.specs.Prelude.{◌≡◌, IfOk, length, nat_lt};
+ghost use Rattle.sieve_reading.specs.Reading.{compares, exists_ask};
+ghost use Rattle.match_text.specs.Comparator.{fold_of};
+ghost use Rattle.sieve_effects.specs.Matching.{behind_test, first_match, first_some, match_found, pairs_with, truth_of, values_of};
+ghost use Rattle.sieve_effects.specs.view.Delivery.{delivery_as};
+ghost use Rattle.sieve_effects.specs.view.FieldTests.{cuts_keys, found_with};
+ghost use Rattle.sieve_effects.specs.view.Ops.{source_op_as, test_op_as};
+ghost use Rattle.sieve_effects.specs.view.State.{state_of};
+ghost use Rattle.sieve_variables.specs.view.Part.{strings_of};
+ghost use Rattle.sieve_variables.specs.view.Value.{octets_of_each};
+
+use crate::comparison::{Comparison, MatchValues, keep_found};
+use crate::delivery::Delivery;
+use crate::field_values::{find_in_named, has_fields};
+use crate::flag_values::find_in_held;
+use crate::ops::{SourceOp, TestOp};
+use crate::path_values::find_in_paths;
+use crate::state::State;
+use crate::string_values::find_in_strings;
+use match_text::{Collation, flag_keys_of_texts};
+use sieve_reading::MatchType;
+use sieve_variables::Parts;
+use std::alloc::AllocError;
+use std::borrow::CowSlice;
+
+/// What the first value of a source gives that matches some key.
+fn find_in_source(
+    delivery: &Delivery<'_>,
+    state: &State,
+    source: &SourceOp,
+    comparison: &Comparison<'_>,
+) -> Result<Option<MatchValues>, AllocError>
+    ensures { IfOk result (λ found. found ≡ first_some (found_with comparison.now) (values_of (delivery_as delivery.now) (state_of state.now) (source_op_as source.now))) }
+{
+    match source {
+        SourceOp::Header { names } => find_in_named(delivery, state, None, names, comparison),
+        SourceOp::Address { part, names } => {
+            find_in_named(delivery, state, Some(*part), names, comparison)
+        }
+        SourceOp::Envelope { part, names } => {
+            find_in_paths(delivery, state, *part, names, comparison)
+        }
+        SourceOp::String { texts } => find_in_strings(delivery, state, texts, comparison),
+        SourceOp::Flags { variables } => find_in_held(delivery, state, variables, comparison),
+    }
+}
+
+/// What the first value of a source gives that matches one of these keys.
+fn find_keyed(
+    delivery: &Delivery<'_>,
+    state: &State,
+    source: &SourceOp,
+    match_type: MatchType,
+    collation: Collation,
+    keys: &[CowSlice<'_, u8>],
+) -> Result<Option<MatchValues>, AllocError>
+    ensures { IfOk result (λ found. found ≡ first_some (λ value. first_match match_type (fold_of collation) (pairs_with (octets_of_each keys.now) value)) (values_of (delivery_as delivery.now) (state_of state.now) (source_op_as source.now))) }
+{
+    let comparison = Comparison {
+        match_type,
+        collation,
+        keys,
+    };
+    find_in_source(delivery, state, source, &comparison)
+}
+
+/// Whether the keys of a test are cut at spaces (RFC 5232, section 4).
+fn cuts_keys(source: &SourceOp) -> bool
+    ensures { result ≡ cuts_keys (source_op_as source.now) }
+{
+    match source {
+        SourceOp::Flags { .. } => true,
+        SourceOp::Header { .. }
+        | SourceOp::Address { .. }
+        | SourceOp::Envelope { .. }
+        | SourceOp::String { .. } => false,
+    }
+}
+
+/// What a test finds that compares values with keys. The keys are expanded first.
+fn find_match(
+    delivery: &Delivery<'_>,
+    state: &State,
+    source: &SourceOp,
+    match_type: MatchType,
+    collation: Collation,
+    keys: &[Parts],
+) -> Result<Option<MatchValues>, AllocError>
+    ensures { IfOk result (λ found. found ≡ match_found (delivery_as delivery.now) (state_of state.now) (source_op_as source.now) match_type collation (strings_of keys.now)) }
+{
+    let texts = state.values.expanded(delivery.alloc, keys)?;
+    if cuts_keys(source) {
+        let cut = flag_keys_of_texts(delivery.alloc, &texts)?;
+        find_keyed(delivery, state, source, match_type, collation, &cut)
+    } else {
+        find_keyed(delivery, state, source, match_type, collation, &texts)
+    }
+}
+
+/// Whether some value of a source matches some key. Under `:matches` the first that does sets the match variables (RFC 5229, section
+/// 3.2).
+#[tactic(auto, unfolding(crate::specs::Matching::truth_of, crate::specs::Matching::values_behind))]
+fn compare(
+    delivery: &Delivery<'_>,
+    source: &SourceOp,
+    match_type: MatchType,
+    collation: Collation,
+    keys: &[Parts],
+    state: &mut State,
+) -> Result<bool, AllocError>
+    ensures truth { IfOk result (λ truth. truth ≡ truth_of (delivery_as delivery.now) (state_of state.old) (compares (source_op_as source.now) match_type collation (strings_of keys.now))) }
+    ensures behind { IfOk result (λ truth. state_of state.new ≡ behind_test (delivery_as delivery.now) (compares (source_op_as source.now) match_type collation (strings_of keys.now)) (state_of state.old)) }
+{
+    let found = find_match(delivery, &*state, source, match_type, collation, keys)?;
+    Ok(keep_found(match_type, found, state))
+}
+
+/// Whether all named fields are there (RFC 5228, section 5.5).
+#[tactic(auto, unfolding(crate::specs::Matching::truth_of))]
+fn exists(delivery: &Delivery<'_>, state: &State, names: &[Parts]) -> Result<bool, AllocError>
+    ensures { IfOk result (λ truth. truth ≡ truth_of (delivery_as delivery.now) (state_of state.now) (exists_ask (strings_of names.now))) }
+{
+    let names = state.values.expanded(delivery.alloc, names)?;
+    Ok(has_fields(delivery.message, &names))
+}
+
+/// Whether the message has more octets than the limit (RFC 5228, section 5.9).
+fn is_over(delivery: &Delivery<'_>, limit: u64) -> bool
+    ensures { result ≡ nat_lt limit (length (delivery_as delivery.now).message) }
+{
+    delivery.message.size() as u64 > limit
+}
+
+/// Whether the message has fewer octets than the limit (RFC 5228, section 5.9).
+fn is_under(delivery: &Delivery<'_>, limit: u64) -> bool
+    ensures { result ≡ nat_lt (length (delivery_as delivery.now).message) limit }
+{
+    (delivery.message.size() as u64) < limit
+}
+
+/// Whether what a test asks is so (RFC 5228, section 5; RFC 5229, section 5; RFC 5232, section 4). A test that compares under `:matches`
+/// sets the match variables where some pair matches (RFC 5229, section 3.2). All strings of a test stand for what they do when it begins.
+/// Fails where memory is refused.
+#[tactic(auto, unfolding(crate::specs::Matching::truth_of, crate::specs::Matching::values_behind))]
+pub fn holds(delivery: &Delivery<'_>, test: &TestOp, state: &mut State) -> Result<bool, AllocError>
+    ensures truth { IfOk result (λ truth. truth ≡ truth_of (delivery_as delivery.now) (state_of state.old) (test_op_as test.now)) }
+    ensures behind { IfOk result (λ truth. state_of state.new ≡ behind_test (delivery_as delivery.now) (test_op_as test.now) (state_of state.old)) }
+{
+    match test {
+        TestOp::Compares {
+            source,
+            match_type,
+            collation,
+            keys,
+        } => compare(delivery, source, *match_type, *collation, keys, state),
+        TestOp::Exists { names } => exists(delivery, &*state, names),
+        TestOp::Over { limit } => Ok(is_over(delivery, *limit)),
+        TestOp::Under { limit } => Ok(is_under(delivery, *limit)),
+    }
+}

@@ -1,0 +1,91 @@
+//! What a test finds in flags (RFC 5232, section 4).
+ghost use Rattle.std.specs.Prelude.{◌≡◌, IfOk, Some};
+ghost use Rattle.sieve_effects.specs.view.Ops.{given_strings};
+ghost use Rattle.match_text.specs.Flags.{flag_list};
+ghost use Rattle.sieve_reading.specs.Reading.{flag_values};
+ghost use Rattle.sieve_effects.specs.Matching.{first_some, values_of};
+ghost use Rattle.sieve_effects.specs.view.Delivery.{delivery_as};
+ghost use Rattle.sieve_effects.specs.view.FieldTests.{found_with};
+ghost use Rattle.sieve_effects.specs.view.State.{state_of};
+ghost use Rattle.sieve_variables.specs.view.Part.{strings_of};
+ghost use Rattle.sieve_variables.specs.view.Value.{octets_of_each};
+
+use crate::comparison::{Comparison, MatchValues};
+use crate::delivery::Delivery;
+use crate::state::State;
+use match_text::{FlagList, flags_of};
+use sieve_variables::Parts;
+use std::alloc::{AllocError, Global};
+use std::borrow::CowSlice;
+
+/// What the first flag gives that matches some key.
+fn find_in_flags(
+    alloc: Global,
+    flags: &FlagList,
+    comparison: &Comparison<'_>,
+) -> Result<Option<MatchValues>, AllocError>
+    ensures { IfOk result (λ found. found ≡ first_some (found_with comparison.now) flags.now) }
+{
+    for i in 0..flags.len() {
+        if let Some(values) = comparison.first_match(alloc, flags.get(i))? {
+            return Ok(Some(values));
+        }
+    }
+    Ok(None)
+}
+
+/// What the first flag of a text gives that matches some key.
+fn find_in_text(
+    alloc: Global,
+    text: &[u8],
+    comparison: &Comparison<'_>,
+) -> Result<Option<MatchValues>, AllocError>
+    ensures { IfOk result (λ found. found ≡ first_some (found_with comparison.now) (flag_list text.now)) }
+{
+    let flags = flags_of(alloc, text)?;
+    find_in_flags(alloc, &flags, comparison)
+}
+
+/// What the first flag of some texts gives that matches some key.
+fn find_in_texts(
+    alloc: Global,
+    texts: &[CowSlice<'_, u8>],
+    comparison: &Comparison<'_>,
+) -> Result<Option<MatchValues>, AllocError>
+    ensures { IfOk result (λ found. found ≡ first_some (λ text. first_some (found_with comparison.now) (flag_list text)) (octets_of_each texts.now)) }
+{
+    for text in texts {
+        if let Some(values) = find_in_text(alloc, text.as_slice(), comparison)? {
+            return Ok(Some(values));
+        }
+    }
+    Ok(None)
+}
+
+/// What the flags of variables give. The variables' values are read first.
+fn find_in_variables(
+    delivery: &Delivery<'_>,
+    state: &State,
+    variables: &[Parts],
+    comparison: &Comparison<'_>,
+) -> Result<Option<MatchValues>, AllocError>
+    ensures { IfOk result (λ found. found ≡ first_some (found_with comparison.now) (values_of (delivery_as delivery.now) (state_of state.now) (flag_values (Some (strings_of variables.now))))) }
+{
+    let held = state.values.expanded(delivery.alloc, variables)?;
+    find_in_texts(delivery.alloc, &held, comparison)
+}
+
+/// What the flags of variables give, or the internal ones where none are named.
+pub(crate) fn find_in_held(
+    delivery: &Delivery<'_>,
+    state: &State,
+    variables: &Option<Vec<Parts>>,
+    comparison: &Comparison<'_>,
+) -> Result<Option<MatchValues>, AllocError>
+    ensures { IfOk result (λ found. found ≡ first_some (found_with comparison.now) (values_of (delivery_as delivery.now) (state_of state.now) (flag_values (given_strings variables.now)))) }
+{
+    match variables {
+        Some(variables) => find_in_variables(delivery, state, variables, comparison),
+        None => find_in_flags(delivery.alloc, &state.flags, comparison),
+    }
+}

@@ -1,0 +1,126 @@
+//! What a test finds in an envelope (RFC 5228, section 5.4).
+ghost use Rattle.std.specs.Prelude.{◌≡◌, None, IfOk};
+ghost use Rattle.std.specs.Option.{option_map};
+ghost use Rattle.message_text.specs.Addresses.{envelope_address_of, is_null_path, part_of};
+ghost use Rattle.sieve_reading.specs.Reading.{envelope_values};
+ghost use Rattle.sieve_effects.specs.Matching.{envelope_text, first_some, values_of};
+ghost use Rattle.sieve_effects.specs.view.Delivery.{delivery_as};
+ghost use Rattle.sieve_effects.specs.view.FieldTests.{found_with, path_found, path_name_found};
+ghost use Rattle.sieve_effects.specs.view.State.{state_of};
+ghost use Rattle.sieve_variables.specs.view.Part.{strings_of};
+ghost use Rattle.sieve_variables.specs.view.Value.{octets_of_each};
+
+use crate::comparison::{Comparison, MatchValues};
+use crate::delivery::Delivery;
+use crate::envelope::Envelope;
+use crate::field_values::find_in_part;
+use crate::state::State;
+use message_text::{AddressPart, addresses};
+use sieve_variables::Parts;
+use std::alloc::{AllocError, Global};
+use std::borrow::CowSlice;
+
+/// The address of the envelope's part of that name.
+fn envelope_text<'a>(envelope: &'a Envelope, name: &[u8]) -> Option<&'a [u8]>
+    ensures { option_map (λ octets. octets.now) result ≡ envelope_text envelope.now name.now }
+{
+    if b"from".eq_ignore_ascii_case(name) {
+        Some(envelope.from.as_slice())
+    } else if b"to".eq_ignore_ascii_case(name) {
+        Some(envelope.to.as_slice())
+    } else {
+        None
+    }
+}
+
+/// Whether there is no address, or the null path (RFC 5321, section 4.5.5).
+fn is_null_path(text: &[u8]) -> bool
+    ensures { result ≡ is_null_path text.now }
+{
+    text.is_empty() || b"<>".as_slice() == text
+}
+
+/// What of a text that isn't one address is seen: all of it alone.
+fn seen_part(part: AddressPart, text: &[u8]) -> Option<&[u8]>
+    ensures { option_map (λ octets. octets.now) result ≡ part_of part (record { all = text.now; local_part = None; domain = None }) }
+{
+    match part {
+        AddressPart::All => Some(text),
+        AddressPart::Local => None,
+        AddressPart::Domain => None,
+    }
+}
+
+/// What that part of an envelope's address gives.
+#[tactic(auto, unfolding(message_text::specs::Addresses::envelope_address_of))]
+fn find_in_path(
+    alloc: Global,
+    part: AddressPart,
+    text: &[u8],
+    comparison: &Comparison<'_>,
+) -> Result<Option<MatchValues>, AllocError>
+    ensures { IfOk result (λ found. found ≡ path_found (found_with comparison.now) part text.now) }
+{
+    if is_null_path(text) {
+        return comparison.first_match(alloc, b"");
+    }
+    let listed = addresses(alloc, text)?;
+    match listed.as_slice() {
+        [one] => find_in_part(alloc, one.part(part), comparison),
+        _ => find_in_part(alloc, seen_part(part, text), comparison),
+    }
+}
+
+/// What that part of the address gives in the envelope's part of that name.
+fn find_by_path_name(
+    alloc: Global,
+    envelope: &Envelope,
+    part: AddressPart,
+    name: &[u8],
+    comparison: &Comparison<'_>,
+) -> Result<Option<MatchValues>, AllocError>
+    ensures { IfOk result (λ found. found ≡ path_name_found (found_with comparison.now) part envelope.now name.now) }
+{
+    match envelope_text(envelope, name) {
+        Some(text) => find_in_path(alloc, part, text, comparison),
+        None => Ok(None),
+    }
+}
+
+/// What the first named part of the envelope gives whose address matches.
+fn find_by_path_names(
+    alloc: Global,
+    envelope: &Envelope,
+    part: AddressPart,
+    names: &[CowSlice<'_, u8>],
+    comparison: &Comparison<'_>,
+) -> Result<Option<MatchValues>, AllocError>
+    ensures { IfOk result (λ found. found ≡ first_some (path_name_found (found_with comparison.now) part envelope.now) (octets_of_each names.now)) }
+{
+    for name in names {
+        if let Some(values) = find_by_path_name(
+            alloc,
+            envelope,
+            part,
+            name.as_slice(),
+            comparison,
+        )? {
+            return Ok(Some(values));
+        }
+    }
+    Ok(None)
+}
+
+/// What that part of the addresses in some named parts of the envelope gives. The names are expanded first.
+pub(crate) fn find_in_paths(
+    delivery: &Delivery<'_>,
+    state: &State,
+    part: AddressPart,
+    names: &[Parts],
+    comparison: &Comparison<'_>,
+) -> Result<Option<MatchValues>, AllocError>
+    ensures { IfOk result (λ found. found ≡ first_some (found_with comparison.now) (values_of (delivery_as delivery.now) (state_of state.now) (envelope_values part (strings_of names.now)))) }
+{
+    let named = state.values.expanded(delivery.alloc, names)?;
+    find_by_path_names(delivery.alloc, delivery.envelope, part, &named, comparison)
+}

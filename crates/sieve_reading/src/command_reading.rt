@@ -1,0 +1,168 @@
+//! How a command is read (RFC 5228, sections 3 and 4; RFC 5229, section 4; RFC 5232, section 3; RFC 6609, section 3).
+ghost use Rattle.std.specs.Prelude.{◌≡◌, true, false, length, Some, None, map};
+ghost use Rattle.std.specs.Option.{option_map};
+ghost use Rattle.sieve_reading.specs.Reading.{reads_act};
+ghost use Rattle.sieve_reading.specs.CommandReading.{case_of, command_reading, command_reading_by, fileinto_by, flags_by, include_by, keep_by, kind_of, modifiers_of, place_of, redirect_by, set_by};
+ghost use Rattle.sieve_reading.specs.Given.{given_texts, given_variable, has_tag, labels_in, literal_in, text_in, texts_in, variable_in};
+ghost use Rattle.sieve_reading.specs.view.Reading.{command_reading_as};
+ghost use Rattle.sieve_table.specs.view.Row.{row_as};
+ghost use Rattle.sieve_reading.specs.view.Tree.{argument_of, node_of};
+
+use crate::given::{given_texts, given_variable, literal_in, text_in, texts_in, variable_in};
+use crate::labelled::{argument_in, has_tag};
+use crate::reading::{CommandReading, FlagChange, Leaf};
+use crate::tree::{Argument, Command};
+use sieve_base::Place;
+use sieve_table::{CommandKind, Role, Row, Tag, command_named};
+use sieve_variables::{LetterCase, Modifiers};
+
+/// What a `keep` does.
+fn keep_leaf<'a>(row: &Row, args: &'a [Argument]) -> Option<CommandReading<'a>>
+    ensures { option_map command_reading_as result ≡ option_map reads_act (keep_by (labels_in (row_as row.now) (map argument_of args.now)) (map argument_of args.now)) }
+{
+    let flags = given_texts(argument_in(row, Role::Flags, args))?;
+    Some(CommandReading::Acts(Leaf::Keep { flags }))
+}
+
+/// What a `fileinto` does.
+fn fileinto_leaf<'a>(row: &Row, args: &'a [Argument]) -> Option<CommandReading<'a>>
+    ensures { option_map command_reading_as result ≡ option_map reads_act (fileinto_by (labels_in (row_as row.now) (map argument_of args.now)) (map argument_of args.now)) }
+{
+    let mailbox = text_in(argument_in(row, Role::Mailbox, args))?;
+    let flags = given_texts(argument_in(row, Role::Flags, args))?;
+    Some(CommandReading::Acts(Leaf::Fileinto { mailbox, flags }))
+}
+
+/// What a `redirect` does.
+fn redirect_leaf<'a>(row: &Row, args: &'a [Argument]) -> Option<CommandReading<'a>>
+    ensures { option_map command_reading_as result ≡ option_map reads_act (redirect_by (labels_in (row_as row.now) (map argument_of args.now)) (map argument_of args.now)) }
+{
+    let address = text_in(argument_in(row, Role::Address, args))?;
+    Some(CommandReading::Acts(Leaf::Redirect { address }))
+}
+
+/// The case that one of two tags asks for.
+fn case_of(lower: bool, upper: bool) -> Option<LetterCase>
+    ensures { result ≡ case_of lower upper }
+{
+    match (lower, upper) {
+        (true, _) => Some(LetterCase::Lower),
+        (false, true) => Some(LetterCase::Upper),
+        (false, false) => None,
+    }
+}
+
+/// The modifiers of a `set`.
+fn modifiers_of(row: &Row, args: &[Argument]) -> Modifiers
+    ensures { result ≡ modifiers_of (labels_in (row_as row.now) (map argument_of args.now)) }
+{
+    let lower = has_tag(row, Tag::Lower, args);
+    let upper = has_tag(row, Tag::Upper, args);
+    let lower_first = has_tag(row, Tag::LowerFirst, args);
+    let upper_first = has_tag(row, Tag::UpperFirst, args);
+    Modifiers {
+        letter_case: case_of(lower, upper),
+        first_letter: case_of(lower_first, upper_first),
+        quote_wildcard: has_tag(row, Tag::QuoteWildcard, args),
+        length: has_tag(row, Tag::Length, args),
+    }
+}
+
+/// What a `set` does.
+fn set_leaf<'a>(row: &Row, args: &'a [Argument]) -> Option<CommandReading<'a>>
+    ensures { option_map command_reading_as result ≡ option_map reads_act (set_by (labels_in (row_as row.now) (map argument_of args.now)) (map argument_of args.now)) }
+{
+    let modifiers = modifiers_of(row, args);
+    let variable = variable_in(argument_in(row, Role::NameToSet, args))?;
+    let value = text_in(argument_in(row, Role::Text, args))?;
+    Some(CommandReading::Acts(Leaf::Set {
+        variable,
+        modifiers,
+        value,
+    }))
+}
+
+/// What a command does that changes flags.
+fn flag_leaf<'a>(change: FlagChange, row: &Row, args: &'a [Argument]) -> Option<CommandReading<'a>>
+    ensures { option_map command_reading_as result ≡ option_map reads_act (flags_by change (labels_in (row_as row.now) (map argument_of args.now)) (map argument_of args.now)) }
+{
+    let variable = given_variable(argument_in(row, Role::NameToSet, args))?;
+    let flags = texts_in(argument_in(row, Role::Flags, args))?;
+    Some(CommandReading::Acts(Leaf::Flags {
+        change,
+        variable,
+        flags,
+    }))
+}
+
+/// The place of a script that is included, which is the personal one where none is named.
+fn place_of(row: &Row, args: &[Argument]) -> Place
+    ensures { result ≡ place_of (labels_in (row_as row.now) (map argument_of args.now)) }
+{
+    if has_tag(row, Tag::Global, args) {
+        Place::Global
+    } else {
+        Place::Personal
+    }
+}
+
+/// What an `include` does.
+fn include_leaf<'a>(row: &Row, args: &'a [Argument]) -> Option<CommandReading<'a>>
+    ensures { option_map command_reading_as result ≡ option_map reads_act (include_by (labels_in (row_as row.now) (map argument_of args.now)) (map argument_of args.now)) }
+{
+    let place = place_of(row, args);
+    let once = has_tag(row, Tag::Once, args);
+    let optional = has_tag(row, Tag::Optional, args);
+    let name = literal_in(argument_in(row, Role::ScriptName, args))?;
+    Some(CommandReading::Acts(Leaf::Include {
+        place,
+        once,
+        optional,
+        name,
+    }))
+}
+
+/// What a command of a kind is.
+fn command_reading_by(kind: CommandKind, args: &[Argument]) -> Option<CommandReading<'_>>
+    ensures { option_map command_reading_as result ≡ command_reading_by (Some kind) (map argument_of args.now) }
+{
+    let row = &kind.row();
+    match kind {
+        CommandKind::Require => Some(CommandReading::Nothing),
+        CommandKind::If => Some(CommandReading::Opens),
+        CommandKind::Elsif => Some(CommandReading::Continues),
+        CommandKind::Else => Some(CommandReading::Otherwise),
+        CommandKind::Keep => keep_leaf(row, args),
+        CommandKind::Fileinto => fileinto_leaf(row, args),
+        CommandKind::Redirect => redirect_leaf(row, args),
+        CommandKind::Discard => Some(CommandReading::Acts(Leaf::Discard)),
+        CommandKind::Stop => Some(CommandReading::Stops),
+        CommandKind::Set => set_leaf(row, args),
+        CommandKind::SetFlag => flag_leaf(FlagChange::Set, row, args),
+        CommandKind::AddFlag => flag_leaf(FlagChange::Add, row, args),
+        CommandKind::RemoveFlag => flag_leaf(FlagChange::Remove, row, args),
+        CommandKind::Include => include_leaf(row, args),
+        CommandKind::Return => Some(CommandReading::Returns),
+        CommandKind::Global => Some(CommandReading::Nothing),
+    }
+}
+
+impl Command {
+    /// Which command it is. A checked script has no other. Takes no memory.
+    pub fn kind(&self) -> Option<CommandKind>
+        ensures { result ≡ kind_of (node_of self.now) }
+    {
+        command_named(&self.name)
+    }
+
+    /// What the command is, apart from its test and its block. Each command of a checked script is read as something. Takes
+    /// no memory.
+    pub fn reading(&self) -> Option<CommandReading<'_>>
+        ensures { option_map command_reading_as result ≡ command_reading (node_of self.now) }
+    {
+        match self.kind() {
+            Some(kind) => command_reading_by(kind, &self.args),
+            None => None,
+        }
+    }
+}

@@ -1,0 +1,162 @@
+//! What the arguments of a command or a test give, by their labels. None of it takes memory.
+ghost use Rattle.std.specs.Prelude.{◌≡◌, Some, None, map};
+ghost use Rattle.std.specs.Option.{option_map};
+ghost use Rattle.sieve_reading.specs.Given.{address_part_of, collation_by, given_texts, given_variable, has_tag, labels_in, literal_in, literal_in_parts, match_type_of, number_in, text_in, texts_in, variable_in, variable_in_parts};
+ghost use Rattle.match_text.specs.Comparator.{collation_named};
+ghost use Rattle.sieve_reading.specs.view.Reading.{texts_as};
+ghost use Rattle.sieve_table.specs.view.Row.{row_as};
+ghost use Rattle.sieve_reading.specs.view.Tree.{argument_of};
+ghost use Rattle.sieve_variables.specs.view.Part.{part_of, variable_of};
+
+use crate::labelled::has_tag;
+use crate::reading::MatchType;
+use crate::tree::{Argument, Text};
+use match_text::{Collation, collation_named};
+use message_text::AddressPart;
+use sieve_table::{Row, Tag};
+use sieve_variables::{Part, Variable};
+
+/// The strings of an argument.
+pub(crate) fn texts_in(argument: Option<&Argument>) -> Option<&[Text]>
+    ensures { option_map (λ texts. texts_as texts.now) result ≡ texts_in (option_map (λ a. argument_of a.now) argument.entry) }
+{
+    match argument {
+        Some(Argument::Strings { items, .. }) => Some(items.as_slice()),
+        Some(Argument::Number { .. }) => None,
+        Some(Argument::Tag { .. }) => None,
+        None => None,
+    }
+}
+
+/// The strings of an argument that may be left out.
+pub(crate) fn given_texts(argument: Option<&Argument>) -> Option<Option<&[Text]>>
+    ensures { option_map (option_map (λ texts. texts_as texts.now)) result ≡ given_texts (option_map (λ a. argument_of a.now) argument.entry) }
+{
+    match argument {
+        Some(argument) => Some(Some(texts_in(Some(argument))?)),
+        None => Some(None),
+    }
+}
+
+/// The one string that an argument is.
+pub(crate) fn text_in(argument: Option<&Argument>) -> Option<&[Part]>
+    ensures { option_map (λ parts. map part_of parts.now) result ≡ text_in (option_map (λ a. argument_of a.now) argument.entry) }
+{
+    match argument {
+        Some(Argument::Strings { items, .. }) => match items.as_slice() {
+            [text] => Some(text.parts.as_slice()),
+            _ => None,
+        },
+        Some(Argument::Number { .. }) => None,
+        Some(Argument::Tag { .. }) => None,
+        None => None,
+    }
+}
+
+/// The variable that parts name.
+fn variable_in_parts(parts: &[Part]) -> Option<&Variable>
+    ensures { option_map (λ variable. variable_of variable.now) result ≡ variable_in_parts (map part_of parts.now) }
+{
+    match parts {
+        [Part::Variable(variable)] => Some(variable),
+        _ => None,
+    }
+}
+
+/// The variable that an argument names (RFC 5229, section 4).
+pub(crate) fn variable_in(argument: Option<&Argument>) -> Option<&Variable>
+    ensures { option_map (λ variable. variable_of variable.now) result ≡ variable_in (option_map (λ a. argument_of a.now) argument.entry) }
+{
+    match argument {
+        Some(Argument::Strings { items, .. }) => match items.as_slice() {
+            [text] => variable_in_parts(&text.parts),
+            _ => None,
+        },
+        Some(Argument::Number { .. }) => None,
+        Some(Argument::Tag { .. }) => None,
+        None => None,
+    }
+}
+
+/// The variable that an argument names that may be left out.
+pub(crate) fn given_variable(argument: Option<&Argument>) -> Option<Option<&Variable>>
+    ensures { option_map (option_map (λ variable. variable_of variable.now)) result ≡ given_variable (option_map (λ a. argument_of a.now) argument.entry) }
+{
+    match argument {
+        Some(argument) => Some(Some(variable_in(Some(argument))?)),
+        None => Some(None),
+    }
+}
+
+/// The octets of parts that are one literal.
+fn literal_in_parts(parts: &[Part]) -> Option<&[u8]>
+    ensures { option_map (λ octets. octets.now) result ≡ literal_in_parts (map part_of parts.now) }
+{
+    match parts {
+        [Part::Literal(octets)] => Some(octets.as_slice()),
+        _ => None,
+    }
+}
+
+/// The octets of an argument that is one string, which stands for itself.
+pub(crate) fn literal_in(argument: Option<&Argument>) -> Option<&[u8]>
+    ensures { option_map (λ octets. octets.now) result ≡ literal_in (option_map (λ a. argument_of a.now) argument.entry) }
+{
+    match argument {
+        Some(Argument::Strings { items, .. }) => match items.as_slice() {
+            [text] => literal_in_parts(&text.parts),
+            _ => None,
+        },
+        Some(Argument::Number { .. }) => None,
+        Some(Argument::Tag { .. }) => None,
+        None => None,
+    }
+}
+
+/// The number that an argument is.
+pub(crate) fn number_in(argument: Option<&Argument>) -> Option<u64>
+    ensures { result ≡ number_in (option_map (λ a. argument_of a.now) argument.entry) }
+{
+    match argument {
+        Some(Argument::Number { value, .. }) => *value,
+        Some(Argument::Strings { .. }) => None,
+        Some(Argument::Tag { .. }) => None,
+        None => None,
+    }
+}
+
+/// The match type of a test, which is `:is` where no other is given.
+pub(crate) fn match_type_of(row: &Row, args: &[Argument]) -> MatchType
+    ensures { result ≡ match_type_of (labels_in (row_as row.now) (map argument_of args.now)) }
+{
+    if has_tag(row, Tag::Matches, args) {
+        MatchType::Matches
+    } else if has_tag(row, Tag::Contains, args) {
+        MatchType::Contains
+    } else {
+        MatchType::Is
+    }
+}
+
+/// The comparator of a test, which is `i;ascii-casemap` where none is named.
+pub(crate) fn collation_by(argument: Option<&Argument>) -> Option<Collation>
+    ensures { result ≡ collation_by (option_map (λ a. argument_of a.now) argument.entry) }
+{
+    match argument {
+        Some(argument) => collation_named(literal_in(Some(argument))?),
+        None => Some(Collation::Casemap),
+    }
+}
+
+/// The part of an address that a test names, which is all of it where none is named.
+pub(crate) fn address_part_of(row: &Row, args: &[Argument]) -> AddressPart
+    ensures { result ≡ address_part_of (labels_in (row_as row.now) (map argument_of args.now)) }
+{
+    if has_tag(row, Tag::LocalPart, args) {
+        AddressPart::Local
+    } else if has_tag(row, Tag::Domain, args) {
+        AddressPart::Domain
+    } else {
+        AddressPart::All
+    }
+}

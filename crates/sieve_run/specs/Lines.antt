@@ -1,0 +1,60 @@
+-- The lines of a verdict, each without what stands before and behind it in a report.
+use Rattle.std.specs.Prelude.{ℕ, Bool, true, false, List, [], ◌∷◌, ◌++◌, map, Option, None, Some, codes, decimal}
+use Rattle.std.specs.List.{flat_map}
+use Rattle.sieve_base.specs.Writers.{name_text, quoted}
+use Rattle.sieve_base.specs.declared.name.ScriptName.{ScriptName}
+use Rattle.sieve_effects.specs.ErrorKind.{error_word}
+use Rattle.sieve_effects.specs.declared.action.Action.{Action}
+use Rattle.sieve_effects.specs.declared.action.Action.TheVariants.{Store, Redirect, Discard}
+use Rattle.sieve_effects.specs.declared.error.RunError.{RunError}
+use Rattle.sieve_run.specs.Verdict.{Verdict}
+
+-- a flag behind a space
+abbrev pub flag_word : List ℕ → List ℕ
+flag_word flag = codes " " ++ quoted flag
+
+abbrev pub flag_words : List (List ℕ) → List ℕ
+flag_words flags = flat_map flag_word flags
+
+-- a word and a mailbox
+unfoldable pub mailbox_words : List ℕ → List ℕ → List ℕ
+mailbox_words word mailbox = word ++ quoted mailbox
+
+-- the line of a word and a mailbox with flags
+unfoldable pub mailbox_line : List ℕ → List ℕ → List (List ℕ) → List ℕ
+mailbox_line word mailbox flags = mailbox_words word mailbox ++ flag_words flags
+
+-- the line of an action
+unfoldable pub action_line : Action → List ℕ
+action_line (Store mailbox flags) = mailbox_line (codes "store ") mailbox flags
+action_line (Redirect address) = codes "redirect " ++ quoted address
+action_line Discard = codes "discard"
+
+-- the line of the implicit keep with its flags
+unfoldable pub implicit_line : (mailbox : List ℕ) → List (List ℕ) → List ℕ
+implicit_line mailbox flags = mailbox_line (codes "implicit ") mailbox flags
+
+-- the line of an error
+unfoldable pub error_line : RunError → List ℕ
+error_line error = codes "error " ++ name_text error.script ++ codes " line " ++ decimal error.line ++ codes " " ++ error_word error.kind
+
+-- the line of a looked-up name, present or missing
+unfoldable pub read_line : ScriptName × Bool → List ℕ
+read_line (name, true) = codes "read " ++ name_text name
+read_line (name, false) = codes "read " ++ name_text name ++ codes " missing"
+
+abbrev pub implicit_lines : (mailbox : List ℕ) → Option (List (List ℕ)) → List (List ℕ)
+implicit_lines mailbox None = []
+implicit_lines mailbox (Some flags) = implicit_line mailbox flags ∷ []
+
+abbrev pub error_lines : Option RunError → List (List ℕ)
+error_lines None = []
+error_lines (Some error) = error_line error ∷ []
+
+-- the lines of what becomes of a message: the actions in order, the implicit keep where it stands, and the error where there is one
+abbrev pub verdict_lines : (mailbox : List ℕ) → Verdict → List (List ℕ)
+verdict_lines mailbox verdict = map action_line verdict.actions ++ (implicit_lines mailbox verdict.implicit ++ error_lines verdict.error)
+
+-- the lines of the names that were looked up
+abbrev pub read_lines : Verdict → List (List ℕ)
+read_lines verdict = map read_line verdict.reads
