@@ -6,7 +6,7 @@ ghost use Rattle.match_text.specs.Flags.{AreDistinct, flag_keys, flag_keys_of_te
 ghost use Rattle.match_text.specs.Flags.{flags_of_texts, flags_without, is_filled, is_flag, is_flag_octet, is_keyword, is_special, is_system_flag, pieces};
 ghost use Rattle.match_text.specs.view.Hashing.{flag_hash, same_alike, same_equiv, same_per};
 ghost use Rattle.match_text.specs.view.Segment.{texts_of};
-ghost use Rattle.match_text.specs.view.Texts.{octets_of_each};
+ghost use Rattle.sieve_base.specs.view.Texts.{octets_of_each};
 
 use crate::comparators::{AsciiCasemap, Comparator, is};
 use indexmap::IndexSet;

@@ -13,6 +13,6 @@ mod writers;
 
 pub use devices::{Counted, Faults, Sink, Source};
 pub use name::ScriptName;
-pub use octets::Octets;
+pub use octets::{Octets, SmallOctets};
 pub use place::Place;
 pub use writers::{Piece, WriteFault, write_out, write_pieces, write_quoted};

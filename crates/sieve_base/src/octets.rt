@@ -1,3 +1,4 @@
+//! Octet strings.
 ghost use Rattle.std.specs.Prelude.{◌≡◌, IfOk, nat_eq};
 ghost use lib.Pointwise.{pointwise};
 ghost use Rattle.std.specs.Ordering.{nat_cmp, as_partial_cmp};
@@ -7,10 +8,14 @@ ghost use Rattle.std.specs.Cmp.Rules.{comparing, hashing};
 ghost use Rattle.std.specs.Cmp.{partial_order_from_own_ties};
 ghost use Rattle.std.specs.Hash as fed;
 
+use smallvec::SmallVec;
 use std::alloc::{AllocError, Global};
 use std::cmp::Ordering;
 use std::hash::{Hash, Hasher};
 use std::marker::Model;
+
+/// Octets that lie in the value itself where they are sixteen or fewer, as most names and strings of scripts are.
+pub type SmallOctets = SmallVec<u8, 16>;
 
 /// A string of octets of any values. Contracts see the list of the octets.
 #[derive(Drop)]

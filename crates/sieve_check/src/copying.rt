@@ -18,9 +18,10 @@ ghost use Rattle.sieve_variables.specs.view.Part.{part_of};
 
 use crate::context::{Required, required_in, takes_references};
 use crate::scope::declare_argument;
+use sieve_base::SmallOctets;
 use sieve_reading::{Argument, Command, Shaped, Test, Tests, Text, role_of, row_expected};
-use sieve_table::{Role, Row, command_named, test_named};
-use sieve_variables::{Names, Part, Parts, SmallOctets, Variable, parts_of, scoped_parts};
+use sieve_table::{Role, Row, command_named, names_variable, test_named};
+use sieve_variables::{Names, Part, Parts, Variable, parts_of, scoped_parts};
 use std::alloc::{AllocError, Global};
 
 /// By what strings are cut: what the script requires, and the names that are declared before the command.

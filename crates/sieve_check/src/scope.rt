@@ -11,7 +11,7 @@ use sieve_base::Octets;
 use sieve_base::limits::MAX_LOCALS;
 use sieve_reading::Label;
 use sieve_syntax::{Argument, Text};
-use sieve_table::Role;
+use sieve_table::{Role, has_role};
 use sieve_variables::{Names, folded, is_identifier};
 use std::alloc::{AllocError, Global};
 use std::marker::Model;

@@ -6,9 +6,10 @@ ghost use Rattle.sieve_reading.specs.view.Tree.{text_of};
 ghost use Rattle.sieve_effects.specs.view.Ops.{command_op_as, given_strings, parts_of, source_op_as, test_op_as};
 ghost use Rattle.sieve_variables.specs.view.Part.{part_of, strings_of, variable_of};
 
+use sieve_base::SmallOctets;
 use sieve_effects::{CommandOp, SourceOp, TestOp};
 use sieve_reading::{Ask, Leaf, Text, ValueSource};
-use sieve_variables::{Part, Parts, SmallOctets, Variable};
+use sieve_variables::{Part, Parts, Variable};
 use std::alloc::{AllocError, Global};
 
 /// A copy of a part.

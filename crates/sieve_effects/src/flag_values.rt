@@ -8,7 +8,7 @@ ghost use Rattle.sieve_effects.specs.view.Delivery.{delivery_as};
 ghost use Rattle.sieve_effects.specs.view.FieldTests.{found_with};
 ghost use Rattle.sieve_effects.specs.view.State.{state_of};
 ghost use Rattle.sieve_variables.specs.view.Part.{strings_of};
-ghost use Rattle.sieve_variables.specs.view.Value.{octets_of_each};
+ghost use Rattle.sieve_base.specs.view.Texts.{octets_of_each};
 
 use crate::comparison::{Comparison, MatchValues};
 use crate::delivery::Delivery;

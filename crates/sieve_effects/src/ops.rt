@@ -2,9 +2,9 @@
 
 use match_text::Collation;
 use message_text::AddressPart;
-use sieve_base::Place;
+use sieve_base::{Place, SmallOctets};
 use sieve_reading::{FlagChange, MatchType};
-use sieve_variables::{Modifiers, Parts, SmallOctets, Variable};
+use sieve_variables::{Modifiers, Parts, Variable};
 
 /// Where a test takes values from.
 #[derive(Drop)]

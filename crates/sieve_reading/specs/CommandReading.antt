@@ -1,11 +1,11 @@
 -- How a command is read (RFC 5228, sections 3 and 4; RFC 5229, section 4; RFC 5232, section 3; RFC 6609, section 3). What no row allows
 -- isn't read as anything.
-use Rattle.std.specs.Prelude.{Bool, true, false, List, Option, Some, None, length, if◌then◌else◌}
+use Rattle.std.specs.Prelude.{Bool, true, false, List, Option, Some, None, if◌then◌else◌}
 use Rattle.std.specs.Option.{option_map}
 use Rattle.sieve_base.specs.declared.place.Place.{Place}
 use Rattle.sieve_base.specs.declared.place.Place.TheVariants.{Personal, Global}
 use Rattle.sieve_table.specs.Table.{command_named, command_row}
-use Rattle.sieve_reading.specs.Tree.{Argument, tag, Node, node}
+use Rattle.sieve_reading.specs.Tree.{Argument, Node, node}
 use Rattle.sieve_reading.specs.declared.label.Label.{Label}
 use Rattle.sieve_reading.specs.declared.reading.FlagChange.{FlagChange}
 use Rattle.sieve_reading.specs.declared.reading.FlagChange.TheVariants as change

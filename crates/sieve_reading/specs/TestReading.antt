@@ -3,7 +3,7 @@ use Rattle.std.specs.Prelude.{ℕ, Bool, true, false, List, Option, Some, None}
 use Rattle.std.specs.Option.{option_map}
 use Rattle.match_text.specs.declared.comparators.Collation.{Collation}
 use Rattle.sieve_table.specs.Table.{test_named, test_row}
-use Rattle.sieve_reading.specs.Tree.{Argument, tag, Test, test}
+use Rattle.sieve_reading.specs.Tree.{Argument, Test, test}
 use Rattle.sieve_reading.specs.declared.label.Label.{Label}
 use Rattle.sieve_reading.specs.declared.reading.MatchType.{MatchType}
 use Rattle.sieve_table.specs.declared.row.Role.TheVariants as role

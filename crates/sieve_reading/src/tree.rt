@@ -1,7 +1,8 @@
 //! The tree of a checked script. It has the shape of the text's tree (RFC 5228, section 8.2), with each string cut into
 //! parts. A line is one plus the number of LF before it.
 
-use sieve_variables::{Parts, SmallOctets};
+use sieve_base::SmallOctets;
+use sieve_variables::Parts;
 
 /// A string: what it is made of, and the line where it begins.
 #[derive(Drop)]

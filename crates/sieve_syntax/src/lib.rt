@@ -19,4 +19,4 @@ mod word;
 
 pub use parser::{SyntaxFault, parse};
 pub use token::{Token, TokenKind, tokens};
-pub use tree::{Argument, Command, Script, SmallOctets, Test, Tests, Text};
+pub use tree::{Argument, Command, Script, Test, Tests, Text};

@@ -5,7 +5,8 @@ ghost use Rattle.sieve_syntax.specs.Machine.{node_with, test_with};
 ghost use Rattle.sieve_syntax.specs.view.Reader.{block_of, head_value};
 ghost use Rattle.sieve_syntax.specs.view.Tree.{node_of, test_of, tests_of};
 
-use crate::tree::{Argument, Command, SmallOctets, Test, Tests, Text};
+use crate::tree::{Argument, Command, Test, Tests, Text};
+use sieve_base::SmallOctets;
 
 /// A command or a test whose arguments are being read.
 #[derive(Drop)]

@@ -10,8 +10,9 @@ ghost use Rattle.sieve_syntax.specs.declared.reader.Outer.{Outer};
 ghost use Rattle.sieve_syntax.specs.declared.step.Stop.TheVariants.{NoMemory};
 
 use crate::reader::{Head, Level, Open, Outer, State, command_with, finished_test};
-use crate::tree::{Argument, SmallOctets, Test, Tests, Text};
+use crate::tree::{Argument, Test, Tests, Text};
 use crate::word::Word;
+use sieve_base::SmallOctets;
 use sieve_base::limits::{MAX_OPEN_BLOCKS, MAX_TEST_DEPTH};
 use std::alloc::{AllocError, AllocFailed, Global};
 use std::mem;

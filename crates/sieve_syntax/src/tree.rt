@@ -1,9 +1,6 @@
 //! The generic tree of a script (RFC 5228, section 8.2). A line is one plus the number of LF before it.
 
-use smallvec::SmallVec;
-
-/// Octets that lie in the value itself where they are sixteen or fewer, as most names and strings of scripts are.
-pub type SmallOctets = SmallVec<u8, 16>;
+use sieve_base::SmallOctets;
 
 /// A whole script: its commands in the order of the text.
 #[derive(Drop)]

@@ -6,7 +6,7 @@ ghost use Rattle.std.specs.List.{list_any};
 ghost use Rattle.sieve_syntax.specs.Value.{is_changed, is_protector, kept_octet, line_end, multi_line_octets, number_of, quoted_octets, unit_of, unprotected, with_cr, without_dot};
 
 use crate::line::{is_dot_line, line_length};
-use crate::tree::SmallOctets;
+use sieve_base::SmallOctets;
 use sieve_base::octet::is_digit;
 use std::alloc::{AllocError, Global};
 

@@ -6,8 +6,8 @@ ghost use Rattle.sieve_syntax.specs.Token.{IsInside};
 ghost use Rattle.sieve_syntax.specs.Word.{word_of};
 
 use crate::token::{Token, TokenKind};
-use crate::tree::SmallOctets;
 use crate::value::{multi_line_octets, number_of, quoted_octets};
+use sieve_base::SmallOctets;
 use std::alloc::{AllocError, Global};
 
 /// A token without its place.

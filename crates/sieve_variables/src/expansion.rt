@@ -3,7 +3,7 @@ ghost use Rattle.std.specs.Prelude.{◌≡◌, map, IfOk};
 ghost use Rattle.std.specs.Cow.{cow_slice_items};
 ghost use Rattle.sieve_variables.specs.Value.{text_value};
 ghost use Rattle.sieve_variables.specs.view.Part.{part_of, strings_of};
-ghost use Rattle.sieve_variables.specs.view.Value.{octets_of_each};
+ghost use Rattle.sieve_base.specs.view.Texts.{octets_of_each};
 
 use crate::part::{Part, Parts};
 use crate::values::Values;

@@ -6,7 +6,7 @@ ghost use Rattle.sieve_variables.specs.Part.{is_shared};
 ghost use Rattle.sieve_variables.specs.Reference.{is_name};
 ghost use Rattle.sieve_variables.specs.Name.{folded_name, global_prefix, index_of, is_global_name, is_identifier, is_number};
 
-use crate::part::SmallOctets;
+use sieve_base::SmallOctets;
 use sieve_base::limits::MAX_MATCH;
 use sieve_base::octet::{begins_name, is_name_octet};
 use std::alloc::{AllocError, Global};

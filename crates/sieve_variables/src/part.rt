@@ -5,12 +5,10 @@ ghost use Rattle.sieve_variables.specs.Part.{scoped_part};
 ghost use Rattle.sieve_variables.specs.view.Part.{part_of};
 
 use crate::variable::{Names, Variable};
+use sieve_base::SmallOctets;
 use smallvec::SmallVec;
 use std::alloc::{AllocError, Global};
 use std::default::MadeWith;
-
-/// Octets of which up to 16 lie in the value itself.
-pub type SmallOctets = SmallVec<u8, 16>;
 
 /// A part of a string.
 #[derive(Drop)]

@@ -8,8 +8,9 @@ ghost use Rattle.sieve_variables.specs.Scan.{before_brace, has_far_index, has_fo
 ghost use Rattle.sieve_variables.specs.view.Part.{added, literal_part, part_of};
 
 use crate::name::{folded, index_of, is_identifier, is_name, is_number, is_shared};
-use crate::part::{Part, Parts, SmallOctets};
+use crate::part::{Part, Parts};
 use crate::variable::Variable;
+use sieve_base::SmallOctets;
 use sieve_base::limits::MAX_MATCH;
 use sieve_base::octet::is_name_octet;
 use std::alloc::{AllocError, Global};

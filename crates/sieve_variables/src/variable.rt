@@ -4,8 +4,8 @@ ghost use Rattle.sieve_variables.specs.Variable.{is_among, scoped, variable_name
 ghost use Rattle.sieve_variables.specs.view.Part.{variable_of};
 
 use crate::name::{folded, global_name};
-use crate::part::SmallOctets;
 use indexmap::IndexSet;
+use sieve_base::SmallOctets;
 use std::alloc::{AllocError, Global};
 use std::marker::Model;
 

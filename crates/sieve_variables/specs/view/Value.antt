@@ -1,8 +1,6 @@
 -- What the values of variables stand for.
 use Rattle.std.specs.Prelude.{ℕ, List, map}
-use Rattle.std.specs.Cow.{cow_slice_items}
 use Rattle.std.specs.declared.alloc.Global.{Global}
-use Rattle.std.specs.declared.borrow.CowSlice.{CowSlice}
 use Rattle.std.specs.declared.vec.Vec.{Vec}
 use Rattle.sieve_variables.specs.Value.{Own, Values}
 
@@ -16,7 +14,3 @@ OwnState = Own
 -- the variables in the order in which they were first set, each by its name with what it holds
 unfoldable pub held_of : List (Vec ℕ Global × List ℕ) → List (List ℕ × List ℕ)
 held_of entries = map (λ e. (e.0.items, e.1)) entries
-
--- the octets of each
-abbrev pub octets_of_each : List (CowSlice ℕ Global) → List (List ℕ)
-octets_of_each texts = map cow_slice_items texts

@@ -1,6 +1,6 @@
 use Rattle.std.proofs.Common.{◌≡◌, ◌++◌, drop, flat_map}
 use Rattle.match_text.specs.Flags.{flag_keys, flag_keys_of_texts}
-use Rattle.match_text.specs.view.Texts.{octets_of_each}
+use Rattle.sieve_base.specs.view.Texts.{octets_of_each}
 use Rattle.match_text.proofs.flags.flag_keys_of_texts.Given as goal
 
 -- the keys so far, with those of the texts that are left

@@ -1,7 +1,7 @@
 use Rattle.std.proofs.Common.{◌≡◌, ◌++◌, drop, filter}
 use Rattle.match_text.specs.Flags.{flag_keys, is_filled}
 use Rattle.match_text.specs.view.Segment.{texts_of}
-use Rattle.match_text.specs.view.Texts.{octets_of_each}
+use Rattle.sieve_base.specs.view.Texts.{octets_of_each}
 use Rattle.match_text.proofs.flags.push_keys.Given as goal
 
 -- the keys so far, with those of the pieces that are left

@@ -1,7 +1,7 @@
 use Rattle.std.proofs.Common.{◌≡◌, drop}
 use Rattle.sieve_effects.specs.Matching.{first_some}
 use Rattle.sieve_effects.specs.view.FieldTests.{found_with, path_name_found}
-use Rattle.sieve_variables.specs.view.Value.{octets_of_each}
+use Rattle.sieve_base.specs.view.Texts.{octets_of_each}
 use Rattle.sieve_effects.proofs.path_values.find_by_path_names.Given as goal
 
 -- the names that are left decide

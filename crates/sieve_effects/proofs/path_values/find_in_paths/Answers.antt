@@ -3,7 +3,7 @@ use Rattle.sieve_effects.specs.view.Delivery.{delivery_as}
 use Rattle.sieve_effects.specs.view.FieldTests.{found_with}
 use Rattle.sieve_effects.specs.view.State.{state_of}
 use Rattle.sieve_variables.specs.view.Part.{strings_of}
-use Rattle.sieve_variables.specs.view.Value.{octets_of_each}
+use Rattle.sieve_base.specs.view.Texts.{octets_of_each}
 use Rattle.sieve_effects.proofs.Searching.{answers_so, path_values}
 use Rattle.sieve_effects.proofs.path_values.find_in_paths.Goals as goal
 

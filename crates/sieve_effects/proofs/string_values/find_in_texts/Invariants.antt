@@ -1,7 +1,7 @@
 use Rattle.std.proofs.Common.{◌≡◌, drop}
 use Rattle.sieve_effects.specs.Matching.{first_some}
 use Rattle.sieve_effects.specs.view.FieldTests.{found_with}
-use Rattle.sieve_variables.specs.view.Value.{octets_of_each}
+use Rattle.sieve_base.specs.view.Texts.{octets_of_each}
 use Rattle.sieve_effects.proofs.string_values.find_in_texts.Given as goal
 
 -- what the strings that are left give is what all give

@@ -1,7 +1,7 @@
 use Rattle.std.proofs.Common.{◌≡◌, drop}
 use Rattle.sieve_effects.specs.Matching.{first_match, pairs_with}
 use Rattle.match_text.specs.Comparator.{fold_of}
-use Rattle.sieve_variables.specs.view.Value.{octets_of_each}
+use Rattle.sieve_base.specs.view.Texts.{octets_of_each}
 use Rattle.sieve_effects.proofs.comparison.Comparison.first_match.Given as goal
 
 -- the keys that are left decide

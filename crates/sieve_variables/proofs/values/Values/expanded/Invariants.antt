@@ -1,7 +1,7 @@
 use Rattle.std.proofs.Common.{◌≡◌, ◌++◌, drop, map}
 use Rattle.sieve_variables.specs.Value.{text_value}
 use Rattle.sieve_variables.specs.view.Part.{strings_of}
-use Rattle.sieve_variables.specs.view.Value.{octets_of_each}
+use Rattle.sieve_base.specs.view.Texts.{octets_of_each}
 use Rattle.sieve_variables.proofs.values.Values.expanded.Given as goal
 
 -- the values so far, with those of the strings that are left
