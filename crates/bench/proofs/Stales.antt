@@ -3,7 +3,7 @@ use Rattle.std.proofs.Common.{◌≡◌, ℕ, ◌<◌, true, false, List, [], �
 use Rattle.sieve_base.specs.Limits.{text_limit}
 use Rattle.sieve_base.specs.declared.place.Place.TheVariants.{Personal, Global}
 use Rattle.sieve_check.specs.Judgement.{judgement_of, sound, faulty}
-use Rattle.sieve_reading.specs.Reading.{keep_leaf}
+use Rattle.sieve_reading.specs.Reading.{plain_settings, keep_leaf}
 use Rattle.sieve_reading.specs.Script.{acts, no_commands, script_of}
 use Rattle.sieve_reading.specs.Tree.{Node}
 use Rattle.sieve_check.specs.declared.judged.FaultKind.{FaultKind}
@@ -104,7 +104,7 @@ faulty_row : (text : List ℕ) (line : ℕ) (kind : FaultKind) → nat_lt text_l
 unfolding outcome_of
 faulty_row text line kind short judged bytes = rw (short, judged) refl
 
-keep_row : (text : List ℕ) (tree : List Node) → nat_lt text_limit (length text) ≡ false → judgement_of text ≡ sound tree → script_of tree ≡ acts (keep_leaf None) 1 no_commands → IsAlone text
+keep_row : (text : List ℕ) (tree : List Node) → nat_lt text_limit (length text) ≡ false → judgement_of text ≡ sound tree → script_of tree ≡ acts (keep_leaf plain_settings) 1 no_commands → IsAlone text
 unfolding outcome_of exec
 keep_row text tree short judged commands bytes = rw (short, judged, commands) refl
 

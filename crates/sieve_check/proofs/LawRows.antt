@@ -8,7 +8,7 @@ use Rattle.sieve_check.specs.Element.{block_elements, elements_of, node_elements
 use Rattle.sieve_check.specs.Order.{written_by}
 use Rattle.sieve_check.specs.Parted.{parted}
 use Rattle.sieve_check.specs.Readable.{IsReadable, ReadsBlock, ReadsNode, ReadsNodes, act_mark, block_marks, choice_mark, marks, node_marks, nodes_marks, return_mark, stop_mark}
-use Rattle.sieve_reading.specs.Reading.{discard_leaf, keep_leaf}
+use Rattle.sieve_reading.specs.Reading.{plain_settings, discard_leaf, keep_leaf}
 use Rattle.sieve_reading.specs.Script.{always, block_commands, chain_of, condition_of, conditions_in, never, node_before, script_of}
 use Rattle.sieve_table.specs.Table.{command_named, test_named}
 use Rattle.sieve_reading.specs.Tree.{nodes}
@@ -29,16 +29,16 @@ last line inner = syntax.node (codes "else") line [] syntax.no_tests (syntax.blo
 abbrev branches : List syntax.Node
 branches = branch (codes "if") 1 (codes "true") (plain (codes "keep") 1) ∷ branch (codes "elsif") 2 (codes "false") (plain (codes "stop") 2) ∷ last 3 (plain (codes "discard") 3) ∷ plain (codes "keep") 4 ∷ []
 
-marks_row : marks (script_of (parted branches)) ≡ choice_mark always ∷ act_mark (keep_leaf None) 1 ∷ choice_mark never ∷ stop_mark ∷ act_mark discard_leaf 3 ∷ act_mark (keep_leaf None) 4 ∷ []
+marks_row : marks (script_of (parted branches)) ≡ choice_mark always ∷ act_mark (keep_leaf plain_settings) 1 ∷ choice_mark never ∷ stop_mark ∷ act_mark discard_leaf 3 ∷ act_mark (keep_leaf plain_settings) 4 ∷ []
 unfolding marks chain_of node_before block_commands condition_of conditions_in command_named test_named
 marks_row = refl
 
-tree_marks_row : nodes_marks (nodes (parted branches)) ≡ choice_mark always ∷ act_mark (keep_leaf None) 1 ∷ choice_mark never ∷ stop_mark ∷ act_mark discard_leaf 3 ∷ act_mark (keep_leaf None) 4 ∷ []
+tree_marks_row : nodes_marks (nodes (parted branches)) ≡ choice_mark always ∷ act_mark (keep_leaf plain_settings) 1 ∷ choice_mark never ∷ stop_mark ∷ act_mark discard_leaf 3 ∷ act_mark (keep_leaf plain_settings) 4 ∷ []
 unfolding nodes_marks node_marks block_marks condition_of conditions_in command_named test_named
 tree_marks_row = refl
 
 -- return; keep;
-return_marks_row : marks (script_of (parted (plain (codes "return") 1 ∷ plain (codes "keep") 2 ∷ []))) ≡ return_mark ∷ act_mark (keep_leaf None) 2 ∷ []
+return_marks_row : marks (script_of (parted (plain (codes "return") 1 ∷ plain (codes "keep") 2 ∷ []))) ≡ return_mark ∷ act_mark (keep_leaf plain_settings) 2 ∷ []
 unfolding marks chain_of node_before block_commands condition_of conditions_in command_named test_named
 return_marks_row = refl
 

@@ -8,8 +8,8 @@ use Rattle.sieve_check.specs.Element.{block_elements, command_arguments, node_el
 use Rattle.sieve_check.specs.Parted.{Cutting, command_labels, cutting_at_start, declared_behind, declaring_command, parted, parted_block, parted_labelled, parted_node, parted_nodes, parted_test, parted_test_list, parted_tests}
 use Rattle.sieve_check.specs.Readable.{IsReadable, ReadsBlock, ReadsNode, ReadsNodes, ReadsTest, ReadsTestList, ReadsTests, Stands, command_takes, may_go_on}
 use Rattle.sieve_reading.specs.Reading as reading
-use Rattle.sieve_reading.specs.Reading.{Leaf, include_leaf, keep_leaf, redirect_leaf}
-use Rattle.sieve_reading.specs.CommandReading.{command_reading, command_reading_by, fileinto_from, flags_by, flags_from, place_of, set_from}
+use Rattle.sieve_reading.specs.Reading.{Leaf, include_leaf, keep_leaf, Settings}
+use Rattle.sieve_reading.specs.CommandReading.{redirect_from, settings_with, command_reading, command_reading_by, fileinto_from, flags_by, flags_from, place_of, set_from}
 use Rattle.sieve_reading.specs.Given.{has_tag, labels_in, part_shape}
 use Rattle.sieve_reading.specs.Label.{slots_of}
 use Rattle.sieve_table.specs.Table.{command_named, command_row, flag_command, naming_slot, test_named}
@@ -57,10 +57,15 @@ module _ (cutting within : Cutting) (context : Context) where
   sets_all (Some variable) modifiers None n v = absurd (not_both v)
   sets_all (Some variable) modifiers (Some value) n v = refl
 
-  files_all : (mailbox : Option (List Part)) (flags : Option (Option (List (List Part)))) → is_some mailbox ≡ true → is_some flags ≡ true → is_some (fileinto_from mailbox flags) ≡ true
-  files_all None flags m f = absurd (not_both m)
-  files_all (Some mailbox) None m f = absurd (not_both f)
-  files_all (Some mailbox) (Some flags) m f = refl
+  files_all : (mailbox : Option (List Part)) (settings : Option Settings) → is_some mailbox ≡ true → is_some settings ≡ true → is_some (fileinto_from mailbox settings) ≡ true
+  files_all None settings m s = absurd (not_both m)
+  files_all (Some mailbox) None m s = absurd (not_both s)
+  files_all (Some mailbox) (Some settings) m s = refl
+
+  redirects_all : (address : Option (List Part)) (settings : Option Settings) → is_some address ≡ true → is_some settings ≡ true → is_some (redirect_from address settings) ≡ true
+  redirects_all None settings a s = absurd (not_both a)
+  redirects_all (Some address) None a s = absurd (not_both s)
+  redirects_all (Some address) (Some settings) a s = refl
 
   changes_all : (how : FlagChange) (variable : Option (Option Variable)) (flags : Option (List (List Part))) → is_some variable ≡ true → is_some flags ≡ true → is_some (flags_from how variable flags) ≡ true
   changes_all how None flags v f = absurd (not_both v)
@@ -103,19 +108,21 @@ module _ (cutting within : Cutting) (context : Context) where
   stands command.Keep args ts ending says place =
       let row = command_row command.Keep in
       stands_acting _ (parted_tests cutting ts) (parted_block within ending)
-      (maps_some reading.reads_act _ (maps_some keep_leaf _ (given_texts_are_read row.tags row.slots args role.Flags refl refl says.keep)))
+      (maps_some reading.reads_act _ (maps_some keep_leaf _ (maps_some settings_with _ (given_texts_are_read row.tags row.slots args role.Flags refl refl says.keep))))
       (none_fit cutting ts says.tests) (none_there ending says.block)
   stands command.Fileinto args ts ending says place =
       let row = command_row command.Fileinto in
       stands_acting _ (parted_tests cutting ts) (parted_block within ending)
       (maps_some reading.reads_act _ (files_all _ _
       (text_is_read row.tags row.slots args role.Mailbox refl refl refl says.filled says.keep)
-      (given_texts_are_read row.tags row.slots args role.Flags refl refl says.keep)))
+      (maps_some settings_with _ (given_texts_are_read row.tags row.slots args role.Flags refl refl says.keep))))
       (none_fit cutting ts says.tests) (none_there ending says.block)
   stands command.Redirect args ts ending says place =
       let row = command_row command.Redirect in
       stands_acting _ (parted_tests cutting ts) (parted_block within ending)
-      (maps_some reading.reads_act _ (maps_some redirect_leaf _ (text_is_read row.tags row.slots args role.Address refl refl refl says.filled says.keep)))
+      (maps_some reading.reads_act _ (redirects_all _ _
+      (text_is_read row.tags row.slots args role.Address refl refl refl says.filled says.keep)
+      (maps_some settings_with _ (given_texts_are_read row.tags row.slots args role.Flags refl refl says.keep))))
       (none_fit cutting ts says.tests) (none_there ending says.block)
   stands command.Discard args ts ending says place = (none_fit cutting ts says.tests, none_there ending says.block)
   stands command.Stop args ts ending says place = (none_fit cutting ts says.tests, none_there ending says.block)

@@ -8,7 +8,7 @@ use Rattle.sieve_check.specs.Context.{behind}
 use Rattle.sieve_check.specs.Element.{nodes_elements, node_elements, block_elements, tests_elements, test_elements}
 use Rattle.sieve_reading.specs.Label.{labels_of}
 use Rattle.sieve_check.specs.Parted.{parted}
-use Rattle.sieve_reading.specs.Reading.{keep_leaf, redirect_leaf, discard_leaf, set_leaf, flag_leaf, include_leaf, flag_values, header_values, compares}
+use Rattle.sieve_reading.specs.Reading.{plain_settings, keep_leaf, redirect_leaf, discard_leaf, set_leaf, flag_leaf, include_leaf, flag_values, header_values, compares}
 use Rattle.sieve_check.specs.Scope.{assigning}
 use Rattle.sieve_reading.specs.Script.{no_commands, stops, returns, acts, chooses, always, asks, script_of, chain_of, node_before, block_commands, condition_of, conditions_in}
 use Rattle.sieve_table.specs.Table.{Row, naming_slot, slot, command_named, test_named, test_row}
@@ -153,7 +153,7 @@ chain_row : script_of (parted (branch (codes "if") 1 (header (tagged (codes "con
     ∷ plain (codes "keep") 6 [] ∷ []))
     ≡ chooses (asks (compares (header_values ((literal (codes "a") ∷ []) ∷ [])) Contains Casemap ((literal (codes "b") ∷ []) ∷ []))) (acts discard_leaf 2 no_commands)
     (chooses always (stops no_commands) no_commands no_commands)
-    (acts (keep_leaf None) 6 no_commands)
+    (acts (keep_leaf plain_settings) 6 no_commands)
 unfolding chain_of node_before block_commands condition_of conditions_in command_named test_named
 chain_row = refl
 
@@ -167,7 +167,7 @@ octet_row = refl
 flags_row : script_of (parted (plain (codes "require") 1 (one (codes "imap4flags") ∷ []) ∷ plain (codes "addflag") 2 (one (codes "V") ∷ syntax.strings (text (codes "x") ∷ []) true ∷ []) ∷ plain (codes "keep") 3 (tagged (codes "flags") ∷ one (codes "y") ∷ [])
     ∷ branch (codes "if") 4 (syntax.test (codes "hasflag") 4 (tagged (codes "comparator") ∷ one (codes "i;octet") ∷ one (codes "a") ∷ []) syntax.no_tests) [] ∷ []))
     ≡ acts (flag_leaf Add (Some (local_variable (codes "v"))) ((literal (codes "x") ∷ []) ∷ [])) 2
-    (acts (keep_leaf (Some ((literal (codes "y") ∷ []) ∷ []))) 3
+    (acts (keep_leaf (record plain_settings { flags = Some ((literal (codes "y") ∷ []) ∷ []) })) 3
     (chooses (asks (compares (flag_values None) Is Octet ((literal (codes "a") ∷ []) ∷ []))) no_commands no_commands no_commands))
 unfolding chain_of node_before block_commands condition_of conditions_in command_named test_named
 flags_row = refl
@@ -260,13 +260,13 @@ set_without_include_row = refl
 
 -- the variable is the one that a declared `x` is: global "x"; set "global.X" "y"; redirect "${x}${GLOBAL.x}";
 one_variable_row : script_of (parted (both ∷ global 2 (codes "x") ∷ set 3 (codes "global.X") (codes "y") ∷ naming (codes "redirect") 4 (codes "${x}${GLOBAL.x}") ∷ []))
-    ≡ acts (set_leaf (global_variable (codes "x")) no_modifiers (literal (codes "y") ∷ [])) 3 (acts (redirect_leaf (global_part (codes "x") ∷ global_part (codes "x") ∷ [])) 4 no_commands)
+    ≡ acts (set_leaf (global_variable (codes "x")) no_modifiers (literal (codes "y") ∷ [])) 3 (acts (redirect_leaf (global_part (codes "x") ∷ global_part (codes "x") ∷ []) plain_settings) 4 no_commands)
 unfolding chain_of node_before block_commands condition_of conditions_in command_named test_named pieces_from inside_at before_brace
 one_variable_row = refl
 
 -- include :global :once "a"; include :optional "${b}"; return; keep;
 include_row : script_of (parted (both ∷ plain (codes "include") 2 (tagged (codes "global") ∷ tagged (codes "once") ∷ one (codes "a") ∷ []) ∷ plain (codes "include") 3 (tagged (codes "optional") ∷ one (codes "${b}") ∷ []) ∷ plain (codes "return") 4 [] ∷ plain (codes "keep") 5 [] ∷ []))
-    ≡ acts (include_leaf Global true false (codes "a")) 2 (acts (include_leaf Personal false true (codes "${b}")) 3 (returns (acts (keep_leaf None) 5 no_commands)))
+    ≡ acts (include_leaf Global true false (codes "a")) 2 (acts (include_leaf Personal false true (codes "${b}")) 3 (returns (acts (keep_leaf plain_settings) 5 no_commands)))
 unfolding chain_of node_before block_commands condition_of conditions_in command_named test_named pieces_from inside_at before_brace
 include_row = refl
 

@@ -4,7 +4,7 @@ use Rattle.match_text.specs.declared.comparators.Collation.TheVariants.{Casemap,
 use Rattle.std.specs.Fmt.{digits}
 use Rattle.sieve_base.specs.Writers.{quoted}
 use Rattle.message_text.specs.declared.addressing.AddressPart.TheVariants as part
-use Rattle.sieve_reading.specs.Reading.{Ask, header_values, address_values, envelope_values, string_values, flag_values, compares, over_ask, keep_leaf, fileinto_leaf, redirect_leaf, discard_leaf, set_leaf, flag_leaf, include_leaf}
+use Rattle.sieve_reading.specs.Reading.{plain_settings, Ask, header_values, address_values, envelope_values, string_values, flag_values, compares, over_ask, keep_leaf, fileinto_leaf, redirect_leaf, discard_leaf, set_leaf, flag_leaf, include_leaf}
 use Rattle.sieve_reading.specs.Script as script
 use Rattle.sieve_reading.specs.Script.{chain_of, condition_of, conditions_in, conditions, block_commands}
 use Rattle.sieve_table.specs.Table.{command_named, test_named}
@@ -70,7 +70,7 @@ worked_code =
     ∷ jump_if_op true 3
     ∷ test_op (over_ask 1048576)
     ∷ jump_if_op false 6
-    ∷ act_op (keep_leaf None) 2
+    ∷ act_op (keep_leaf plain_settings) 2
     ∷ jump_op 7
     ∷ act_op discard_leaf 4
     ∷ []
@@ -96,19 +96,19 @@ unfolding placed nodes_before node_before block_before test_before tests_before 
 nested_row = refl
 
 -- if allof (true) { keep; }: one test in the list is that test alone
-single_row : code_of (testing (codes "if") 1 (list_of (codes "allof") (constant (codes "true") ∷ [])) (keep_at 1 ∷ []) ∷ []) ≡ set_op true ∷ jump_if_op false 3 ∷ act_op (keep_leaf None) 1 ∷ []
+single_row : code_of (testing (codes "if") 1 (list_of (codes "allof") (constant (codes "true") ∷ [])) (keep_at 1 ∷ []) ∷ []) ≡ set_op true ∷ jump_if_op false 3 ∷ act_op (keep_leaf plain_settings) 1 ∷ []
 unfolding placed nodes_before node_before block_before test_before tests_before list_before first_before command_named test_named
 single_row = refl
 
 -- if true { keep; } elsif false { discard; } stop;
 without_else_row : code_of (testing (codes "if") 1 (constant (codes "true")) (keep_at 1 ∷ []) ∷ testing (codes "elsif") 2 (constant (codes "false")) (discard_at 2 ∷ []) ∷ stop_at 3 ∷ [])
-    ≡ set_op true ∷ jump_if_op false 4 ∷ act_op (keep_leaf None) 1 ∷ jump_op 7 ∷ set_op false ∷ jump_if_op false 7 ∷ act_op discard_leaf 2 ∷ stop_op ∷ []
+    ≡ set_op true ∷ jump_if_op false 4 ∷ act_op (keep_leaf plain_settings) 1 ∷ jump_op 7 ∷ set_op false ∷ jump_if_op false 7 ∷ act_op discard_leaf 2 ∷ stop_op ∷ []
 unfolding placed nodes_before node_before block_before test_before tests_before list_before first_before command_named test_named
 without_else_row = refl
 
 -- if true { keep; } elsif false { discard; } else { stop; }
 with_else_row : code_of (testing (codes "if") 1 (constant (codes "true")) (keep_at 1 ∷ []) ∷ testing (codes "elsif") 2 (constant (codes "false")) (discard_at 2 ∷ []) ∷ last_branch (stop_at 3 ∷ []) ∷ [])
-    ≡ set_op true ∷ jump_if_op false 4 ∷ act_op (keep_leaf None) 1 ∷ jump_op 9 ∷ set_op false ∷ jump_if_op false 8 ∷ act_op discard_leaf 2 ∷ jump_op 9 ∷ stop_op ∷ []
+    ≡ set_op true ∷ jump_if_op false 4 ∷ act_op (keep_leaf plain_settings) 1 ∷ jump_op 9 ∷ set_op false ∷ jump_if_op false 8 ∷ act_op discard_leaf 2 ∷ jump_op 9 ∷ stop_op ∷ []
 unfolding placed nodes_before node_before block_before test_before tests_before list_before first_before command_named test_named
 with_else_row = refl
 
@@ -118,14 +118,14 @@ unfolding placed nodes_before node_before block_before test_before tests_before 
 empty_blocks_row = refl
 
 -- stop; keep;
-behind_stop_row : code_of (stop_at 1 ∷ keep_at 2 ∷ []) ≡ stop_op ∷ act_op (keep_leaf None) 2 ∷ []
+behind_stop_row : code_of (stop_at 1 ∷ keep_at 2 ∷ []) ≡ stop_op ∷ act_op (keep_leaf plain_settings) 2 ∷ []
 unfolding placed nodes_before node_before block_before command_named
 behind_stop_row = refl
 
 -- WALKS
 
 abbrev worked_walk : Walk
-worked_walk = asked list_ask (acted (keep_leaf None) 2 at_end) (asked (over_ask 1048576) (acted (keep_leaf None) 2 at_end) (acted discard_leaf 4 at_end))
+worked_walk = asked list_ask (acted (keep_leaf plain_settings) 2 at_end) (asked (over_ask 1048576) (acted (keep_leaf plain_settings) 2 at_end) (acted discard_leaf 4 at_end))
 
 worked_code_row : code_walk worked_code 7 ≡ worked_walk
 unfolding walk_from
@@ -136,15 +136,15 @@ unfolding commands_walk condition_walk chain_of script.node_before block_command
 worked_tree_row = refl
 
 -- five operations are too few on the longest way alone
-cut_row : code_walk worked_code 5 ≡ asked list_ask (acted (keep_leaf None) 2 at_end) (asked (over_ask 1048576) (acted (keep_leaf None) 2 cut_off) (acted discard_leaf 4 at_end))
+cut_row : code_walk worked_code 5 ≡ asked list_ask (acted (keep_leaf plain_settings) 2 at_end) (asked (over_ask 1048576) (acted (keep_leaf plain_settings) 2 cut_off) (acted discard_leaf 4 at_end))
 unfolding walk_from
 cut_row = refl
 
-stop_row : code_walk (stop_op ∷ act_op (keep_leaf None) 2 ∷ []) 2 ≡ by_stop
+stop_row : code_walk (stop_op ∷ act_op (keep_leaf plain_settings) 2 ∷ []) 2 ≡ by_stop
 unfolding walk_from
 stop_row = refl
 
-answers_row : gone worked_walk (false ∷ true ∷ true ∷ []) ≡ record { met = met_ask list_ask ∷ met_ask (over_ask 1048576) ∷ met_leaf (keep_leaf None) 2 ∷ []; ending = ended }
+answers_row : gone worked_walk (false ∷ true ∷ true ∷ []) ≡ record { met = met_ask list_ask ∷ met_ask (over_ask 1048576) ∷ met_leaf (keep_leaf plain_settings) 2 ∷ []; ending = ended }
 unfolding gone
 answers_row = refl
 
@@ -166,7 +166,7 @@ size_line_row : line_text 2 (test_op (over_ask 1048576)) ≡ codes "2: size over
 unfolding line_text operation_text digits ask_text
 size_line_row = refl
 
-keep_line_row : line_text 4 (act_op (keep_leaf None) 2) ≡ codes "4: keep internal @2\n"
+keep_line_row : line_text 4 (act_op (keep_leaf plain_settings) 2) ≡ codes "4: keep internal @2\n"
 unfolding line_text operation_text digits worded_flags stored_flags
 keep_line_row = refl
 
@@ -200,19 +200,19 @@ envelope_line_row : line_text 4 (test_op (compares (envelope_values part.All (on
 unfolding line_text operation_text digits ask_text address_words comparing_words two_lists further_list list_text string_text quoted
 envelope_line_row = refl
 
-redirect_line_row : line_text 2 (act_op (redirect_leaf (one_text (codes "a@b.example"))) 2) ≡ codes "2: redirect \"a@b.example\" @2\n"
+redirect_line_row : line_text 2 (act_op (redirect_leaf (one_text (codes "a@b.example")) plain_settings) 2) ≡ codes "2: redirect \"a@b.example\" @2\n"
 unfolding line_text operation_text digits worded_text string_text quoted
 redirect_line_row = refl
 
-fileinto_line_row : line_text 6 (act_op (fileinto_leaf (one_text (codes "A")) None) 3) ≡ codes "6: fileinto \"A\" internal @3\n"
+fileinto_line_row : line_text 6 (act_op (fileinto_leaf (one_text (codes "A")) plain_settings) 3) ≡ codes "6: fileinto \"A\" internal @3\n"
 unfolding line_text operation_text digits worded_text stored_flags string_text quoted
 fileinto_line_row = refl
 
-keep_flags_line_row : line_text 0 (act_op (keep_leaf (Some (one_text (codes "d") ∷ []))) 2) ≡ codes "0: keep flags [\"d\"] @2\n"
+keep_flags_line_row : line_text 0 (act_op (keep_leaf (record plain_settings { flags = Some (one_text (codes "d") ∷ []) })) 2) ≡ codes "0: keep flags [\"d\"] @2\n"
 unfolding line_text operation_text digits worded_flags stored_flags list_text string_text quoted
 keep_flags_line_row = refl
 
-fileinto_flags_line_row : line_text 0 (act_op (fileinto_leaf (one_text (codes "A")) (Some (one_text (codes "e") ∷ []))) 2) ≡ codes "0: fileinto \"A\" flags [\"e\"] @2\n"
+fileinto_flags_line_row : line_text 0 (act_op (fileinto_leaf (one_text (codes "A")) (record plain_settings { flags = Some (one_text (codes "e") ∷ []) })) 2) ≡ codes "0: fileinto \"A\" flags [\"e\"] @2\n"
 unfolding line_text operation_text digits worded_text stored_flags list_text string_text quoted
 fileinto_flags_line_row = refl
 
@@ -260,6 +260,6 @@ global_parts_row : string_text (literal (codes "a") ∷ global_part (codes "box"
 unfolding string_text quoted
 global_parts_row = refl
 
-return_row : code_walk (return_op ∷ act_op (keep_leaf None) 2 ∷ []) 2 ≡ by_return
+return_row : code_walk (return_op ∷ act_op (keep_leaf plain_settings) 2 ∷ []) 2 ≡ by_return
 unfolding walk_from
 return_row = refl

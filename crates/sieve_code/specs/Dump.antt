@@ -8,7 +8,7 @@ use Rattle.sieve_base.specs.Writers.{quoted}
 use Rattle.sieve_base.specs.declared.place.Place.{Place}
 use Rattle.message_text.specs.declared.addressing.AddressPart.{AddressPart}
 use Rattle.message_text.specs.declared.addressing.AddressPart.TheVariants as address_part
-use Rattle.sieve_reading.specs.Reading.{header_values, address_values, envelope_values, string_values, flag_values, ValueSource, Ask, compares, exists_ask, over_ask, under_ask, Leaf, keep_leaf, fileinto_leaf, redirect_leaf, discard_leaf, set_leaf, flag_leaf, include_leaf}
+use Rattle.sieve_reading.specs.Reading.{header_values, address_values, envelope_values, string_values, flag_values, ValueSource, Ask, compares, exists_ask, over_ask, under_ask, Settings, Leaf, keep_leaf, fileinto_leaf, redirect_leaf, discard_leaf, set_leaf, flag_leaf, include_leaf}
 use Rattle.sieve_reading.specs.declared.reading.FlagChange.{FlagChange}
 use Rattle.sieve_reading.specs.declared.reading.FlagChange.TheVariants as change
 use Rattle.sieve_reading.specs.declared.reading.MatchType.{MatchType}
@@ -102,9 +102,13 @@ unfoldable pub stored_flags : Option (List (List Part)) → List ℕ
 stored_flags None = codes " internal"
 stored_flags (Some flags) = codes " flags " ++ list_text flags
 
+-- what a command that stores says beside
+abbrev pub stored_text : Settings → List ℕ
+stored_text settings = stored_flags settings.flags
+
 -- these behind a command's word
-unfoldable pub worded_flags : List ℕ → Option (List (List Part)) → List ℕ
-worded_flags word flags = word ++ stored_flags flags
+unfoldable pub worded_settings : List ℕ → Settings → List ℕ
+worded_settings word settings = word ++ stored_text settings
 
 -- the words of modifiers, those of higher precedence first
 abbrev pub case_word : Option LetterCase → List ℕ
@@ -148,9 +152,9 @@ unfoldable pub include_words : Place → (once optional : Bool) → List ℕ →
 include_words place once optional name = codes "include " ++ place_word place ++ given_word once (codes " once") ++ given_word optional (codes " optional") ++ codes " " ++ quoted name
 
 unfoldable pub leaf_text : Leaf → List ℕ
-leaf_text (keep_leaf flags) = worded_flags (codes "keep") flags
-leaf_text (fileinto_leaf mailbox flags) = worded_text (codes "fileinto ") mailbox ++ stored_flags flags
-leaf_text (redirect_leaf address) = worded_text (codes "redirect ") address
+leaf_text (keep_leaf settings) = worded_settings (codes "keep") settings
+leaf_text (fileinto_leaf mailbox settings) = worded_text (codes "fileinto ") mailbox ++ stored_text settings
+leaf_text (redirect_leaf address settings) = worded_text (codes "redirect ") address
 leaf_text discard_leaf = codes "discard"
 leaf_text (set_leaf variable modifiers value) = worded_text (set_words variable modifiers) value
 leaf_text (flag_leaf how variable flags) = changing_words how variable ++ list_text flags

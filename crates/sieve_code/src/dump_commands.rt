@@ -2,13 +2,13 @@
 ghost use Rattle.std.specs.Prelude.{◌≡◌, ◌++◌, codes, map, OnOk, OnErr};
 ghost use Rattle.std.specs.Option.{option_map};
 ghost use Rattle.sieve_base.specs.Writers.{Wrote, WroteFront};
-ghost use Rattle.sieve_code.specs.Dump.{case_word, change_word, changing_words, first_word, given_word, include_words, leaf_text, list_text, modifier_words, set_words, stored_flags, worded_flags, worded_text, worded_variable};
-ghost use Rattle.sieve_effects.specs.view.Ops.{command_op_as, given_strings};
+ghost use Rattle.sieve_code.specs.Dump.{case_word, change_word, changing_words, first_word, given_word, include_words, leaf_text, list_text, modifier_words, set_words, stored_flags, stored_text, worded_settings, worded_text, worded_variable};
+ghost use Rattle.sieve_effects.specs.view.Ops.{command_op_as, given_strings, settings_op_as};
 ghost use Rattle.sieve_variables.specs.view.Part.{part_of, strings_of, variable_of};
 
 use crate::dump_strings::{name_of, scope_word, write_list, write_string};
 use sieve_base::{Piece, Place, Sink, WriteFault, write_out, write_pieces};
-use sieve_effects::CommandOp;
+use sieve_effects::{CommandOp, SettingsOp};
 use sieve_reading::FlagChange;
 use sieve_variables::{LetterCase, Modifiers, Part, Parts, Variable};
 
@@ -33,32 +33,40 @@ fn write_stored_flags<W: Sink>(flags: &Option<Vec<Parts>>, writer: &mut W) -> Re
     }
 }
 
-/// Writes a command's word and then the flags of what is stored.
-#[tactic(auto, using(sieve_base::proofs::Writing::writing), unfolding(crate::specs::Dump::worded_flags))]
-fn write_worded_flags<W: Sink>(
+/// Writes what a command that stores says beside.
+fn write_stored<W: Sink>(settings: &SettingsOp, writer: &mut W) -> Result<(), WriteFault>
+    ensures ok { OnOk result (Wrote W.contents W.fault_count writer.old writer.new (stored_text (settings_op_as settings.now))) }
+    ensures err { OnErr result (WroteFront W.contents W.fault_count writer.old writer.new (stored_text (settings_op_as settings.now))) }
+{
+    write_stored_flags(&settings.flags, writer)
+}
+
+/// Writes a command's word and then what it says beside.
+#[tactic(auto, using(sieve_base::proofs::Writing::writing), unfolding(crate::specs::Dump::worded_settings))]
+fn write_worded_settings<W: Sink>(
     word: &[u8],
-    flags: &Option<Vec<Parts>>,
+    settings: &SettingsOp,
     writer: &mut W,
 ) -> Result<(), WriteFault>
-    ensures ok { OnOk result (Wrote W.contents W.fault_count writer.old writer.new (worded_flags word.now (given_strings flags.now))) }
-    ensures err { OnErr result (WroteFront W.contents W.fault_count writer.old writer.new (worded_flags word.now (given_strings flags.now))) }
+    ensures ok { OnOk result (Wrote W.contents W.fault_count writer.old writer.new (worded_settings word.now (settings_op_as settings.now))) }
+    ensures err { OnErr result (WroteFront W.contents W.fault_count writer.old writer.new (worded_settings word.now (settings_op_as settings.now))) }
 {
     write_out(word, writer)?;
-    write_stored_flags(flags, writer)
+    write_stored(settings, writer)
 }
 
 /// Writes a `fileinto`.
 #[tactic(auto, using(sieve_base::proofs::Writing::writing))]
 fn write_fileinto<W: Sink>(
     mailbox: &[Part],
-    flags: &Option<Vec<Parts>>,
+    settings: &SettingsOp,
     writer: &mut W,
 ) -> Result<(), WriteFault>
-    ensures ok { OnOk result (Wrote W.contents W.fault_count writer.old writer.new (worded_text (codes "fileinto ") (map part_of mailbox.now) ++ stored_flags (given_strings flags.now))) }
-    ensures err { OnErr result (WroteFront W.contents W.fault_count writer.old writer.new (worded_text (codes "fileinto ") (map part_of mailbox.now) ++ stored_flags (given_strings flags.now))) }
+    ensures ok { OnOk result (Wrote W.contents W.fault_count writer.old writer.new (worded_text (codes "fileinto ") (map part_of mailbox.now) ++ stored_text (settings_op_as settings.now))) }
+    ensures err { OnErr result (WroteFront W.contents W.fault_count writer.old writer.new (worded_text (codes "fileinto ") (map part_of mailbox.now) ++ stored_text (settings_op_as settings.now))) }
 {
     write_worded(b"fileinto ", mailbox, writer)?;
-    write_stored_flags(flags, writer)
+    write_stored(settings, writer)
 }
 
 /// The word of a modifier of letters.
@@ -242,9 +250,9 @@ pub(crate) fn write_command<W: Sink>(command: &CommandOp, writer: &mut W) -> Res
     ensures err { OnErr result (WroteFront W.contents W.fault_count writer.old writer.new (leaf_text (command_op_as command.now))) }
 {
     match command {
-        CommandOp::Keep { flags } => write_worded_flags(b"keep", flags, writer),
-        CommandOp::Fileinto { mailbox, flags } => write_fileinto(mailbox, flags, writer),
-        CommandOp::Redirect { address } => write_worded(b"redirect ", address, writer),
+        CommandOp::Keep { settings } => write_worded_settings(b"keep", settings, writer),
+        CommandOp::Fileinto { mailbox, settings } => write_fileinto(mailbox, settings, writer),
+        CommandOp::Redirect { address, .. } => write_worded(b"redirect ", address, writer),
         CommandOp::Discard => write_out(b"discard", writer),
         CommandOp::Set {
             variable,

@@ -1,13 +1,13 @@
 //! What code keeps of tests and commands: copies of what is read, with strings of their own.
 ghost use Rattle.std.specs.Prelude.{◌≡◌, map, IfOk};
 ghost use Rattle.std.specs.Option.{option_map};
-ghost use Rattle.sieve_reading.specs.view.Reading.{ask_as, leaf_as, source_as, texts_as};
+ghost use Rattle.sieve_reading.specs.view.Reading.{ask_as, leaf_as, settings_as, source_as, texts_as};
 ghost use Rattle.sieve_reading.specs.view.Tree.{text_of};
-ghost use Rattle.sieve_effects.specs.view.Ops.{command_op_as, given_strings, parts_of, source_op_as, test_op_as};
+ghost use Rattle.sieve_effects.specs.view.Ops.{command_op_as, given_strings, parts_of, settings_op_as, source_op_as, test_op_as};
 ghost use Rattle.sieve_variables.specs.view.Part.{part_of, strings_of, variable_of};
 
 use sieve_base::SmallOctets;
-use sieve_effects::{CommandOp, SourceOp, TestOp};
+use sieve_effects::{CommandOp, SettingsOp, SourceOp, TestOp};
 use sieve_reading::{Ask, Leaf, Text, ValueSource};
 use sieve_variables::{Part, Parts, Variable};
 use std::alloc::{AllocError, Global};
@@ -117,20 +117,30 @@ pub(crate) fn test_op(alloc: Global, ask: &Ask<'_>) -> Result<TestOp, AllocError
     }
 }
 
+/// What a command says beside, with strings of its own.
+fn settings_op(alloc: Global, settings: Settings<'_>) -> Result<SettingsOp, AllocError>
+    ensures { IfOk result (λ op. settings_op_as op ≡ settings_as settings.entry) }
+{
+    Ok(SettingsOp {
+        flags: given_strings(alloc, settings.flags)?,
+    })
+}
+
 /// What a command does, with strings of its own.
 pub(crate) fn command_op(alloc: Global, leaf: Leaf<'_>) -> Result<CommandOp, AllocError>
     ensures { IfOk result (λ op. command_op_as op ≡ leaf_as leaf.entry) }
 {
     match leaf {
-        Leaf::Keep { flags } => Ok(CommandOp::Keep {
-            flags: given_strings(alloc, flags)?,
+        Leaf::Keep { settings } => Ok(CommandOp::Keep {
+            settings: settings_op(alloc, settings)?,
         }),
-        Leaf::Fileinto { mailbox, flags } => Ok(CommandOp::Fileinto {
+        Leaf::Fileinto { mailbox, settings } => Ok(CommandOp::Fileinto {
             mailbox: copied_parts(alloc, mailbox)?,
-            flags: given_strings(alloc, flags)?,
+            settings: settings_op(alloc, settings)?,
         }),
-        Leaf::Redirect { address } => Ok(CommandOp::Redirect {
+        Leaf::Redirect { address, settings } => Ok(CommandOp::Redirect {
             address: copied_parts(alloc, address)?,
+            settings: settings_op(alloc, settings)?,
         }),
         Leaf::Discard => Ok(CommandOp::Discard),
         Leaf::Set {

@@ -5,11 +5,12 @@ use lib.Pointwise.{pointwise}
 use Rattle.match_text.specs.Flags.{flag_list, flag_text, flag_union, flags_of_texts, flags_without}
 use Rattle.message_text.specs.Addresses.{AddrSpec, addresses_of}
 use Rattle.sieve_base.specs.Limits.{action_limit, mailbox_limit, value_limit}
-use Rattle.sieve_reading.specs.Reading.{Leaf, keep_leaf, fileinto_leaf, redirect_leaf, discard_leaf, set_leaf, flag_leaf, include_leaf}
+use Rattle.sieve_reading.specs.Reading.{Settings, plain_settings, Leaf, keep_leaf, fileinto_leaf, redirect_leaf, discard_leaf, set_leaf, flag_leaf, include_leaf}
 use Rattle.sieve_reading.specs.declared.reading.FlagChange.{FlagChange}
 use Rattle.sieve_reading.specs.declared.reading.FlagChange.TheVariants as change
 use Rattle.sieve_base.specs.declared.name.ScriptName.{ScriptName}
 use Rattle.sieve_effects.specs.declared.action.Action.{Action}
+use Rattle.sieve_effects.specs.declared.action.Deed.{Deed}
 use Rattle.sieve_effects.specs.declared.action.Action.TheVariants.{Store, Redirect, Discard}
 use Rattle.sieve_effects.specs.declared.error.RunError.{RunError}
 use Rattle.sieve_effects.specs.declared.error.ErrorKind.{ErrorKind}
@@ -83,14 +84,18 @@ with_action action actions =
 abbrev pub fails_at : Delivery → ℕ → ErrorKind → RunState → Ending
 fails_at delivery line kind state = failed (record { script = delivery.script; line = line; kind = kind }) state
 
+-- an action with what its command says of it
+abbrev pub deed_of : Action → Settings → Deed
+deed_of action settings = record { action = action }
+
 -- an action takes the place of the implicit keep (RFC 5228, section 2.10.2)
-abbrev pub ends_with : Delivery → ℕ → Performed → RunState → Ending
-ends_with delivery line (performed actions) state = goes_on (record state { actions = actions; cancelled = true })
-ends_with delivery line one_too_many state = fails_at delivery line TooManyActions state
+abbrev pub ends_with : Delivery → ℕ → Deed → Performed → RunState → Ending
+ends_with delivery line deed (performed actions) state = goes_on (record state { actions = actions; cancelled = true })
+ends_with delivery line deed one_too_many state = fails_at delivery line TooManyActions state
 
 -- a command performs an action
-abbrev pub performs : Delivery → ℕ → Action → RunState → Ending
-performs delivery line action state = ends_with delivery line (with_action action state.actions) state
+abbrev pub performs : Delivery → ℕ → Deed → RunState → Ending
+performs delivery line deed state = ends_with delivery line deed (with_action deed.action state.actions) state
 
 -- no control character of ASCII
 abbrev pub is_no_control : ℕ → Bool
@@ -110,13 +115,13 @@ only_address (one ∷ []) = whole_address one
 only_address (one ∷ two ∷ more) = None
 
 -- to the mailbox of that name, where it may have it (RFC 5228, section 4.1)
-abbrev pub files : Delivery → ℕ → (name : List ℕ) → (flags : List (List ℕ)) → RunState → Ending
-files delivery line name flags state = if is_mailbox name then performs delivery line (Store name flags) state else fails_at delivery line BadMailbox state
+abbrev pub files : Delivery → ℕ → (name : List ℕ) → Deed → RunState → Ending
+files delivery line name deed state = if is_mailbox name then performs delivery line deed state else fails_at delivery line BadMailbox state
 
 -- to an address, where there is one (RFC 5228, section 4.2)
-abbrev pub redirects : Delivery → ℕ → Option (List ℕ) → RunState → Ending
-redirects delivery line None state = fails_at delivery line BadAddress state
-redirects delivery line (Some address) state = performs delivery line (Redirect address) state
+abbrev pub redirects : Delivery → ℕ → Option (List ℕ) → Settings → RunState → Ending
+redirects delivery line None settings state = fails_at delivery line BadAddress state
+redirects delivery line (Some address) settings state = performs delivery line (deed_of (Redirect address) settings) state
 
 -- FLAGS
 
@@ -153,21 +158,25 @@ changes delivery line how (Some variable) texts state = gives delivery line vari
 
 -- WHAT COMMANDS DO THAT ACT
 
+-- a store into a mailbox, with the flags that are said beside
+abbrev pub stores : RunState → List ℕ → Settings → Deed
+stores state mailbox settings = deed_of (Store mailbox (stored_flags state settings.flags)) settings
+
 -- keep stores into the delivery's mailbox (RFC 5228, section 4.3)
-abbrev pub keeps : Delivery → Option (List (List Part)) → ℕ → RunState → Ending
-keeps delivery flags line state = performs delivery line (Store delivery.envelope.mailbox (stored_flags state flags)) state
+abbrev pub keeps : Delivery → Settings → ℕ → RunState → Ending
+keeps delivery settings line state = performs delivery line (stores state delivery.envelope.mailbox settings) state
 
 -- fileinto stores into the mailbox that it names (RFC 5228, section 4.1)
-abbrev pub files_into : Delivery → List Part → Option (List (List Part)) → ℕ → RunState → Ending
-files_into delivery mailbox flags line state = files delivery line (text_value state.values mailbox) (stored_flags state flags) state
+abbrev pub files_into : Delivery → List Part → Settings → ℕ → RunState → Ending
+files_into delivery mailbox settings line state = files delivery line (text_value state.values mailbox) (stores state (text_value state.values mailbox) settings) state
 
 -- redirect sends the message on to an address (RFC 5228, section 4.2)
-abbrev pub sends : Delivery → List Part → ℕ → RunState → Ending
-sends delivery address line state = redirects delivery line (only_address (addresses_of (text_value state.values address))) state
+abbrev pub sends : Delivery → List Part → Settings → ℕ → RunState → Ending
+sends delivery address settings line state = redirects delivery line (only_address (addresses_of (text_value state.values address))) settings state
 
 -- discard discards it (RFC 5228, section 4.4)
 abbrev pub discards : Delivery → ℕ → RunState → Ending
-discards delivery line state = performs delivery line Discard state
+discards delivery line state = performs delivery line (deed_of Discard plain_settings) state
 
 -- set gives a variable a value (RFC 5229, section 4)
 abbrev pub sets : Delivery → Variable → Modifiers → List Part → ℕ → RunState → Ending
@@ -176,9 +185,9 @@ sets delivery variable modifiers value line state = gives delivery line variable
 -- What a command does that acts, where `include` says what an include does: setflag, addflag and removeflag change flags (RFC 5232,
 -- section 3).
 abbrev pub act_by : (include : ScriptName → (once optional : Bool) → ℕ → RunState → Ending) → Delivery → Leaf → ℕ → RunState → Ending
-act_by include delivery (keep_leaf flags) line state = keeps delivery flags line state
-act_by include delivery (fileinto_leaf mailbox flags) line state = files_into delivery mailbox flags line state
-act_by include delivery (redirect_leaf address) line state = sends delivery address line state
+act_by include delivery (keep_leaf settings) line state = keeps delivery settings line state
+act_by include delivery (fileinto_leaf mailbox settings) line state = files_into delivery mailbox settings line state
+act_by include delivery (redirect_leaf address settings) line state = sends delivery address settings line state
 act_by include delivery discard_leaf line state = discards delivery line state
 act_by include delivery (set_leaf variable modifiers value) line state = sets delivery variable modifiers value line state
 act_by include delivery (flag_leaf how variable flags) line state = changes delivery line how variable flags state

@@ -6,17 +6,19 @@ ghost use Rattle.message_text.specs.Addresses.{addresses_of};
 ghost use Rattle.sieve_effects.specs.Act.{discards, files_into, gives, is_mailbox, is_no_control, keeps, only_address, performs, sends, sets, whole_address};
 ghost use Rattle.sieve_effects.specs.view.Delivery.{delivery_as};
 ghost use Rattle.sieve_effects.specs.view.Flow.{ending_by};
+ghost use Rattle.sieve_effects.specs.view.Ops.{settings_op_as};
 ghost use Rattle.sieve_effects.specs.view.Acting.{mailbox_named};
 ghost use Rattle.sieve_effects.specs.view.State.{state_of};
 ghost use Rattle.sieve_variables.specs.Modifier.{modified};
 ghost use Rattle.sieve_variables.specs.Value.{text_value};
 ghost use Rattle.sieve_variables.specs.view.Part.{part_of, strings_of, variable_of};
 
-use crate::action::Action;
+use crate::action::{Action, Deed};
 use crate::delivery::Delivery;
 use crate::error::ErrorKind;
 use crate::flagging::stored_flags;
 use crate::flow::{Flow, fail};
+use crate::ops::SettingsOp;
 use crate::performed::add_action;
 use crate::state::State;
 use message_text::{Address, AddressPart, addresses};
@@ -28,13 +30,13 @@ use std::alloc::AllocError;
 /// Performs an action, which takes the place of the implicit keep (RFC 5228, section 2.10.2).
 fn perform(
     delivery: &Delivery<'_>,
-    action: Action,
+    deed: Deed,
     line: u64,
     state: &mut State,
 ) -> Result<Flow, AllocError>
-    ensures { IfOk result (λ flow. ending_by flow (state_of state.new) ≡ performs (delivery_as delivery.now) line action (state_of state.old)) }
+    ensures { IfOk result (λ flow. ending_by flow (state_of state.new) ≡ performs (delivery_as delivery.now) line deed (state_of state.old)) }
 {
-    if add_action(delivery.alloc, &mut state.actions, action)? {
+    if add_action(delivery.alloc, &mut state.actions, deed.action)? {
         state.cancelled = true;
         Ok(Flow::GoesOn)
     } else {
@@ -46,22 +48,24 @@ fn perform(
 /// section 5). One action too many is an error of the script (RFC 5228, section 2.10.4). Fails where memory is refused.
 pub fn keep(
     delivery: &Delivery<'_>,
-    flags: &Option<Vec<Parts>>,
+    settings: &SettingsOp,
     line: u64,
     state: &mut State,
 ) -> Result<Flow, AllocError>
-    ensures { IfOk result (λ flow. ending_by flow (state_of state.new) ≡ keeps (delivery_as delivery.now) (option_map (λ given. strings_of given.items) flags.now) line (state_of state.old)) }
+    ensures { IfOk result (λ flow. ending_by flow (state_of state.new) ≡ keeps (delivery_as delivery.now) (settings_op_as settings.now) line (state_of state.old)) }
 {
     let mailbox = Octets::copied(delivery.alloc, delivery.envelope.mailbox.as_slice())?;
-    let flags = stored_flags(delivery, &*state, flags)?;
-    perform(delivery, Action::Store { mailbox, flags }, line, state)
+    let flags = stored_flags(delivery, &*state, &settings.flags)?;
+    let action = Action::Store { mailbox, flags };
+    perform(delivery, Deed { action }, line, state)
 }
 
 /// Discards the message (RFC 5228, section 4.4). One action too many is an error of the script (section 2.10.4). Fails where memory is refused.
 pub fn discard(delivery: &Delivery<'_>, line: u64, state: &mut State) -> Result<Flow, AllocError>
     ensures { IfOk result (λ flow. ending_by flow (state_of state.new) ≡ discards (delivery_as delivery.now) line (state_of state.old)) }
 {
-    perform(delivery, Action::Discard, line, state)
+    let action = Action::Discard;
+    perform(delivery, Deed { action }, line, state)
 }
 
 /// Whether an octet is no control character of ASCII.
@@ -108,16 +112,17 @@ fn mailbox_named(
 pub fn file_into(
     delivery: &Delivery<'_>,
     mailbox: &[Part],
-    flags: &Option<Vec<Parts>>,
+    settings: &SettingsOp,
     line: u64,
     state: &mut State,
 ) -> Result<Flow, AllocError>
-    ensures { IfOk result (λ flow. ending_by flow (state_of state.new) ≡ files_into (delivery_as delivery.now) (map part_of mailbox.now) (option_map (λ given. strings_of given.items) flags.now) line (state_of state.old)) }
+    ensures { IfOk result (λ flow. ending_by flow (state_of state.new) ≡ files_into (delivery_as delivery.now) (map part_of mailbox.now) (settings_op_as settings.now) line (state_of state.old)) }
 {
     match mailbox_named(delivery, &state.values, mailbox)? {
         Some(mailbox) => {
-            let flags = stored_flags(delivery, &*state, flags)?;
-            perform(delivery, Action::Store { mailbox, flags }, line, state)
+            let flags = stored_flags(delivery, &*state, &settings.flags)?;
+            let action = Action::Store { mailbox, flags };
+            perform(delivery, Deed { action }, line, state)
         }
         None => fail(delivery, line, ErrorKind::BadMailbox),
     }
@@ -166,13 +171,17 @@ fn address_named(
 pub fn redirect(
     delivery: &Delivery<'_>,
     address: &[Part],
+    settings: &SettingsOp,
     line: u64,
     state: &mut State,
 ) -> Result<Flow, AllocError>
-    ensures { IfOk result (λ flow. ending_by flow (state_of state.new) ≡ sends (delivery_as delivery.now) (map part_of address.now) line (state_of state.old)) }
+    ensures { IfOk result (λ flow. ending_by flow (state_of state.new) ≡ sends (delivery_as delivery.now) (map part_of address.now) (settings_op_as settings.now) line (state_of state.old)) }
 {
     match address_named(delivery, &state.values, address)? {
-        Some(address) => perform(delivery, Action::Redirect { address }, line, state),
+        Some(address) => {
+            let action = Action::Redirect { address };
+            perform(delivery, Deed { action }, line, state)
+        }
         None => fail(delivery, line, ErrorKind::BadAddress),
     }
 }

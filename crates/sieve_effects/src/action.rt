@@ -11,3 +11,9 @@ pub enum Action {
     /// It is discarded (RFC 5228, section 4.4).
     Discard,
 }
+
+/// An action that a command performs, and what the command says of it.
+#[derive(Drop)]
+pub struct Deed {
+    pub action: Action,
+}

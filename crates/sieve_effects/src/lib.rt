@@ -28,5 +28,5 @@ pub use envelope::Envelope;
 pub use error::{ErrorKind, RunError};
 pub use flagging::change;
 pub use flow::{Flow, fail};
-pub use ops::{CommandOp, SourceOp, TestOp};
+pub use ops::{CommandOp, SettingsOp, SourceOp, TestOp};
 pub use state::State;

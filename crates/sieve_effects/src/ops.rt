@@ -71,25 +71,34 @@ pub enum TestOp {
     },
 }
 
+/// What a command that stores or redirects says beside its mailbox or its address.
+#[derive(Drop)]
+pub struct SettingsOp {
+    /// The flags of what it stores, where they are named (RFC 5232, section 5).
+    pub flags: Option<Vec<Parts>>,
+}
+
 /// What a command does that acts.
 #[derive(Drop)]
 pub enum CommandOp {
     /// It stores into the mailbox of the delivery (RFC 5228, section 4.3).
     Keep {
-        /// Its flags, where they are named (RFC 5232, section 5).
-        flags: Option<Vec<Parts>>,
+        /// What it says beside.
+        settings: SettingsOp,
     },
     /// It stores into the mailbox of that name (RFC 5228, section 4.1).
     Fileinto {
         /// The name.
         mailbox: Parts,
-        /// Its flags, where they are named (RFC 5232, section 5).
-        flags: Option<Vec<Parts>>,
+        /// What it says beside.
+        settings: SettingsOp,
     },
     /// It sends the message on to that address (RFC 5228, section 4.2).
     Redirect {
         /// The address.
         address: Parts,
+        /// What it says beside.
+        settings: SettingsOp,
     },
     /// It discards the message (RFC 5228, section 4.4).
     Discard,

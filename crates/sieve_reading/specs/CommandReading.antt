@@ -19,24 +19,36 @@ use Rattle.sieve_variables.specs.declared.modifier.LetterCase.{LetterCase}
 use Rattle.sieve_variables.specs.declared.modifier.LetterCase.TheVariants as letter_case
 use Rattle.sieve_variables.specs.declared.modifier.Modifiers.{Modifiers}
 use Rattle.sieve_reading.specs.Given.{labels_in, in_role, texts_in, given_texts, text_in, variable_in, given_variable, literal_in, has_tag}
-use Rattle.sieve_reading.specs.Reading.{Leaf, keep_leaf, fileinto_leaf, redirect_leaf, discard_leaf, set_leaf, flag_leaf, include_leaf, CommandReading, reads_if, reads_elsif, reads_else, reads_stop, reads_return, reads_nothing, reads_act}
+use Rattle.sieve_reading.specs.Reading.{Settings, Leaf, keep_leaf, fileinto_leaf, redirect_leaf, discard_leaf, set_leaf, flag_leaf, include_leaf, CommandReading, reads_if, reads_elsif, reads_else, reads_stop, reads_return, reads_nothing, reads_act}
 
--- what a `keep` does (RFC 5228, section 4.3; RFC 5232, section 5)
+-- what a command says beside its mailbox or its address (RFC 5232, section 5)
+abbrev pub settings_with : Option (List (List Part)) → Settings
+settings_with flags = record { flags = flags }
+
+abbrev pub settings_by : List Label → List Argument → Option Settings
+settings_by labels args = option_map settings_with (given_texts (in_role role.Flags labels args))
+
+-- what a `keep` does (RFC 5228, section 4.3)
 abbrev pub keep_by : List Label → List Argument → Option Leaf
-keep_by labels args = option_map keep_leaf (given_texts (in_role role.Flags labels args))
+keep_by labels args = option_map keep_leaf (settings_by labels args)
 
--- what a `fileinto` does (RFC 5228, section 4.1; RFC 5232, section 5)
-abbrev pub fileinto_from : Option (List Part) → Option (Option (List (List Part))) → Option Leaf
-fileinto_from (Some mailbox) (Some flags) = Some (fileinto_leaf mailbox flags)
+-- what a `fileinto` does (RFC 5228, section 4.1)
+abbrev pub fileinto_from : Option (List Part) → Option Settings → Option Leaf
+fileinto_from (Some mailbox) (Some settings) = Some (fileinto_leaf mailbox settings)
 fileinto_from (Some mailbox) None = None
-fileinto_from None flags = None
+fileinto_from None settings = None
 
 abbrev pub fileinto_by : List Label → List Argument → Option Leaf
-fileinto_by labels args = fileinto_from (text_in (in_role role.Mailbox labels args)) (given_texts (in_role role.Flags labels args))
+fileinto_by labels args = fileinto_from (text_in (in_role role.Mailbox labels args)) (settings_by labels args)
 
 -- what a `redirect` does (RFC 5228, section 4.2)
+abbrev pub redirect_from : Option (List Part) → Option Settings → Option Leaf
+redirect_from (Some address) (Some settings) = Some (redirect_leaf address settings)
+redirect_from (Some address) None = None
+redirect_from None settings = None
+
 abbrev pub redirect_by : List Label → List Argument → Option Leaf
-redirect_by labels args = option_map redirect_leaf (text_in (in_role role.Address labels args))
+redirect_by labels args = redirect_from (text_in (in_role role.Address labels args)) (settings_by labels args)
 
 -- the case that one of two tags asks for
 abbrev pub case_of : (lower upper : Bool) → Option LetterCase

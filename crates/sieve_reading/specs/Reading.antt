@@ -26,13 +26,22 @@ pub data Ask : Type 0 where
   over_ask : (limit : ℕ) → Ask
   under_ask : (limit : ℕ) → Ask
 
--- A command that acts. One that stores may name the flags of what it stores (RFC 5232, section 5). One that changes flags changes
+-- What a command that stores or redirects says beside its mailbox or its address: the flags of what it stores, where it names them (RFC
+-- 5232, section 5).
+pub record Settings : Type 0 where
+  pub flags : Option (List (List Part))
+
+-- those of a command that says nothing beside
+abbrev pub plain_settings : Settings
+plain_settings = record { flags = None }
+
+-- A command that acts. One that changes flags changes
 -- those that a variable holds, or else the internal ones (section 3). One that includes a script names its place and its name,
 -- and says whether the script runs once at most, and whether it may be missing (RFC 6609, section 3.2).
 pub data Leaf : Type 0 where
-  keep_leaf : (flags : Option (List (List Part))) → Leaf
-  fileinto_leaf : (mailbox : List Part) (flags : Option (List (List Part))) → Leaf
-  redirect_leaf : (address : List Part) → Leaf
+  keep_leaf : (settings : Settings) → Leaf
+  fileinto_leaf : (mailbox : List Part) (settings : Settings) → Leaf
+  redirect_leaf : (address : List Part) (settings : Settings) → Leaf
   discard_leaf : Leaf
   set_leaf : (variable : Variable) (modifiers : Modifiers) (value : List Part) → Leaf
   flag_leaf : (change : FlagChange) (variable : Option Variable) (flags : List (List Part)) → Leaf

@@ -2,26 +2,34 @@
 ghost use Rattle.std.specs.Prelude.{◌≡◌, true, false, length, Some, None, map};
 ghost use Rattle.std.specs.Option.{option_map};
 ghost use Rattle.sieve_reading.specs.Reading.{reads_act};
-ghost use Rattle.sieve_reading.specs.CommandReading.{case_of, command_reading, command_reading_by, fileinto_by, flags_by, include_by, keep_by, kind_of, modifiers_of, place_of, redirect_by, set_by};
+ghost use Rattle.sieve_reading.specs.CommandReading.{case_of, command_reading, command_reading_by, fileinto_by, flags_by, include_by, keep_by, kind_of, modifiers_of, place_of, redirect_by, set_by, settings_by};
 ghost use Rattle.sieve_reading.specs.Given.{given_texts, given_variable, has_tag, labels_in, literal_in, text_in, texts_in, variable_in};
-ghost use Rattle.sieve_reading.specs.view.Reading.{command_reading_as};
+ghost use Rattle.sieve_reading.specs.view.Reading.{command_reading_as, settings_as};
 ghost use Rattle.sieve_table.specs.view.Row.{row_as};
 ghost use Rattle.sieve_reading.specs.view.Tree.{argument_of, node_of};
 
 use crate::given::{given_texts, given_variable, literal_in, text_in, texts_in, variable_in};
 use crate::labelled::{argument_in, has_tag};
-use crate::reading::{CommandReading, FlagChange, Leaf};
+use crate::reading::{CommandReading, FlagChange, Leaf, Settings};
 use crate::tree::{Argument, Command};
 use sieve_base::Place;
 use sieve_table::{CommandKind, Role, Row, Tag, command_named};
 use sieve_variables::{LetterCase, Modifiers};
 
+/// What a command says beside its mailbox or its address.
+fn settings_by<'a>(row: &Row, args: &'a [Argument]) -> Option<Settings<'a>>
+    ensures { option_map settings_as result ≡ settings_by (labels_in (row_as row.now) (map argument_of args.now)) (map argument_of args.now) }
+{
+    let flags = given_texts(argument_in(row, Role::Flags, args))?;
+    Some(Settings { flags })
+}
+
 /// What a `keep` does.
 fn keep_leaf<'a>(row: &Row, args: &'a [Argument]) -> Option<CommandReading<'a>>
     ensures { option_map command_reading_as result ≡ option_map reads_act (keep_by (labels_in (row_as row.now) (map argument_of args.now)) (map argument_of args.now)) }
 {
-    let flags = given_texts(argument_in(row, Role::Flags, args))?;
-    Some(CommandReading::Acts(Leaf::Keep { flags }))
+    let settings = settings_by(row, args)?;
+    Some(CommandReading::Acts(Leaf::Keep { settings }))
 }
 
 /// What a `fileinto` does.
@@ -29,8 +37,8 @@ fn fileinto_leaf<'a>(row: &Row, args: &'a [Argument]) -> Option<CommandReading<'
     ensures { option_map command_reading_as result ≡ option_map reads_act (fileinto_by (labels_in (row_as row.now) (map argument_of args.now)) (map argument_of args.now)) }
 {
     let mailbox = text_in(argument_in(row, Role::Mailbox, args))?;
-    let flags = given_texts(argument_in(row, Role::Flags, args))?;
-    Some(CommandReading::Acts(Leaf::Fileinto { mailbox, flags }))
+    let settings = settings_by(row, args)?;
+    Some(CommandReading::Acts(Leaf::Fileinto { mailbox, settings }))
 }
 
 /// What a `redirect` does.
@@ -38,7 +46,8 @@ fn redirect_leaf<'a>(row: &Row, args: &'a [Argument]) -> Option<CommandReading<'
     ensures { option_map command_reading_as result ≡ option_map reads_act (redirect_by (labels_in (row_as row.now) (map argument_of args.now)) (map argument_of args.now)) }
 {
     let address = text_in(argument_in(row, Role::Address, args))?;
-    Some(CommandReading::Acts(Leaf::Redirect { address }))
+    let settings = settings_by(row, args)?;
+    Some(CommandReading::Acts(Leaf::Redirect { address, settings }))
 }
 
 /// The case that one of two tags asks for.

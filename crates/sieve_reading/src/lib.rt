@@ -13,7 +13,9 @@ mod test_reading;
 mod tree;
 
 pub use label::{Expected, Label, Shape, Shaped};
-pub use reading::{Ask, CommandReading, FlagChange, Leaf, MatchType, TestReading, ValueSource};
+pub use reading::{
+    Ask, CommandReading, FlagChange, Leaf, MatchType, Settings, TestReading, ValueSource,
+};
 pub use role::role_of;
 pub use shape::{row_expected, row_is_filled, row_labels};
 pub use sieve_base::{Place, SmallOctets};

@@ -110,25 +110,34 @@ pub enum FlagChange {
     Remove,
 }
 
+/// What a command that stores or redirects says beside its mailbox or its address.
+#[derive(Clone, Copy)]
+pub struct Settings<'a> {
+    /// The flags of what it stores, where it names them (RFC 5232, section 5).
+    pub flags: Option<&'a [Text]>,
+}
+
 /// What a command does that acts.
 #[derive(Clone, Copy)]
 pub enum Leaf<'a> {
     /// It stores into the mailbox of the delivery (RFC 5228, section 4.3).
     Keep {
-        /// Its flags, where it names them (RFC 5232, section 5).
-        flags: Option<&'a [Text]>,
+        /// What it says beside.
+        settings: Settings<'a>,
     },
     /// It stores into the mailbox of that name (RFC 5228, section 4.1).
     Fileinto {
         /// The name, as its parts.
         mailbox: &'a [Part],
-        /// Its flags, where it names them (RFC 5232, section 5).
-        flags: Option<&'a [Text]>,
+        /// What it says beside.
+        settings: Settings<'a>,
     },
     /// It sends the message on to that address (RFC 5228, section 4.2).
     Redirect {
         /// The address, as its parts.
         address: &'a [Part],
+        /// What it says beside.
+        settings: Settings<'a>,
     },
     /// It discards the message (RFC 5228, section 4.4).
     Discard,

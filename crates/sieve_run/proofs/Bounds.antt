@@ -6,7 +6,7 @@ use Rattle.std.specs.Prelude.{if◌then◌else◌}
 use Rattle.std.specs.List.{list_any}
 use Rattle.message_text.specs.Addresses.{addresses_of}
 use Rattle.sieve_base.specs.Limits.{action_limit, include_depth, include_limit}
-use Rattle.sieve_reading.specs.Reading.{Leaf, keep_leaf, fileinto_leaf, redirect_leaf, discard_leaf, set_leaf, flag_leaf, include_leaf}
+use Rattle.sieve_reading.specs.Reading.{Settings, plain_settings, Leaf, keep_leaf, fileinto_leaf, redirect_leaf, discard_leaf, set_leaf, flag_leaf, include_leaf}
 use Rattle.sieve_reading.specs.declared.reading.FlagChange.{FlagChange}
 use Rattle.sieve_reading.specs.Script.{script_of}
 use Rattle.sieve_reading.specs.Tree.{Node}
@@ -15,14 +15,14 @@ use Rattle.sieve_effects.specs.Delivery.{Delivery, inside}
 use Rattle.sieve_run.specs.Library.{Lookup, missing, invalid, present, found_at}
 use Rattle.sieve_effects.specs.Matching.{behind_test, truth_of}
 use Rattle.sieve_run.specs.Perform.{perform}
-use Rattle.sieve_effects.specs.Act.{Ending, goes_on, returned, stopped, failed, performed, one_too_many, same_action, joined_with, stored_flags, changes, ends_with, gives, performs, fails_at, is_mailbox, only_address, redirects, held_flags, changed_flags, flags_named, state_behind}
+use Rattle.sieve_effects.specs.Act.{deed_of, stores, Ending, goes_on, returned, stopped, failed, performed, one_too_many, same_action, joined_with, stored_flags, changes, ends_with, gives, performs, fails_at, is_mailbox, only_address, redirects, held_flags, changed_flags, flags_named, state_behind}
 use Rattle.sieve_run.specs.Run.{entering, included, include_of, includes, is_running, is_script, is_there, looked_up, act_of, and_then, answer_of, begun, chosen, delivery_to, exec, resumed, run_of, running, verdict_at, verdict_of, outcome_of, with_found_script, with_read}
 use Rattle.sieve_effects.specs.State.{RunState}
 use Rattle.sieve_effects.specs.declared.envelope.Envelope.{Envelope}
 use Rattle.sieve_effects.specs.declared.flow.Flow.{Flow}
 use Rattle.sieve_effects.specs.declared.flow.Flow.TheVariants as flow
 use Rattle.sieve_base.specs.declared.name.ScriptName.{ScriptName}
-use Rattle.sieve_effects.specs.declared.action.Action.{Action}
+use Rattle.sieve_effects.specs.declared.action.Deed.{Deed}
 use Rattle.sieve_effects.specs.declared.action.Action.TheVariants.{Store, Redirect, Discard}
 use Rattle.sieve_effects.specs.declared.error.ErrorKind.TheVariants.{BadMailbox, TooManyGlobals, IncludeCount}
 use Rattle.sieve_effects.specs.view.Flow.{ending_by}
@@ -40,7 +40,7 @@ pub record IsKept (Holds : RunState → Type 0) : Type 0 where
   pub values : (s : RunState) (values : Values) → Holds s → Holds (record s { values = values })
   pub flags : (s : RunState) (flags : List (List ℕ)) → Holds s → Holds (record s { flags = flags })
   pub reads : (s : RunState) (reads : List (ScriptName × Bool)) → Holds s → Holds (record s { reads = reads })
-  pub acts : (delivery : Delivery) (line : ℕ) (action : Action) (s : RunState) → Holds s → Holds (state_behind (performs delivery line action s))
+  pub acts : (delivery : Delivery) (line : ℕ) (deed : Deed) (s : RunState) → Holds s → Holds (state_behind (performs delivery line deed s))
   pub enters : (name : ScriptName) (s : RunState) → nat_lt include_limit (length s.entered) ≡ false → Holds s → Holds (entering name s)
 
 module _ (Holds : RunState → Type 0) (kept : IsKept Holds) where
@@ -48,13 +48,13 @@ module _ (Holds : RunState → Type 0) (kept : IsKept Holds) where
   abbrev Ends : Ending → Type 0
   Ends e = Holds (state_behind e)
 
-  filed : (delivery : Delivery) (line : ℕ) (name : List ℕ) (flags : List (List ℕ)) (s : RunState) → Holds s → (named : Bool) → Ends (if named then performs delivery line (Store name flags) s else fails_at delivery line BadMailbox s)
-  filed delivery line name flags s h true = kept.acts delivery line (Store name flags) s h
-  filed delivery line name flags s h false = h
+  filed : (delivery : Delivery) (line : ℕ) (deed : Deed) (s : RunState) → Holds s → (named : Bool) → Ends (if named then performs delivery line deed s else fails_at delivery line BadMailbox s)
+  filed delivery line deed s h true = kept.acts delivery line deed s h
+  filed delivery line deed s h false = h
 
-  redirected : (delivery : Delivery) (line : ℕ) (address : Option (List ℕ)) (s : RunState) → Holds s → Ends (redirects delivery line address s)
-  redirected delivery line None s h = h
-  redirected delivery line (Some address) s h = kept.acts delivery line (Redirect address) s h
+  redirected : (delivery : Delivery) (line : ℕ) (address : Option (List ℕ)) (settings : Settings) (s : RunState) → Holds s → Ends (redirects delivery line address settings s)
+  redirected delivery line None settings s h = h
+  redirected delivery line (Some address) settings s h = kept.acts delivery line (deed_of (Redirect address) settings) s h
 
   given_by : (delivery : Delivery) (line : ℕ) (variable : Variable) (value : List ℕ) (s : RunState) → Holds s → (room : Bool) → Ends (if room then goes_on (record s { values = with_variable variable value s.values }) else fails_at delivery line TooManyGlobals s)
   given_by delivery line variable value s h true = kept.values s (with_variable variable value s.values) h
@@ -136,10 +136,10 @@ module _ (Holds : RunState → Type 0) (kept : IsKept Holds) where
   module _ (find : ScriptName → Lookup) where
     acts_hold : (depth : ℕ) (delivery : Delivery) → ((name : ScriptName) (once optional : Bool) (line : ℕ) (s : RunState) → Holds s → Ends (included find depth delivery name once optional line s))
         → (leaf : Leaf) (line : ℕ) (s : RunState) → Holds s → Ends (act_of find depth delivery leaf line s)
-    acts_hold depth delivery inner (keep_leaf flags) line s h = kept.acts delivery line (Store delivery.envelope.mailbox (stored_flags s flags)) s h
-    acts_hold depth delivery inner (fileinto_leaf mailbox flags) line s h = filed delivery line (text_value s.values mailbox) (stored_flags s flags) s h (is_mailbox (text_value s.values mailbox))
-    acts_hold depth delivery inner (redirect_leaf address) line s h = redirected delivery line (only_address (addresses_of (text_value s.values address))) s h
-    acts_hold depth delivery inner discard_leaf line s h = kept.acts delivery line Discard s h
+    acts_hold depth delivery inner (keep_leaf settings) line s h = kept.acts delivery line (stores s delivery.envelope.mailbox settings) s h
+    acts_hold depth delivery inner (fileinto_leaf mailbox settings) line s h = filed delivery line (stores s (text_value s.values mailbox) settings) s h (is_mailbox (text_value s.values mailbox))
+    acts_hold depth delivery inner (redirect_leaf address settings) line s h = redirected delivery line (only_address (addresses_of (text_value s.values address))) settings s h
+    acts_hold depth delivery inner discard_leaf line s h = kept.acts delivery line (deed_of Discard plain_settings) s h
     acts_hold depth delivery inner (set_leaf variable modifiers value) line s h = given delivery line variable (modified modifiers (text_value s.values value)) s h
     acts_hold depth delivery inner (flag_leaf how variable flags) line s h = changed delivery line how variable flags s h
     acts_hold depth delivery inner (include_leaf place once optional name) line s h = inner (record { place = place; name = name }) once optional line s h
@@ -171,18 +171,18 @@ module _ (Holds : RunState → Type 0) (kept : IsKept Holds) where
 abbrev pub IsBounded : RunState → Type 0
 IsBounded state = length state.actions ≤ action_limit
 
-with_room : (delivery : Delivery) (action : Action) (line : ℕ) (s : RunState) → IsBounded s → (there room : Bool) → nat_lt (length s.actions) action_limit ≡ room
-    → IsBounded (state_behind (ends_with delivery line (if there then performed (map (joined_with action) s.actions) else if room then performed (s.actions ++ action ∷ []) else one_too_many) s))
-with_room delivery action line s bound true room is = subst (λ n. n ≤ action_limit) (sym (length-map s.actions (joined_with action))) bound
-with_room delivery action line s bound false true is = grind (arith, nat_tests, length_push s.actions action)
-with_room delivery action line s bound false false is = bound
+with_room : (delivery : Delivery) (deed : Deed) (line : ℕ) (s : RunState) → IsBounded s → (there room : Bool) → nat_lt (length s.actions) action_limit ≡ room
+    → IsBounded (state_behind (ends_with delivery line deed (if there then performed (map (joined_with deed.action) s.actions) else if room then performed (s.actions ++ deed.action ∷ []) else one_too_many) s))
+with_room delivery deed line s bound true room is = subst (λ n. n ≤ action_limit) (sym (length-map s.actions (joined_with deed.action))) bound
+with_room delivery deed line s bound false true is = grind (arith, nat_tests, length_push s.actions deed.action)
+with_room delivery deed line s bound false false is = bound
 
 bounded : IsKept IsBounded
 bounded = record {
   values = λ s values h. h;
   flags = λ s flags h. h;
   reads = λ s reads h. h;
-  acts = λ delivery line action s h. with_room delivery action line s h (list_any (same_action action) s.actions) (nat_lt (length s.actions) action_limit) refl;
+  acts = λ delivery line deed s h. with_room delivery deed line s h (list_any (same_action deed.action) s.actions) (nat_lt (length s.actions) action_limit) refl;
   enters = λ name s few h. h;
 }
 
@@ -225,17 +225,17 @@ IsShort state = length state.entered ≤ suc include_limit
 one_more : (name : ScriptName) (s : RunState) → nat_lt include_limit (length s.entered) ≡ false → length (s.entered ++ name ∷ []) ≤ suc include_limit
 one_more name s few = grind (arith, nat_tests, length_push s.entered name)
 
-performs_enters : (delivery : Delivery) (line : ℕ) (s : RunState) (there room : Bool) (action : Action) → (state_behind (ends_with delivery line (if there then performed (map (joined_with action) s.actions) else if room then performed (s.actions ++ action ∷ []) else one_too_many) s)).entered ≡ s.entered
-performs_enters delivery line s true room action = refl
-performs_enters delivery line s false true action = refl
-performs_enters delivery line s false false action = refl
+performs_enters : (delivery : Delivery) (line : ℕ) (s : RunState) (there room : Bool) (deed : Deed) → (state_behind (ends_with delivery line deed (if there then performed (map (joined_with deed.action) s.actions) else if room then performed (s.actions ++ deed.action ∷ []) else one_too_many) s)).entered ≡ s.entered
+performs_enters delivery line s true room deed = refl
+performs_enters delivery line s false true deed = refl
+performs_enters delivery line s false false deed = refl
 
 short : IsKept IsShort
 short = record {
   values = λ s values h. h;
   flags = λ s flags h. h;
   reads = λ s reads h. h;
-  acts = λ delivery line action s h. subst (λ entered. length entered ≤ suc include_limit) (sym (performs_enters delivery line s (list_any (same_action action) s.actions) (nat_lt (length s.actions) action_limit) action)) h;
+  acts = λ delivery line deed s h. subst (λ entered. length entered ≤ suc include_limit) (sym (performs_enters delivery line s (list_any (same_action deed.action) s.actions) (nat_lt (length s.actions) action_limit) deed)) h;
   enters = λ name s few h. one_more name s few;
 }
 

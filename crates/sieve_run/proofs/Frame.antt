@@ -9,7 +9,7 @@ use Rattle.match_text.specs.Flags.{flag_list}
 use Rattle.sieve_base.specs.Limits.{action_limit, include_depth, include_limit, name_limit}
 use Rattle.sieve_base.specs.declared.place.Place.{Place}
 use Rattle.sieve_base.specs.declared.place.Place.TheVariants.{Personal, Global}
-use Rattle.sieve_reading.specs.Reading.{Leaf, keep_leaf, fileinto_leaf, redirect_leaf, discard_leaf, set_leaf, flag_leaf, include_leaf}
+use Rattle.sieve_reading.specs.Reading.{Settings, plain_settings, Leaf, keep_leaf, fileinto_leaf, redirect_leaf, discard_leaf, set_leaf, flag_leaf, include_leaf}
 use Rattle.sieve_reading.specs.declared.reading.FlagChange.{FlagChange}
 use Rattle.sieve_reading.specs.Script.{Condition, Commands, no_commands, stops, returns, acts, chooses, script_of}
 use Rattle.sieve_reading.specs.Tree.{Node}
@@ -17,12 +17,12 @@ use Rattle.sieve_effects.specs.Delivery.{Delivery, inside}
 use Rattle.sieve_run.specs.Frame.{Agree, Texts, outcome_over}
 use Rattle.sieve_run.specs.Library.{Lookup, missing, invalid, present, found_at, lookup_of}
 use Rattle.sieve_base.specs.Name.{name_eq, place_eq}
-use Rattle.sieve_effects.specs.Act.{Ending, goes_on, returned, stopped, failed, performed, one_too_many, same_action, joined_with, stored_flags, changes, changed_flags, ends_with, flags_named, held_flags, performs, fails_at, is_mailbox, only_address, redirects, act_by, state_behind}
+use Rattle.sieve_effects.specs.Act.{deed_of, stores, Ending, goes_on, returned, stopped, failed, performed, one_too_many, same_action, joined_with, stored_flags, changes, changed_flags, ends_with, flags_named, held_flags, performs, fails_at, is_mailbox, only_address, redirects, act_by, state_behind}
 use Rattle.sieve_run.specs.Run.{entering, included, include_of, includes, is_read, is_running, is_script, is_there, looked_up, act_of, and_then, answer_of, begun, chosen, decide, delivery_to, exec, resumed, run_of, running, verdict_at, verdict_of, outcome_of, with_found_script, with_read}
 use Rattle.sieve_effects.specs.State.{RunState}
 use Rattle.sieve_effects.specs.declared.envelope.Envelope.{Envelope}
 use Rattle.sieve_base.specs.declared.name.ScriptName.{ScriptName}
-use Rattle.sieve_effects.specs.declared.action.Action.{Action}
+use Rattle.sieve_effects.specs.declared.action.Deed.{Deed}
 use Rattle.sieve_effects.specs.declared.action.Action.TheVariants.{Store, Redirect, Discard}
 use Rattle.sieve_effects.specs.declared.error.ErrorKind.TheVariants.{BadMailbox, IncludeCount, TooManyGlobals}
 use Rattle.sieve_run.specs.view.Step.{Acts}
@@ -99,21 +99,21 @@ reads_stay s t same name r = subst (λ reads. is_read name reads ≡ true) (sym 
 
 -- WHAT COMMANDS READ THAT INCLUDE NOTHING
 
-performed_reads : (delivery : Delivery) (line : ℕ) (action : Action) (s : RunState) (there room : Bool) → (state_behind (ends_with delivery line (if there then performed (map (joined_with action) s.actions) else if room then performed (s.actions ++ action ∷ []) else one_too_many) s)).reads ≡ s.reads
-performed_reads delivery line action s true room = refl
-performed_reads delivery line action s false true = refl
-performed_reads delivery line action s false false = refl
+performed_reads : (delivery : Delivery) (line : ℕ) (deed : Deed) (s : RunState) (there room : Bool) → (state_behind (ends_with delivery line deed (if there then performed (map (joined_with deed.action) s.actions) else if room then performed (s.actions ++ deed.action ∷ []) else one_too_many) s)).reads ≡ s.reads
+performed_reads delivery line deed s true room = refl
+performed_reads delivery line deed s false true = refl
+performed_reads delivery line deed s false false = refl
 
-performs_reads : (delivery : Delivery) (line : ℕ) (action : Action) (s : RunState) → (state_behind (performs delivery line action s)).reads ≡ s.reads
-performs_reads delivery line action s = performed_reads delivery line action s (list_any (same_action action) s.actions) (nat_lt (length s.actions) action_limit)
+performs_reads : (delivery : Delivery) (line : ℕ) (deed : Deed) (s : RunState) → (state_behind (performs delivery line deed s)).reads ≡ s.reads
+performs_reads delivery line deed s = performed_reads delivery line deed s (list_any (same_action deed.action) s.actions) (nat_lt (length s.actions) action_limit)
 
-filed_reads : (delivery : Delivery) (line : ℕ) (name : List ℕ) (flags : List (List ℕ)) (s : RunState) (named : Bool) → (state_behind (if named then performs delivery line (Store name flags) s else fails_at delivery line BadMailbox s)).reads ≡ s.reads
-filed_reads delivery line name flags s true = performs_reads delivery line (Store name flags) s
-filed_reads delivery line name flags s false = refl
+filed_reads : (delivery : Delivery) (line : ℕ) (deed : Deed) (s : RunState) (named : Bool) → (state_behind (if named then performs delivery line deed s else fails_at delivery line BadMailbox s)).reads ≡ s.reads
+filed_reads delivery line deed s true = performs_reads delivery line deed s
+filed_reads delivery line deed s false = refl
 
-redirected_reads : (delivery : Delivery) (line : ℕ) (address : Option (List ℕ)) (s : RunState) → (state_behind (redirects delivery line address s)).reads ≡ s.reads
-redirected_reads delivery line None s = refl
-redirected_reads delivery line (Some address) s = performs_reads delivery line (Redirect address) s
+redirected_reads : (delivery : Delivery) (line : ℕ) (address : Option (List ℕ)) (settings : Settings) (s : RunState) → (state_behind (redirects delivery line address settings s)).reads ≡ s.reads
+redirected_reads delivery line None settings s = refl
+redirected_reads delivery line (Some address) settings s = performs_reads delivery line (deed_of (Redirect address) settings) s
 
 given_reads : (delivery : Delivery) (line : ℕ) (variable : Variable) (value : List ℕ) (s : RunState) (room : Bool) → (state_behind (if room then goes_on (record s { values = with_variable variable value s.values }) else fails_at delivery line TooManyGlobals s)).reads ≡ s.reads
 given_reads delivery line variable value s true = refl
@@ -278,10 +278,10 @@ module _ (find other : ScriptName → Lookup) where
 
   acts_frames : (delivery : Delivery) (include include' : ScriptName → (once optional : Bool) → ℕ → RunState → Ending) → ((name : ScriptName) (once optional : Bool) (line : ℕ) → Frames (include name once optional line) (include' name once optional line))
       → (leaf : Leaf) (line : ℕ) → Frames (act_by include delivery leaf line) (act_by include' delivery leaf line)
-  acts_frames delivery include include' frames (keep_leaf flags) line = own_frames _ (λ s. performs_reads delivery line (Store delivery.envelope.mailbox (stored_flags s flags)) s)
-  acts_frames delivery include include' frames (fileinto_leaf mailbox flags) line = own_frames _ (λ s. filed_reads delivery line (text_value s.values mailbox) (stored_flags s flags) s (is_mailbox (text_value s.values mailbox)))
-  acts_frames delivery include include' frames (redirect_leaf address) line = own_frames _ (λ s. redirected_reads delivery line (only_address (addresses_of (text_value s.values address))) s)
-  acts_frames delivery include include' frames discard_leaf line = own_frames _ (λ s. performs_reads delivery line Discard s)
+  acts_frames delivery include include' frames (keep_leaf settings) line = own_frames _ (λ s. performs_reads delivery line (stores s delivery.envelope.mailbox settings) s)
+  acts_frames delivery include include' frames (fileinto_leaf mailbox settings) line = own_frames _ (λ s. filed_reads delivery line (stores s (text_value s.values mailbox) settings) s (is_mailbox (text_value s.values mailbox)))
+  acts_frames delivery include include' frames (redirect_leaf address settings) line = own_frames _ (λ s. redirected_reads delivery line (only_address (addresses_of (text_value s.values address))) settings s)
+  acts_frames delivery include include' frames discard_leaf line = own_frames _ (λ s. performs_reads delivery line (deed_of Discard plain_settings) s)
   acts_frames delivery include include' frames (set_leaf variable modifiers value) line = own_frames _ (λ s. given_reads delivery line variable (modified modifiers (text_value s.values value)) s (has_room_for variable s.values))
   acts_frames delivery include include' frames (flag_leaf how variable flags) line = own_frames _ (λ s. changed_reads delivery line how variable flags s)
   acts_frames delivery include include' frames (include_leaf place once optional name) line =

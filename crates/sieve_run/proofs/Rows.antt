@@ -3,7 +3,7 @@ use Rattle.std.proofs.Common.{◌≡◌, ℕ, Bool, true, false, List, [], ◌�
 use Rattle.match_text.specs.declared.comparators.Collation.{Collation}
 use Rattle.match_text.specs.declared.comparators.Collation.TheVariants.{Octet, Casemap}
 use Rattle.message_text.specs.Fields.{fields_of, field_groups}
-use Rattle.sieve_reading.specs.Reading.{Ask, header_values, address_values, envelope_values, string_values, flag_values, compares, exists_ask, over_ask, under_ask, keep_leaf, fileinto_leaf, redirect_leaf, discard_leaf, set_leaf, flag_leaf, include_leaf}
+use Rattle.sieve_reading.specs.Reading.{plain_settings, Ask, header_values, address_values, envelope_values, string_values, flag_values, compares, exists_ask, over_ask, under_ask, keep_leaf, fileinto_leaf, redirect_leaf, discard_leaf, set_leaf, flag_leaf, include_leaf}
 use Rattle.sieve_reading.specs.Script.{Condition, always, never, asks, negated, both, either, Commands, no_commands, stops, acts, chooses, chain_of, node_before, block_commands, conditions_in}
 use Rattle.sieve_table.specs.Table.{command_named}
 use Rattle.sieve_variables.specs.Part.{Part, literal, local_part, match_part}
@@ -226,47 +226,47 @@ unfolding exec
 no_commands_row = refl
 
 -- if true { keep; stop; discard; } discard;
-stop_row : done [] (chooses always (acts (keep_leaf None) 1 (stops (acts discard_leaf 1 no_commands))) no_commands (acts discard_leaf 2 no_commands)) ≡ stopped (after (inbox ∷ []) true)
+stop_row : done [] (chooses always (acts (keep_leaf plain_settings) 1 (stops (acts discard_leaf 1 no_commands))) no_commands (acts discard_leaf 2 no_commands)) ≡ stopped (after (inbox ∷ []) true)
 unfolding exec decide
 stop_row = refl
 
 -- discard; keep;
-discard_row : done [] (acts discard_leaf 1 (acts (keep_leaf None) 2 no_commands)) ≡ goes_on (after (Discard ∷ inbox ∷ []) true)
+discard_row : done [] (acts discard_leaf 1 (acts (keep_leaf plain_settings) 2 no_commands)) ≡ goes_on (after (Discard ∷ inbox ∷ []) true)
 unfolding exec
 discard_row = refl
 
 -- keep; discard; keep; discard;
-second_row_of_keep : done [] (acts (keep_leaf None) 1 (acts discard_leaf 2 (acts (keep_leaf None) 3 (acts discard_leaf 4 no_commands)))) ≡ goes_on (after (inbox ∷ Discard ∷ []) true)
+second_row_of_keep : done [] (acts (keep_leaf plain_settings) 1 (acts discard_leaf 2 (acts (keep_leaf plain_settings) 3 (acts discard_leaf 4 no_commands)))) ≡ goes_on (after (inbox ∷ Discard ∷ []) true)
 unfolding exec flag_union distinct flags_without
 second_row_of_keep = refl
 
 -- fileinto "A"; discard; fileinto "A";
-fileinto_row : done [] (acts (fileinto_leaf (text (codes "A")) None) 1 (acts discard_leaf 2 (acts (fileinto_leaf (text (codes "A")) None) 3 no_commands))) ≡ goes_on (after (Store (codes "A") [] ∷ Discard ∷ []) true)
+fileinto_row : done [] (acts (fileinto_leaf (text (codes "A")) plain_settings) 1 (acts discard_leaf 2 (acts (fileinto_leaf (text (codes "A")) plain_settings) 3 no_commands))) ≡ goes_on (after (Store (codes "A") [] ∷ Discard ∷ []) true)
 unfolding exec flag_union distinct flags_without
 fileinto_row = refl
 
 -- discard; fileinto "";
-bad_mailbox_row : done [] (acts discard_leaf 1 (acts (fileinto_leaf (text []) None) 2 no_commands)) ≡ failed (record { script = main; line = 2; kind = BadMailbox }) (after (Discard ∷ []) true)
+bad_mailbox_row : done [] (acts discard_leaf 1 (acts (fileinto_leaf (text []) plain_settings) 2 no_commands)) ≡ failed (record { script = main; line = 2; kind = BadMailbox }) (after (Discard ∷ []) true)
 unfolding exec
 bad_mailbox_row = refl
 
 -- redirect "J <a@b>"; redirect "a@b";
-redirect_row : done [] (acts (redirect_leaf (text (codes "J <a@b>"))) 1 (acts (redirect_leaf (text (codes "a@b"))) 2 no_commands)) ≡ goes_on (after (Redirect (codes "a@b") ∷ []) true)
+redirect_row : done [] (acts (redirect_leaf (text (codes "J <a@b>")) plain_settings) 1 (acts (redirect_leaf (text (codes "a@b")) plain_settings) 2 no_commands)) ≡ goes_on (after (Redirect (codes "a@b") ∷ []) true)
 unfolding exec addresses_of marks_from
 redirect_row = refl
 
 -- redirect "x"; and redirect "a@b, c@d";
-bad_address_row : done [] (acts (redirect_leaf (text (codes "x"))) 1 no_commands) ≡ failed (record { script = main; line = 1; kind = BadAddress }) (after [] false)
+bad_address_row : done [] (acts (redirect_leaf (text (codes "x")) plain_settings) 1 no_commands) ≡ failed (record { script = main; line = 1; kind = BadAddress }) (after [] false)
 unfolding exec addresses_of marks_from
 bad_address_row = refl
 
-two_addresses_row : done [] (acts (redirect_leaf (text (codes "a@b, c@d"))) 1 no_commands) ≡ failed (record { script = main; line = 1; kind = BadAddress }) (after [] false)
+two_addresses_row : done [] (acts (redirect_leaf (text (codes "a@b, c@d")) plain_settings) 1 no_commands) ≡ failed (record { script = main; line = 1; kind = BadAddress }) (after [] false)
 unfolding exec addresses_of marks_from
 two_addresses_row = refl
 
 -- if size :over 3 { keep; } elsif size :over 2 { discard; } else { stop; } keep;
 abbrev branches : Commands
-branches = chooses (asks (over_ask 3)) (acts (keep_leaf None) 1 no_commands) (chooses (asks (over_ask 2)) (acts discard_leaf 2 no_commands) (stops no_commands) no_commands) (acts (keep_leaf None) 4 no_commands)
+branches = chooses (asks (over_ask 3)) (acts (keep_leaf plain_settings) 1 no_commands) (chooses (asks (over_ask 2)) (acts discard_leaf 2 no_commands) (stops no_commands) no_commands) (acts (keep_leaf plain_settings) 4 no_commands)
 
 if_row : done (codes "abcd") branches ≡ goes_on (after (inbox ∷ []) true)
 unfolding exec decide truth_of match_found values_behind flag_union distinct flags_without
@@ -310,7 +310,7 @@ abbrev plainly : Modifiers
 plainly = record { letter_case = None; first_letter = None; quote_wildcard = false; length = false }
 
 -- set "a" "x"; fileinto "${a}y${b}${1}";
-set_row : done [] (acts (set_leaf (local_variable (codes "a")) plainly (text (codes "x"))) 1 (acts (fileinto_leaf (local_part (codes "a") ∷ literal (codes "y") ∷ local_part (codes "b") ∷ match_part 1 ∷ []) None) 2 no_commands))
+set_row : done [] (acts (set_leaf (local_variable (codes "a")) plainly (text (codes "x"))) 1 (acts (fileinto_leaf (local_part (codes "a") ∷ literal (codes "y") ∷ local_part (codes "b") ∷ match_part 1 ∷ []) plain_settings) 2 no_commands))
     ≡ goes_on (record { actions = Store (codes "xy") [] ∷ []; cancelled = true; reads = (main, true) ∷ []; entered = main ∷ []; values = with_variable (local_variable (codes "a")) (codes "x") no_values; flags = [] })
 unfolding exec modified
 set_row = refl
@@ -322,7 +322,7 @@ abbrev flagged : List (List ℕ) → RunState
 flagged flags = record { actions = []; cancelled = false; reads = (main, true) ∷ []; entered = main ∷ []; values = no_values; flags = flags }
 
 -- fileinto :flags "\\Seen" "A"; addflag "$X"; fileinto "A";
-joined_row : done [] (acts (fileinto_leaf (text (codes "A")) (Some (text (codes "\\Seen") ∷ []))) 1 (acts (flag_leaf Add None (text (codes "$X") ∷ [])) 2 (acts (fileinto_leaf (text (codes "A")) None) 3 no_commands)))
+joined_row : done [] (acts (fileinto_leaf (text (codes "A")) (record plain_settings { flags = Some (text (codes "\\Seen") ∷ []) })) 1 (acts (flag_leaf Add None (text (codes "$X") ∷ [])) 2 (acts (fileinto_leaf (text (codes "A")) plain_settings) 3 no_commands)))
     ≡ goes_on (record { actions = Store (codes "A") (codes "\\Seen" ∷ codes "$X" ∷ []) ∷ []; cancelled = true; reads = (main, true) ∷ []; entered = main ∷ []; values = no_values; flags = codes "$X" ∷ [] })
 unfolding exec flags_of_texts flag_union distinct flags_without
 joined_row = refl
@@ -390,7 +390,7 @@ abbrev entered_a : List Action → Bool → RunState
 entered_a actions cancelled = record { actions = actions; cancelled = cancelled; reads = (main, true) ∷ (script_a, true) ∷ []; entered = main ∷ script_a ∷ []; values = no_values; flags = [] }
 
 -- include "a"; keep; where "a" is missing
-missing_include_row : done_over (λ name. missing) (acts (include_leaf Personal false false (codes "a")) 2 (acts (keep_leaf None) 3 no_commands))
+missing_include_row : done_over (λ name. missing) (acts (include_leaf Personal false false (codes "a")) 2 (acts (keep_leaf plain_settings) 3 no_commands))
     ≡ failed (record { script = main; line = 2; kind = MissingScript }) (record (begun main) { reads = (main, true) ∷ (script_a, false) ∷ [] })
 unfolding exec included
 missing_include_row = refl

@@ -127,9 +127,13 @@ fn act<L: Library>(
     ensures { IfOk result (λ flow. ending_by flow (state_of state.new) ≡ act_of (λ name. lookup_of (L.texts lib.now name)) depth (delivery_as delivery.now) (command_op_as command.now) line (state_of state.old)) }
 {
     match command {
-        CommandOp::Keep { flags } => keep(delivery, flags, line, state),
-        CommandOp::Fileinto { mailbox, flags } => file_into(delivery, mailbox, flags, line, state),
-        CommandOp::Redirect { address } => redirect(delivery, address, line, state),
+        CommandOp::Keep { settings } => keep(delivery, settings, line, state),
+        CommandOp::Fileinto { mailbox, settings } => file_into(
+            delivery, mailbox, settings, line, state,
+        ),
+        CommandOp::Redirect { address, settings } => redirect(
+            delivery, address, settings, line, state,
+        ),
         CommandOp::Discard => discard(delivery, line, state),
         CommandOp::Set {
             variable,

@@ -4,11 +4,12 @@ use Rattle.std.specs.Option.{option_map}
 use Rattle.std.specs.declared.alloc.Global.{Global}
 use Rattle.std.specs.declared.vec.Vec.{Vec}
 use Rattle.smallvec.specs.SmallVec.{SmallVec}
-use Rattle.sieve_reading.specs.Reading.{Ask, compares, exists_ask, over_ask, under_ask, Leaf, keep_leaf, fileinto_leaf, redirect_leaf, discard_leaf, set_leaf, flag_leaf, include_leaf}
+use Rattle.sieve_reading.specs.Reading.{Ask, compares, exists_ask, over_ask, under_ask, Settings, Leaf, keep_leaf, fileinto_leaf, redirect_leaf, discard_leaf, set_leaf, flag_leaf, include_leaf}
 use Rattle.sieve_reading.specs.Reading as reading
 use Rattle.sieve_variables.specs.Part as part
 use Rattle.sieve_variables.specs.view.Part.{part_of, strings_of, variable_of}
 use Rattle.sieve_variables.specs.declared.part.Part.{Part}
+use Rattle.sieve_effects.specs.declared.ops.SettingsOp.{SettingsOp}
 use Rattle.sieve_effects.specs.declared.ops.SourceOp.{SourceOp}
 use Rattle.sieve_effects.specs.declared.ops.SourceOp.TheVariants as source
 use Rattle.sieve_effects.specs.declared.ops.TestOp.{TestOp}
@@ -37,10 +38,13 @@ test_op_as (test.Exists names) = exists_ask (strings_of names.items)
 test_op_as (test.Over limit) = over_ask limit
 test_op_as (test.Under limit) = under_ask limit
 
+abbrev pub settings_op_as : SettingsOp → Settings
+settings_op_as s = record { flags = given_strings s.flags }
+
 abbrev pub command_op_as : CommandOp → Leaf
-command_op_as (command.Keep flags) = keep_leaf (given_strings flags)
-command_op_as (command.Fileinto mailbox flags) = fileinto_leaf (parts_of mailbox) (given_strings flags)
-command_op_as (command.Redirect address) = redirect_leaf (parts_of address)
+command_op_as (command.Keep settings) = keep_leaf (settings_op_as settings)
+command_op_as (command.Fileinto mailbox settings) = fileinto_leaf (parts_of mailbox) (settings_op_as settings)
+command_op_as (command.Redirect address settings) = redirect_leaf (parts_of address) (settings_op_as settings)
 command_op_as command.Discard = discard_leaf
 command_op_as (command.Set variable modifiers value) = set_leaf (variable_of variable) modifiers (parts_of value)
 command_op_as (command.Flags change variable flags) = flag_leaf change (option_map variable_of variable) (strings_of flags.items)

@@ -10,6 +10,7 @@ use Rattle.sieve_reading.specs.declared.reading.Ask.TheVariants.{Compares, Exist
 use Rattle.sieve_reading.specs.declared.reading.CommandReading.{CommandReading}
 use Rattle.sieve_reading.specs.declared.reading.CommandReading.TheVariants.{Opens, Continues, Otherwise, Stops, Returns, Nothing, Acts}
 use Rattle.sieve_reading.specs.declared.reading.Leaf.{Leaf}
+use Rattle.sieve_reading.specs.declared.reading.Settings.{Settings}
 use Rattle.sieve_reading.specs.declared.reading.Leaf.TheVariants.{Keep, Fileinto, Redirect, Discard, Set, Flags, Include}
 use Rattle.sieve_reading.specs.declared.reading.ValueSource.{ValueSource}
 use Rattle.sieve_reading.specs.declared.reading.ValueSource.TheVariants as source
@@ -42,10 +43,13 @@ test_reading_as AllOf = reading.reads_all
 test_reading_as AnyOf = reading.reads_any
 test_reading_as Not = reading.reads_not
 
+abbrev pub settings_as : Settings → reading.Settings
+settings_as s = record { flags = option_map (λ texts. texts_as texts.now) s.flags }
+
 abbrev pub leaf_as : Leaf → reading.Leaf
-leaf_as (Keep flags) = reading.keep_leaf (option_map (λ texts. texts_as texts.now) flags)
-leaf_as (Fileinto mailbox flags) = reading.fileinto_leaf (map part_of mailbox.now) (option_map (λ texts. texts_as texts.now) flags)
-leaf_as (Redirect address) = reading.redirect_leaf (map part_of address.now)
+leaf_as (Keep settings) = reading.keep_leaf (settings_as settings)
+leaf_as (Fileinto mailbox settings) = reading.fileinto_leaf (map part_of mailbox.now) (settings_as settings)
+leaf_as (Redirect address settings) = reading.redirect_leaf (map part_of address.now) (settings_as settings)
 leaf_as Discard = reading.discard_leaf
 leaf_as (Set variable modifiers value) = reading.set_leaf (variable_of variable.now) modifiers (map part_of value.now)
 leaf_as (Flags change variable flags) = reading.flag_leaf change (option_map (λ one. variable_of one.now) variable) (texts_as flags.now)

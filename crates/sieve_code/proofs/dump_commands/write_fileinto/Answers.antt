@@ -6,7 +6,7 @@ pub returns-in_err-write_worded-clause-err : goal.returns-in_err-write_worded-cl
 returns-in_err-write_worded-clause-err g c = on_err_from _ (wrote_front_of _ _ _ _ _ _ c.in_err-write_worded.ensures.err)
 
 pub returns-clause-ok : goal.returns-clause-ok
-returns-clause-ok g c = on_ok_weaker _ (wrote_both _ _ _ _ _ _ _ c.in_ok-write_worded.ensures.ok) c.write_stored_flags.ensures.ok
+returns-clause-ok g c = on_ok_weaker _ (wrote_both _ _ _ _ _ _ _ c.in_ok-write_worded.ensures.ok) c.write_stored.ensures.ok
 
 pub returns-clause-err : goal.returns-clause-err
-returns-clause-err g c = on_err_weaker _ (wrote_then_front _ _ _ _ _ _ _ c.in_ok-write_worded.ensures.ok) c.write_stored_flags.ensures.err
+returns-clause-err g c = on_err_weaker _ (wrote_then_front _ _ _ _ _ _ _ c.in_ok-write_worded.ensures.ok) c.write_stored.ensures.err

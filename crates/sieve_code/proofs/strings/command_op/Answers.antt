@@ -4,14 +4,14 @@ use Rattle.sieve_reading.specs.Reading.{fileinto_leaf, flag_leaf, include_leaf, 
 use Rattle.sieve_reading.specs.view.Reading.{leaf_as}
 use Rattle.sieve_code.proofs.strings.command_op.Goals as goal
 
-pub returns-in_ok-given_strings-in-Keep : goal.returns-in_ok-given_strings-in-Keep
-returns-in_ok-given_strings-in-Keep c = ap keep_leaf c.in_ok-given_strings-in-Keep.ensures ∙ ap leaf_as (sym c.in-Keep.is)
+pub returns-in_ok-settings_op-in-Keep : goal.returns-in_ok-settings_op-in-Keep
+returns-in_ok-settings_op-in-Keep c = ap keep_leaf c.in_ok-settings_op-in-Keep.ensures ∙ ap leaf_as (sym c.in-Keep.is)
 
-pub returns-in_ok-given_strings-in-Fileinto : goal.returns-in_ok-given_strings-in-Fileinto
-returns-in_ok-given_strings-in-Fileinto c = ap₂ fileinto_leaf c.in_ok-copied_parts-in-Fileinto.ensures c.in_ok-given_strings-in-Fileinto.ensures ∙ ap leaf_as (sym c.in-Fileinto.is)
+pub returns-in_ok-settings_op-in-Fileinto : goal.returns-in_ok-settings_op-in-Fileinto
+returns-in_ok-settings_op-in-Fileinto c = ap₂ fileinto_leaf c.in_ok-copied_parts-in-Fileinto.ensures c.in_ok-settings_op-in-Fileinto.ensures ∙ ap leaf_as (sym c.in-Fileinto.is)
 
-pub returns-in_ok-copied_parts-in-Redirect : goal.returns-in_ok-copied_parts-in-Redirect
-returns-in_ok-copied_parts-in-Redirect c = ap redirect_leaf c.in_ok-copied_parts-in-Redirect.ensures ∙ ap leaf_as (sym c.in-Redirect.is)
+pub returns-in_ok-settings_op-in-Redirect : goal.returns-in_ok-settings_op-in-Redirect
+returns-in_ok-settings_op-in-Redirect c = ap₂ redirect_leaf c.in_ok-copied_parts-in-Redirect.ensures c.in_ok-settings_op-in-Redirect.ensures ∙ ap leaf_as (sym c.in-Redirect.is)
 
 pub returns-in-Discard : goal.returns-in-Discard
 returns-in-Discard c = ap leaf_as (sym c.in-Discard.is)

@@ -4,7 +4,7 @@ use Rattle.std.proofs.lemmas.Result.{IfOk-weaker}
 use Rattle.sieve_code.specs.Walk.{code_walk, walk_from}
 use Rattle.sieve_code.specs.view.Code.{ops_of}
 use Rattle.sieve_code.specs.view.Op.{op_as}
-use Rattle.sieve_effects.specs.view.Ops.{command_op_as, given_strings, test_op_as}
+use Rattle.sieve_effects.specs.view.Ops.{command_op_as, settings_op_as, test_op_as}
 use Rattle.sieve_variables.specs.view.Part.{part_of, strings_of, variable_of}
 use Rattle.std.specs.Option.{option_map}
 use Rattle.sieve_base.specs.Limits.{include_limit}
@@ -45,7 +45,7 @@ pub act-returns-in-Keep : goal.act-returns-in-Keep
 act-returns-in-Keep g t c =
     let find : ScriptName → Lookup = λ name. lookup_of (g.L.Library.texts c.args.lib.now name) in
     let d = delivery_as c.args.delivery.now in
-    does_so c.keep.result (state_of c.keep.new.state) (act_of find c.args.depth d) (keep_leaf (given_strings c.in-Keep.flags)) _ c.args.line (state_of c.args.state.now)
+    does_so c.keep.result (state_of c.keep.new.state) (act_of find c.args.depth d) (keep_leaf (settings_op_as c.in-Keep.settings.now)) _ c.args.line (state_of c.args.state.now)
     (ap command_op_as (sym c.in-Keep.is))
     c.keep.ensures
 
@@ -53,16 +53,16 @@ pub act-returns-in-Fileinto : goal.act-returns-in-Fileinto
 act-returns-in-Fileinto g t c =
     let find : ScriptName → Lookup = λ name. lookup_of (g.L.Library.texts c.args.lib.now name) in
     let d = delivery_as c.args.delivery.now in
-    does_so c.file_into.result (state_of c.file_into.new.state) (act_of find c.args.depth d) (fileinto_leaf (map part_of c.deref-in-Fileinto.result.now) (given_strings c.in-Fileinto.flags)) _ c.args.line (state_of c.args.state.now)
-    (ap (λ mailbox. fileinto_leaf (map part_of mailbox) (given_strings c.in-Fileinto.flags)) c.deref-in-Fileinto.ensures ∙ ap command_op_as (sym c.in-Fileinto.is))
+    does_so c.file_into.result (state_of c.file_into.new.state) (act_of find c.args.depth d) (fileinto_leaf (map part_of c.deref-in-Fileinto.result.now) (settings_op_as c.in-Fileinto.settings.now)) _ c.args.line (state_of c.args.state.now)
+    (ap (λ mailbox. fileinto_leaf (map part_of mailbox) (settings_op_as c.in-Fileinto.settings.now)) c.deref-in-Fileinto.ensures ∙ ap command_op_as (sym c.in-Fileinto.is))
     c.file_into.ensures
 
 pub act-returns-in-Redirect : goal.act-returns-in-Redirect
 act-returns-in-Redirect g t c =
     let find : ScriptName → Lookup = λ name. lookup_of (g.L.Library.texts c.args.lib.now name) in
     let d = delivery_as c.args.delivery.now in
-    does_so c.redirect.result (state_of c.redirect.new.state) (act_of find c.args.depth d) (redirect_leaf (map part_of c.deref-in-Redirect.result.now)) _ c.args.line (state_of c.args.state.now)
-    (ap (λ address. redirect_leaf (map part_of address)) c.deref-in-Redirect.ensures ∙ ap command_op_as (sym c.in-Redirect.is))
+    does_so c.redirect.result (state_of c.redirect.new.state) (act_of find c.args.depth d) (redirect_leaf (map part_of c.deref-in-Redirect.result.now) (settings_op_as c.in-Redirect.settings.now)) _ c.args.line (state_of c.args.state.now)
+    (ap (λ address. redirect_leaf (map part_of address) (settings_op_as c.in-Redirect.settings.now)) c.deref-in-Redirect.ensures ∙ ap command_op_as (sym c.in-Redirect.is))
     c.redirect.ensures
 
 pub act-returns-in-Discard : goal.act-returns-in-Discard

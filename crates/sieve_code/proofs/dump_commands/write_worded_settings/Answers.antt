@@ -1,16 +1,16 @@
 use Rattle.std.proofs.lemmas.Result.{on_err_weaker, on_ok_weaker}
 use Rattle.sieve_base.proofs.Writing.{on_err_from, wrote_both, wrote_front_of, wrote_then_front}
-use Rattle.sieve_code.specs.Dump.{worded_flags}
-use Rattle.sieve_code.proofs.dump_commands.write_worded_flags.Goals as goal
+use Rattle.sieve_code.specs.Dump.{worded_settings}
+use Rattle.sieve_code.proofs.dump_commands.write_worded_settings.Goals as goal
 
 pub returns-in_err-write_out-clause-err : goal.returns-in_err-write_out-clause-err
-unfolding worded_flags
+unfolding worded_settings
 returns-in_err-write_out-clause-err g c = on_err_from _ (wrote_front_of _ _ _ _ _ _ c.in_err-write_out.ensures.err)
 
 pub returns-clause-ok : goal.returns-clause-ok
-unfolding worded_flags
-returns-clause-ok g c = on_ok_weaker _ (wrote_both _ _ _ _ _ _ _ c.in_ok-write_out.ensures.ok) c.write_stored_flags.ensures.ok
+unfolding worded_settings
+returns-clause-ok g c = on_ok_weaker _ (wrote_both _ _ _ _ _ _ _ c.in_ok-write_out.ensures.ok) c.write_stored.ensures.ok
 
 pub returns-clause-err : goal.returns-clause-err
-unfolding worded_flags
-returns-clause-err g c = on_err_weaker _ (wrote_then_front _ _ _ _ _ _ _ c.in_ok-write_out.ensures.ok) c.write_stored_flags.ensures.err
+unfolding worded_settings
+returns-clause-err g c = on_err_weaker _ (wrote_then_front _ _ _ _ _ _ _ c.in_ok-write_out.ensures.ok) c.write_stored.ensures.err
