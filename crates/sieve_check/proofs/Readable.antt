@@ -108,21 +108,21 @@ module _ (cutting within : Cutting) (context : Context) where
   stands command.Keep args ts ending says place =
       let row = command_row command.Keep in
       stands_acting _ (parted_tests cutting ts) (parted_block within ending)
-      (maps_some reading.reads_act _ (maps_some keep_leaf _ (maps_some settings_with _ (given_texts_are_read row.tags row.slots args role.Flags refl refl says.keep))))
+      (maps_some reading.reads_act _ (maps_some keep_leaf _ (maps_some (settings_with _) _ (given_texts_are_read row.tags row.slots args role.Flags refl refl says.keep))))
       (none_fit cutting ts says.tests) (none_there ending says.block)
   stands command.Fileinto args ts ending says place =
       let row = command_row command.Fileinto in
       stands_acting _ (parted_tests cutting ts) (parted_block within ending)
       (maps_some reading.reads_act _ (files_all _ _
       (text_is_read row.tags row.slots args role.Mailbox refl refl refl says.filled says.keep)
-      (maps_some settings_with _ (given_texts_are_read row.tags row.slots args role.Flags refl refl says.keep))))
+      (maps_some (settings_with _) _ (given_texts_are_read row.tags row.slots args role.Flags refl refl says.keep))))
       (none_fit cutting ts says.tests) (none_there ending says.block)
   stands command.Redirect args ts ending says place =
       let row = command_row command.Redirect in
       stands_acting _ (parted_tests cutting ts) (parted_block within ending)
       (maps_some reading.reads_act _ (redirects_all _ _
       (text_is_read row.tags row.slots args role.Address refl refl refl says.filled says.keep)
-      (maps_some settings_with _ (given_texts_are_read row.tags row.slots args role.Flags refl refl says.keep))))
+      (maps_some (settings_with _) _ (given_texts_are_read row.tags row.slots args role.Flags refl refl says.keep))))
       (none_fit cutting ts says.tests) (none_there ending says.block)
   stands command.Discard args ts ending says place = (none_fit cutting ts says.tests, none_there ending says.block)
   stands command.Stop args ts ending says place = (none_fit cutting ts says.tests, none_there ending says.block)

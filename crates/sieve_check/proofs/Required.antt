@@ -11,5 +11,6 @@ named_is_required required name capability.Envelope = refl
 named_is_required required name capability.Variables = refl
 named_is_required required name capability.Imap4flags = refl
 named_is_required required name capability.Include = refl
+named_is_required required name capability.Copy = refl
 named_is_required required name capability.OctetComparator = refl
 named_is_required required name capability.CasemapComparator = refl

@@ -19,9 +19,10 @@ pub record Required : Type 0 where
   pub variables : Bool
   pub imap4flags : Bool
   pub include : Bool
+  pub copy : Bool
 
 abbrev pub nothing_required : Required
-nothing_required = record { fileinto = false; envelope = false; variables = false; imap4flags = false; include = false }
+nothing_required = record { fileinto = false; envelope = false; variables = false; imap4flags = false; include = false; copy = false }
 
 -- the two comparators need not be required (RFC 5228, section 2.7.3)
 abbrev pub is_required : Required → Capability → Bool
@@ -30,6 +31,7 @@ is_required required capability.Envelope = required.envelope
 is_required required capability.Variables = required.variables
 is_required required capability.Imap4flags = required.imap4flags
 is_required required capability.Include = required.include
+is_required required capability.Copy = required.copy
 is_required required capability.OctetComparator = true
 is_required required capability.CasemapComparator = true
 
@@ -46,6 +48,7 @@ requiring required name = record {
   variables = required.variables || is_name_of name capability.Variables;
   imap4flags = required.imap4flags || is_name_of name capability.Imap4flags;
   include = required.include || is_name_of name capability.Include;
+  copy = required.copy || is_name_of name capability.Copy;
 }
 
 -- with what strings name, and those of arguments

@@ -21,6 +21,7 @@ pub(crate) struct Required {
     variables: bool,
     imap4flags: bool,
     include: bool,
+    copy: bool,
 }
 
 impl Required {
@@ -34,6 +35,7 @@ impl Required {
             variables: false,
             imap4flags: false,
             include: false,
+            copy: false,
         }
     }
 
@@ -47,6 +49,7 @@ impl Required {
             Capability::Variables => self.variables,
             Capability::Imap4flags => self.imap4flags,
             Capability::Include => self.include,
+            Capability::Copy => self.copy,
             Capability::OctetComparator => true,
             Capability::CasemapComparator => true,
         }
@@ -62,6 +65,7 @@ impl Required {
             variables: self.variables || is_name_of(name, Capability::Variables),
             imap4flags: self.imap4flags || is_name_of(name, Capability::Imap4flags),
             include: self.include || is_name_of(name, Capability::Include),
+            copy: self.copy || is_name_of(name, Capability::Copy),
         }
     }
 

@@ -102,9 +102,18 @@ unfoldable pub stored_flags : Option (List (List Part)) → List ℕ
 stored_flags None = codes " internal"
 stored_flags (Some flags) = codes " flags " ++ list_text flags
 
+-- a word, where it is given
+abbrev pub given_word : Bool → List ℕ → List ℕ
+given_word false word = []
+given_word true word = word
+
+-- that an action is a copy
+unfoldable pub copy_word : Bool → List ℕ
+copy_word copy = given_word copy (codes " copy")
+
 -- what a command that stores says beside
-abbrev pub stored_text : Settings → List ℕ
-stored_text settings = stored_flags settings.flags
+unfoldable pub stored_text : Settings → List ℕ
+stored_text settings = stored_flags settings.flags ++ copy_word settings.copy
 
 -- these behind a command's word
 unfoldable pub worded_settings : List ℕ → Settings → List ℕ
@@ -120,10 +129,6 @@ abbrev pub first_word : Option LetterCase → List ℕ
 first_word None = []
 first_word (Some letter_case.Lower) = codes " lowerfirst"
 first_word (Some letter_case.Upper) = codes " upperfirst"
-
-abbrev pub given_word : Bool → List ℕ → List ℕ
-given_word false word = []
-given_word true word = word
 
 -- modifiers behind the variable
 unfoldable pub modifier_words : Modifiers → List ℕ
@@ -154,7 +159,7 @@ include_words place once optional name = codes "include " ++ place_word place ++
 unfoldable pub leaf_text : Leaf → List ℕ
 leaf_text (keep_leaf settings) = worded_settings (codes "keep") settings
 leaf_text (fileinto_leaf mailbox settings) = worded_text (codes "fileinto ") mailbox ++ stored_text settings
-leaf_text (redirect_leaf address settings) = worded_text (codes "redirect ") address
+leaf_text (redirect_leaf address settings) = worded_text (codes "redirect ") address ++ copy_word settings.copy
 leaf_text discard_leaf = codes "discard"
 leaf_text (set_leaf variable modifiers value) = worded_text (set_words variable modifiers) value
 leaf_text (flag_leaf how variable flags) = changing_words how variable ++ list_text flags

@@ -2,7 +2,7 @@
 ghost use Rattle.std.specs.Prelude.{◌≡◌, ◌++◌, codes, map, OnOk, OnErr};
 ghost use Rattle.std.specs.Option.{option_map};
 ghost use Rattle.sieve_base.specs.Writers.{Wrote, WroteFront};
-ghost use Rattle.sieve_code.specs.Dump.{case_word, change_word, changing_words, first_word, given_word, include_words, leaf_text, list_text, modifier_words, set_words, stored_flags, stored_text, worded_settings, worded_text, worded_variable};
+ghost use Rattle.sieve_code.specs.Dump.{case_word, change_word, changing_words, copy_word, first_word, given_word, include_words, leaf_text, list_text, modifier_words, set_words, stored_flags, stored_text, worded_settings, worded_text, worded_variable};
 ghost use Rattle.sieve_effects.specs.view.Ops.{command_op_as, given_strings, settings_op_as};
 ghost use Rattle.sieve_variables.specs.view.Part.{part_of, strings_of, variable_of};
 
@@ -33,12 +33,30 @@ fn write_stored_flags<W: Sink>(flags: &Option<Vec<Parts>>, writer: &mut W) -> Re
     }
 }
 
+/// A word, where it is given.
+fn given_word<'a>(is_given: bool, word: &'a [u8]) -> &'a [u8]
+    ensures { result.now ≡ given_word is_given word.now }
+{
+    if is_given { word } else { b"" }
+}
+
+/// Writes that an action is a copy, where it is one.
+#[tactic(auto, unfolding(crate::specs::Dump::copy_word))]
+fn write_copy<W: Sink>(copy: bool, writer: &mut W) -> Result<(), WriteFault>
+    ensures ok { OnOk result (Wrote W.contents W.fault_count writer.old writer.new (copy_word copy)) }
+    ensures err { OnErr result (WroteFront W.contents W.fault_count writer.old writer.new (copy_word copy)) }
+{
+    write_out(given_word(copy, b" copy"), writer)
+}
+
 /// Writes what a command that stores says beside.
+#[tactic(auto, using(sieve_base::proofs::Writing::writing), unfolding(crate::specs::Dump::stored_text))]
 fn write_stored<W: Sink>(settings: &SettingsOp, writer: &mut W) -> Result<(), WriteFault>
     ensures ok { OnOk result (Wrote W.contents W.fault_count writer.old writer.new (stored_text (settings_op_as settings.now))) }
     ensures err { OnErr result (WroteFront W.contents W.fault_count writer.old writer.new (stored_text (settings_op_as settings.now))) }
 {
-    write_stored_flags(&settings.flags, writer)
+    write_stored_flags(&settings.flags, writer)?;
+    write_copy(settings.copy, writer)
 }
 
 /// Writes a command's word and then what it says beside.
@@ -53,6 +71,20 @@ fn write_worded_settings<W: Sink>(
 {
     write_out(word, writer)?;
     write_stored(settings, writer)
+}
+
+/// Writes a `redirect`.
+#[tactic(auto, using(sieve_base::proofs::Writing::writing))]
+fn write_redirect<W: Sink>(
+    address: &[Part],
+    settings: &SettingsOp,
+    writer: &mut W,
+) -> Result<(), WriteFault>
+    ensures ok { OnOk result (Wrote W.contents W.fault_count writer.old writer.new (worded_text (codes "redirect ") (map part_of address.now) ++ copy_word settings.now.copy)) }
+    ensures err { OnErr result (WroteFront W.contents W.fault_count writer.old writer.new (worded_text (codes "redirect ") (map part_of address.now) ++ copy_word settings.now.copy)) }
+{
+    write_worded(b"redirect ", address, writer)?;
+    write_copy(settings.copy, writer)
 }
 
 /// Writes a `fileinto`.
@@ -89,13 +121,6 @@ fn first_word(case: Option<LetterCase>) -> &'static [u8]
         Some(LetterCase::Lower) => b" lowerfirst",
         Some(LetterCase::Upper) => b" upperfirst",
     }
-}
-
-/// A word, where it is given.
-fn given_word<'a>(is_given: bool, word: &'a [u8]) -> &'a [u8]
-    ensures { result.now ≡ given_word is_given word.now }
-{
-    if is_given { word } else { b"" }
 }
 
 /// Writes a word and then a variable.
@@ -252,7 +277,7 @@ pub(crate) fn write_command<W: Sink>(command: &CommandOp, writer: &mut W) -> Res
     match command {
         CommandOp::Keep { settings } => write_worded_settings(b"keep", settings, writer),
         CommandOp::Fileinto { mailbox, settings } => write_fileinto(mailbox, settings, writer),
-        CommandOp::Redirect { address, .. } => write_worded(b"redirect ", address, writer),
+        CommandOp::Redirect { address, settings } => write_redirect(address, settings, writer),
         CommandOp::Discard => write_out(b"discard", writer),
         CommandOp::Set {
             variable,

@@ -123,6 +123,7 @@ fn settings_op(alloc: Global, settings: Settings<'_>) -> Result<SettingsOp, Allo
 {
     Ok(SettingsOp {
         flags: given_strings(alloc, settings.flags)?,
+        copy: settings.copy,
     })
 }
 

@@ -1,5 +1,5 @@
 -- What commands do that act (RFC 5228, sections 2.10 and 4; RFC 5229, section 4; RFC 5232, sections 3 and 5).
-use Rattle.std.specs.Prelude.{ℕ, List, [], ◌∷◌, ◌++◌, length, map, take, Bool, true, false, not, ◌&&◌, Option, None, Some, is_some, if◌then◌else◌, nat_eq, nat_lt, nat_le}
+use Rattle.std.specs.Prelude.{ℕ, List, [], ◌∷◌, ◌++◌, length, map, take, Bool, true, false, not, ◌&&◌, ◌||◌, Option, None, Some, is_some, if◌then◌else◌, nat_eq, nat_lt, nat_le}
 use Rattle.std.specs.List.{list_all, list_any}
 use lib.Pointwise.{pointwise}
 use Rattle.match_text.specs.Flags.{flag_list, flag_text, flag_union, flags_of_texts, flags_without}
@@ -86,11 +86,11 @@ fails_at delivery line kind state = failed (record { script = delivery.script; l
 
 -- an action with what its command says of it
 abbrev pub deed_of : Action → Settings → Deed
-deed_of action settings = record { action = action }
+deed_of action settings = record { action = action; copy = settings.copy }
 
--- an action takes the place of the implicit keep (RFC 5228, section 2.10.2)
+-- an action takes the place of the implicit keep (RFC 5228, section 2.10.2), but for a copy (RFC 3894, section 3)
 abbrev pub ends_with : Delivery → ℕ → Deed → Performed → RunState → Ending
-ends_with delivery line deed (performed actions) state = goes_on (record state { actions = actions; cancelled = true })
+ends_with delivery line deed (performed actions) state = goes_on (record state { actions = actions; cancelled = not deed.copy || state.cancelled })
 ends_with delivery line deed one_too_many state = fails_at delivery line TooManyActions state
 
 -- a command performs an action

@@ -27,7 +27,7 @@ use sieve_base::limits::MAX_MAILBOX;
 use sieve_variables::{Modifiers, Part, Parts, Values, Variable};
 use std::alloc::AllocError;
 
-/// Performs an action, which takes the place of the implicit keep (RFC 5228, section 2.10.2).
+/// Performs an action, which takes the place of the implicit keep (RFC 5228, section 2.10.2) unless it is a copy (RFC 3894, section 3).
 fn perform(
     delivery: &Delivery<'_>,
     deed: Deed,
@@ -36,8 +36,9 @@ fn perform(
 ) -> Result<Flow, AllocError>
     ensures { IfOk result (λ flow. ending_by flow (state_of state.new) ≡ performs (delivery_as delivery.now) line deed (state_of state.old)) }
 {
+    let copy = deed.copy;
     if add_action(delivery.alloc, &mut state.actions, deed.action)? {
-        state.cancelled = true;
+        state.cancelled = !copy || state.cancelled;
         Ok(Flow::GoesOn)
     } else {
         fail(delivery, line, ErrorKind::TooManyActions)
@@ -57,7 +58,8 @@ pub fn keep(
     let mailbox = Octets::copied(delivery.alloc, delivery.envelope.mailbox.as_slice())?;
     let flags = stored_flags(delivery, &*state, &settings.flags)?;
     let action = Action::Store { mailbox, flags };
-    perform(delivery, Deed { action }, line, state)
+    let copy = settings.copy;
+    perform(delivery, Deed { action, copy }, line, state)
 }
 
 /// Discards the message (RFC 5228, section 4.4). One action too many is an error of the script (section 2.10.4). Fails where memory is refused.
@@ -65,7 +67,8 @@ pub fn discard(delivery: &Delivery<'_>, line: u64, state: &mut State) -> Result<
     ensures { IfOk result (λ flow. ending_by flow (state_of state.new) ≡ discards (delivery_as delivery.now) line (state_of state.old)) }
 {
     let action = Action::Discard;
-    perform(delivery, Deed { action }, line, state)
+    let copy = false;
+    perform(delivery, Deed { action, copy }, line, state)
 }
 
 /// Whether an octet is no control character of ASCII.
@@ -106,7 +109,7 @@ fn mailbox_named(
 }
 
 /// Stores into the mailbox of that name (RFC 5228, section 4.1), with the flags that are named or else the internal ones (RFC 5232,
-/// section 5). A name that no mailbox may have is an error of the script, and so is one action too many (RFC 5228, section 2.10.4).
+/// section 5). Under `:copy` the implicit keep stays as it is (RFC 3894, section 3). A name that no mailbox may have is an error of the script, and so is one action too many (RFC 5228, section 2.10.4).
 /// Fails where memory is refused.
 #[tactic(auto, using(crate::proofs::Named::filing))]
 pub fn file_into(
@@ -122,7 +125,8 @@ pub fn file_into(
         Some(mailbox) => {
             let flags = stored_flags(delivery, &*state, &settings.flags)?;
             let action = Action::Store { mailbox, flags };
-            perform(delivery, Deed { action }, line, state)
+            let copy = settings.copy;
+            perform(delivery, Deed { action, copy }, line, state)
         }
         None => fail(delivery, line, ErrorKind::BadMailbox),
     }
@@ -166,7 +170,8 @@ fn address_named(
 }
 
 /// Sends the message on to the address that a string gives (RFC 5228, section 4.2). Where it isn't exactly one, with a local part and a
-/// domain, that is an error of the script, and so is one action too many (section 2.10.4). Fails where memory is refused.
+/// domain, that is an error of the script, and so is one action too many (section 2.10.4). Under `:copy` the implicit keep stays as it is
+/// (RFC 3894, section 3). Fails where memory is refused.
 #[tactic(auto, using(crate::proofs::Named::sending))]
 pub fn redirect(
     delivery: &Delivery<'_>,
@@ -180,7 +185,8 @@ pub fn redirect(
     match address_named(delivery, &state.values, address)? {
         Some(address) => {
             let action = Action::Redirect { address };
-            perform(delivery, Deed { action }, line, state)
+            let copy = settings.copy;
+            perform(delivery, Deed { action, copy }, line, state)
         }
         None => fail(delivery, line, ErrorKind::BadAddress),
     }

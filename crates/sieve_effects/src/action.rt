@@ -16,4 +16,6 @@ pub enum Action {
 #[derive(Drop)]
 pub struct Deed {
     pub action: Action,
+    /// Whether it leaves the implicit keep as it is (RFC 3894, section 3).
+    pub copy: bool,
 }

@@ -76,6 +76,8 @@ pub enum TestOp {
 pub struct SettingsOp {
     /// The flags of what it stores, where they are named (RFC 5232, section 5).
     pub flags: Option<Vec<Parts>>,
+    /// Whether its action leaves the implicit keep as it is (RFC 3894, section 3).
+    pub copy: bool,
 }
 
 /// What a command does that acts.

@@ -21,12 +21,12 @@ use Rattle.sieve_variables.specs.declared.modifier.Modifiers.{Modifiers}
 use Rattle.sieve_reading.specs.Given.{labels_in, in_role, texts_in, given_texts, text_in, variable_in, given_variable, literal_in, has_tag}
 use Rattle.sieve_reading.specs.Reading.{Settings, Leaf, keep_leaf, fileinto_leaf, redirect_leaf, discard_leaf, set_leaf, flag_leaf, include_leaf, CommandReading, reads_if, reads_elsif, reads_else, reads_stop, reads_return, reads_nothing, reads_act}
 
--- what a command says beside its mailbox or its address (RFC 5232, section 5)
-abbrev pub settings_with : Option (List (List Part)) → Settings
-settings_with flags = record { flags = flags }
+-- what a command says beside its mailbox or its address (RFC 5232, section 5; RFC 3894, section 3)
+abbrev pub settings_with : (copy : Bool) → Option (List (List Part)) → Settings
+settings_with copy flags = record { flags = flags; copy = copy }
 
 abbrev pub settings_by : List Label → List Argument → Option Settings
-settings_by labels args = option_map settings_with (given_texts (in_role role.Flags labels args))
+settings_by labels args = option_map (settings_with (has_tag tag.Copy labels)) (given_texts (in_role role.Flags labels args))
 
 -- what a `keep` does (RFC 5228, section 4.3)
 abbrev pub keep_by : List Label → List Argument → Option Leaf

@@ -1,5 +1,5 @@
 -- What the commands and tests of a checked tree are (RFC 5228, sections 3, 4 and 5), with defaults filled in.
-use Rattle.std.specs.Prelude.{ℕ, Bool, List, Option}
+use Rattle.std.specs.Prelude.{ℕ, Bool, false, List, Option}
 use Rattle.match_text.specs.declared.comparators.Collation.{Collation}
 use Rattle.message_text.specs.declared.addressing.AddressPart.{AddressPart}
 use Rattle.sieve_base.specs.declared.place.Place.{Place}
@@ -27,13 +27,14 @@ pub data Ask : Type 0 where
   under_ask : (limit : ℕ) → Ask
 
 -- What a command that stores or redirects says beside its mailbox or its address: the flags of what it stores, where it names them (RFC
--- 5232, section 5).
+-- 5232, section 5), and whether it says `:copy` (RFC 3894, section 3).
 pub record Settings : Type 0 where
   pub flags : Option (List (List Part))
+  pub copy : Bool
 
 -- those of a command that says nothing beside
 abbrev pub plain_settings : Settings
-plain_settings = record { flags = None }
+plain_settings = record { flags = None; copy = false }
 
 -- A command that acts. One that changes flags changes
 -- those that a variable holds, or else the internal ones (section 3). One that includes a script names its place and its name,

@@ -21,7 +21,8 @@ fn settings_by<'a>(row: &Row, args: &'a [Argument]) -> Option<Settings<'a>>
     ensures { option_map settings_as result ≡ settings_by (labels_in (row_as row.now) (map argument_of args.now)) (map argument_of args.now) }
 {
     let flags = given_texts(argument_in(row, Role::Flags, args))?;
-    Some(Settings { flags })
+    let copy = has_tag(row, Tag::Copy, args);
+    Some(Settings { flags, copy })
 }
 
 /// What a `keep` does.

@@ -115,6 +115,8 @@ pub enum FlagChange {
 pub struct Settings<'a> {
     /// The flags of what it stores, where it names them (RFC 5232, section 5).
     pub flags: Option<&'a [Text]>,
+    /// Whether its action leaves the implicit keep as it is (RFC 3894, section 3).
+    pub copy: bool,
 }
 
 /// What a command does that acts.

@@ -59,6 +59,7 @@ kind_at kind.Case = refl
 kind_at kind.FirstLetter = refl
 kind_at kind.QuoteWildcard = refl
 kind_at kind.Length = refl
+kind_at kind.Copy = refl
 
 pub tag_at : (t : Tag) → slice_get all_tags (tag_number t) ≡ Some t
 tag_at tag.Comparator = refl
@@ -81,5 +82,6 @@ tag_at tag.Personal = refl
 tag_at tag.Global = refl
 tag_at tag.Once = refl
 tag_at tag.Optional = refl
+tag_at tag.Copy = refl
 
 pub ruleset numbered = (role_at, tag_at, kind_at)

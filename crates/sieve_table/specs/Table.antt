@@ -102,6 +102,8 @@ tag_row tag.QuoteWildcard = bare_tag (codes "quotewildcard") kind.QuoteWildcard
 tag_row tag.Length = bare_tag (codes "length") kind.Length
 -- RFC 5232, section 5
 tag_row tag.Flags = record (bare_tag (codes "flags") kind.Flags) { takes = Some (slot form.List role.Flags); needs = Some capability.Imap4flags }
+-- RFC 3894, section 3
+tag_row tag.Copy = record (bare_tag (codes "copy") kind.Copy) { needs = Some capability.Copy }
 -- RFC 6609, section 3.2
 tag_row tag.Personal = bare_tag (codes "personal") kind.Location
 tag_row tag.Global = bare_tag (codes "global") kind.Location
@@ -137,10 +139,10 @@ command_row command.Elsif = record (bare (codes "elsif")) { tests = inner.One; h
 command_row command.Else = record (bare (codes "else")) { has_block = true }
 -- RFC 5228, section 4.3; RFC 5232, section 5
 command_row command.Keep = record (bare (codes "keep")) { tags = tag.Flags ∷ [] }
--- RFC 5228, section 4.1; RFC 5232, section 5
-command_row command.Fileinto = record (bare (codes "fileinto")) { tags = tag.Flags ∷ []; slots = slot form.One role.Mailbox ∷ []; needs = capability.Fileinto ∷ [] }
--- RFC 5228, section 4.2
-command_row command.Redirect = record (bare (codes "redirect")) { slots = slot form.One role.Address ∷ [] }
+-- RFC 5228, section 4.1; RFC 5232, section 5; RFC 3894, section 3
+command_row command.Fileinto = record (bare (codes "fileinto")) { tags = tag.Flags ∷ tag.Copy ∷ []; slots = slot form.One role.Mailbox ∷ []; needs = capability.Fileinto ∷ [] }
+-- RFC 5228, section 4.2; RFC 3894, section 3
+command_row command.Redirect = record (bare (codes "redirect")) { tags = tag.Copy ∷ []; slots = slot form.One role.Address ∷ [] }
 -- RFC 5228, section 4.4
 command_row command.Discard = bare (codes "discard")
 -- RFC 5228, section 3.3

@@ -15,6 +15,8 @@ pub enum Capability {
     Imap4flags,
     /// Included scripts (RFC 6609).
     Include,
+    /// `:copy` (RFC 3894).
+    Copy,
     /// The comparator `i;octet` (RFC 5228, section 2.7.3).
     OctetComparator,
     /// The comparator `i;ascii-casemap` (RFC 5228, section 2.7.3).
@@ -22,12 +24,13 @@ pub enum Capability {
 }
 
 /// The capabilities that there are.
-const CAPABILITIES: [Capability; 7] = [
+const CAPABILITIES: [Capability; 8] = [
     Capability::Fileinto,
     Capability::Envelope,
     Capability::Variables,
     Capability::Imap4flags,
     Capability::Include,
+    Capability::Copy,
     Capability::OctetComparator,
     Capability::CasemapComparator,
 ];
@@ -43,6 +46,7 @@ impl Capability {
             Capability::Variables => b"variables",
             Capability::Imap4flags => b"imap4flags",
             Capability::Include => b"include",
+            Capability::Copy => b"copy",
             Capability::OctetComparator => b"comparator-i;octet",
             Capability::CasemapComparator => b"comparator-i;ascii-casemap",
         }

@@ -90,7 +90,7 @@ pub(crate) fn fileinto_row() -> Row
 {
     Row {
         name: b"fileinto",
-        tags: &[Tag::Flags],
+        tags: &[Tag::Flags, Tag::Copy],
         slots: &[Slot {
             form: Form::One,
             role: Role::Mailbox,
@@ -107,6 +107,7 @@ pub(crate) fn redirect_row() -> Row
 {
     Row {
         name: b"redirect",
+        tags: &[Tag::Copy],
         slots: &[Slot {
             form: Form::One,
             role: Role::Address,

@@ -85,6 +85,8 @@ pub enum TagKind {
     QuoteWildcard,
     /// The modifier of precedence 10 (RFC 5229, section 4.1).
     Length,
+    /// `:copy` (RFC 3894, section 3).
+    Copy,
 }
 
 /// What is said of a tag.

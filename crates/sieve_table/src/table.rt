@@ -116,6 +116,8 @@ pub enum Tag {
     Once,
     /// `:optional` (RFC 6609, section 3.2).
     Optional,
+    /// `:copy` (RFC 3894, section 3).
+    Copy,
 }
 
 /// All commands.
@@ -206,6 +208,10 @@ impl Tag {
             Tag::Global => bare_tag(b"global", TagKind::Location),
             Tag::Once => bare_tag(b"once", TagKind::Once),
             Tag::Optional => bare_tag(b"optional", TagKind::Optional),
+            Tag::Copy => TagRow {
+                needs: Some(Capability::Copy),
+                ..bare_tag(b"copy", TagKind::Copy)
+            },
         }
     }
 }

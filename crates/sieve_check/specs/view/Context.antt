@@ -8,7 +8,7 @@ use Rattle.sieve_check.specs.declared.context.Spot as spots
 use Rattle.sieve_check.specs.declared.copying.Cutting as cuttings
 
 abbrev pub required_as : requireds.Required → Required
-required_as r = record { fileinto = r.fileinto; envelope = r.envelope; variables = r.variables; imap4flags = r.imap4flags; include = r.include }
+required_as r = record { fileinto = r.fileinto; envelope = r.envelope; variables = r.variables; imap4flags = r.imap4flags; include = r.include; copy = r.copy }
 
 abbrev pub at_spot : spots.Spot → Scope → Context
 at_spot s scope = record { leads = s.leads; follows_if = s.follows_if; required = required_as s.required; scope = scope }

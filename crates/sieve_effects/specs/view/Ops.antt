@@ -39,7 +39,7 @@ test_op_as (test.Over limit) = over_ask limit
 test_op_as (test.Under limit) = under_ask limit
 
 abbrev pub settings_op_as : SettingsOp → Settings
-settings_op_as s = record { flags = given_strings s.flags }
+settings_op_as s = record { flags = given_strings s.flags; copy = s.copy }
 
 abbrev pub command_op_as : CommandOp → Leaf
 command_op_as (command.Keep settings) = keep_leaf (settings_op_as settings)

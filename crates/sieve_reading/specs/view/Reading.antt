@@ -44,7 +44,7 @@ test_reading_as AnyOf = reading.reads_any
 test_reading_as Not = reading.reads_not
 
 abbrev pub settings_as : Settings → reading.Settings
-settings_as s = record { flags = option_map (λ texts. texts_as texts.now) s.flags }
+settings_as s = record { flags = option_map (λ texts. texts_as texts.now) s.flags; copy = s.copy }
 
 abbrev pub leaf_as : Leaf → reading.Leaf
 leaf_as (Keep settings) = reading.keep_leaf (settings_as settings)

@@ -51,10 +51,11 @@ tag_number tag.Personal = 16
 tag_number tag.Global = 17
 tag_number tag.Once = 18
 tag_number tag.Optional = 19
+tag_number tag.Copy = 20
 
 -- the tags in the order of their numbers
 abbrev pub all_tags : List Tag
-all_tags = tag.Comparator ∷ tag.Is ∷ tag.Contains ∷ tag.Matches ∷ tag.All ∷ tag.LocalPart ∷ tag.Domain ∷ tag.Over ∷ tag.Under ∷ tag.Lower ∷ tag.Upper ∷ tag.LowerFirst ∷ tag.UpperFirst ∷ tag.QuoteWildcard ∷ tag.Length ∷ tag.Flags ∷ tag.Personal ∷ tag.Global ∷ tag.Once ∷ tag.Optional ∷ []
+all_tags = tag.Comparator ∷ tag.Is ∷ tag.Contains ∷ tag.Matches ∷ tag.All ∷ tag.LocalPart ∷ tag.Domain ∷ tag.Over ∷ tag.Under ∷ tag.Lower ∷ tag.Upper ∷ tag.LowerFirst ∷ tag.UpperFirst ∷ tag.QuoteWildcard ∷ tag.Length ∷ tag.Flags ∷ tag.Personal ∷ tag.Global ∷ tag.Once ∷ tag.Optional ∷ tag.Copy ∷ []
 
 -- the kinds, each told by a number
 abbrev pub kind_number : TagKind → ℕ
@@ -70,7 +71,8 @@ kind_number kind.Case = 8
 kind_number kind.FirstLetter = 9
 kind_number kind.QuoteWildcard = 10
 kind_number kind.Length = 11
+kind_number kind.Copy = 12
 
 -- the kinds in the order of their numbers
 abbrev pub all_kinds : List TagKind
-all_kinds = kind.Comparator ∷ kind.MatchType ∷ kind.AddressPart ∷ kind.Bound ∷ kind.Flags ∷ kind.Location ∷ kind.Once ∷ kind.Optional ∷ kind.Case ∷ kind.FirstLetter ∷ kind.QuoteWildcard ∷ kind.Length ∷ []
+all_kinds = kind.Comparator ∷ kind.MatchType ∷ kind.AddressPart ∷ kind.Bound ∷ kind.Flags ∷ kind.Location ∷ kind.Once ∷ kind.Optional ∷ kind.Case ∷ kind.FirstLetter ∷ kind.QuoteWildcard ∷ kind.Length ∷ kind.Copy ∷ []

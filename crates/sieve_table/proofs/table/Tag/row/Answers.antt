@@ -19,3 +19,6 @@ pub returns-in-Flags : goal.returns-in-Flags
 returns-in-Flags c =
     ap {A = TagRow} (λ row. record row { takes = Some (slot form.List role.Flags); needs = Some capability.Imap4flags }) c.bare_tag-in-Flags.ensures
     ∙ ap tag_row (sym c.in-Flags.is)
+
+pub returns-in-Copy : goal.returns-in-Copy
+returns-in-Copy c = ap {A = TagRow} (λ row. record row { needs = Some capability.Copy }) c.bare_tag-in-Copy.ensures ∙ ap tag_row (sym c.in-Copy.is)
