@@ -1,5 +1,5 @@
 -- The tests of equality and of parts decide what they test.
-use Rattle.std.proofs.Common.{◌≡◌, ℕ, zero, suc, ◌-◌, ◌<◌, ◌≤◌, ◌⊎◌, inl, inr, ⊎_elim, List, [], ◌∷◌, length, slice_index, slice_range, take, Decides, refl, ap, arith}
+use Rattle.std.proofs.Common.{◌≡◌, ℕ, true, zero, suc, ◌-◌, ◌<◌, ◌≤◌, ◌⊎◌, inl, inr, ⊎_elim, List, [], ◌∷◌, length, slice_index, slice_range, take, Decides, refl, ap, arith}
 use Rattle.std.proofs.lemmas.Bool.{false≢true}
 use Rattle.std.proofs.lemmas.Bool.Decides.{Decides-and, Decides-or, Decides-eqb, Decides-like}
 use Rattle.std.proofs.lemmas.List.{length-take}
@@ -67,3 +67,8 @@ module _ (fold : ℕ → ℕ) where
       (⊎_elim (IsPart-front (x ∷ rest) key) (IsPart-later x rest key))
       (λ p. part_by_place x rest key p.start p.end p.ordered p.within p.same)
       (Decides-or _ _ (same-Decides (take (length key) (x ∷ rest)) key) (is_part-Decides rest key))
+
+  -- no octets are part of every value
+  pub is_part-empty : (value : List ℕ) → is_part fold value [] ≡ true
+  is_part-empty [] = refl
+  is_part-empty (x ∷ rest) = refl

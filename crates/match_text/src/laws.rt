@@ -1,9 +1,18 @@
 //! Laws over the definitions. Each of these functions does nothing: its contract is the law.
 ghost use Rattle.std.specs.Prelude.{◌≡◌, ◌↔◌, ℕ, List, [], None, Some, length, map, true};
 ghost use Rattle.std.specs.List.{All};
+ghost use Rattle.match_text.specs.Comparator.{IsPart, Same, is_part, same};
 ghost use Rattle.match_text.specs.Flags.{AreDistinct, distinct, flag_list, flag_union, flags_of_texts, flags_without, is_flag};
 ghost use Rattle.match_text.specs.Wildcard.{Fits, IsLeastFit, TakeInTurn, least_fit, taken};
 ghost use Rattle.match_text.specs.declared.pattern.Item.{Item};
+
+/// Whether two texts are the same, and whether one is part of the other, is told exactly (`:is` and `:contains` of RFC 5228,
+/// section 2.7.1). No octets at all are part of every value, the empty one too.
+pub fn sameness_is_decided()
+    ensures same { (fold : ℕ → ℕ) (a b : List ℕ) → (same fold a b ≡ true) ↔ Same fold a b }
+    ensures part { (fold : ℕ → ℕ) (value key : List ℕ) → (is_part fold value key ≡ true) ↔ IsPart fold value key }
+    ensures empty { (fold : ℕ → ℕ) (value : List ℕ) → is_part fold value [] ≡ true }
+{}
 
 /// The least fit of a pattern's items is the fit that is least in dictionary order, and is absent exactly where no fit exists
 /// (RFC 5229, section 3.2).

@@ -1,2 +1,3 @@
+pub mod LineOf
 pub mod SessionLine
 pub mod view

@@ -3,6 +3,7 @@
 #![tactic(auto)]
 
 mod input;
+pub mod laws;
 mod line;
 mod payload;
 mod session_line;

@@ -7,8 +7,9 @@ use Rattle.sieve_run.specs.Meter.{runs_after}
 use Rattle.bench.specs.Content.{Content, Edit, after}
 use Rattle.bench.specs.Report.{report_text}
 use Rattle.bench.specs.Stale.{stale_after}
-use Rattle.sievebench.specs.Session.{Ask, asks_nothing, asks_put, asks_edit, asks_report, asks_dump, ask_at, CutSession, Ends, IsFront, dump_of, Replies, Request, Served, SessionText, Step, Steps, none_yet, one_more, over, unreadable, truncated, idle, edits, reports, dumps, refusal_line, request_at, request_by, request_of, takes_memory, with_octets}
+use Rattle.sievebench.specs.Session.{Ask, asks_nothing, asks_put, asks_edit, asks_report, asks_dump, ask_at, BrokenSession, CutSession, Ends, IsFront, dump_of, Replies, Request, Served, SessionText, Step, Steps, none_yet, one_more, over, unreadable, truncated, idle, edits, reports, dumps, refusal_line, request_at, request_by, request_of, request_so_far, takes_memory, with_octets}
 use Rattle.bench.specs.declared.fault.EditFault.{EditFault}
+use Rattle.sievebench.proofs.Requests.{asked_with_more}
 use Rattle.sievebench.specs.declared.status.SessionEnd.{SessionEnd}
 use Rattle.sievebench.specs.declared.status.SessionEnd.TheVariants as ends
 
@@ -165,3 +166,34 @@ cut_is_front old new stream text cut = elim cut.answered [ inl on ↦ later on.0
         whole = ap (λ l. l ++ cut.back) cut.whole ∙ append_assoc cut.replies cut.front cut.back ∙ ap (λ l. cut.replies ++ l) cut.cut;
       },
     )
+
+-- WHERE NO MORE COULD BE READ
+
+-- the commands that were whole in what was read are the first of a stream that begins with it
+steps_with_more : (old : Served) (read more text : List ℕ) (new : Served) (rest : List ℕ) → Steps request_so_far old read text new rest → Steps request_of old (read ++ more) text new (rest ++ more)
+steps_with_more old read more text new rest none_yet = none_yet
+steps_with_more old read more text new rest (one_more replies reply mid last before left steps step) =
+    one_more replies reply mid last (before ++ more) (left ++ more) (steps_with_more old read more replies mid before steps) (asked_with_more mid last before more reply left step)
+
+pub broken_with_more : (old new : Served) (read text more : List ℕ) (session : BrokenSession old read text new) → Steps request_of old (read ++ more) text new (session.rest ++ more)
+broken_with_more old new read text more session = steps_with_more old read more text new session.rest session.steps
+
+-- what is written of a session of which no more could be read
+pub broken_is_front : (old new : Served) (read text more : List ℕ) → BrokenSession old read text new → IsFront old (read ++ more) text
+broken_is_front old new read text more broken = later (comes_to_end (length (broken.rest ++ more)) new (broken.rest ++ more) (omega arith))
+  where
+    later : ComesToEnd new (broken.rest ++ more) → IsFront old (read ++ more) text
+    later ended =
+        let session = ended.3 in (
+          session.replies ++ session.last,
+          ended.1,
+          ended.2,
+          record {
+            replies = text ++ session.replies;
+            last = session.last;
+            rest = session.rest;
+            steps = steps_both request_of old new (read ++ more) (broken.rest ++ more) text (broken_with_more old new read text more broken) ended.2 session.rest session.replies session.steps;
+            ends = session.ends;
+            whole = sym (append_assoc text session.replies session.last);
+          },
+        )

@@ -1,15 +1,16 @@
 -- What the lines of a session's input ask for.
-use Rattle.std.proofs.Common.{◌≡◌, ℕ, ◌<◌, ◌≤◌, ◌⊎◌, inl, inr, List, [], ◌∷◌, ◌++◌, length, take, drop, sym, ap, ◌∙◌, refl, arith, subst, append_assoc, take-append-drop, Option, None, Some, Bool, true, false, nat_lt, cond, codes, IfSome, length-append, length-take, ◌+◌}
+use Rattle.std.proofs.Common.{◌≡◌, ℕ, ◌<◌, ◌≤◌, ◌⊎◌, inl, inr, List, [], ◌∷◌, ◌++◌, length, take, drop, sym, ap, ◌∙◌, refl, arith, subst, append_assoc, take-append-drop, Option, None, Some, Bool, true, false, eqb, nat_lt, cond, codes, IfSome, length-append, length-take, ◌+◌}
 use Rattle.std.proofs.lemmas.Bool.{cases_lt}
 use Rattle.std.proofs.lemmas.Bool.Decides.{nat_tests}
 use Rattle.std.proofs.Math.Seq.{drop-append_seam, take-append_seam}
 use Rattle.std.proofs.KnownBytes.{Appends-nil}
 use Rattle.std.specs.Io.KnownBytes.{Keeps, prepend_known}
+use Rattle.std.specs.Option.{option_map}
 use Rattle.sieve_base.specs.Limits.{line_limit}
 use Rattle.bench.specs.Content.{Edit}
 use Rattle.session_text.specs.view.Line.{IsCutOff, IsEnded, IsLine, IsWithin}
-use Rattle.sievebench.specs.Session.{Ask, asks_nothing, asks_put, asks_edit, asks_report, asks_dump, ask_at, Request, Served, Step, request_behind, request_of, request_at, request_by, request_so_far, with_octets, edits, unreadable}
-use Rattle.session_text.specs.SessionLine.{first_line, line_so_far}
+use Rattle.sievebench.specs.Session.{Ask, asks_nothing, asks_put, asks_edit, asks_report, asks_dump, ask_at, Request, Served, Step, request_behind, request_of, request_at, request_by, request_so_far, with_octets, edits, truncated, unreadable}
+use Rattle.session_text.specs.SessionLine.{cut_line, ended_line, first_line, in_front, is_long_so_far, line_from, line_so_far, without_cr}
 use Rattle.sievebench.specs.view.Task.{IsFollowedBy}
 use Rattle.sievebench.specs.view.Progress.{AsksAlone, BreakFrom, CutFrom, StepFrom, EndFrom, MayBeRefused, ServesFrom}
 use Rattle.sievebench.proofs.Serving.{EndsAt, dump_refused, put_refused, short}
@@ -170,3 +171,45 @@ pub cut_served : (front : List ℕ) (ask : Option Ask) (old new : Served) (unuse
 cut_served front ask old new None behind before after' begins cut = tt
 cut_served front ask old new (Some xs) None before after' begins cut = absurd begins
 cut_served front ask old new (Some xs) (Some ys) before after' begins cut = (cut.0, cut.1, cut.2, cut.3, rw begins.1 cut.4, cut.5)
+
+-- OCTETS WITH OTHERS BEHIND THEM
+
+-- where the first octets have a line that has ended, all of them have that line, and what follows is behind it
+abbrev KeepsCut : List ℕ → Option (List ℕ × List ℕ) → Option (List ℕ × List ℕ) → Type 0
+KeepsCut more None all = Unit {0}
+KeepsCut more (Some cut) all = all ≡ Some (cut.0, cut.1 ++ more)
+
+cut_kept : (read more : List ℕ) → KeepsCut more (cut_line read) (cut_line (read ++ more))
+cut_kept [] more = tt
+cut_kept (b ∷ bs) more = by_octet (eqb b 10) (cut_line bs) (cut_line (bs ++ more)) (cut_kept bs more)
+  where
+    by_octet : (v : Bool) (first all : Option (List ℕ × List ℕ)) → KeepsCut more first all
+        → KeepsCut more (cond v (Some ([], bs)) (option_map (in_front b) first)) (cond v (Some ([], bs ++ more)) (option_map (in_front b) all))
+    by_octet true first all kept = refl
+    by_octet false None all kept = tt
+    by_octet false (Some cut) all kept = ap (option_map (in_front b)) kept
+
+-- what a line asks for, with more octets behind it
+line_and_more : (old new : Served) (front rest more reply left : List ℕ) → Step old (request_at (front, rest)) reply new left → Step old (request_at (front, rest ++ more)) reply new (left ++ more)
+line_and_more old new front rest more reply left = by_limit (nat_lt line_limit (length front))
+  where
+    by_limit : (long : Bool) → Step old (cond long unreadable (request_by (ask_at front) rest)) reply new left → Step old (cond long unreadable (request_by (ask_at front) (rest ++ more))) reply new (left ++ more)
+    by_limit true step = step
+    by_limit false step =
+        let own : Alone (request_by (ask_at front)) old rest reply new left = step_alone (ask_at front) old new rest left reply step in
+        let cut : own.0 ++ (left ++ more) ≡ rest ++ more = sym (append_assoc own.0 left more) ∙ ap (λ l. l ++ more) (sym own.1) in
+        subst (λ l. Step old (request_by (ask_at front) l) reply new (left ++ more)) cut (own.2 (left ++ more))
+
+-- what the octets ask for that are read, a stream asks for that begins with them
+pub asked_with_more : (old new : Served) (read more reply left : List ℕ) → Step old (request_so_far read) reply new left → Step old (request_of (read ++ more)) reply new (left ++ more)
+unfolding request_of request_so_far first_line line_so_far
+asked_with_more old new [] more reply left step = absurd step
+asked_with_more old new (b ∷ bs) more reply left step = by_cut (cut_line (b ∷ bs)) (cut_line ((b ∷ bs) ++ more)) (cut_kept (b ∷ bs) more) step
+  where
+    by_length : (long : Bool) → Step old (cond long unreadable truncated) reply new left → ⊥
+    by_length true step = step
+    by_length false step = step
+
+    by_cut : (first all : Option (List ℕ × List ℕ)) → KeepsCut more first all → Step old (request_behind (b ∷ bs) (option_map ended_line first)) reply new left → Step old (request_at (line_from ((b ∷ bs) ++ more) all)) reply new (left ++ more)
+    by_cut None all kept step = absurd (by_length (is_long_so_far (b ∷ bs)) step)
+    by_cut (Some cut) all kept step = rw kept (line_and_more old new (without_cr cut.0) cut.1 more reply left step)

@@ -1,0 +1,23 @@
+//! Laws over the definitions. Each of these functions does nothing: its contract is the law.
+ghost use Rattle.std.specs.Prelude.{◌≡◌, ◌<◌, ℕ, List, Some, map, true};
+ghost use Rattle.std.specs.List.{All, list_all};
+ghost use Rattle.sieve_base.specs.Writers.{quoted};
+ghost use Rattle.session_text.specs.LineOf.{IsLineOf, IsWord, joined};
+ghost use Rattle.session_text.specs.SessionLine.{is_plain, line_words, word_value};
+
+/// The quoted form of octets, as reports print it, is a word that stands for these octets.
+pub fn a_quoted_word_stands_for_its_octets()
+    ensures { (octets : List ℕ) → All (λ octet. octet < 256) octets → word_value (quoted octets) ≡ Some octets }
+{}
+
+/// The words of a line that is made of words, with one space or more between each two and any in front and behind, are these words.
+pub fn words_stand_between_spaces()
+    ensures joined { (words : List (List ℕ)) → All IsWord words → line_words (joined words) ≡ words }
+    ensures spaced { (words : List (List ℕ)) (line : List ℕ) → IsLineOf words line → line_words line ≡ words }
+{}
+
+/// A line of the quoted forms of values is one that a session reads, and gives back each value.
+pub fn a_line_gives_back_its_values()
+    ensures plain { (values : List (List ℕ)) → All (All (λ octet. octet < 256)) values → list_all is_plain (joined (map quoted values)) ≡ true }
+    ensures values { (values : List (List ℕ)) → All (All (λ octet. octet < 256)) values → map word_value (line_words (joined (map quoted values))) ≡ map Some values }
+{}
