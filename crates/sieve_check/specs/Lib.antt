@@ -7,6 +7,7 @@ pub mod Judgement
 pub mod Order
 pub mod Parted
 pub mod Readable
+pub mod Requirement
 pub mod Scope
 pub mod Use
 pub mod view

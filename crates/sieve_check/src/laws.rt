@@ -11,8 +11,9 @@ ghost use Rattle.sieve_check.specs.Breach.{Breach, all_rules, breaches_at, breac
 ghost use Rattle.sieve_check.specs.Context.{Context, Required, behind_nodes, is_required, requiring, takes_references};
 ghost use Rattle.sieve_check.specs.Element.{elements_of};
 ghost use Rattle.sieve_check.specs.Order.{IsInTextOrder};
-ghost use Rattle.sieve_check.specs.Parted.{Cutting, declared_behind_nodes, parted, parts_in};
+ghost use Rattle.sieve_check.specs.Parted.{Cutting, cutting_at_start, declared_behind_nodes, parted, parts_in};
 ghost use Rattle.sieve_check.specs.Readable.{IsReadable, DoesAll};
+ghost use Rattle.sieve_check.specs.Requirement.{IsTextJudgedUnder, JudgesBehindRequires};
 ghost use Rattle.sieve_reading.specs.Reading.{all_tags, tag_number};
 ghost use Rattle.sieve_reading.specs.Role.{all_roles, names_variable, role_number};
 ghost use Rattle.sieve_table.specs.Capability.{is_name_of};
@@ -68,6 +69,15 @@ pub fn parts_go_by_the_role()
     ensures expanded { (cutting : Cutting) (role : Option Role) (octets : List ℕ) → takes_references cutting.required role ≡ true → (pieces : List Piece) × Cuts pieces octets × (parts_in cutting role octets ≡ map (scoped_part cutting.declared) (grouped pieces)) }
     ensures name { (cutting : Cutting) (role : Option Role) (octets : List ℕ) → names_variable role ≡ true → parts_in cutting role octets ≡ variable_part (scoped cutting.declared (variable_named octets)) ∷ [] }
     ensures plain { (cutting : Cutting) (role : Option Role) (octets : List ℕ) → names_variable role ≡ false → takes_references cutting.required role ≡ false → parts_in cutting role octets ≡ literal octets ∷ [] }
+{}
+
+/// The rules judge under the requirements by which strings are cut. Behind the `require` commands at the top of a script all that these
+/// name is required for each command, test and string, and nothing else is (RFC 5228, section 3.2). In a script without a breach that holds
+/// of each string but those of the `require` commands; and a reference in a string stands for a value where the string is judged exactly if
+/// it does where the string is cut (RFC 5229, section 3).
+pub fn strings_are_judged_as_they_are_cut()
+    ensures behind { (tree : List Node) → JudgesBehindRequires (cutting_at_start tree).required tree }
+    ensures strings { (tree : List Node) → breaches_of tree ≡ [] → All (IsTextJudgedUnder (cutting_at_start tree).required) (elements_of tree) }
 {}
 
 /// The names by which strings are cut are those by which rules judge.
