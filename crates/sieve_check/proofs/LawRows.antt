@@ -2,6 +2,7 @@
 use Rattle.std.proofs.Common.{◌≡◌, ℕ, Bool, true, false, List, [], ◌∷◌, map, None, Some, refl, codes}
 use Rattle.sieve_syntax.specs.Tree as syntax
 use Rattle.sieve_syntax.specs.Word.{identifier, number_word, string_word}
+use Rattle.sieve_check.specs.Bare.{bare_written_node}
 use Rattle.sieve_check.specs.Breach.{breaches_at, breaches_in, breaches_of}
 use Rattle.sieve_check.specs.Context.{behind, nothing_required, takes_references}
 use Rattle.sieve_check.specs.Element.{Element, the_command, the_number, the_test, the_text, block_elements, elements_of, node_elements, nodes_elements, test_elements, tests_elements}
@@ -12,7 +13,7 @@ use Rattle.sieve_check.specs.Requirement.{leading_requires}
 use Rattle.sieve_reading.specs.Reading.{discard_leaf, keep_leaf}
 use Rattle.sieve_reading.specs.Script.{always, block_commands, chain_of, condition_of, conditions_in, never, node_before, script_of}
 use Rattle.sieve_table.specs.Table.{command_named, test_named}
-use Rattle.sieve_reading.specs.Tree.{nodes}
+use Rattle.sieve_reading.specs.Tree.{node, no_block, no_tests, nodes, strings}
 use Rattle.sieve_table.specs.declared.row.Role.TheVariants.{Address}
 use Rattle.sieve_check.proofs.Readable.{is_readable}
 use Rattle.sieve_check.proofs.Roles.{not_both}
@@ -105,3 +106,10 @@ early_row = refl
 early_cut_row : takes_references (cutting_at_start early_block).required (Some Address) ≡ true
 unfolding command_named
 early_cut_row = refl
+
+-- A TREE WITHOUT WHAT ITS STRINGS HOLD
+
+-- redirect "${a}";
+bare_row : map bare_written_node (syntax.node (codes "redirect") 7 (string (codes "${a}") 8 ∷ []) syntax.no_tests syntax.no_block ∷ [])
+    ≡ node (codes "redirect") 7 (strings (record { parts = []; line = 8 } ∷ []) false ∷ []) no_tests no_block ∷ []
+bare_row = refl

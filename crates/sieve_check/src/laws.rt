@@ -7,6 +7,7 @@ ghost use Rattle.sieve_syntax.specs.Token.{Spells};
 ghost use Rattle.sieve_syntax.specs.Tree.{Node, Nodes};
 ghost use Rattle.sieve_syntax.specs.Word.{words_of};
 ghost use Rattle.sieve_syntax.specs.declared.token.Token.{Token};
+ghost use Rattle.sieve_check.specs.Bare.{bare_node, bare_written_node};
 ghost use Rattle.sieve_check.specs.Breach.{Breach, all_rules, breaches_at, breaches_of, breaks, first_breach, IsLeastBreach};
 ghost use Rattle.sieve_check.specs.Context.{Context, Required, behind_nodes, is_required, requiring, takes_references};
 ghost use Rattle.sieve_check.specs.Element.{elements_of};
@@ -69,6 +70,12 @@ pub fn parts_go_by_the_role()
     ensures expanded { (cutting : Cutting) (role : Option Role) (octets : List ℕ) → takes_references cutting.required role ≡ true → (pieces : List Piece) × Cuts pieces octets × (parts_in cutting role octets ≡ map (scoped_part cutting.declared) (grouped pieces)) }
     ensures name { (cutting : Cutting) (role : Option Role) (octets : List ℕ) → names_variable role ≡ true → parts_in cutting role octets ≡ variable_part (scoped cutting.declared (variable_named octets)) ∷ [] }
     ensures plain { (cutting : Cutting) (role : Option Role) (octets : List ℕ) → names_variable role ≡ false → takes_references cutting.required role ≡ false → parts_in cutting role octets ≡ literal octets ∷ [] }
+{}
+
+/// Cutting strings into parts changes nothing else of a tree (RFC 5229, section 3): the checked tree has the names, lines, tags, numbers,
+/// tests and blocks of the text's tree, and in each argument as many strings, on the same lines, in brackets or not.
+pub fn parting_changes_strings_alone()
+    ensures { (tree : List Node) → map bare_node (parted tree) ≡ map bare_written_node tree }
 {}
 
 /// The rules judge under the requirements by which strings are cut. Behind the `require` commands at the top of a script all that these
