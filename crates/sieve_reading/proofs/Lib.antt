@@ -1,2 +1,4 @@
 mod Fusing
+mod Labelling
+mod PositionalRows
 mod Readings

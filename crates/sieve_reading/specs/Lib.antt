@@ -1,4 +1,5 @@
 pub mod Label
+pub mod Positional
 pub mod Reading
 pub mod Role
 pub mod Script

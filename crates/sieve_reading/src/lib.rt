@@ -4,6 +4,7 @@
 
 mod label;
 mod labelled;
+pub mod laws;
 mod reading;
 mod role;
 mod shape;
