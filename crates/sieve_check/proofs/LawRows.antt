@@ -6,6 +6,7 @@ use Rattle.sieve_check.specs.Bare.{bare_written_node}
 use Rattle.sieve_check.specs.Breach.{breaches_at, breaches_in, breaches_of}
 use Rattle.sieve_check.specs.Context.{behind, nothing_required, takes_references}
 use Rattle.sieve_check.specs.Element.{Element, the_command, the_number, the_test, the_text, block_elements, elements_of, node_elements, nodes_elements, test_elements, tests_elements}
+use Rattle.sieve_check.specs.Naming.{declares, nodes_mentions, set_by, sets}
 use Rattle.sieve_check.specs.Order.{written_by}
 use Rattle.sieve_check.specs.Parted.{cutting_at_start, parted}
 use Rattle.sieve_check.specs.Readable.{IsReadable, ReadsBlock, ReadsNode, ReadsNodes, act_mark, block_marks, choice_mark, marks, node_marks, nodes_marks, return_mark, stop_mark}
@@ -113,3 +114,26 @@ early_cut_row = refl
 bare_row : map bare_written_node (syntax.node (codes "redirect") 7 (string (codes "${a}") 8 ∷ []) syntax.no_tests syntax.no_block ∷ [])
     ≡ node (codes "redirect") 7 (strings (record { parts = []; line = 8 } ∷ []) false ∷ []) no_tests no_block ∷ []
 bare_row = refl
+
+-- NAMES THAT ARE WRITTEN
+
+-- a command with one string or two
+abbrev naming_one : List ℕ → List ℕ → syntax.Node
+naming_one command name = syntax.node command 1 (string name 1 ∷ []) syntax.no_tests syntax.no_block
+
+abbrev naming_two : List ℕ → List ℕ → syntax.Node
+naming_two command name = syntax.node command 1 (string name 1 ∷ string (codes "x") 1 ∷ []) syntax.no_tests syntax.no_block
+
+-- set "Ab" "x"; set "aB" "x"; if true { addflag "c" "x"; } global "d"; set "D" "x"; set "1" "x"; setflag "E" "x"; setflag "f";
+abbrev naming : List syntax.Node
+naming =
+    naming_two (codes "set") (codes "Ab") ∷ naming_two (codes "set") (codes "aB") ∷ branch (codes "if") 1 (codes "true") (naming_two (codes "addflag") (codes "c")) ∷ naming_one (codes "global") (codes "d")
+    ∷ naming_two (codes "set") (codes "D") ∷ naming_two (codes "set") (codes "1") ∷ naming_two (codes "setflag") (codes "E") ∷ naming_one (codes "setflag") (codes "f") ∷ []
+
+mentions_row : nodes_mentions (syntax.nodes naming) ≡ sets (codes "Ab") ∷ sets (codes "aB") ∷ sets (codes "c") ∷ declares (codes "d") ∷ sets (codes "D") ∷ sets (codes "1") ∷ sets (codes "E") ∷ []
+unfolding command_named
+mentions_row = refl
+
+set_row : set_by (nodes_mentions (syntax.nodes naming)) ≡ codes "Ab" ∷ codes "c" ∷ codes "E" ∷ []
+unfolding command_named
+set_row = refl

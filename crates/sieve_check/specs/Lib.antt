@@ -5,6 +5,7 @@ pub mod Context
 pub mod Element
 pub mod Faultless
 pub mod Judgement
+pub mod Naming
 pub mod Order
 pub mod Parted
 pub mod Readable

@@ -9,8 +9,9 @@ ghost use Rattle.sieve_syntax.specs.Word.{words_of};
 ghost use Rattle.sieve_syntax.specs.declared.token.Token.{Token};
 ghost use Rattle.sieve_check.specs.Bare.{bare_node, bare_written_node};
 ghost use Rattle.sieve_check.specs.Breach.{Breach, all_rules, breaches_at, breaches_of, breaks, first_breach, IsLeastBreach};
-ghost use Rattle.sieve_check.specs.Context.{Context, Required, behind_nodes, is_required, requiring, takes_references};
+ghost use Rattle.sieve_check.specs.Context.{Context, Required, behind_nodes, is_required, requiring, script_start, takes_references};
 ghost use Rattle.sieve_check.specs.Element.{elements_of};
+ghost use Rattle.sieve_check.specs.Naming.{nodes_mentions, set_by};
 ghost use Rattle.sieve_check.specs.Order.{IsInTextOrder};
 ghost use Rattle.sieve_check.specs.Parted.{Cutting, cutting_at_start, declared_behind_nodes, parted, parts_in};
 ghost use Rattle.sieve_check.specs.Readable.{IsReadable, DoesAll};
@@ -90,6 +91,13 @@ pub fn strings_are_judged_as_they_are_cut()
 /// The names by which strings are cut are those by which rules judge.
 pub fn declared_names_are_one()
     ensures { (context : Context) (commands : Nodes) → declared_behind_nodes context.scope.declared commands ≡ (behind_nodes context commands).scope.declared }
+{}
+
+/// The variables that a text sets are the identifiers that it writes to set them, each once and as it is first written, but for those that
+/// it names or declares before: names ignore the case of ASCII (RFC 5229, sections 3 and 4; RFC 6609, section 3.4.1). A place in a block is
+/// behind the text that ends there.
+pub fn what_is_written_to_be_set_is_set()
+    ensures { (commands : Nodes) → (behind_nodes script_start commands).scope.assigned ≡ set_by (nodes_mentions commands) }
 {}
 
 /// Each command and each test is found by the name of its row.
