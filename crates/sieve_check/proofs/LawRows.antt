@@ -1,17 +1,21 @@
 -- Worked rows of what the laws speak of.
-use Rattle.std.proofs.Common.{◌≡◌, ℕ, false, List, [], ◌∷◌, map, None, Some, refl, codes}
+use Rattle.std.proofs.Common.{◌≡◌, ℕ, Bool, true, false, List, [], ◌∷◌, map, None, Some, refl, codes}
 use Rattle.sieve_syntax.specs.Tree as syntax
 use Rattle.sieve_syntax.specs.Word.{identifier, number_word, string_word}
+use Rattle.sieve_check.specs.Bare.{bare_written_node}
 use Rattle.sieve_check.specs.Breach.{breaches_at, breaches_in, breaches_of}
-use Rattle.sieve_check.specs.Context.{behind}
-use Rattle.sieve_check.specs.Element.{block_elements, elements_of, node_elements, nodes_elements, test_elements, tests_elements}
+use Rattle.sieve_check.specs.Context.{behind, nothing_required, takes_references}
+use Rattle.sieve_check.specs.Element.{Element, the_command, the_number, the_test, the_text, block_elements, elements_of, node_elements, nodes_elements, test_elements, tests_elements}
+use Rattle.sieve_check.specs.Naming.{declares, nodes_mentions, set_by, sets}
 use Rattle.sieve_check.specs.Order.{written_by}
-use Rattle.sieve_check.specs.Parted.{parted}
+use Rattle.sieve_check.specs.Parted.{cutting_at_start, parted}
 use Rattle.sieve_check.specs.Readable.{IsReadable, ReadsBlock, ReadsNode, ReadsNodes, act_mark, block_marks, choice_mark, marks, node_marks, nodes_marks, return_mark, stop_mark}
 use Rattle.sieve_reading.specs.Reading.{plain_settings, discard_leaf, keep_leaf}
+use Rattle.sieve_check.specs.Requirement.{leading_requires}
 use Rattle.sieve_reading.specs.Script.{always, block_commands, chain_of, condition_of, conditions_in, never, node_before, script_of}
 use Rattle.sieve_table.specs.Table.{command_named, test_named}
-use Rattle.sieve_reading.specs.Tree.{nodes}
+use Rattle.sieve_reading.specs.Tree.{node, no_block, no_tests, nodes, strings}
+use Rattle.sieve_table.specs.declared.row.Role.TheVariants.{Address}
 use Rattle.sieve_check.proofs.Readable.{is_readable}
 use Rattle.sieve_check.proofs.Roles.{not_both}
 
@@ -61,3 +65,75 @@ order_row : map written_by (elements_of (syntax.node (codes "if") 1 [] (syntax.o
     ≡ identifier (codes "if") 1 ∷ identifier (codes "size") 1 ∷ number_word (Some 5) 1 ∷ identifier (codes "keep") 2 ∷ identifier (codes "require") 3 ∷ string_word (codes "a") 3 ∷ []
 unfolding nodes_elements node_elements block_elements tests_elements test_elements command_named test_named behind
 order_row = refl
+
+-- A STRING, AND WHAT IS REQUIRED
+
+abbrev string : List ℕ → ℕ → syntax.Argument
+string octets line = syntax.strings (record { octets = octets; line = line } ∷ []) false
+
+abbrev requiring_one : List ℕ → ℕ → syntax.Node
+requiring_one name line = syntax.node (codes "require") line (string name line ∷ []) syntax.no_tests syntax.no_block
+
+-- require "variables"; keep; require "fileinto";
+abbrev late_require : List syntax.Node
+late_require = requiring_one (codes "variables") 1 ∷ plain (codes "keep") 2 ∷ requiring_one (codes "fileinto") 3 ∷ []
+
+leading_row : leading_requires late_require ≡ requiring_one (codes "variables") 1 ∷ []
+unfolding command_named
+leading_row = refl
+
+cut_row : (cutting_at_start late_require).required ≡ record nothing_required { variables = true }
+unfolding command_named
+cut_row = refl
+
+-- whether references stand for values in the strings of a script, where they are judged
+abbrev texts_taking : List Element → List Bool
+texts_taking [] = []
+texts_taking (the_command context name line args ts ending ∷ es) = texts_taking es
+texts_taking (the_test context name line args ts ∷ es) = texts_taking es
+texts_taking (the_text context role text ∷ es) = takes_references context.required role ∷ texts_taking es
+texts_taking (the_number value line ∷ es) = texts_taking es
+
+-- require "fileinto" { redirect "${a}"; } require "variables"; is cut where variables are required, and breaks a rule where they aren't yet
+abbrev early_block : List syntax.Node
+early_block =
+    syntax.node (codes "require") 1 (string (codes "fileinto") 1 ∷ []) syntax.no_tests (syntax.block (syntax.nodes (syntax.node (codes "redirect") 1 (string (codes "${a}") 1 ∷ []) syntax.no_tests syntax.no_block ∷ [])))
+    ∷ requiring_one (codes "variables") 2 ∷ []
+
+early_row : texts_taking (elements_of early_block) ≡ false ∷ false ∷ false ∷ []
+unfolding nodes_elements node_elements block_elements tests_elements command_named behind
+early_row = refl
+
+early_cut_row : takes_references (cutting_at_start early_block).required (Some Address) ≡ true
+unfolding command_named
+early_cut_row = refl
+
+-- A TREE WITHOUT WHAT ITS STRINGS HOLD
+
+-- redirect "${a}";
+bare_row : map bare_written_node (syntax.node (codes "redirect") 7 (string (codes "${a}") 8 ∷ []) syntax.no_tests syntax.no_block ∷ [])
+    ≡ node (codes "redirect") 7 (strings (record { parts = []; line = 8 } ∷ []) false ∷ []) no_tests no_block ∷ []
+bare_row = refl
+
+-- NAMES THAT ARE WRITTEN
+
+-- a command with one string or two
+abbrev naming_one : List ℕ → List ℕ → syntax.Node
+naming_one command name = syntax.node command 1 (string name 1 ∷ []) syntax.no_tests syntax.no_block
+
+abbrev naming_two : List ℕ → List ℕ → syntax.Node
+naming_two command name = syntax.node command 1 (string name 1 ∷ string (codes "x") 1 ∷ []) syntax.no_tests syntax.no_block
+
+-- set "Ab" "x"; set "aB" "x"; if true { addflag "c" "x"; } global "d"; set "D" "x"; set "1" "x"; setflag "E" "x"; setflag "f";
+abbrev naming : List syntax.Node
+naming =
+    naming_two (codes "set") (codes "Ab") ∷ naming_two (codes "set") (codes "aB") ∷ branch (codes "if") 1 (codes "true") (naming_two (codes "addflag") (codes "c")) ∷ naming_one (codes "global") (codes "d")
+    ∷ naming_two (codes "set") (codes "D") ∷ naming_two (codes "set") (codes "1") ∷ naming_two (codes "setflag") (codes "E") ∷ naming_one (codes "setflag") (codes "f") ∷ []
+
+mentions_row : nodes_mentions (syntax.nodes naming) ≡ sets (codes "Ab") ∷ sets (codes "aB") ∷ sets (codes "c") ∷ declares (codes "d") ∷ sets (codes "D") ∷ sets (codes "1") ∷ sets (codes "E") ∷ []
+unfolding command_named
+mentions_row = refl
+
+set_row : set_by (nodes_mentions (syntax.nodes naming)) ≡ codes "Ab" ∷ codes "c" ∷ codes "E" ∷ []
+unfolding command_named
+set_row = refl

@@ -1,12 +1,15 @@
+pub mod Bare
 pub mod Breach
 pub mod CheckFault
 pub mod Context
 pub mod Element
 pub mod Faultless
 pub mod Judgement
+pub mod Naming
 pub mod Order
 pub mod Parted
 pub mod Readable
+pub mod Requirement
 pub mod Scope
 pub mod Use
 pub mod view

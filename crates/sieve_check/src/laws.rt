@@ -7,21 +7,21 @@ ghost use Rattle.sieve_syntax.specs.Token.{Spells};
 ghost use Rattle.sieve_syntax.specs.Tree.{Node, Nodes};
 ghost use Rattle.sieve_syntax.specs.Word.{words_of};
 ghost use Rattle.sieve_syntax.specs.declared.token.Token.{Token};
+ghost use Rattle.sieve_check.specs.Bare.{bare_node, bare_written_node};
 ghost use Rattle.sieve_check.specs.Breach.{Breach, breaches_at, breaches_of, breaks, first_breach, IsLeastBreach};
-ghost use Rattle.sieve_check.specs.Context.{Context, Required, behind_nodes, is_required, requiring, takes_references};
+ghost use Rattle.sieve_check.specs.Context.{Context, Required, behind_nodes, is_required, requiring, script_start, takes_references};
 ghost use Rattle.sieve_check.specs.Element.{elements_of};
+ghost use Rattle.sieve_check.specs.Naming.{nodes_mentions, set_by};
 ghost use Rattle.sieve_check.specs.Order.{IsInTextOrder};
-ghost use Rattle.sieve_check.specs.Parted.{Cutting, declared_behind_nodes, parted, parts_in};
+ghost use Rattle.sieve_check.specs.Parted.{Cutting, cutting_at_start, declared_behind_nodes, parted, parts_in};
 ghost use Rattle.sieve_check.specs.Readable.{IsReadable, DoesAll};
-ghost use Rattle.sieve_table.specs.view.Number.{all_roles, role_number, all_tags, tag_number, all_kinds, kind_number};
+ghost use Rattle.sieve_check.specs.Requirement.{IsTextJudgedUnder, JudgesBehindRequires};
 ghost use Rattle.sieve_table.specs.Role.{names_variable};
 ghost use Rattle.sieve_table.specs.Capability.{is_name_of};
-ghost use Rattle.sieve_table.specs.Rule.{rule_number, all_rules};
 ghost use Rattle.sieve_table.specs.Table.{command_named, command_row, test_named, test_row};
 ghost use Rattle.sieve_reading.specs.Tree as checked;
 ghost use Rattle.sieve_table.specs.declared.capability.Capability.{Capability};
 ghost use Rattle.sieve_table.specs.declared.row.Role.{Role};
-ghost use Rattle.sieve_table.specs.declared.row.TagKind.{TagKind};
 ghost use Rattle.sieve_table.specs.declared.rule.Rule.{Rule};
 ghost use Rattle.sieve_table.specs.declared.table.CommandKind.{CommandKind};
 ghost use Rattle.sieve_table.specs.declared.table.Tag.{Tag};
@@ -54,9 +54,31 @@ pub fn parts_go_by_the_role()
     ensures plain { (cutting : Cutting) (role : Option Role) (octets : List ℕ) → names_variable role ≡ false → takes_references cutting.required role ≡ false → parts_in cutting role octets ≡ literal octets ∷ [] }
 {}
 
+/// Cutting strings into parts changes nothing else of a tree (RFC 5229, section 3): the checked tree has the names, lines, tags, numbers,
+/// tests and blocks of the text's tree, and in each argument as many strings, on the same lines, in brackets or not.
+pub fn parting_changes_strings_alone()
+    ensures { (tree : List Node) → map bare_node (parted tree) ≡ map bare_written_node tree }
+{}
+
+/// The rules judge under the requirements by which strings are cut. Behind the `require` commands at the top of a script all that these
+/// name is required for each command, test and string, and nothing else is (RFC 5228, section 3.2). In a script without a breach that holds
+/// of each string but those of the `require` commands; and a reference in a string stands for a value where the string is judged exactly if
+/// it does where the string is cut (RFC 5229, section 3).
+pub fn strings_are_judged_as_they_are_cut()
+    ensures behind { (tree : List Node) → JudgesBehindRequires (cutting_at_start tree).required tree }
+    ensures strings { (tree : List Node) → breaches_of tree ≡ [] → All (IsTextJudgedUnder (cutting_at_start tree).required) (elements_of tree) }
+{}
+
 /// The names by which strings are cut are those by which rules judge.
 pub fn declared_names_are_one()
     ensures { (context : Context) (commands : Nodes) → declared_behind_nodes context.scope.declared commands ≡ (behind_nodes context commands).scope.declared }
+{}
+
+/// The variables that a text sets are the identifiers that it writes to set them, each once and as it is first written, but for those that
+/// it names or declares before: names ignore the case of ASCII (RFC 5229, sections 3 and 4; RFC 6609, section 3.4.1). A place in a block is
+/// behind the text that ends there.
+pub fn what_is_written_to_be_set_is_set()
+    ensures { (commands : Nodes) → (behind_nodes script_start commands).scope.assigned ≡ set_by (nodes_mentions commands) }
 {}
 
 /// Each command and each test is found by the name of its row.

@@ -1,1 +1,3 @@
 mod Fusing
+mod Labelling
+mod PositionalRows

@@ -1,6 +1,7 @@
 pub mod CommandReading
 pub mod Given
 pub mod Label
+pub mod Positional
 pub mod Reading
 pub mod Role
 pub mod Script

@@ -1,5 +1,5 @@
 -- What the commands and tests of a checked tree are (RFC 5228, sections 3, 4 and 5), with defaults filled in.
-use Rattle.std.specs.Prelude.{ℕ, Bool, false, List, Option}
+use Rattle.std.specs.Prelude.{ℕ, Bool, false, List, Option, None}
 use Rattle.match_text.specs.declared.comparators.Collation.{Collation}
 use Rattle.message_text.specs.declared.addressing.AddressPart.{AddressPart}
 use Rattle.sieve_base.specs.declared.place.Place.{Place}

@@ -6,6 +6,7 @@ mod command_reading;
 mod given;
 mod label;
 mod labelled;
+pub mod laws;
 mod reading;
 mod role;
 mod shape;

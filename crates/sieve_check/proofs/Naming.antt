@@ -1,0 +1,285 @@
+-- The variables that a text sets are those that the names written in it set.
+use Rattle.std.proofs.Common.{◌≡◌, ℕ, Bool, true, false, not, ◌&&◌, ◌||◌, List, [], ◌∷◌, ◌++◌, map, drop, Option, None, Some, refl, sym, ap, ◌∙◌, append-nil, append_assoc}
+use Rattle.std.proofs.lemmas.List.{map-append}
+use Rattle.std.proofs.lemmas.List.Elements.{filter_agree}
+use Rattle.std.specs.Bool.{one_answer}
+use Rattle.std.specs.List.{filter, list_any}
+use Rattle.std.specs.Prelude.{if◌then◌else◌, nat_eq}
+use Rattle.std.specs.Str.{str_eq_ignore_ascii_case}
+use lib.Pointwise.{bytes_decides, pointwise}
+use Rattle.sieve_syntax.specs.Tree.{Argument, strings, number, tag, Text, Node, node, Block, no_block, block, Nodes, end_nodes, more_nodes}
+use Rattle.sieve_check.specs.Context.{Context, behind, behind_block, behind_kind, behind_nodes, inside, script_start}
+use Rattle.sieve_check.specs.Naming.{Mention, sets, declares, block_mentions, command_mentions, names_in_role, node_mentions, nodes_mentions, octets_in, set_by, without_name}
+use Rattle.sieve_check.specs.Scope.{Scope, assigning, assigning_argument, assigning_arguments, assigning_texts, declaring_argument, declaring_texts, is_assigned, no_names, with_declared}
+use Rattle.sieve_reading.specs.Role.{first_role, has_role}
+use Rattle.sieve_reading.specs.Shape.{row_labels}
+use Rattle.sieve_reading.specs.declared.label.Label.{Label}
+use Rattle.sieve_table.specs.Table.{command_named, command_row}
+use Rattle.sieve_table.specs.declared.row.Role.{Role}
+use Rattle.sieve_table.specs.declared.row.Role.TheVariants.{NameToSet, NamesToDeclare}
+use Rattle.sieve_table.specs.declared.table.CommandKind.{CommandKind}
+use Rattle.sieve_variables.specs.Name.{folded_name, is_identifier}
+use Rattle.sieve_variables.specs.Variable.{is_among, with_name}
+
+-- ONE NAME AFTER THE OTHER
+
+abbrev mentioned : Scope → Mention → Scope
+mentioned scope (sets name) = assigning scope name
+mentioned scope (declares name) = record scope { declared = with_name (folded_name name) scope.declared }
+
+abbrev behind_mentions : Scope → List Mention → Scope
+behind_mentions scope [] = scope
+behind_mentions scope (m ∷ ms) = behind_mentions (mentioned scope m) ms
+
+in_turn : (xs ys : List Mention) (scope : Scope) → behind_mentions scope (xs ++ ys) ≡ behind_mentions (behind_mentions scope xs) ys
+in_turn [] ys scope = refl
+in_turn (x ∷ xs) ys scope = in_turn xs ys (mentioned scope x)
+
+-- NAMES THAT ARE SET
+
+abbrev octets_of : List Text → List (List ℕ)
+octets_of ts = map (λ t. t.octets) ts
+
+texts_set : (ts : List Text) (scope : Scope) → assigning_texts scope ts ≡ behind_mentions scope (map sets (octets_of ts))
+texts_set [] scope = refl
+texts_set (t ∷ ts) scope = texts_set ts (assigning scope t.octets)
+
+abbrev if_in_role : Bool → Argument → List (List ℕ)
+if_in_role b a = if b then octets_in a else []
+
+argument_sets : (a : Argument) (scope : Scope) (role : Option Role) → assigning_argument scope role a ≡ behind_mentions scope (map sets (if_in_role (has_role NameToSet role) a))
+argument_sets (strings items bracketed) scope role = by_role (has_role NameToSet role)
+  where
+    by_role : (b : Bool) → (if b then assigning_texts scope items else scope) ≡ behind_mentions scope (map sets (if_in_role b (strings items bracketed)))
+    by_role true = texts_set items scope
+    by_role false = refl
+argument_sets (number value line) scope role = by_role (has_role NameToSet role)
+  where
+    by_role : (b : Bool) → scope ≡ behind_mentions scope (map sets (if_in_role b (number value line)))
+    by_role true = refl
+    by_role false = refl
+argument_sets (tag name line) scope role = by_role (has_role NameToSet role)
+  where
+    by_role : (b : Bool) → scope ≡ behind_mentions scope (map sets (if_in_role b (tag name line)))
+    by_role true = refl
+    by_role false = refl
+
+arguments_set : (args : List Argument) (scope : Scope) (labels : List Label) → assigning_arguments scope labels args ≡ behind_mentions scope (map sets (names_in_role NameToSet labels args))
+arguments_set [] scope labels = refl
+arguments_set (a ∷ args) scope labels =
+    let here = if_in_role (has_role NameToSet (first_role labels)) a in
+    let rest = names_in_role NameToSet (drop 1 labels) args in
+    ap (λ s. assigning_arguments s (drop 1 labels) args) (argument_sets a scope (first_role labels))
+    ∙ arguments_set args (behind_mentions scope (map sets here)) (drop 1 labels)
+    ∙ sym (in_turn (map sets here) (map sets rest) scope)
+    ∙ sym (ap (behind_mentions scope) (map-append sets here rest))
+
+-- NAMES THAT ARE DECLARED
+
+abbrev declaring : Scope → List (List ℕ) → Scope
+declaring scope declared = record scope { declared = declared }
+
+texts_declare : (ts : List Text) (scope : Scope) → declaring scope (declaring_texts scope.declared ts) ≡ behind_mentions scope (map declares (octets_of ts))
+texts_declare [] scope = refl
+texts_declare (t ∷ ts) scope = texts_declare ts (declaring scope (with_name (folded_name t.octets) scope.declared))
+
+argument_declares : (a : Argument) (scope : Scope) (role : Option Role) → declaring scope (declaring_argument scope.declared role a) ≡ behind_mentions scope (map declares (if_in_role (has_role NamesToDeclare role) a))
+argument_declares (strings items bracketed) scope role = by_role (has_role NamesToDeclare role)
+  where
+    by_role : (b : Bool) → declaring scope (if b then declaring_texts scope.declared items else scope.declared) ≡ behind_mentions scope (map declares (if_in_role b (strings items bracketed)))
+    by_role true = texts_declare items scope
+    by_role false = refl
+argument_declares (number value line) scope role = by_role (has_role NamesToDeclare role)
+  where
+    by_role : (b : Bool) → scope ≡ behind_mentions scope (map declares (if_in_role b (number value line)))
+    by_role true = refl
+    by_role false = refl
+argument_declares (tag name line) scope role = by_role (has_role NamesToDeclare role)
+  where
+    by_role : (b : Bool) → scope ≡ behind_mentions scope (map declares (if_in_role b (tag name line)))
+    by_role true = refl
+    by_role false = refl
+
+arguments_declare : (args : List Argument) (scope : Scope) (labels : List Label) → with_declared scope labels args ≡ behind_mentions scope (map declares (names_in_role NamesToDeclare labels args))
+arguments_declare [] scope labels = refl
+arguments_declare (a ∷ args) scope labels =
+    let here = if_in_role (has_role NamesToDeclare (first_role labels)) a in
+    let rest = names_in_role NamesToDeclare (drop 1 labels) args in
+    ap (λ s. with_declared s (drop 1 labels) args) (argument_declares a scope (first_role labels))
+    ∙ arguments_declare args (behind_mentions scope (map declares here)) (drop 1 labels)
+    ∙ sym (in_turn (map declares here) (map declares rest) scope)
+    ∙ sym (ap (behind_mentions scope) (map-append declares here rest))
+
+-- COMMANDS
+
+kind_mentions : (context : Context) (k : Option CommandKind) (args : List Argument) → (behind_kind context k args).scope ≡ behind_mentions context.scope (command_mentions k args)
+kind_mentions context None args = refl
+kind_mentions context (Some kind) args =
+    let labels = row_labels (command_row kind) args in
+    let first = map sets (names_in_role NameToSet labels args) in
+    let then_those = map declares (names_in_role NamesToDeclare labels args) in
+    ap (λ s. with_declared s labels args) (arguments_set args context.scope labels)
+    ∙ arguments_declare args (behind_mentions context.scope first) labels
+    ∙ sym (in_turn first then_those context.scope)
+
+mutual
+  unfolding behind behind_block behind_nodes
+
+  node_names : (n : Node) (context : Context) → (behind context n).scope ≡ behind_mentions context.scope (node_mentions n)
+  node_names (node name line args ts ending) context =
+      block_names ending (behind_kind context (command_named name) args)
+      ∙ ap (λ s. behind_mentions s (block_mentions ending)) (kind_mentions context (command_named name) args)
+      ∙ sym (in_turn (command_mentions (command_named name) args) (block_mentions ending) context.scope)
+
+  block_names : (b : Block) (context : Context) → (behind_block context b).scope ≡ behind_mentions context.scope (block_mentions b)
+  block_names no_block context = refl
+  block_names (block ns) context = nodes_names ns (inside context)
+
+  nodes_names : (ns : Nodes) (context : Context) → (behind_nodes context ns).scope ≡ behind_mentions context.scope (nodes_mentions ns)
+  nodes_names end_nodes context = refl
+  nodes_names (more_nodes n ns) context =
+      nodes_names ns (behind context n)
+      ∙ ap (λ s. behind_mentions s (nodes_mentions ns)) (node_names n context)
+      ∙ sym (in_turn (node_mentions n) (nodes_mentions ns) context.scope)
+
+-- NAMES THAT ARE ONE
+
+abbrev same : List ℕ → List ℕ → Bool
+same a b = str_eq_ignore_ascii_case a b
+
+same_names : (a b : List ℕ) → same a b ≡ true → folded_name a ≡ folded_name b
+same_names a b is = (bytes_decides (folded_name a) (folded_name b)).0 is
+
+octets_either_way : (a b : List ℕ) → pointwise nat_eq a b ≡ pointwise nat_eq b a
+octets_either_way a b = one_answer {P = a ≡ b} (pointwise nat_eq a b) (pointwise nat_eq b a) (bytes_decides a b) ((λ is. sym ((bytes_decides b a).0 is)), (λ e. (bytes_decides b a).1 (sym e)))
+
+any_append : {X : Type 0} (p : X → Bool) (xs ys : List X) → list_any p (xs ++ ys) ≡ (list_any p xs || list_any p ys)
+any_append p [] ys = refl
+any_append p (x ∷ xs) ys = ap (λ b. p x || b) (any_append p xs ys) ∙ or_assoc (p x) (list_any p xs) (list_any p ys)
+  where
+    or_assoc : (a b c : Bool) → (a || (b || c)) ≡ ((a || b) || c)
+    or_assoc true b c = refl
+    or_assoc false b c = refl
+
+filter_twice : {X : Type 0} (p q : X → Bool) (xs : List X) → filter p (filter q xs) ≡ filter (λ x. q x && p x) xs
+filter_twice p q [] = refl
+filter_twice p q (x ∷ xs) = by_first (q x) (filter_twice p q xs)
+  where
+    by_first : (b : Bool) → filter p (filter q xs) ≡ filter (λ y. q y && p y) xs → filter p (if b then x ∷ filter q xs else filter q xs) ≡ (if b && p x then x ∷ filter (λ y. q y && p y) xs else filter (λ y. q y && p y) xs)
+    by_first true below = ap (λ l. if p x then x ∷ l else l) below
+    by_first false below = below
+
+filter_all : {X : Type 0} (xs : List X) → filter (λ x. true) xs ≡ xs
+filter_all [] = refl
+filter_all (x ∷ xs) = ap (λ l. x ∷ l) (filter_all xs)
+
+-- NAMES THAT ARE NEITHER SET NOR DECLARED YET
+
+-- by a name in lower case
+abbrev is_free : Scope → List ℕ → Bool
+is_free scope folded = not (is_among folded scope.declared) && not (list_any (λ other. pointwise nat_eq folded (folded_name other)) scope.assigned)
+
+abbrev is_fresh : Scope → List ℕ → Bool
+is_fresh scope name = is_free scope (folded_name name)
+
+alike : (scope : Scope) (a b : List ℕ) → same a b ≡ true → is_fresh scope a ≡ is_fresh scope b
+alike scope a b is = ap (is_free scope) (same_names a b is)
+
+abbrev with_set : Scope → List ℕ → Scope
+with_set scope name = record scope { assigned = scope.assigned ++ name ∷ [] }
+
+-- where a name is set, the others are fresh that were before
+fresh_behind_set : (scope : Scope) (name other : List ℕ) → is_fresh (with_set scope name) other ≡ (not (same name other) && is_fresh scope other)
+fresh_behind_set scope name other =
+    ap (λ b. not (is_among (folded_name other) scope.declared) && not b) (any_append (same other) scope.assigned (name ∷ []))
+    ∙ ap (λ b. not (is_among (folded_name other) scope.declared) && not (is_assigned other scope || (b || false))) (octets_either_way (folded_name other) (folded_name name))
+    ∙ regroup (is_among (folded_name other) scope.declared) (is_assigned other scope) (same name other)
+  where
+    regroup : (a b c : Bool) → (not a && not (b || (c || false))) ≡ (not c && (not a && not b))
+    regroup true b true = refl
+    regroup true b false = refl
+    regroup false true true = refl
+    regroup false true false = refl
+    regroup false false true = refl
+    regroup false false false = refl
+
+among_with : (name other : List ℕ) (names : List (List ℕ)) → is_among other (with_name name names) ≡ (is_among other names || pointwise nat_eq name other)
+among_with name other names = by_there (is_among name names) refl
+  where
+    or_false : (b : Bool) → (b || false) ≡ b
+    or_false true = refl
+    or_false false = refl
+
+    there_already : (b : Bool) → pointwise nat_eq name other ≡ b → is_among name names ≡ true → is_among other names ≡ (is_among other names || b)
+    there_already true is there = let found = ap (λ x. is_among x names) (sym ((bytes_decides name other).0 is)) ∙ there in found ∙ sym (ap (λ b. b || true) found)
+    there_already false is there = sym (or_false (is_among other names))
+
+    by_there : (b : Bool) → is_among name names ≡ b → is_among other (if b then names else names ++ name ∷ []) ≡ (is_among other names || pointwise nat_eq name other)
+    by_there true there = there_already (pointwise nat_eq name other) refl there
+    by_there false there =
+        any_append (pointwise nat_eq other) names (name ∷ [])
+        ∙ ap (λ b. is_among other names || b) (or_false (pointwise nat_eq other name) ∙ octets_either_way other name)
+
+abbrev with_one_declared : Scope → List ℕ → Scope
+with_one_declared scope name = record scope { declared = with_name (folded_name name) scope.declared }
+
+fresh_behind_declared : (scope : Scope) (name other : List ℕ) → is_fresh (with_one_declared scope name) other ≡ (not (same name other) && is_fresh scope other)
+fresh_behind_declared scope name other =
+    ap (λ b. not b && not (is_assigned other scope)) (among_with (folded_name name) (folded_name other) scope.declared)
+    ∙ regroup (is_among (folded_name other) scope.declared) (is_assigned other scope) (same name other)
+  where
+    regroup : (a b c : Bool) → (not (a || c) && not b) ≡ (not c && (not a && not b))
+    regroup true b true = refl
+    regroup true b false = refl
+    regroup false b true = refl
+    regroup false b false = refl
+
+-- where a name isn't fresh, no other spelling of it is
+none_fresh : (scope : Scope) (name other : List ℕ) → is_fresh scope name ≡ false → is_fresh scope other ≡ (not (same name other) && is_fresh scope other)
+none_fresh scope name other stale = by_same (same name other) refl
+  where
+    by_same : (b : Bool) → same name other ≡ b → is_fresh scope other ≡ (not b && is_fresh scope other)
+    by_same true is = sym (alike scope name other is) ∙ stale
+    by_same false is = refl
+
+-- the fresh ones of names but for one
+fresh_without : (scope : Scope) (now : List ℕ → Bool) (name : List ℕ) (names : List (List ℕ)) → ((other : List ℕ) → now other ≡ (not (same name other) && is_fresh scope other)) → filter now names ≡ filter (is_fresh scope) (without_name name names)
+fresh_without scope now name names agree =
+    filter_agree now (λ other. not (same name other) && is_fresh scope other) agree names
+    ∙ sym (filter_twice (is_fresh scope) (λ other. not (same name other)) names)
+
+-- WHAT MENTIONS SET
+
+module _ (scope : Scope) (name : List ℕ) (ms : List Mention) (below : (s : Scope) → (behind_mentions s ms).assigned ≡ s.assigned ++ filter (is_fresh s) (set_by ms)) where
+  -- by whether the name is an identifier, and whether it is fresh
+  abbrev now_set : Bool → Bool → Scope
+  now_set i f = if i && f then with_set scope name else scope
+
+  abbrev others : List (List ℕ)
+  others = filter (is_fresh scope) (without_name name (set_by ms))
+
+  by_name : (i f : Bool) → is_fresh scope name ≡ f → (behind_mentions (now_set i f) ms).assigned ≡ scope.assigned ++ filter (is_fresh scope) (if i then name ∷ without_name name (set_by ms) else set_by ms)
+  by_name true true fresh =
+      below (with_set scope name)
+      ∙ append_assoc scope.assigned (name ∷ []) (filter (is_fresh (with_set scope name)) (set_by ms))
+      ∙ ap (λ l. scope.assigned ++ (name ∷ l)) (fresh_without scope (is_fresh (with_set scope name)) name (set_by ms) (fresh_behind_set scope name))
+      ∙ sym (ap (λ b. scope.assigned ++ (if b then name ∷ others else others)) fresh)
+  by_name true false fresh =
+      below scope
+      ∙ ap (λ l. scope.assigned ++ l) (fresh_without scope (is_fresh scope) name (set_by ms) (λ other. none_fresh scope name other fresh))
+      ∙ sym (ap (λ b. scope.assigned ++ (if b then name ∷ others else others)) fresh)
+  by_name false f fresh = below scope
+
+  set_in_turn : (behind_mentions (assigning scope name) ms).assigned ≡ scope.assigned ++ filter (is_fresh scope) (set_by (sets name ∷ ms))
+  unfolding assigning
+  set_in_turn = by_name (is_identifier name) (is_fresh scope name) refl
+
+mentions_set : (ms : List Mention) (scope : Scope) → (behind_mentions scope ms).assigned ≡ scope.assigned ++ filter (is_fresh scope) (set_by ms)
+mentions_set [] scope = sym (append-nil scope.assigned)
+mentions_set (sets name ∷ ms) scope = set_in_turn scope name ms (mentions_set ms)
+mentions_set (declares name ∷ ms) scope =
+    mentions_set ms (with_one_declared scope name)
+    ∙ ap (λ l. scope.assigned ++ l) (fresh_without scope (is_fresh (with_one_declared scope name)) name (set_by ms) (fresh_behind_declared scope name))
+
+pub names_set : (ns : Nodes) → (behind_nodes script_start ns).scope.assigned ≡ set_by (nodes_mentions ns)
+names_set ns = ap (λ s. s.assigned) (nodes_names ns script_start) ∙ mentions_set (nodes_mentions ns) no_names ∙ filter_all (set_by (nodes_mentions ns))

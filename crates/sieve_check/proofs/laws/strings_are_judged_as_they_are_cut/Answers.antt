@@ -1,0 +1,9 @@
+-- The laws are the lemmas.
+use Rattle.sieve_check.proofs.Requirement.{judged_as_cut, judged_behind}
+use Rattle.sieve_check.proofs.laws.strings_are_judged_as_they_are_cut.Goals as goal
+
+pub returns-clause-behind : goal.returns-clause-behind
+returns-clause-behind c = judged_behind
+
+pub returns-clause-strings : goal.returns-clause-strings
+returns-clause-strings c = judged_as_cut

@@ -1,0 +1,63 @@
+-- The names of variables that a script's text writes, in order, and those of them that are set (RFC 5229, section 4; RFC 6609, section
+-- 3.4.1): told from the names that are written, all of them, and not from those that are set so far.
+use Rattle.std.specs.Prelude.{ℕ, not, List, [], ◌∷◌, ◌++◌, map, drop, Option, Some, None, if◌then◌else◌}
+use Rattle.std.specs.List.{filter}
+use Rattle.std.specs.Str.{str_eq_ignore_ascii_case}
+use Rattle.sieve_syntax.specs.Tree.{Argument, strings, number, tag, Node, node, Block, no_block, block, Nodes, end_nodes, more_nodes}
+use Rattle.sieve_reading.specs.Role.{first_role, has_role}
+use Rattle.sieve_reading.specs.Shape.{row_labels}
+use Rattle.sieve_reading.specs.declared.label.Label.{Label}
+use Rattle.sieve_table.specs.Table.{command_named, command_row}
+use Rattle.sieve_table.specs.declared.row.Role.{Role}
+use Rattle.sieve_table.specs.declared.row.Role.TheVariants.{NameToSet, NamesToDeclare}
+use Rattle.sieve_table.specs.declared.table.CommandKind.{CommandKind}
+use Rattle.sieve_variables.specs.Name.{is_identifier}
+
+-- NAMES THAT ARE WRITTEN
+
+-- a name that the text writes to set its variable, or to declare it to be shared
+pub data Mention : Type 0 where
+  sets : (name : List ℕ) → Mention
+  declares : (name : List ℕ) → Mention
+
+-- the strings of an argument
+abbrev pub octets_in : Argument → List (List ℕ)
+octets_in (strings items bracketed) = map (λ t. t.octets) items
+octets_in (number value line) = []
+octets_in (tag name line) = []
+
+-- the strings of those arguments that stand in a role
+abbrev pub names_in_role : Role → List Label → List Argument → List (List ℕ)
+names_in_role wanted labels [] = []
+names_in_role wanted labels (a ∷ args) = (if has_role wanted (first_role labels) then octets_in a else []) ++ names_in_role wanted (drop 1 labels) args
+
+-- the names that a command writes; none both sets and declares
+abbrev pub command_mentions : Option CommandKind → List Argument → List Mention
+command_mentions None args = []
+command_mentions (Some kind) args = map sets (names_in_role NameToSet (row_labels (command_row kind) args) args) ++ map declares (names_in_role NamesToDeclare (row_labels (command_row kind) args) args)
+
+abbrev mutual
+  -- those of a command and its block, in the order of the text
+  pub node_mentions : Node → List Mention
+  node_mentions (node name line args ts ending) = command_mentions (command_named name) args ++ block_mentions ending
+
+  pub block_mentions : Block → List Mention
+  block_mentions no_block = []
+  block_mentions (block ns) = nodes_mentions ns
+
+  pub nodes_mentions : Nodes → List Mention
+  nodes_mentions end_nodes = []
+  nodes_mentions (more_nodes n ns) = node_mentions n ++ nodes_mentions ns
+
+-- VARIABLES THAT ARE SET
+
+-- names but for one; names ignore the case of ASCII (RFC 5229, section 3)
+abbrev pub without_name : List ℕ → List (List ℕ) → List (List ℕ)
+without_name name names = filter (λ other. not (str_eq_ignore_ascii_case name other)) names
+
+-- The variables of the script that such mentions set, as they are first written. An identifier that is written to be set is one of them,
+-- and then come those that the rest sets, but for it. Behind a declaration come those that the rest sets, but for what is declared.
+abbrev pub set_by : List Mention → List (List ℕ)
+set_by [] = []
+set_by (sets name ∷ rest) = if is_identifier name then name ∷ without_name name (set_by rest) else set_by rest
+set_by (declares name ∷ rest) = without_name name (set_by rest)
