@@ -1,11 +1,14 @@
 pub mod Dumping
+mod EditRows
 pub mod Entries
 pub mod JobRows
 pub mod Jobs
 pub mod Judged
+pub mod Kept
 pub mod Lines
 pub mod Marks
 pub mod Names
+pub mod Rebuilt
 pub mod Refreshing
 pub mod Stales
 pub mod Writing

@@ -6,6 +6,7 @@ mod bench;
 mod dump;
 mod entry;
 mod fault;
+pub mod laws;
 mod marking;
 mod message;
 mod refusal;

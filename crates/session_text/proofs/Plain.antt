@@ -6,46 +6,46 @@ use Rattle.std.proofs.lemmas.List.Elements.{recursion_from_All}
 use Rattle.std.proofs.lemmas.List.Folds.{list_all-append}
 use Rattle.sieve_base.specs.Writers.{hex_digit, octet_spelling, quoted}
 use Rattle.session_text.specs.LineOf.{joined}
-use Rattle.session_text.specs.SessionLine.{is_plain}
+use Rattle.sieve_base.specs.Octet.{is_printable}
 
-plain_both : (a b : List ℕ) → list_all is_plain a ≡ true → list_all is_plain b ≡ true → list_all is_plain (a ++ b) ≡ true
-plain_both a b first second = list_all-append is_plain a b ∙ rw first second
+plain_both : (a b : List ℕ) → list_all is_printable a ≡ true → list_all is_printable b ≡ true → list_all is_printable (a ++ b) ≡ true
+plain_both a b first second = list_all-append is_printable a b ∙ rw first second
 
-plain_next : (b : ℕ) (bs : List ℕ) → is_plain b ≡ true → list_all is_plain bs ≡ true → list_all is_plain (b ∷ bs) ≡ true
+plain_next : (b : ℕ) (bs : List ℕ) → is_printable b ≡ true → list_all is_printable bs ≡ true → list_all is_printable (b ∷ bs) ≡ true
 plain_next b bs first second = rw first second
 
-digit_plain : (n : ℕ) → n < 16 → is_plain (hex_digit n) ≡ true
+digit_plain : (n : ℕ) → n < 16 → is_printable (hex_digit n) ≡ true
 digit_plain n small = grind (arith, nat_tests)
 
-spelling_plain : (b : ℕ) → b < 256 → list_all is_plain (octet_spelling b) ≡ true
+spelling_plain : (b : ℕ) → b < 256 → list_all is_printable (octet_spelling b) ≡ true
 spelling_plain b small = by_quote (eqb b 34 || eqb b 92) refl
   where
-    by_digits : (v : Bool) → (nat_lt b 32 || nat_lt 126 b) ≡ v → list_all is_plain (cond v (92 ∷ 120 ∷ hex_digit (b / 16) ∷ hex_digit (b % 16) ∷ []) (b ∷ [])) ≡ true
+    by_digits : (v : Bool) → (nat_lt b 32 || nat_lt 126 b) ≡ v → list_all is_printable (cond v (92 ∷ 120 ∷ hex_digit (b / 16) ∷ hex_digit (b % 16) ∷ []) (b ∷ [])) ≡ true
     by_digits true is =
         let high : b / 16 < 16 = omega arith in
         let low : b % 16 < 16 = omega arith in
-        let digits : list_all is_plain (hex_digit (b / 16) ∷ hex_digit (b % 16) ∷ []) ≡ true =
+        let digits : list_all is_printable (hex_digit (b / 16) ∷ hex_digit (b % 16) ∷ []) ≡ true =
         plain_next (hex_digit (b / 16)) (hex_digit (b % 16) ∷ []) (digit_plain (b / 16) high) (plain_next (hex_digit (b % 16)) [] (digit_plain (b % 16) low) refl) in
         plain_both (92 ∷ 120 ∷ []) (hex_digit (b / 16) ∷ hex_digit (b % 16) ∷ []) refl digits
     by_digits false is =
-        let plain : is_plain b ≡ true = grind (arith, nat_tests) in
+        let plain : is_printable b ≡ true = grind (arith, nat_tests) in
         plain_next b [] plain refl
 
-    by_quote : (v : Bool) → (eqb b 34 || eqb b 92) ≡ v → list_all is_plain (cond v (92 ∷ b ∷ []) (cond (nat_lt b 32 || nat_lt 126 b) (92 ∷ 120 ∷ hex_digit (b / 16) ∷ hex_digit (b % 16) ∷ []) (b ∷ []))) ≡ true
+    by_quote : (v : Bool) → (eqb b 34 || eqb b 92) ≡ v → list_all is_printable (cond v (92 ∷ b ∷ []) (cond (nat_lt b 32 || nat_lt 126 b) (92 ∷ 120 ∷ hex_digit (b / 16) ∷ hex_digit (b % 16) ∷ []) (b ∷ []))) ≡ true
     by_quote true is =
-        let plain : is_plain b ≡ true = grind (arith, nat_tests) in
+        let plain : is_printable b ≡ true = grind (arith, nat_tests) in
         plain_next 92 (b ∷ []) refl (plain_next b [] plain refl)
     by_quote false is = by_digits (nat_lt b 32 || nat_lt 126 b) refl
 
-spellings_plain : (octets : List ℕ) → AllByRecursion (λ b. b < 256) octets → list_all is_plain (flat_map octet_spelling octets) ≡ true
+spellings_plain : (octets : List ℕ) → AllByRecursion (λ b. b < 256) octets → list_all is_printable (flat_map octet_spelling octets) ≡ true
 spellings_plain [] small = refl
 spellings_plain (b ∷ bs) small = plain_both (octet_spelling b) (flat_map octet_spelling bs) (spelling_plain b small.0) (spellings_plain bs small.1)
 
-quoted_plain : (octets : List ℕ) → AllByRecursion (λ b. b < 256) octets → list_all is_plain (quoted octets) ≡ true
+quoted_plain : (octets : List ℕ) → AllByRecursion (λ b. b < 256) octets → list_all is_printable (quoted octets) ≡ true
 unfolding quoted
 quoted_plain octets small = plain_both ((34 ∷ []) ++ flat_map octet_spelling octets) (34 ∷ []) (plain_both (34 ∷ []) (flat_map octet_spelling octets) refl (spellings_plain octets small)) refl
 
-joined_plain : (values : List (List ℕ)) → AllByRecursion (All (λ octet. octet < 256)) values → list_all is_plain (joined (map quoted values)) ≡ true
+joined_plain : (values : List (List ℕ)) → AllByRecursion (All (λ octet. octet < 256)) values → list_all is_printable (joined (map quoted values)) ≡ true
 joined_plain [] small = refl
 joined_plain (value ∷ []) small = quoted_plain value (recursion_from_All (λ b. b < 256) value small.0)
 joined_plain (value ∷ next ∷ values) small =
@@ -53,5 +53,5 @@ joined_plain (value ∷ next ∷ values) small =
     (plain_next 32 (joined (map quoted (next ∷ values))) refl (joined_plain (next ∷ values) small.1))
 
 -- a line of quoted values is one that a session reads
-pub plain_line : (values : List (List ℕ)) → All (All (λ octet. octet < 256)) values → list_all is_plain (joined (map quoted values)) ≡ true
+pub plain_line : (values : List (List ℕ)) → All (All (λ octet. octet < 256)) values → list_all is_printable (joined (map quoted values)) ≡ true
 plain_line values small = joined_plain values (recursion_from_All (All (λ octet. octet < 256)) values small)

@@ -3,7 +3,8 @@ ghost use Rattle.std.specs.Prelude.{◌≡◌, ◌<◌, ℕ, List, Some, map, tr
 ghost use Rattle.std.specs.List.{All, list_all};
 ghost use Rattle.sieve_base.specs.Writers.{quoted};
 ghost use Rattle.session_text.specs.LineOf.{IsLineOf, IsWord, joined};
-ghost use Rattle.session_text.specs.SessionLine.{is_plain, line_words, word_value};
+ghost use Rattle.session_text.specs.SessionLine.{line_words, word_value};
+ghost use Rattle.sieve_base.specs.Octet.{is_printable};
 
 /// The quoted form of octets, as reports print it, is a word that stands for these octets.
 pub fn a_quoted_word_stands_for_its_octets()
@@ -18,6 +19,6 @@ pub fn words_stand_between_spaces()
 
 /// A line of the quoted forms of values is one that a session reads, and gives back each value.
 pub fn a_line_gives_back_its_values()
-    ensures plain { (values : List (List ℕ)) → All (All (λ octet. octet < 256)) values → list_all is_plain (joined (map quoted values)) ≡ true }
+    ensures plain { (values : List (List ℕ)) → All (All (λ octet. octet < 256)) values → list_all is_printable (joined (map quoted values)) ≡ true }
     ensures values { (values : List (List ℕ)) → All (All (λ octet. octet < 256)) values → map word_value (line_words (joined (map quoted values))) ≡ map Some values }
 {}

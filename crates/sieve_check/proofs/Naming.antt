@@ -11,7 +11,8 @@ use Rattle.sieve_syntax.specs.Tree.{Argument, strings, number, tag, Text, Node, 
 use Rattle.sieve_check.specs.Context.{Context, behind, behind_block, behind_kind, behind_nodes, inside, script_start}
 use Rattle.sieve_check.specs.Naming.{Mention, sets, declares, block_mentions, command_mentions, names_in_role, node_mentions, nodes_mentions, octets_in, set_by, without_name}
 use Rattle.sieve_check.specs.Scope.{Scope, assigning, assigning_argument, assigning_arguments, assigning_texts, declaring_argument, declaring_texts, is_assigned, no_names, with_declared}
-use Rattle.sieve_reading.specs.Role.{first_role, has_role}
+use Rattle.sieve_reading.specs.Role.{first_role}
+use Rattle.sieve_table.specs.Role.{has_role}
 use Rattle.sieve_reading.specs.Shape.{row_labels}
 use Rattle.sieve_reading.specs.declared.label.Label.{Label}
 use Rattle.sieve_table.specs.Table.{command_named, command_row}

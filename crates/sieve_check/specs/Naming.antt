@@ -4,7 +4,8 @@ use Rattle.std.specs.Prelude.{ℕ, not, List, [], ◌∷◌, ◌++◌, map, drop
 use Rattle.std.specs.List.{filter}
 use Rattle.std.specs.Str.{str_eq_ignore_ascii_case}
 use Rattle.sieve_syntax.specs.Tree.{Argument, strings, number, tag, Node, node, Block, no_block, block, Nodes, end_nodes, more_nodes}
-use Rattle.sieve_reading.specs.Role.{first_role, has_role}
+use Rattle.sieve_reading.specs.Role.{first_role}
+use Rattle.sieve_table.specs.Role.{has_role}
 use Rattle.sieve_reading.specs.Shape.{row_labels}
 use Rattle.sieve_reading.specs.declared.label.Label.{Label}
 use Rattle.sieve_table.specs.Table.{command_named, command_row}

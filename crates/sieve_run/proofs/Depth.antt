@@ -1,15 +1,16 @@
 -- How deep scripts include one another, counted by those that include the running one.
-use Rattle.std.proofs.Common.{◌≡◌, ℕ, zero, suc, ◌+◌, ◌-◌, Bool, true, false, ◌&&◌, Option, None, Some, List, length, nat_lt, refl, ap, ◌∙◌, arith}
+use Rattle.std.proofs.Common.{◌≡◌, ℕ, zero, suc, ◌+◌, ◌-◌, ◌≤◌, Bool, true, false, ◌&&◌, Option, None, Some, List, length, nat_lt, refl, ap, ◌∙◌, arith}
 use Rattle.std.proofs.lemmas.Bool.Decides.{nat_tests}
 use Rattle.std.proofs.lemmas.List.{length_push}
 use Rattle.std.specs.Prelude.{if◌then◌else◌}
 use Rattle.sieve_base.specs.Limits.{include_depth}
+use Rattle.sieve_reading.specs.Script.{script_of}
 use Rattle.sieve_reading.specs.Tree.{Node}
 use Rattle.sieve_effects.specs.Delivery.{Delivery, inside}
-use Rattle.sieve_run.specs.Depth.{IsDeepest, depth_left, entered_within}
+use Rattle.sieve_run.specs.Depth.{IsDeepest, depth_left, entered_within, watched, watched_include, watched_run}
 use Rattle.sieve_run.specs.Library.{Lookup}
-use Rattle.sieve_effects.specs.Act.{Ending, goes_on, state_behind}
-use Rattle.sieve_run.specs.Run.{begun, delivery_to, include_of, included, is_running, is_script, run_of, running}
+use Rattle.sieve_effects.specs.Act.{Ending, goes_on, act_by, state_behind}
+use Rattle.sieve_run.specs.Run.{answer_of, begun, delivery_to, exec, include_of, included, is_running, is_script, run_of, running}
 use Rattle.sieve_effects.specs.State.{RunState}
 use Rattle.sieve_effects.specs.declared.envelope.Envelope.{Envelope}
 use Rattle.sieve_base.specs.declared.name.ScriptName.{ScriptName}
@@ -58,3 +59,40 @@ module _ (find : ScriptName → Lookup) (delivery : Delivery) (name : ScriptName
   none_deeper deep =
       ap (λ e. (state_behind e).entered) (by_room false (full_of deep))
       ∙ none_by (once && is_script name s.entered) (is_running name delivery) _ _ refl refl
+
+-- A RUN THAT IS WATCHED
+
+module _ (beyond : Delivery → List Node → RunState → Ending) (find : ScriptName → Lookup) where
+  -- watched includes do what includes do in a script
+  abbrev DoAlike : ℕ → Delivery → Type 0
+  DoAlike depth delivery = (name : ScriptName) (once optional : Bool) (line : ℕ) (s : RunState) → watched_include beyond find depth delivery name once optional line s ≡ included find depth delivery name once optional line s
+
+  by_depth : (depth : ℕ) (delivery : Delivery) (tree : List Node) (s : RunState) (deep : Bool) → deep ≡ false → DoAlike depth delivery
+      → (if deep then beyond delivery tree s else exec (answer_of delivery) (act_by (watched_include beyond find depth delivery) delivery) (script_of tree) s) ≡ running find depth delivery tree s
+  by_depth depth delivery tree s true shallow alike = absurd cc
+  by_depth depth delivery tree s false shallow alike =
+      ap (λ (include : ScriptName → Bool → Bool → ℕ → RunState → Ending). exec (answer_of delivery) (act_by include delivery) (script_of tree) s) (λ i name once optional line t. alike name once optional line t i)
+
+  -- so does a script that isn't too deep what it does
+  script_alike : (depth : ℕ) (delivery : Delivery) (tree : List Node) (s : RunState) → length delivery.including ≤ include_depth → DoAlike depth delivery
+      → watched beyond (watched_include beyond find depth delivery) delivery tree s ≡ running find depth delivery tree s
+  script_alike depth delivery tree s shallow alike = by_depth depth delivery tree s (nat_lt include_depth (length delivery.including)) (grind (arith, nat_tests, shallow)) alike
+
+  include_alike : (depth : ℕ) (delivery : Delivery) → length delivery.including + depth ≤ include_depth → DoAlike depth delivery
+  unfolding included watched_include
+  include_alike zero delivery room name once optional line s = refl
+  include_alike (suc depth) delivery room name once optional line s =
+      ap (λ (enter : ScriptName → List Node → RunState → Ending). include_of find delivery (Some enter) name once optional line s)
+      (λ i script tree t. script_alike depth (inside script delivery) tree t (below script) (include_alike depth (inside script delivery) (room_in script)) i)
+    where
+      below : (script : ScriptName) → length (inside script delivery).including ≤ include_depth
+      below script = omega (arith, length_push delivery.including delivery.script)
+
+      room_in : (script : ScriptName) → length (inside script delivery).including + depth ≤ include_depth
+      room_in script = omega (arith, length_push delivery.including delivery.script)
+
+  -- no run comes to a script that is too deep
+  pub never_beyond : (envelope : Envelope) (message : List ℕ) (main : ScriptName) (tree : List Node) → watched_run beyond find envelope message main tree ≡ run_of find envelope message main tree
+  never_beyond envelope message main tree =
+      let delivery = delivery_to envelope message main in
+      script_alike include_depth delivery tree (begun main) (omega arith) (include_alike include_depth delivery (omega arith))

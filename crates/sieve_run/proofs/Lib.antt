@@ -1,5 +1,6 @@
 mod Bounds
 mod Depth
+mod Distinct
 mod Rows
 pub mod Unchanged
 pub mod Frame

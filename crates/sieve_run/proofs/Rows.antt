@@ -1,5 +1,6 @@
 -- Worked rows of what tests find and of what a run does.
 use Rattle.std.proofs.Common.{◌≡◌, ℕ, Bool, true, false, List, [], ◌∷◌, ◌++◌, length, nat_lt, if◌then◌else◌, Some, None, refl, ap, codes}
+use Rattle.std.specs.List.{IsDistinct}
 use Rattle.match_text.specs.declared.comparators.Collation.{Collation}
 use Rattle.match_text.specs.declared.comparators.Collation.TheVariants.{Octet, Casemap}
 use Rattle.message_text.specs.Fields.{fields_of, field_groups}
@@ -20,14 +21,16 @@ use Rattle.sieve_base.specs.Limits.{include_depth, include_limit, name_limit}
 use Rattle.message_text.specs.Addresses.{addresses_of, envelope_address_of, marks_from}
 use Rattle.message_text.specs.declared.addressing.AddressPart.TheVariants as part
 use Rattle.sieve_table.specs.Address.{is_address_field}
-use Rattle.sieve_effects.specs.Delivery.{Delivery}
+use Rattle.sieve_effects.specs.Delivery.{Delivery, inside}
+use Rattle.sieve_run.specs.Depth.{watched_include}
+use Rattle.sieve_run.specs.Distinct.{AreDistinct}
 use Rattle.sieve_run.specs.Library.{Lookup, missing, invalid, present, found_at}
 use Rattle.sieve_base.specs.Name.{name_eq}
 use Rattle.match_text.specs.Flags.{distinct, flag_keys, flag_keys_of_texts, flag_list, flag_text, flag_union, flags_of_texts, flags_without}
 use Rattle.match_text.specs.Wildcard.{least_fit, matched}
 use Rattle.sieve_effects.specs.Matching.{keys_of, match_found, truth_of, values_behind, values_named, values_of, pairs_of}
 use Rattle.sieve_effects.specs.Act.{Ending, goes_on, stopped, failed}
-use Rattle.sieve_run.specs.Run.{Answer, answer_of, act_of, decide, exec, begun, included, includes, looked_up, with_found_script, verdict_at, verdict_of, outcome_of}
+use Rattle.sieve_run.specs.Run.{Answer, answer_of, act_of, decide, exec, begun, included, includes, looked_up, resumed, with_found_script, verdict_at, verdict_of, outcome_of}
 use Rattle.sieve_effects.specs.State.{RunState}
 use Rattle.sieve_effects.specs.declared.envelope.Envelope.{Envelope}
 use Rattle.sieve_base.specs.declared.name.ScriptName.{ScriptName}
@@ -449,6 +452,25 @@ deep_once_row : included (λ name. missing) 0 (delivered []) main true false 2 (
 unfolding included
 deep_once_row = refl
 
+-- a delivery in a script that so many include
+abbrev under : List ScriptName → Delivery
+under including = record (delivered []) { including = including }
+
+abbrev script_b : ScriptName
+script_b = record { place = Personal; name = codes "b" }
+
+abbrev nine : List ScriptName
+nine = script_b ∷ script_b ∷ script_b ∷ script_b ∷ script_b ∷ script_b ∷ script_b ∷ script_b ∷ script_b ∷ []
+
+-- where a run is watched, a script that ten include is run, and one that eleven include isn't
+watched_row : (beyond : Delivery → List Node → RunState → Ending) → watched_include beyond (having script_a []) 1 (under nine) script_a false false 2 (begun main) ≡ goes_on (entered_a [] false)
+unfolding exec included watched_include chain_of node_before block_commands conditions_in command_named
+watched_row beyond = refl
+
+beyond_row : (beyond : Delivery → List Node → RunState → Ending) → watched_include beyond (having script_a []) 1 (under (script_b ∷ nine)) script_a false false 2 (begun main) ≡ resumed no_values (beyond (inside script_a (under (script_b ∷ nine))) [] (record (entered_a [] false) { values = begun_values no_values }))
+unfolding watched_include
+beyond_row beyond = refl
+
 -- where the main script and 256 others were entered the next is one too many, be it there or not, and isn't looked up
 count_row : (find : ScriptName → Lookup) (enter : ScriptName → List Node → RunState → Ending) (entered : List ScriptName) → length entered ≡ 257
     → includes find (delivered []) (Some enter) script_a true 2 (record (begun main) { entered = entered }) ≡ failed (record { script = main; line = 2; kind = IncludeCount }) (record (begun main) { entered = entered })
@@ -459,6 +481,18 @@ count_row find enter entered is =
 -- a name of 1,025 octets is missing, whatever the library has there
 long_include_row : (find : ScriptName → Lookup) (name : ScriptName) → length name.name ≡ 1025 → found_at find name ≡ missing
 long_include_row find name is = ap (λ n. if nat_lt name_limit n then missing else find name) is
+
+-- DISTINCT ACTIONS
+
+-- an action of each kind, and two stores into two mailboxes
+distinct_row : AreDistinct (Store (codes "a") [] ∷ Redirect (codes "a") ∷ Store (codes "b") [] ∷ Discard ∷ [])
+unfolding IsDistinct
+distinct_row = ((refl, (refl, (refl, tt))), ((refl, (refl, tt)), ((refl, tt), (tt, tt))))
+
+-- two stores into one are one, whatever their flags, wherever they stand
+one_store_row : AreDistinct (Store (codes "a") [] ∷ Discard ∷ Store (codes "a") (codes "\\Seen" ∷ []) ∷ []) → ⊥
+unfolding IsDistinct
+one_store_row distinct = let e = distinct.0.1.0 in absurd cc
 
 -- OUTCOMES
 

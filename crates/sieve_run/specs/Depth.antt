@@ -1,12 +1,14 @@
 -- How deep scripts include one another, counted by those that include the running one (RFC 6609, section 3.1).
-use Rattle.std.specs.Prelude.{ℕ, ◌-◌, ◌≤◌, List, length, Option, None, Some, if◌then◌else◌, nat_lt}
+use Rattle.std.specs.Prelude.{ℕ, zero, suc, ◌-◌, ◌≤◌, Bool, List, length, Option, None, Some, if◌then◌else◌, nat_lt}
 use Rattle.sieve_base.specs.Limits.{include_depth}
+use Rattle.sieve_reading.specs.Script.{script_of}
 use Rattle.sieve_reading.specs.Tree.{Node}
 use Rattle.sieve_effects.specs.Delivery.{Delivery, inside}
 use Rattle.sieve_run.specs.Library.{Lookup}
-use Rattle.sieve_effects.specs.Act.{Ending}
-use Rattle.sieve_run.specs.Run.{running}
+use Rattle.sieve_effects.specs.Act.{Ending, act_by}
+use Rattle.sieve_run.specs.Run.{answer_of, begun, delivery_to, exec, include_of, running}
 use Rattle.sieve_effects.specs.State.{RunState}
+use Rattle.sieve_effects.specs.declared.envelope.Envelope.{Envelope}
 use Rattle.sieve_base.specs.declared.name.ScriptName.{ScriptName}
 
 -- how deep scripts may include one another below the running one: it is deeper by each script that includes it
@@ -21,3 +23,21 @@ entered_within find delivery =
 -- no script is entered from one that so many include
 abbrev pub IsDeepest : Delivery → Type 0
 IsDeepest delivery = include_depth ≤ length delivery.including
+
+-- A RUN THAT IS WATCHED
+
+-- What a script does whose includes do this, where this is its tree. A script that more include than may isn't run: what `beyond` does
+-- comes in its place, whatever that is.
+abbrev pub watched : (beyond : Delivery → List Node → RunState → Ending) → (include : ScriptName → (once optional : Bool) → ℕ → RunState → Ending) → Delivery → List Node → RunState → Ending
+watched beyond include delivery tree state =
+    if nat_lt include_depth (length delivery.including) then beyond delivery tree state else exec (answer_of delivery) (act_by include delivery) (script_of tree) state
+
+-- what an include does, where scripts may still include one another so deep and each that is entered is watched
+unfoldable pub watched_include : (beyond : Delivery → List Node → RunState → Ending) → (ScriptName → Lookup) → (depth : ℕ) → Delivery → ScriptName → (once optional : Bool) → ℕ → RunState → Ending
+watched_include beyond find zero delivery name once optional line state = include_of find delivery None name once optional line state
+watched_include beyond find (suc depth) delivery name once optional line state =
+    include_of find delivery (Some (λ script tree. watched beyond (watched_include beyond find depth (inside script delivery)) (inside script delivery) tree)) name once optional line state
+
+-- what the main script does, watched with all the scripts below it
+abbrev pub watched_run : (beyond : Delivery → List Node → RunState → Ending) → (ScriptName → Lookup) → Envelope → List ℕ → ScriptName → List Node → Ending
+watched_run beyond find envelope message main tree = watched beyond (watched_include beyond find include_depth (delivery_to envelope message main)) (delivery_to envelope message main) tree (begun main)

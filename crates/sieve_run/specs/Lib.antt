@@ -1,4 +1,5 @@
 pub mod Depth
+pub mod Distinct
 pub mod Frame
 pub mod Library
 pub mod Lines

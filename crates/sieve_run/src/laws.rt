@@ -7,7 +7,8 @@ ghost use Rattle.sieve_reading.specs.Tree.{Node};
 ghost use Rattle.sieve_code.specs.Walk.{gone, tree_walk};
 ghost use Rattle.sieve_base.specs.Limits.{action_limit, include_limit};
 ghost use Rattle.sieve_effects.specs.Delivery.{Delivery};
-ghost use Rattle.sieve_run.specs.Depth.{IsDeepest, depth_left, entered_within};
+ghost use Rattle.sieve_run.specs.Depth.{IsDeepest, depth_left, entered_within, watched_run};
+ghost use Rattle.sieve_run.specs.Distinct.{AreDistinct};
 ghost use Rattle.sieve_run.specs.Frame.{Agree, Texts, outcome_over};
 ghost use Rattle.sieve_run.specs.Library.{Lookup};
 ghost use Rattle.sieve_effects.specs.declared.envelope.Envelope.{Envelope};
@@ -43,6 +44,12 @@ pub fn scripts_include_one_another_so_deep()
     ensures deepest { (find : names.ScriptName → Lookup) (delivery : Delivery) (name : names.ScriptName) (once optional : Bool) (line : ℕ) (state : RunState) → IsDeepest delivery → (state_behind (included find (depth_left delivery) delivery name once optional line state)).entered ≡ state.entered }
 {}
 
+/// At no moment of a run do more than 10 scripts run below the main one (RFC 6609, section 3.1): whatever is done in place of a
+/// script that more include, the run is the same.
+pub fn no_run_comes_to_a_deeper_script()
+    ensures { (beyond : Delivery → List Node → RunState → Ending) (find : names.ScriptName → Lookup) (envelope : Envelope) (message : List ℕ) (main : names.ScriptName) (tree : List Node) → watched_run beyond find envelope message main tree ≡ run_of find envelope message main tree }
+{}
+
 /// The frame: a verdict, with the names that it looked up, is the same over each library that has the same text, or none, at each of
 /// these names.
 #[tactic(auto, using(crate::proofs::Frame::frame))]
@@ -70,4 +77,11 @@ pub fn a_run_does_its_walk()
 #[tactic(auto, using(crate::proofs::Bounds::outcome_bounded))]
 pub fn no_run_acts_too_often()
     ensures { (find : names.ScriptName → Lookup) (main : Option names.ScriptName) (envelope : Envelope) (message : List ℕ) → length (outcome_of find main envelope message).actions ≤ action_limit }
+{}
+
+/// No two actions of a verdict are one: it has one store into each mailbox, and one redirect to each address
+/// (RFC 5228, section 2.10.3).
+#[tactic(auto, using(crate::proofs::Distinct::outcome_distinct))]
+pub fn no_run_acts_twice_alike()
+    ensures { (find : names.ScriptName → Lookup) (main : Option names.ScriptName) (envelope : Envelope) (message : List ℕ) → AreDistinct (outcome_of find main envelope message).actions }
 {}

@@ -1,0 +1,201 @@
+-- A content that is in order and within its limits is made anew by putting all that it has.
+use Rattle.std.proofs.Common.{◌≡◌, ℕ, ◌<◌, ◌≤◌, Bool, true, false, ◌&&◌, ◌||◌, if◌then◌else◌, List, [], ◌∷◌, ◌++◌, length, map, fold, Option, None, Some, IfSome, is_none, Result, Ok, Err, nat_eq, nat_le, nat_lt, append_assoc, append-nil, length-append, refl, sym, ap, subst, ◌∙◌, arith}
+use Rattle.std.proofs.lemmas.Bool.Decides.{nat_tests}
+use Rattle.std.proofs.lemmas.List.Elements.{All-head, All-tail}
+use Rattle.std.proofs.lemmas.List.Sums.{fold-append}
+use Rattle.std.specs.List.{All, AllByRecursion, IsDistinct}
+use Rattle.std.specs.List.Sorted.{IsStrictlySortedBy}
+use Rattle.std.specs.Map.{keys_of, values_of}
+use Rattle.std.specs.Ordering.{match_ordering}
+use Rattle.std.specs.declared.cmp.Ordering.TheVariants.{Less, Greater}
+use lib.Pointwise.{pointwise}
+use Rattle.sieve_base.specs.Limits.{address_limit, id_limit, mailbox_limit, message_count_limit, message_limit, name_limit, script_count_limit, text_limit}
+use Rattle.sieve_base.specs.Name.{name_cmp}
+use Rattle.sieve_base.specs.declared.name.ScriptName.{ScriptName}
+use Rattle.bench.specs.Content.{Content, Edit, after, new_content, put_script, put_message, set_envelope, set_mailbox, unless, text_at, message_at, with_script, with_message, is_long, is_long_id, script_refusal, message_refusal}
+use Rattle.bench.specs.Edits.{IsInOrder, IsWithinLimits, AreOrdered, AreDistinct, behind, content_after, main_edits, rebuild}
+use Rattle.bench.specs.Test.{after_all, then_edit}
+use Rattle.bench.specs.declared.fault.EditFault.{EditFault}
+use Rattle.bench.specs.declared.fault.EditFault.TheVariants.{TooLarge, Full}
+use Rattle.bench.proofs.Jobs.{refusal_stays}
+use Rattle.bench.proofs.Names.{other_id}
+use Rattle.bench.proofs.Kept.{above, name_total, new_in_order, new_within, stays_in_order, stays_within}
+
+-- EDITS THAT AREN'T REFUSED
+
+-- where none of some edits is refused, the content behind them is what they make
+pub all_made : (content new : Content) (edits : List Edit) → after_all content edits ≡ Ok new → content_after content edits ≡ new
+unfolding content_after
+all_made content new [] made = cc
+all_made content new (edit ∷ edits) made = by (after content edit) (λ next. all_made next new edits) made
+  where
+    by : (one : Result Content EditFault) → ((next : Content) → after_all next edits ≡ Ok new → content_after next edits ≡ new) → fold then_edit one edits ≡ Ok new → content_after (behind content one) edits ≡ new
+    by (Ok next) rest all = rest next all
+    by (Err fault) rest all = let stays = refusal_stays fault edits in absurd cc
+
+within_limit : (limit n : ℕ) → n ≤ limit → nat_lt limit n ≡ false
+within_limit limit n within = grind (arith, nat_tests)
+
+has_room : (limit n : ℕ) → n < limit → nat_le limit n ≡ false
+has_room limit n below = grind (arith, nat_tests)
+
+put_refused_by : (long large fresh full : Bool) → long ≡ false → large ≡ false → full ≡ false → (if long || large then Some TooLarge else if fresh && full then Some Full else None) ≡ None
+put_refused_by true large fresh full short small room = absurd cc
+put_refused_by false true fresh full short small room = absurd cc
+put_refused_by false false true true short small room = absurd cc
+put_refused_by false false true false short small room = refl
+put_refused_by false false false full short small room = refl
+
+-- SCRIPTS IN THEIR ORDER
+
+-- the names before a script are below its name
+names_before : (done : List (ScriptName × List ℕ)) (script : ScriptName × List ℕ) (rest : List (ScriptName × List ℕ)) → AreOrdered (done ++ script ∷ rest) → AllByRecursion (λ name. name_cmp script.0 name ≡ Greater) (keys_of done)
+unfolding IsStrictlySortedBy
+names_before [] script rest order = tt
+names_before (first ∷ done) script rest order = (above name_total first.0 script.0 (at done order.0), names_before done script rest order.1)
+  where
+    at : (done : List (ScriptName × List ℕ)) → AllByRecursion (λ name. name_cmp first.0 name ≡ Less) (keys_of (done ++ script ∷ rest)) → name_cmp first.0 script.0 ≡ Less
+    at [] all = all.0
+    at (one ∷ done) all = at done all.1
+
+-- a script whose name is above all is put last
+put_last : (name : ScriptName) (text : List ℕ) (scripts : List (ScriptName × List ℕ)) → AllByRecursion (λ other. name_cmp name other ≡ Greater) (keys_of scripts) → with_script name text scripts ≡ scripts ++ (name, text) ∷ []
+put_last name text [] below = refl
+put_last name text (e ∷ scripts) below =
+    ap (λ r. match_ordering r ((name, text) ∷ e ∷ scripts) ((e.0, text) ∷ scripts) (e ∷ with_script name text scripts)) below.0 ∙ ap (λ l. e ∷ l) (put_last name text scripts below.1)
+
+-- putting scripts in their order puts each behind those before it
+scripts_again : (content : Content) (done rest : List (ScriptName × List ℕ)) → AreOrdered (done ++ rest) → length (done ++ rest) ≤ script_count_limit
+    → All (λ name. length name.name ≤ name_limit) (keys_of rest) → All (λ text. length text ≤ text_limit) (values_of rest)
+    → after_all (record content { scripts = done }) (map (λ script. put_script script.0 script.1) rest) ≡ Ok (record content { scripts = done ++ rest })
+scripts_again content done [] order few names texts = ap (λ scripts. Ok (record content { scripts = scripts })) (sym (append-nil done))
+scripts_again content done (script ∷ rest) order few names texts =
+    ap (λ made. fold then_edit made (map (λ s. put_script s.0 s.1) rest)) first
+    ∙ scripts_again content (done ++ script ∷ []) rest (subst AreOrdered (sym again) order) (subst (λ scripts. length scripts ≤ script_count_limit) (sym again) few)
+    (All-tail (λ name. length name.name ≤ name_limit) script.0 (keys_of rest) names) (All-tail (λ text. length text ≤ text_limit) script.1 (values_of rest) texts)
+    ∙ ap (λ scripts. Ok (record content { scripts = scripts })) again
+  where
+    again : (done ++ script ∷ []) ++ rest ≡ done ++ script ∷ rest
+    again = append_assoc done (script ∷ []) rest
+
+    fits : length done < script_count_limit
+    fits = let all = length-append done (script ∷ rest) in omega arith
+
+    none : script_refusal done script.0 script.1 ≡ None
+    none =
+        put_refused_by (is_long script.0.name) (nat_lt text_limit (length script.1)) (is_none (text_at done script.0)) (nat_le script_count_limit (length done))
+        (within_limit name_limit (length script.0.name) (All-head (λ name. length name.name ≤ name_limit) script.0 (keys_of rest) names))
+        (within_limit text_limit (length script.1) (All-head (λ text. length text ≤ text_limit) script.1 (values_of rest) texts))
+        (has_room script_count_limit (length done) fits)
+
+    first : after (record content { scripts = done }) (put_script script.0 script.1) ≡ Ok (record content { scripts = done ++ script ∷ [] })
+    first =
+        ap (λ refusal. unless refusal (record content { scripts = with_script script.0 script.1 done })) none
+        ∙ ap (λ scripts. Ok (record content { scripts = scripts })) (put_last script.0 script.1 done (names_before done script rest order))
+
+-- MESSAGES IN THEIR ORDER
+
+-- the ids before a message are others than its id
+ids_before : (done : List (List ℕ × List ℕ)) (message : List ℕ × List ℕ) (rest : List (List ℕ × List ℕ)) → AreDistinct (keys_of (done ++ message ∷ rest)) → AllByRecursion (λ id. pointwise nat_eq id message.0 ≡ false) (keys_of done)
+unfolding IsDistinct
+ids_before [] message rest distinct = tt
+ids_before (first ∷ done) message rest distinct = (at done distinct.0, ids_before done message rest distinct.1)
+  where
+    at : (done : List (List ℕ × List ℕ)) → AllByRecursion (λ id. pointwise nat_eq first.0 id ≡ false) (keys_of (done ++ message ∷ rest)) → pointwise nat_eq first.0 message.0 ≡ false
+    at [] all = all.0
+    at (one ∷ done) all = at done all.1
+
+-- a message whose id is none of theirs is put last
+put_behind : (id bytes : List ℕ) (messages : List (List ℕ × List ℕ)) → AllByRecursion (λ other. pointwise nat_eq other id ≡ false) (keys_of messages) → with_message id bytes messages ≡ messages ++ (id, bytes) ∷ []
+put_behind id bytes [] apart = refl
+put_behind id bytes (e ∷ messages) apart =
+    ap (λ b. if b then (e.0, bytes) ∷ messages else e ∷ with_message id bytes messages) (other_id e.0 id apart.0) ∙ ap (λ l. e ∷ l) (put_behind id bytes messages apart.1)
+
+-- putting messages in their order puts each behind those before it
+messages_again : (content : Content) (done rest : List (List ℕ × List ℕ)) → AreDistinct (keys_of (done ++ rest)) → length (done ++ rest) ≤ message_count_limit
+    → All (λ id. length id ≤ id_limit) (keys_of rest) → All (λ octets. length octets ≤ message_limit) (values_of rest)
+    → after_all (record content { messages = done }) (map (λ message. put_message message.0 message.1) rest) ≡ Ok (record content { messages = done ++ rest })
+messages_again content done [] distinct few ids octets = ap (λ messages. Ok (record content { messages = messages })) (sym (append-nil done))
+messages_again content done (message ∷ rest) distinct few ids octets =
+    ap (λ made. fold then_edit made (map (λ m. put_message m.0 m.1) rest)) first
+    ∙ messages_again content (done ++ message ∷ []) rest (subst (λ messages. AreDistinct (keys_of messages)) (sym again) distinct) (subst (λ messages. length messages ≤ message_count_limit) (sym again) few)
+    (All-tail (λ id. length id ≤ id_limit) message.0 (keys_of rest) ids) (All-tail (λ o. length o ≤ message_limit) message.1 (values_of rest) octets)
+    ∙ ap (λ messages. Ok (record content { messages = messages })) again
+  where
+    again : (done ++ message ∷ []) ++ rest ≡ done ++ message ∷ rest
+    again = append_assoc done (message ∷ []) rest
+
+    fits : length done < message_count_limit
+    fits = let all = length-append done (message ∷ rest) in omega arith
+
+    none : message_refusal done message.0 message.1 ≡ None
+    none =
+        put_refused_by (is_long_id message.0) (nat_lt message_limit (length message.1)) (is_none (message_at done message.0)) (nat_le message_count_limit (length done))
+        (within_limit id_limit (length message.0) (All-head (λ id. length id ≤ id_limit) message.0 (keys_of rest) ids))
+        (within_limit message_limit (length message.1) (All-head (λ o. length o ≤ message_limit) message.1 (values_of rest) octets))
+        (has_room message_count_limit (length done) fits)
+
+    first : after (record content { messages = done }) (put_message message.0 message.1) ≡ Ok (record content { messages = done ++ message ∷ [] })
+    first =
+        ap (λ refusal. unless refusal (record content { messages = with_message message.0 message.1 done })) none
+        ∙ ap (λ messages. Ok (record content { messages = messages })) (put_behind message.0 message.1 done (ids_before done message rest distinct))
+
+-- SETTINGS
+
+envelope_passes : (large other : Bool) → large ≡ false → other ≡ false → (if large || other then Some TooLarge else None) ≡ None
+envelope_passes true other small short = absurd cc
+envelope_passes false true small short = absurd cc
+envelope_passes false false small short = refl
+
+size_passes : (large : Bool) → large ≡ false → (if large then Some TooLarge else None) ≡ None
+size_passes true small = absurd cc
+size_passes false small = refl
+
+-- naming the main script of a content that has none
+main_again : (content : Content) (main : Option ScriptName) → IfSome main (λ name. length name.name ≤ name_limit) → after_all (record content { main = None }) (main_edits main) ≡ Ok (record content { main = main })
+main_again content None short = refl
+main_again content (Some name) short = ap (λ refusal. unless refusal (record content { main = Some name })) (size_passes (is_long name.name) (within_limit name_limit (length name.name) short))
+
+-- THE WHOLE CONTENT
+
+module _ (content : Content) (order : IsInOrder content) (limits : IsWithinLimits content) where
+  -- a new bench's content with the scripts, and then the messages too
+  abbrev scripts_there : Content
+  scripts_there = record new_content { scripts = content.scripts }
+
+  abbrev messages_there : Content
+  messages_there = record scripts_there { messages = content.messages }
+
+  abbrev settings : List Edit
+  settings = set_envelope content.envelope.from content.envelope.to ∷ set_mailbox content.envelope.mailbox ∷ main_edits content.main
+
+  set_again : after_all messages_there settings ≡ Ok content
+  set_again =
+      ap (λ refusal. fold then_edit (then_edit (unless refusal envelope_there) (set_mailbox content.envelope.mailbox)) (main_edits content.main))
+      (envelope_passes (nat_lt address_limit (length content.envelope.from)) (nat_lt address_limit (length content.envelope.to))
+      (within_limit address_limit (length content.envelope.from) limits.envelope.from) (within_limit address_limit (length content.envelope.to) limits.envelope.to))
+      ∙ ap (λ refusal. fold then_edit (unless refusal (record content { main = None })) (main_edits content.main))
+      (size_passes (nat_lt mailbox_limit (length content.envelope.mailbox)) (within_limit mailbox_limit (length content.envelope.mailbox) limits.envelope.mailbox))
+      ∙ main_again content content.main limits.main
+    where
+      envelope_there : Content
+      envelope_there = record messages_there { envelope = record messages_there.envelope { from = content.envelope.from; to = content.envelope.to } }
+
+  -- none of the edits is refused, and they make the content
+  pub made_again : after_all new_content (rebuild content) ≡ Ok content
+  unfolding rebuild
+  made_again =
+      fold-append then_edit (Ok new_content) (map (λ s. put_script s.0 s.1) content.scripts) (map (λ m. put_message m.0 m.1) content.messages ++ settings)
+      ∙ ap (λ made. fold then_edit made (map (λ m. put_message m.0 m.1) content.messages ++ settings))
+      (scripts_again new_content [] content.scripts order.scripts limits.scripts.count limits.scripts.names limits.scripts.texts)
+      ∙ fold-append then_edit (Ok scripts_there) (map (λ m. put_message m.0 m.1) content.messages) settings
+      ∙ ap (λ made. fold then_edit made settings)
+      (messages_again scripts_there [] content.messages order.ids limits.messages.count limits.messages.ids limits.messages.octets)
+      ∙ set_again
+
+-- so it is with what edits make of a new bench's content
+pub rebuilt : (edits : List Edit) → after_all new_content (rebuild (content_after new_content edits)) ≡ Ok (content_after new_content edits)
+rebuilt edits = made_again (content_after new_content edits) (stays_in_order new_content edits new_in_order) (stays_within new_content edits new_in_order new_within)
+
+pub rebuilt_content : (edits : List Edit) → content_after new_content (rebuild (content_after new_content edits)) ≡ content_after new_content edits
+rebuilt_content edits = all_made new_content (content_after new_content edits) (rebuild (content_after new_content edits)) (rebuilt edits)

@@ -1,0 +1,79 @@
+-- What edits in turn make of a content, what holds of each content that they make of a new bench's, and which edits make a content anew.
+use Rattle.std.specs.Prelude.{ℕ, ◌≤◌, List, [], ◌∷◌, ◌++◌, length, map, Option, None, Some, IfSome, Result, Ok, Err, nat_eq}
+use Rattle.std.specs.List.{All, IsDistinct}
+use Rattle.std.specs.List.Sorted.{IsStrictlySortedBy}
+use Rattle.std.specs.Map.{keys_of, values_of}
+use lib.Pointwise.{pointwise}
+use Rattle.sieve_base.specs.Limits.{address_limit, id_limit, mailbox_limit, message_count_limit, message_limit, name_limit, script_count_limit, text_limit}
+use Rattle.sieve_base.specs.Name.{name_cmp}
+use Rattle.sieve_effects.specs.declared.envelope.Envelope.{Envelope}
+use Rattle.sieve_base.specs.declared.name.ScriptName.{ScriptName}
+use Rattle.bench.specs.Content.{Content, Edit, after, put_script, put_message, set_main, set_envelope, set_mailbox}
+use Rattle.bench.specs.declared.fault.EditFault.{EditFault}
+
+-- EDITS IN TURN
+
+-- the content behind an edit that made this of it: a refused edit leaves it as it was
+abbrev pub behind : Content → Result Content EditFault → Content
+behind content (Ok new) = new
+behind content (Err fault) = content
+
+-- the content behind edits in turn
+unfoldable pub content_after : Content → List Edit → Content
+content_after content [] = content
+content_after content (edit ∷ edits) = content_after (behind content (after content edit)) edits
+
+-- WHAT EVERY CONTENT HAS
+
+-- each script's name is below the names behind it
+abbrev pub AreOrdered : List (ScriptName × List ℕ) → Type 0
+AreOrdered scripts = IsStrictlySortedBy name_cmp (keys_of scripts)
+
+-- no id is the same as one behind it
+abbrev pub AreDistinct : List (List ℕ) → Type 0
+AreDistinct ids = IsDistinct (pointwise nat_eq) ids
+
+-- the scripts are in the order of their names, and no two messages have one id
+pub record IsInOrder (content : Content) : Type 0 where
+  pub scripts : AreOrdered content.scripts
+  pub ids : AreDistinct (keys_of content.messages)
+
+-- no address of the envelope is longer than it may be, nor the mailbox
+pub record IsEnvelopeWithin (envelope : Envelope) : Type 0 where
+  pub from : length envelope.from ≤ address_limit
+  pub to : length envelope.to ≤ address_limit
+  pub mailbox : length envelope.mailbox ≤ mailbox_limit
+
+-- there are no more scripts than there may be, and no name and no text is longer than it may be
+pub record AreScriptsWithin (scripts : List (ScriptName × List ℕ)) : Type 0 where
+  pub count : length scripts ≤ script_count_limit
+  pub names : All (λ name. length name.name ≤ name_limit) (keys_of scripts)
+  pub texts : All (λ text. length text ≤ text_limit) (values_of scripts)
+
+-- so with messages
+pub record AreMessagesWithin (messages : List (List ℕ × List ℕ)) : Type 0 where
+  pub count : length messages ≤ message_count_limit
+  pub ids : All (λ id. length id ≤ id_limit) (keys_of messages)
+  pub octets : All (λ octets. length octets ≤ message_limit) (values_of messages)
+
+-- all is within the limits
+pub record IsWithinLimits (content : Content) : Type 0 where
+  pub main : IfSome content.main (λ name. length name.name ≤ name_limit)
+  pub envelope : IsEnvelopeWithin content.envelope
+  pub scripts : AreScriptsWithin content.scripts
+  pub messages : AreMessagesWithin content.messages
+
+-- EDITS THAT MAKE A CONTENT ANEW
+
+-- the edit that names the main script, where there is one
+abbrev pub main_edits : Option ScriptName → List Edit
+main_edits None = []
+main_edits (Some name) = set_main name ∷ []
+
+-- all that a content has, as edits of a new bench: the scripts in their order, the messages in theirs, the envelope, the mailbox and the
+-- main script
+unfoldable pub rebuild : Content → List Edit
+rebuild content =
+    map (λ script. put_script script.0 script.1) content.scripts
+    ++ (map (λ message. put_message message.0 message.1) content.messages
+    ++ (set_envelope content.envelope.from content.envelope.to ∷ set_mailbox content.envelope.mailbox ∷ main_edits content.main))
