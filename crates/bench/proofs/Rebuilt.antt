@@ -21,13 +21,18 @@ use Rattle.bench.proofs.Jobs.{refusal_stays}
 use Rattle.bench.proofs.Names.{other_id}
 use Rattle.bench.proofs.Kept.{above, name_total, new_in_order, new_within, stays_in_order, stays_within}
 
--- EDITS THAT AREN'T REFUSED
+-- EDITS IN TURN
+
+-- a refused edit leaves the content as it was
+pub passed_over : (content : Content) (edit : Edit) (edits : List Edit) (fault : EditFault) → after content edit ≡ Err fault → content_after content (edit ∷ edits) ≡ content_after content edits
+unfolding content_after
+passed_over content edit edits fault refused = ap (λ made. content_after (behind content made) edits) refused
 
 -- where none of some edits is refused, the content behind them is what they make
-pub all_made : (content new : Content) (edits : List Edit) → after_all content edits ≡ Ok new → content_after content edits ≡ new
+pub all_made : (content : Content) (edits : List Edit) (new : Content) → after_all content edits ≡ Ok new → content_after content edits ≡ new
 unfolding content_after
-all_made content new [] made = cc
-all_made content new (edit ∷ edits) made = by (after content edit) (λ next. all_made next new edits) made
+all_made content [] new made = cc
+all_made content (edit ∷ edits) new made = by (after content edit) (λ next. all_made next edits new) made
   where
     by : (one : Result Content EditFault) → ((next : Content) → after_all next edits ≡ Ok new → content_after next edits ≡ new) → fold then_edit one edits ≡ Ok new → content_after (behind content one) edits ≡ new
     by (Ok next) rest all = rest next all
@@ -198,4 +203,4 @@ pub rebuilt : (edits : List Edit) → after_all new_content (rebuild (content_af
 rebuilt edits = made_again (content_after new_content edits) (stays_in_order new_content edits new_in_order) (stays_within new_content edits new_in_order new_within)
 
 pub rebuilt_content : (edits : List Edit) → content_after new_content (rebuild (content_after new_content edits)) ≡ content_after new_content edits
-rebuilt_content edits = all_made new_content (content_after new_content edits) (rebuild (content_after new_content edits)) (rebuilt edits)
+rebuilt_content edits = all_made new_content (rebuild (content_after new_content edits)) (content_after new_content edits) (rebuilt edits)

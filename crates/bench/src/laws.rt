@@ -1,10 +1,18 @@
 //! Laws over the definitions. Each of these functions does nothing: its contract is the law.
 
-ghost use Rattle.std.specs.Prelude.{◌≡◌, List, Ok};
+ghost use Rattle.std.specs.Prelude.{◌≡◌, List, ◌∷◌, Ok, Err};
 ghost use Rattle.bench.specs.Content.{Content, Edit, after, new_content};
 ghost use Rattle.bench.specs.Edits.{IsInOrder, IsWithinLimits, content_after, rebuild};
 ghost use Rattle.bench.specs.Report.{report_text};
 ghost use Rattle.bench.specs.Test.{after_all};
+ghost use Rattle.bench.specs.declared.fault.EditFault as faults;
+
+/// A refused edit leaves a content as it was, and those behind it are made of that. Where none is refused, each is made of what the one
+/// before it made.
+pub fn refused_edits_leave_the_content()
+    ensures refused { (content : Content) (edit : Edit) (edits : List Edit) (fault : faults.EditFault) → after content edit ≡ Err fault → content_after content (edit ∷ edits) ≡ content_after content edits }
+    ensures made { (content : Content) (edits : List Edit) (new : Content) → after_all content edits ≡ Ok new → content_after content edits ≡ new }
+{}
 
 /// Scripts stay in the order of their names, and no two messages come to have one id: a new bench is so, each edit that isn't
 /// refused keeps it so, and so do edits in turn, whichever of them are refused.

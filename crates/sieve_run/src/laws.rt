@@ -79,7 +79,7 @@ pub fn no_run_acts_too_often()
     ensures { (find : names.ScriptName → Lookup) (main : Option names.ScriptName) (envelope : Envelope) (message : List ℕ) → length (outcome_of find main envelope message).actions ≤ action_limit }
 {}
 
-/// No two actions of a verdict are one: it has one store into each mailbox, and one redirect to each address
+/// No two actions of a verdict are one: it has no two stores into one mailbox, no two redirects to one address, and no two discards
 /// (RFC 5228, section 2.10.3).
 #[tactic(auto, using(crate::proofs::Distinct::outcome_distinct))]
 pub fn no_run_acts_twice_alike()
