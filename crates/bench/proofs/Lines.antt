@@ -66,6 +66,6 @@ unfolding verdict_texts
 verdict_in_turn mailbox verdict =
     flat_map-append indented (verdict_lines mailbox verdict) (read_lines verdict)
     ∙ ap (λ l. l ++ flat_map indented (read_lines verdict))
-      (flat_map-append indented (map action_line verdict.actions) (implicit_lines mailbox verdict.implicit ++ error_lines verdict.error)
-      ∙ ap (λ l. flat_map indented (map action_line verdict.actions) ++ l) (flat_map-append indented (implicit_lines mailbox verdict.implicit) (error_lines verdict.error)))
+    (flat_map-append indented (map action_line verdict.actions) (implicit_lines mailbox verdict.implicit ++ error_lines verdict.error)
+    ∙ ap (λ l. flat_map indented (map action_line verdict.actions) ++ l) (flat_map-append indented (implicit_lines mailbox verdict.implicit) (error_lines verdict.error)))
     ∙ rw (flat_map-map indented action_line verdict.actions, flat_map-map indented read_line verdict.reads, implicit_is mailbox verdict.implicit, error_is verdict.error) (simp append_assoc)

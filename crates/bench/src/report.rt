@@ -13,8 +13,8 @@ ghost use Rattle.bench.specs.view.Entry.{KeepsDue, judged_of, messages_of, stale
 
 use crate::entry::Entry;
 use crate::report_lines::{
-    write_action_line, write_envelope, write_error_line, write_implicit_line, write_main, write_message,
-    write_read_line, write_script, write_total,
+    write_action_line, write_envelope, write_error_line, write_implicit_line, write_main,
+    write_message, write_read_line, write_script, write_total,
 };
 use crate::scripts::Scripts;
 use indexmap::IndexMap;

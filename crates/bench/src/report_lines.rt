@@ -7,7 +7,8 @@ ghost use Rattle.sieve_run.specs.Lines.{error_line, implicit_line};
 
 use sieve_base::{Octets, Piece, ScriptName, Sink, WriteFault, write_out, write_pieces};
 use sieve_run::{
-    Action, Envelope, FlagList, Outcome, RunError, Script, write_action, write_error, write_implicit, write_read,
+    Action, Envelope, FlagList, Outcome, RunError, Script, write_action, write_error,
+    write_implicit, write_read,
 };
 
 /// Writes the line of the main script.
@@ -22,11 +23,7 @@ pub(crate) fn write_main<W: Sink>(
     match main {
         None => write_pieces(&[Piece::Raw(b"main none\n")], writer),
         Some(name) => write_pieces(
-            &[
-                Piece::Raw(b"main "),
-                Piece::Name(name),
-                Piece::Raw(b"\n"),
-            ],
+            &[Piece::Raw(b"main "), Piece::Name(name), Piece::Raw(b"\n")],
             writer,
         ),
     }

@@ -12,12 +12,12 @@ use Rattle.sieve_check.specs.Element.{test_arguments}
 use Rattle.sieve_reading.specs.Label.{expecting, fills, is_unfit, labels_from, no_slots, slots_left, slots_of, slots_with}
 use Rattle.sieve_check.specs.Parted.{Cutting, parted_labelled, parted_test, parted_test_list, parted_tests, test_labels}
 use Rattle.sieve_check.specs.Readable.{Joins, test_takes}
-use Rattle.sieve_reading.specs.Reading.{Ask, Source, address_values, envelope_values, exists_ask, flag_values, header_values, over_ask, reads_ask, string_values, under_ask}
+use Rattle.sieve_reading.specs.Reading.{Ask, ValueSource, address_values, envelope_values, exists_ask, flag_values, header_values, over_ask, reads_ask, string_values, under_ask}
 use Rattle.sieve_reading.specs.TestReading.{address_source, compares_by, compares_from, envelope_source, exists_by, flag_source, header_source, size_by, size_from, string_source, test_reading_by}
 use Rattle.sieve_reading.specs.Given.{address_part_of, collation_by, given_texts, given_variable, has_tag, in_role, is_tagged, labels_in, literal_in, match_type_of, number_in, part_shape, text_in, texts_in, variable_in}
 use Rattle.sieve_table.specs.view.Number.{all_tags, tag_number}
 use Rattle.sieve_table.specs.Role.{same_role}
-use Rattle.sieve_table.specs.Table.{naming_slot, tag_row, test_row, same_kind}
+use Rattle.sieve_table.specs.Table.{same_tag, naming_slot, tag_row, test_row, same_kind}
 use Rattle.sieve_variables.specs.Part.{Part}
 use Rattle.sieve_reading.specs.Tree.{Argument, Test, Tests, TestList, no_tests, one_test, test_list}
 use Rattle.sieve_check.specs.Use.{has_repeated, is_of_kind, tests_fit}
@@ -244,7 +244,7 @@ one_bound (Unfit ∷ labels) once there = one_bound labels once there
 
 -- WHAT IS ASKED
 
-compares_all : (s : Option Source) (m : MatchType) (c : Option Collation) (keys : Option (List (List Part))) → is_some s ≡ true → is_some c ≡ true → is_some keys ≡ true → is_some (compares_from s m c keys) ≡ true
+compares_all : (s : Option ValueSource) (m : MatchType) (c : Option Collation) (keys : Option (List (List Part))) → is_some s ≡ true → is_some c ≡ true → is_some keys ≡ true → is_some (compares_from s m c keys) ≡ true
 compares_all None m c keys s n k = absurd (not_both s)
 compares_all (Some source) m None keys s n k = absurd (not_both n)
 compares_all (Some source) m (Some collation) None s n k = absurd (not_both k)

@@ -24,15 +24,15 @@ use Rattle.sieve_variables.specs.Variable.{is_among, with_name}
 
 -- ONE NAME AFTER THE OTHER
 
-abbrev mentioned : Scope → Mention → Scope
+abbrev pub mentioned : Scope → Mention → Scope
 mentioned scope (sets name) = assigning scope name
 mentioned scope (declares name) = record scope { declared = with_name (folded_name name) scope.declared }
 
-abbrev behind_mentions : Scope → List Mention → Scope
+abbrev pub behind_mentions : Scope → List Mention → Scope
 behind_mentions scope [] = scope
 behind_mentions scope (m ∷ ms) = behind_mentions (mentioned scope m) ms
 
-in_turn : (xs ys : List Mention) (scope : Scope) → behind_mentions scope (xs ++ ys) ≡ behind_mentions (behind_mentions scope xs) ys
+pub in_turn : (xs ys : List Mention) (scope : Scope) → behind_mentions scope (xs ++ ys) ≡ behind_mentions (behind_mentions scope xs) ys
 in_turn [] ys scope = refl
 in_turn (x ∷ xs) ys scope = in_turn xs ys (mentioned scope x)
 
@@ -113,7 +113,7 @@ arguments_declare (a ∷ args) scope labels =
 
 -- COMMANDS
 
-kind_mentions : (context : Context) (k : Option CommandKind) (args : List Argument) → (behind_kind context k args).scope ≡ behind_mentions context.scope (command_mentions k args)
+pub kind_mentions : (context : Context) (k : Option CommandKind) (args : List Argument) → (behind_kind context k args).scope ≡ behind_mentions context.scope (command_mentions k args)
 kind_mentions context None args = refl
 kind_mentions context (Some kind) args =
     let labels = row_labels (command_row kind) args in
@@ -126,7 +126,7 @@ kind_mentions context (Some kind) args =
 mutual
   unfolding behind behind_block behind_nodes
 
-  node_names : (n : Node) (context : Context) → (behind context n).scope ≡ behind_mentions context.scope (node_mentions n)
+  pub node_names : (n : Node) (context : Context) → (behind context n).scope ≡ behind_mentions context.scope (node_mentions n)
   node_names (node name line args ts ending) context =
       block_names ending (behind_kind context (command_named name) args)
       ∙ ap (λ s. behind_mentions s (block_mentions ending)) (kind_mentions context (command_named name) args)
@@ -282,5 +282,8 @@ mentions_set (declares name ∷ ms) scope =
     mentions_set ms (with_one_declared scope name)
     ∙ ap (λ l. scope.assigned ++ l) (fresh_without scope (is_fresh (with_one_declared scope name)) name (set_by ms) (fresh_behind_declared scope name))
 
+pub set_so : (ms : List Mention) → (behind_mentions no_names ms).assigned ≡ set_by ms
+set_so ms = mentions_set ms no_names ∙ filter_all (set_by ms)
+
 pub names_set : (ns : Nodes) → (behind_nodes script_start ns).scope.assigned ≡ set_by (nodes_mentions ns)
-names_set ns = ap (λ s. s.assigned) (nodes_names ns script_start) ∙ mentions_set (nodes_mentions ns) no_names ∙ filter_all (set_by (nodes_mentions ns))
+names_set ns = ap (λ s. s.assigned) (nodes_names ns script_start) ∙ set_so (nodes_mentions ns)

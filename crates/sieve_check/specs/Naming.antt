@@ -1,11 +1,12 @@
 -- The names of variables that a script's text writes, in order, and those of them that are set (RFC 5229, section 4; RFC 6609, section
 -- 3.4.1): told from the names that are written, all of them, and not from those that are set so far.
-use Rattle.std.specs.Prelude.{ℕ, not, List, [], ◌∷◌, ◌++◌, map, drop, Option, Some, None, if◌then◌else◌}
-use Rattle.std.specs.List.{filter}
+use Rattle.std.specs.Prelude.{◌≡◌, ⊤, ℕ, Bool, true, false, not, List, [], ◌∷◌, ◌++◌, map, drop, Option, Some, None, if◌then◌else◌}
+use Rattle.std.specs.List.{before_last, filter, flat_map}
 use Rattle.std.specs.Str.{str_eq_ignore_ascii_case}
 use Rattle.sieve_syntax.specs.Tree.{Argument, strings, number, tag, Node, node, Block, no_block, block, Nodes, end_nodes, more_nodes}
 use Rattle.sieve_reading.specs.Role.{first_role}
 use Rattle.sieve_table.specs.Role.{has_role}
+use Rattle.sieve_check.specs.Element.{Element, the_command, the_test, the_text, the_number}
 use Rattle.sieve_reading.specs.Shape.{row_labels}
 use Rattle.sieve_reading.specs.declared.label.Label.{Label}
 use Rattle.sieve_table.specs.Table.{command_named, command_row}
@@ -62,3 +63,29 @@ abbrev pub set_by : List Mention → List (List ℕ)
 set_by [] = []
 set_by (sets name ∷ rest) = if is_identifier name then name ∷ without_name name (set_by rest) else set_by rest
 set_by (declares name ∷ rest) = without_name name (set_by rest)
+
+-- BEFORE A PLACE
+
+-- the names that are written by the commands among elements
+abbrev pub element_mentions : Element → List Mention
+element_mentions (the_command context name line args ts ending) = command_mentions (command_named name) args
+element_mentions (the_test context name line args ts) = []
+element_mentions (the_text context role text) = []
+element_mentions (the_number value line) = []
+
+abbrev pub mentions_in : List Element → List Mention
+mentions_in elements = flat_map element_mentions elements
+
+abbrev pub is_command : Element → Bool
+is_command (the_command context name line args ts ending) = true
+is_command (the_test context name line args ts) = false
+is_command (the_text context role text) = false
+is_command (the_number value line) = false
+
+-- Where a command stands behind these elements, and where its tests and strings do, those variables are set that are by the names written
+-- before the command. So what the command names itself counts behind it alone.
+abbrev pub HasSetBefore : (before : List Element) → Element → Type 0
+HasSetBefore before (the_command context name line args ts ending) = context.scope.assigned ≡ set_by (mentions_in before)
+HasSetBefore before (the_test context name line args ts) = context.scope.assigned ≡ set_by (mentions_in (before_last is_command before))
+HasSetBefore before (the_text context role text) = context.scope.assigned ≡ set_by (mentions_in (before_last is_command before))
+HasSetBefore before (the_number value line) = ⊤

@@ -1,5 +1,5 @@
 //! Laws over the definitions. Each of these functions does nothing: its contract is the law.
-ghost use Rattle.std.specs.Prelude.{◌≡◌, ◌-◌, ◌||◌, ◌∷◌, ℕ, true, false, length, map, slice_get, All, List, [], Option, None, Some};
+ghost use Rattle.std.specs.Prelude.{◌≡◌, ◌-◌, ◌||◌, ◌∷◌, ℕ, true, false, length, map, slice_get, take, All, List, [], Option, None, Some};
 ghost use Rattle.std.specs.List.{flat_map};
 ghost use Rattle.sieve_base.specs.Limits.{test_depth, block_room};
 ghost use Rattle.sieve_syntax.specs.Grammar.{Writes};
@@ -10,8 +10,8 @@ ghost use Rattle.sieve_syntax.specs.declared.token.Token.{Token};
 ghost use Rattle.sieve_check.specs.Bare.{bare_node, bare_written_node};
 ghost use Rattle.sieve_check.specs.Breach.{Breach, breaches_at, breaches_of, breaks, first_breach, IsLeastBreach};
 ghost use Rattle.sieve_check.specs.Context.{Context, Required, behind_nodes, is_required, requiring, script_start, takes_references};
-ghost use Rattle.sieve_check.specs.Element.{elements_of};
-ghost use Rattle.sieve_check.specs.Naming.{nodes_mentions, set_by};
+ghost use Rattle.sieve_check.specs.Element.{Element, elements_of};
+ghost use Rattle.sieve_check.specs.Naming.{HasSetBefore, nodes_mentions, set_by};
 ghost use Rattle.sieve_check.specs.Order.{IsInTextOrder};
 ghost use Rattle.sieve_check.specs.Parted.{Cutting, cutting_at_start, declared_behind_nodes, parted, parts_in};
 ghost use Rattle.sieve_check.specs.Readable.{IsReadable, DoesAll};
@@ -75,10 +75,12 @@ pub fn declared_names_are_one()
 {}
 
 /// The variables that a text sets are the identifiers that it writes to set them, each once and as it is first written, but for those that
-/// it names or declares before: names ignore the case of ASCII (RFC 5229, sections 3 and 4; RFC 6609, section 3.4.1). A place in a block is
-/// behind the text that ends there.
+/// it names or declares before: names ignore the case of ASCII (RFC 5229, sections 3 and 4; RFC 6609, section 3.4.1). So it is behind a
+/// text, and before each command, test and string of a script, wherever it stands: there those variables are set that are by the commands
+/// before its own.
 pub fn what_is_written_to_be_set_is_set()
-    ensures { (commands : Nodes) → (behind_nodes script_start commands).scope.assigned ≡ set_by (nodes_mentions commands) }
+    ensures behind { (commands : Nodes) → (behind_nodes script_start commands).scope.assigned ≡ set_by (nodes_mentions commands) }
+    ensures before { (tree : List Node) (place : ℕ) (element : Element) → slice_get (elements_of tree) place ≡ Some element → HasSetBefore (take place (elements_of tree)) element }
 {}
 
 /// Each command and each test is found by the name of its row.

@@ -5,6 +5,7 @@ use lib.Pointwise.{pointwise}
 use Rattle.match_text.specs.Flags.{flag_list, flag_text, flag_union, flags_of_texts, flags_without}
 use Rattle.message_text.specs.Addresses.{AddrSpec, addresses_of}
 use Rattle.sieve_base.specs.Limits.{action_limit, mailbox_limit, value_limit}
+use Rattle.sieve_base.specs.Octet.{octet_of}
 use Rattle.sieve_reading.specs.Reading.{Settings, plain_settings, Leaf, keep_leaf, fileinto_leaf, redirect_leaf, discard_leaf, set_leaf, flag_leaf, include_leaf}
 use Rattle.sieve_reading.specs.declared.reading.FlagChange.{FlagChange}
 use Rattle.sieve_reading.specs.declared.reading.FlagChange.TheVariants as change

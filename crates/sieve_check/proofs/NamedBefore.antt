@@ -1,0 +1,198 @@
+-- Before each element of a script those variables are set that the names set which are written before its command.
+use Rattle.std.proofs.Common.{◌≡◌, zero, suc, ◌+◌, ◌-◌, ◌≤◌, cond, length, take, slice_get, arith, subst, ℕ, Bool, true, false, not, List, [], ◌∷◌, ◌++◌, drop, Option, None, Some, refl, sym, ap, ◌∙◌, append-nil, append_assoc}
+use Rattle.std.proofs.lemmas.Grind.{flat_map-append}
+use Rattle.std.proofs.lemmas.List.{length_push, reverse-append, take-append-le, take_at}
+use Rattle.std.specs.List.{before_last, prefix_len, suffix_len}
+use Rattle.std.specs.Prelude.{if◌then◌else◌}
+use Rattle.sieve_syntax.specs.Tree.{Argument, strings, number, tag, Text, Test, test, Tests, no_tests, one_test, test_list, TestList, end_tests, more_tests, Node, node, Block, no_block, block, Nodes, end_nodes, more_nodes, nodes}
+use Rattle.sieve_check.specs.Context.{Context, behind, behind_kind, inside, script_start}
+use Rattle.sieve_check.specs.Element.{Element, argument_elements, block_elements, command_arguments, elements_of, labelled_elements, node_elements, nodes_elements, test_arguments, test_elements, test_list_elements, tests_elements, text_elements, the_command, the_number, the_test, the_text}
+use Rattle.sieve_check.specs.Naming.{HasSetBefore, element_mentions, is_command, mentions_in, Mention, block_mentions, command_mentions, node_mentions, nodes_mentions, set_by}
+use Rattle.sieve_check.specs.Scope.{Scope, no_names}
+use Rattle.sieve_reading.specs.Role.{first_role}
+use Rattle.sieve_reading.specs.declared.label.Label.{Label}
+use Rattle.sieve_table.specs.Table.{command_named, test_named}
+use Rattle.sieve_table.specs.declared.row.Role.{Role}
+use Rattle.sieve_table.specs.declared.table.CommandKind.{CommandKind}
+use Rattle.sieve_table.specs.declared.table.TestKind.{TestKind}
+use Rattle.sieve_check.proofs.Naming.{behind_mentions, in_turn, kind_mentions, node_names, set_so}
+
+-- BEFORE EACH ELEMENT
+
+-- Elements in turn: `done` are the names written before the command that they stand in, `own` those that it writes.
+abbrev Goes : (done own : List Mention) → List Element → Type 0
+Goes done own [] = Unit {0}
+Goes done own (the_command context name line args ts ending ∷ es) = (context.scope.assigned ≡ set_by (done ++ own)) × Goes (done ++ own) (command_mentions (command_named name) args) es
+Goes done own (the_test context name line args ts ∷ es) = (context.scope.assigned ≡ set_by done) × Goes done own es
+Goes done own (the_text context role text ∷ es) = (context.scope.assigned ≡ set_by done) × Goes done own es
+Goes done own (the_number value line ∷ es) = Goes done own es
+
+-- elements of one command, and those behind them
+module _ (done own : List Mention) (context : Context) (so : context.scope.assigned ≡ set_by done) where
+  texts_go : (ts : List Text) (role : Option Role) (es : List Element) → Goes done own es → Goes done own (text_elements context role ts ++ es)
+  texts_go [] role es goes = goes
+  texts_go (t ∷ ts) role es goes = (so, texts_go ts role es goes)
+
+  argument_goes : (a : Argument) (role : Option Role) (es : List Element) → Goes done own es → Goes done own (argument_elements context role a ++ es)
+  argument_goes (strings items bracketed) role es goes = texts_go items role es goes
+  argument_goes (number value line) role es goes = goes
+  argument_goes (tag name line) role es goes = goes
+
+  arguments_go : (args : List Argument) (labels : List Label) (es : List Element) → Goes done own es → Goes done own (labelled_elements context labels args ++ es)
+  arguments_go [] labels es goes = goes
+  arguments_go (a ∷ args) labels es goes =
+      subst (Goes done own) (sym (append_assoc (argument_elements context (first_role labels) a) (labelled_elements context (drop 1 labels) args) es))
+      (argument_goes a (first_role labels) (labelled_elements context (drop 1 labels) args ++ es) (arguments_go args (drop 1 labels) es goes))
+
+  test_arguments_go : (k : Option TestKind) (args : List Argument) (ts : Tests) (es : List Element) → Goes done own es → Goes done own (test_arguments context k args ts ++ es)
+  test_arguments_go None args ts es goes = arguments_go args _ es goes
+  test_arguments_go (Some kind) args ts es goes = arguments_go args _ es goes
+
+  command_arguments_go : (k : Option CommandKind) (args : List Argument) (ts : Tests) (ending : Block) (es : List Element) → Goes done own es → Goes done own (command_arguments context k args ts ending ++ es)
+  command_arguments_go None args ts ending es goes = arguments_go args _ es goes
+  command_arguments_go (Some kind) args ts ending es goes = arguments_go args _ es goes
+
+  mutual
+    unfolding test_elements tests_elements test_list_elements
+
+    test_goes : (t : Test) (es : List Element) → Goes done own es → Goes done own (test_elements context t ++ es)
+    test_goes (test name line args ts) es goes = (
+      so,
+      subst (Goes done own) (sym (append_assoc (test_arguments context (test_named name) args ts) (tests_elements context ts) es))
+          (test_arguments_go (test_named name) args ts (tests_elements context ts ++ es) (tests_go ts es goes)),
+    )
+
+    tests_go : (ts : Tests) (es : List Element) → Goes done own es → Goes done own (tests_elements context ts ++ es)
+    tests_go no_tests es goes = goes
+    tests_go (one_test t) es goes = test_goes t es goes
+    tests_go (test_list ts) es goes = test_list_goes ts es goes
+
+    test_list_goes : (ts : TestList) (es : List Element) → Goes done own es → Goes done own (test_list_elements context ts ++ es)
+    test_list_goes end_tests es goes = goes
+    test_list_goes (more_tests t ts) es goes =
+        subst (Goes done own) (sym (append_assoc (test_elements context t) (test_list_elements context ts) es))
+        (test_goes t (test_list_elements context ts ++ es) (test_list_goes ts es goes))
+
+-- what is behind the names of a scope and some more
+abbrev Behind : Scope → List Mention → Type 0
+Behind scope names = scope ≡ behind_mentions no_names names
+
+behind_more : (scope next : Scope) (names more : List Mention) → Behind scope names → next ≡ behind_mentions scope more → Behind next (names ++ more)
+behind_more scope next names more so is = is ∙ ap (λ s. behind_mentions s more) so ∙ sym (in_turn names more no_names)
+
+-- elements go on behind these names, whichever of them are those of the last command
+abbrev GoesOn : List Mention → List Element → Type 0
+GoesOn names es = (done own : List Mention) → done ++ own ≡ names → Goes done own es
+
+mutual
+  unfolding node_elements block_elements nodes_elements
+
+  node_goes : (n : Node) (context : Context) (done own : List Mention) → Behind context.scope (done ++ own) → (es : List Element) → GoesOn ((done ++ own) ++ node_mentions n) es → Goes done own (node_elements context n ++ es)
+  node_goes (node name line args ts ending) context done own so es goes =
+      let k = command_named name in
+      let own_args = command_arguments context k args ts ending in
+      let its_tests = tests_elements context ts in
+      let its_block = block_elements (behind_kind context k args) ending in
+      let now = ap (λ s. s.assigned) so ∙ set_so (done ++ own) in (
+        now,
+        subst (Goes (done ++ own) (command_mentions k args)) (sym (append_assoc own_args (its_tests ++ its_block) es))
+            (command_arguments_go (done ++ own) (command_mentions k args) context now k args ts ending ((its_tests ++ its_block) ++ es)
+            (subst (Goes (done ++ own) (command_mentions k args)) (sym (append_assoc its_tests its_block es))
+            (tests_go (done ++ own) (command_mentions k args) context now ts (its_block ++ es)
+            (block_goes ending (behind_kind context k args) (done ++ own) (command_mentions k args)
+            (behind_more context.scope (behind_kind context k args).scope (done ++ own) (command_mentions k args) so (kind_mentions context k args)) es
+            (λ d o e. goes d o (e ∙ append_assoc (done ++ own) (command_mentions k args) (block_mentions ending))))))),
+      )
+
+  block_goes : (b : Block) (context : Context) (done own : List Mention) → Behind context.scope (done ++ own) → (es : List Element) → GoesOn ((done ++ own) ++ block_mentions b) es → Goes done own (block_elements context b ++ es)
+  block_goes no_block context done own so es goes = goes done own (sym (append-nil (done ++ own)))
+  block_goes (block ns) context done own so es goes = nodes_go ns (inside context) done own so es goes
+
+  nodes_go : (ns : Nodes) (context : Context) (done own : List Mention) → Behind context.scope (done ++ own) → (es : List Element) → GoesOn ((done ++ own) ++ nodes_mentions ns) es → Goes done own (nodes_elements context ns ++ es)
+  nodes_go end_nodes context done own so es goes = goes done own (sym (append-nil (done ++ own)))
+  nodes_go (more_nodes n ns) context done own so es goes =
+      let rest = nodes_elements (behind context n) ns in
+      let next = behind_more context.scope (behind context n).scope (done ++ own) (node_mentions n) so (node_names n context) in
+      subst (Goes done own) (sym (append_assoc (node_elements context n) rest es))
+      (node_goes n context done own so (rest ++ es)
+      (λ d o e. nodes_go ns (behind context n) d o (next ∙ sym (ap (behind_mentions no_names) e)) es
+      (λ d' o' e'. goes d' o' (e' ∙ ap (λ l. l ++ nodes_mentions ns) e ∙ append_assoc (done ++ own) (node_mentions n) (nodes_mentions ns)))))
+
+all_go : (tree : List Node) → Goes [] [] (elements_of tree)
+all_go tree = subst (Goes [] []) (append-nil (elements_of tree)) (nodes_go (nodes tree) script_start [] [] refl [] (λ d o e. tt))
+
+-- THE LAST COMMAND
+
+suffix_push : {X : Type 0} (p : X → Bool) (x : X) (xs : List X) → suffix_len p (xs ++ x ∷ []) ≡ cond (p x) (1 + suffix_len p xs) 0
+suffix_push p x xs = ap (prefix_len p) (reverse-append xs (x ∷ []))
+
+-- what stands before the last element that passes, with one element more
+module _ {X : Type 0} (p : X → Bool) (x : X) (xs : List X) where
+  before_push : (b : Bool) → p x ≡ b → before_last p (xs ++ x ∷ []) ≡ (if b then xs else before_last p xs)
+  before_push true is =
+      let none : suffix_len (λ y. not (p y)) (xs ++ x ∷ []) ≡ 0 = suffix_push (λ y. not (p y)) x xs ∙ ap (λ b. cond (not b) (1 + suffix_len (λ y. not (p y)) xs) 0) is in
+      let many = length_push xs x in
+      let count : length (xs ++ x ∷ []) - suffix_len (λ y. not (p y)) (xs ++ x ∷ []) - 1 ≡ length xs = omega arith in
+      ap (λ n. take n (xs ++ x ∷ [])) count ∙ take_at xs (x ∷ []) (length xs) refl
+  before_push false is =
+      let more : suffix_len (λ y. not (p y)) (xs ++ x ∷ []) ≡ 1 + suffix_len (λ y. not (p y)) xs = suffix_push (λ y. not (p y)) x xs ∙ ap (λ b. cond (not b) (1 + suffix_len (λ y. not (p y)) xs) 0) is in
+      let many = length_push xs x in
+      let count : length (xs ++ x ∷ []) - suffix_len (λ y. not (p y)) (xs ++ x ∷ []) - 1 ≡ length xs - suffix_len (λ y. not (p y)) xs - 1 = omega arith in
+      let within : length xs - suffix_len (λ y. not (p y)) xs - 1 ≤ length xs = omega arith in
+      ap (λ n. take n (xs ++ x ∷ [])) count ∙ take-append-le _ xs (x ∷ []) within
+
+-- THE ELEMENT AT A PLACE
+
+one_of : {X : Type 0} (a b : X) → Some a ≡ Some b → a ≡ b
+one_of a b e = cc
+
+-- `front` stands before the elements at hand
+record StandsBefore (done own : List Mention) (front : List Element) : Type 0 where
+  all : mentions_in front ≡ done ++ own
+  old : mentions_in (before_last is_command front) ≡ done
+
+here_goes : (e : Element) (es : List Element) (front : List Element) (done own : List Mention) → StandsBefore done own front → Goes done own (e ∷ es) → HasSetBefore front e
+here_goes (the_command context name line args ts ending) es front done own stands goes = goes.0 ∙ sym (ap set_by stands.all)
+here_goes (the_test context name line args ts) es front done own stands goes = goes.0 ∙ sym (ap set_by stands.old)
+here_goes (the_text context role text) es front done own stands goes = goes.0 ∙ sym (ap set_by stands.old)
+here_goes (the_number value line) es front done own stands goes = tt
+
+more_mentions : (front : List Element) (e : Element) (names : List Mention) → mentions_in front ≡ names → mentions_in (front ++ e ∷ []) ≡ names ++ element_mentions e
+more_mentions front e names all = flat_map-append element_mentions front (e ∷ []) ∙ ap (λ l. l ++ (element_mentions e ++ [])) all ∙ ap (λ l. names ++ l) (append-nil (element_mentions e))
+
+-- an element behind which the command at hand is another
+command_stands : (front : List Element) (done own : List Mention) (context : Context) (name : List ℕ) (line : ℕ) (args : List Argument) (ts : Tests) (ending : Block) → StandsBefore done own front
+    → StandsBefore (done ++ own) (command_mentions (command_named name) args) (front ++ the_command context name line args ts ending ∷ [])
+command_stands front done own context name line args ts ending stands =
+    let e = the_command context name line args ts ending in
+    record { all = more_mentions front e (done ++ own) stands.all; old = ap mentions_in (before_push is_command e front true refl) ∙ stands.all }
+
+-- an element that is no command
+other_stands : (front : List Element) (done own : List Mention) (e : Element) → is_command e ≡ false → element_mentions e ≡ [] → StandsBefore done own front → StandsBefore done own (front ++ e ∷ [])
+other_stands front done own e other none stands = record {
+  all = more_mentions front e (done ++ own) stands.all ∙ ap (λ l. (done ++ own) ++ l) none ∙ append-nil (done ++ own);
+  old = ap mentions_in (before_push is_command e front false other) ∙ stands.old;
+}
+
+past : (front : List Element) (x e : Element) (es : List Element) → HasSetBefore ((front ++ x ∷ []) ++ es) e → HasSetBefore (front ++ (x ∷ es)) e
+past front x e es so = subst (λ l. HasSetBefore l e) (append_assoc front (x ∷ []) es) so
+
+each_goes : (es : List Element) (place : ℕ) (e : Element) (front : List Element) (done own : List Mention) → StandsBefore done own front → Goes done own es → slice_get es place ≡ Some e → HasSetBefore (front ++ take place es) e
+each_goes [] place e front done own stands goes is = cc
+each_goes (x ∷ es) zero e front done own stands goes is =
+    subst (λ l. HasSetBefore l e) (sym (append-nil front)) (subst (HasSetBefore front) (one_of x e is) (here_goes x es front done own stands goes))
+each_goes (the_command context name line args ts ending ∷ es) (suc place) e front done own stands goes is =
+    past front (the_command context name line args ts ending) e (take place es)
+    (each_goes es place e (front ++ the_command context name line args ts ending ∷ []) (done ++ own) (command_mentions (command_named name) args) (command_stands front done own context name line args ts ending stands) goes.1 is)
+each_goes (the_test context name line args ts ∷ es) (suc place) e front done own stands goes is =
+    past front (the_test context name line args ts) e (take place es)
+    (each_goes es place e (front ++ the_test context name line args ts ∷ []) done own (other_stands front done own (the_test context name line args ts) refl refl stands) goes.1 is)
+each_goes (the_text context role text ∷ es) (suc place) e front done own stands goes is =
+    past front (the_text context role text) e (take place es)
+    (each_goes es place e (front ++ the_text context role text ∷ []) done own (other_stands front done own (the_text context role text) refl refl stands) goes.1 is)
+each_goes (the_number value line ∷ es) (suc place) e front done own stands goes is =
+    past front (the_number value line) e (take place es)
+    (each_goes es place e (front ++ the_number value line ∷ []) done own (other_stands front done own (the_number value line) refl refl stands) goes is)
+
+pub set_before : (tree : List Node) (place : ℕ) (element : Element) → slice_get (elements_of tree) place ≡ Some element → HasSetBefore (take place (elements_of tree)) element
+set_before tree place element is = each_goes (elements_of tree) place element [] [] [] (record { all = refl; old = refl }) (all_go tree) is
