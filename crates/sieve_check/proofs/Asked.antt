@@ -1,5 +1,5 @@
 -- A test that breaks no rule is read as something.
-use Rattle.std.proofs.Common.{◌≡◌, ℕ, Bool, true, false, not, ◌||◌, nat_eq, List, [], ◌∷◌, map, Option, None, Some, is_some, refl, sym, ap, ◌∙◌}
+use Rattle.std.proofs.Common.{◌≡◌, ℕ, Bool, true, false, not, ◌||◌, List, [], ◌∷◌, map, Option, None, Some, is_some, refl, sym, ap, ◌∙◌}
 use Rattle.std.proofs.lemmas.Bool.{or_parts, and_parts}
 use Rattle.std.specs.List.{list_all, list_any}
 use Rattle.std.specs.Prelude.{if◌then◌else◌}
@@ -15,7 +15,7 @@ use Rattle.sieve_check.specs.Readable.{Joins, test_takes}
 use Rattle.sieve_reading.specs.Reading.{Ask, ValueSource, address_values, envelope_values, exists_ask, flag_values, header_values, over_ask, reads_ask, string_values, under_ask}
 use Rattle.sieve_reading.specs.TestReading.{address_source, compares_by, compares_from, envelope_source, exists_by, flag_source, header_source, size_by, size_from, string_source, test_reading_by}
 use Rattle.sieve_reading.specs.Given.{address_part_of, collation_by, given_texts, given_variable, has_tag, in_role, is_tagged, labels_in, literal_in, match_type_of, number_in, part_shape, text_in, texts_in, variable_in}
-use Rattle.sieve_table.specs.view.Number.{all_tags, tag_number}
+use Rattle.sieve_table.specs.view.Number.{all_tags}
 use Rattle.sieve_table.specs.Role.{same_role}
 use Rattle.sieve_table.specs.Table.{same_tag, naming_slot, tag_row, test_row, same_kind}
 use Rattle.sieve_variables.specs.Part.{Part}

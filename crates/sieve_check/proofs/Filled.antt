@@ -1,9 +1,9 @@
 -- The arguments of a command or test that breaks no rule are as its row says, and are read.
-use Rattle.std.proofs.Common.{◌≡◌, ℕ, suc, Bool, true, false, not, ◌&&◌, ◌||◌, List, [], ◌∷◌, map, length, drop, Option, None, Some, is_some, refl, sym, ap, ◌∙◌, subst, arith, append-nil}
+use Rattle.std.proofs.Common.{◌≡◌, ℕ, suc, Bool, true, false, not, ◌&&◌, ◌||◌, List, [], ◌∷◌, map, length, drop, Option, None, Some, is_some, refl, sym, ap, ◌∙◌, subst, arith}
 use Rattle.std.proofs.lemmas.Bool.{or_parts}
 use Rattle.std.proofs.lemmas.Bool.Decides.{nat_tests}
 use Rattle.std.specs.Option.{option_and_then, option_map}
-use Rattle.std.specs.Prelude.{if◌then◌else◌, is_none, nat_eq, codes}
+use Rattle.std.specs.Prelude.{if◌then◌else◌, is_none, nat_eq}
 use Rattle.match_text.specs.Comparator.{collation_named}
 use Rattle.sieve_syntax.specs.Tree as syntax
 use Rattle.sieve_check.specs.Breach.{breaches_at, breaches_in}

@@ -1,5 +1,5 @@
 -- Worked rows of what the laws speak of.
-use Rattle.std.proofs.Common.{◌≡◌, ℕ, Bool, true, false, List, [], ◌∷◌, map, None, Some, refl, codes}
+use Rattle.std.proofs.Common.{◌≡◌, ℕ, Bool, true, false, List, [], ◌∷◌, map, Some, refl, codes}
 use Rattle.sieve_syntax.specs.Tree as syntax
 use Rattle.sieve_syntax.specs.Word.{identifier, number_word, string_word}
 use Rattle.sieve_check.specs.Bare.{bare_written_node}

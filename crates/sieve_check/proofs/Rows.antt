@@ -8,7 +8,7 @@ use Rattle.sieve_check.specs.Context.{behind}
 use Rattle.sieve_check.specs.Element.{nodes_elements, node_elements, block_elements, tests_elements, test_elements}
 use Rattle.sieve_reading.specs.Label.{labels_of}
 use Rattle.sieve_check.specs.Parted.{parted}
-use Rattle.sieve_reading.specs.Reading.{plain_settings, keep_leaf, redirect_leaf, discard_leaf, set_leaf, flag_leaf, include_leaf, flag_values, header_values, compares}
+use Rattle.sieve_reading.specs.Reading.{plain_settings, keep_leaf, fileinto_leaf, redirect_leaf, discard_leaf, set_leaf, flag_leaf, include_leaf, flag_values, header_values, compares}
 use Rattle.sieve_check.specs.Scope.{assigning}
 use Rattle.sieve_reading.specs.Script.{no_commands, stops, returns, acts, chooses, always, asks, script_of, chain_of, node_before, block_commands, condition_of, conditions_in}
 use Rattle.sieve_table.specs.Table.{Row, naming_slot, slot, command_named, test_named, test_row}
@@ -162,6 +162,16 @@ octet_row : script_of (parted (branch (codes "if") 1 (header (tagged (codes "com
     ≡ chooses (asks (compares (header_values ((literal (codes "a") ∷ []) ∷ (literal (codes "c") ∷ []) ∷ [])) Is Octet ((literal (codes "b") ∷ []) ∷ []))) no_commands no_commands no_commands
 unfolding chain_of node_before block_commands condition_of conditions_in command_named test_named
 octet_row = refl
+
+-- require ["fileinto", "copy"]; fileinto :copy "A"; redirect :copy "b"; and without the capability, and on a command that lacks the tag
+copy_row : script_of (parted (plain (codes "require") 1 (syntax.strings (text (codes "fileinto") ∷ text (codes "copy") ∷ []) true ∷ []) ∷ plain (codes "fileinto") 2 (tagged (codes "copy") ∷ one (codes "A") ∷ []) ∷ plain (codes "redirect") 3 (tagged (codes "COPY") ∷ one (codes "b") ∷ []) ∷ []))
+    ≡ acts (fileinto_leaf (literal (codes "A") ∷ []) (record plain_settings { copy = true })) 2 (acts (redirect_leaf (literal (codes "b") ∷ []) (record plain_settings { copy = true })) 3 no_commands)
+unfolding chain_of node_before block_commands condition_of conditions_in command_named test_named
+copy_row = refl
+
+copy_breaches_row : breaches_of (plain (codes "redirect") 2 (tagged (codes "copy") ∷ one (codes "a@b") ∷ []) ∷ plain (codes "keep") 3 (tagged (codes "copy") ∷ []) ∷ []) ≡ record { line = 2; rule = NotRequired } ∷ record { line = 3; rule = BadTag } ∷ []
+unfolding breaches_in breaches_at nodes_elements node_elements block_elements tests_elements test_elements command_named test_named behind
+copy_breaches_row = refl
 
 -- require "imap4flags"; addflag "V" ["x"]; keep :flags "y"; if hasflag :comparator "i;octet" "a" {}
 flags_row : script_of (parted (plain (codes "require") 1 (one (codes "imap4flags") ∷ []) ∷ plain (codes "addflag") 2 (one (codes "V") ∷ syntax.strings (text (codes "x") ∷ []) true ∷ []) ∷ plain (codes "keep") 3 (tagged (codes "flags") ∷ one (codes "y") ∷ [])

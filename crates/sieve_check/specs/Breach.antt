@@ -1,7 +1,6 @@
 -- The breaches of the validator's rules in a script, in the order of the text and then of the rules.
-use Rattle.std.specs.Prelude.{◌≡◌, ℕ, Bool, true, false, not, ◌&&◌, ◌||◌, List, [], ◌∷◌, ◌++◌, Option, Some, None, is_none, length, slice_get, nat_eq, nat_lt, codes, if◌then◌else◌}
+use Rattle.std.specs.Prelude.{◌≡◌, ℕ, Bool, true, false, not, ◌&&◌, ◌||◌, List, [], ◌∷◌, ◌++◌, Option, Some, None, is_none, length, slice_get, nat_lt, if◌then◌else◌}
 use Rattle.std.specs.List.{flat_map}
-use lib.Pointwise.{pointwise}
 use Rattle.sieve_syntax.specs.Tree.{Node, Block, Tests, Argument}
 use Rattle.sieve_base.specs.Limits.{local_limit}
 use Rattle.sieve_table.specs.Address.{is_address_field, is_envelope_part}

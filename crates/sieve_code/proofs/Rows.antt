@@ -15,7 +15,7 @@ use Rattle.sieve_reading.specs.Tree.{Argument, strings, number, tag, Test, test,
 use Rattle.sieve_reading.specs.declared.reading.FlagChange.TheVariants.{Set, Add}
 use Rattle.sieve_reading.specs.declared.reading.MatchType.TheVariants.{Contains, Is, Matches}
 use Rattle.sieve_code.specs.Choice.{code_of, placed, test_before, tests_before, list_before, first_before, node_before, block_before, nodes_before}
-use Rattle.sieve_code.specs.Dump.{address_words, ask_text, changing_words, comparing_words, flag_lists, further_list, include_words, internal_list, line_text, list_text, modifier_words, operation_text, set_words, stored_flags, string_text, two_lists, worded_flags, worded_text, worded_variable}
+use Rattle.sieve_code.specs.Dump.{address_words, ask_text, changing_words, comparing_words, further_list, include_words, internal_list, line_text, list_text, modifier_words, operation_text, set_words, stored_flags, string_text, worded_text, worded_variable, source_text, leaf_text, stored_text, copy_word, worded_settings}
 use Rattle.sieve_code.specs.Operation.{Operation, set_op, invert_op, test_op, jump_op, jump_if_op, act_op, stop_op, return_op}
 use Rattle.sieve_base.specs.declared.place.Place.TheVariants.{Personal, Global}
 use Rattle.sieve_code.specs.Walk.{Walk, at_end, by_stop, by_return, cut_off, asked, acted, code_walk, walk_from, tree_walk, commands_walk, condition_walk, gone, met_ask, met_leaf, ended, unanswered}
@@ -155,33 +155,33 @@ unanswered_row = refl
 -- DUMP
 
 header_line_row : line_text 0 (test_op list_ask) ≡ codes "0: header contains casemap [\"Subject\"] [\"[list]\"]\n"
-unfolding line_text operation_text digits ask_text comparing_words two_lists further_list list_text string_text quoted
+unfolding line_text operation_text digits ask_text source_text comparing_words further_list list_text string_text quoted
 header_line_row = refl
 
 jump_line_row : line_text 1 (jump_if_op true 3) ≡ codes "1: jump-if-true 3\n"
-unfolding line_text operation_text digits
+unfolding line_text operation_text leaf_text digits
 jump_line_row = refl
 
 size_line_row : line_text 2 (test_op (over_ask 1048576)) ≡ codes "2: size over 1048576\n"
-unfolding line_text operation_text digits ask_text
+unfolding line_text operation_text digits ask_text source_text
 size_line_row = refl
 
 keep_line_row : line_text 4 (act_op (keep_leaf plain_settings) 2) ≡ codes "4: keep internal @2\n"
-unfolding line_text operation_text digits worded_flags stored_flags
+unfolding line_text operation_text leaf_text digits worded_settings stored_flags stored_text copy_word
 keep_line_row = refl
 
 discard_line_row : line_text 6 (act_op discard_leaf 4) ≡ codes "6: discard @4\n"
-unfolding line_text operation_text digits
+unfolding line_text operation_text leaf_text digits
 discard_line_row = refl
 
 -- set :length :lower "N" "${007}a${Box}";
 set_line_row : line_text 0 (act_op (set_leaf (local_variable (codes "n")) (record { letter_case = Some letter_case.Lower; first_letter = None; quote_wildcard = false; length = true }) (match_part 7 ∷ literal (codes "a") ∷ local_part (codes "box") ∷ [])) 2)
     ≡ codes "0: set local(n) lower length match(7)+\"a\"+local(box) @2\n"
-unfolding line_text operation_text digits worded_text set_words modifier_words worded_variable string_text quoted
+unfolding line_text operation_text leaf_text digits worded_text set_words modifier_words worded_variable string_text quoted stored_text copy_word
 set_line_row = refl
 
 string_line_row : line_text 0 (test_op (compares (string_values ((local_part (codes "a") ∷ []) ∷ [])) Matches Octet ((literal (codes "x*") ∷ []) ∷ []))) ≡ codes "0: string matches octet [local(a)] [\"x*\"]\n"
-unfolding line_text operation_text digits ask_text comparing_words two_lists further_list list_text string_text quoted
+unfolding line_text operation_text digits ask_text source_text comparing_words further_list list_text string_text quoted
 string_line_row = refl
 
 strings_row : list_text ((literal (codes "a") ∷ literal (codes "b") ∷ []) ∷ [] ∷ []) ≡ codes "[\"a\"+\"b\", \"\"]"
@@ -193,67 +193,76 @@ abbrev one_text : List ℕ → List Part
 one_text octets = literal octets ∷ []
 
 address_line_row : line_text 0 (test_op (compares (address_values part.Local (one_text (codes "from") ∷ one_text (codes "To") ∷ [])) Is Casemap (one_text (codes "jane") ∷ []))) ≡ codes "0: address is casemap localpart [\"from\", \"To\"] [\"jane\"]\n"
-unfolding line_text operation_text digits ask_text address_words comparing_words two_lists further_list list_text string_text quoted
+unfolding line_text operation_text digits ask_text source_text address_words comparing_words further_list list_text string_text quoted
 address_line_row = refl
 
 envelope_line_row : line_text 4 (test_op (compares (envelope_values part.All (one_text (codes "from") ∷ [])) Is Octet (one_text [] ∷ one_text (codes "x") ∷ []))) ≡ codes "4: envelope is octet all [\"from\"] [\"\", \"x\"]\n"
-unfolding line_text operation_text digits ask_text address_words comparing_words two_lists further_list list_text string_text quoted
+unfolding line_text operation_text digits ask_text source_text address_words comparing_words further_list list_text string_text quoted
 envelope_line_row = refl
 
 redirect_line_row : line_text 2 (act_op (redirect_leaf (one_text (codes "a@b.example")) plain_settings) 2) ≡ codes "2: redirect \"a@b.example\" @2\n"
-unfolding line_text operation_text digits worded_text string_text quoted
+unfolding line_text operation_text leaf_text digits worded_text string_text quoted stored_text copy_word
 redirect_line_row = refl
 
 fileinto_line_row : line_text 6 (act_op (fileinto_leaf (one_text (codes "A")) plain_settings) 3) ≡ codes "6: fileinto \"A\" internal @3\n"
-unfolding line_text operation_text digits worded_text stored_flags string_text quoted
+unfolding line_text operation_text leaf_text digits worded_text stored_flags string_text quoted stored_text copy_word
 fileinto_line_row = refl
 
 keep_flags_line_row : line_text 0 (act_op (keep_leaf (record plain_settings { flags = Some (one_text (codes "d") ∷ []) })) 2) ≡ codes "0: keep flags [\"d\"] @2\n"
-unfolding line_text operation_text digits worded_flags stored_flags list_text string_text quoted
+unfolding line_text operation_text leaf_text digits worded_settings stored_flags list_text string_text quoted stored_text copy_word
 keep_flags_line_row = refl
 
 fileinto_flags_line_row : line_text 0 (act_op (fileinto_leaf (one_text (codes "A")) (record plain_settings { flags = Some (one_text (codes "e") ∷ []) })) 2) ≡ codes "0: fileinto \"A\" flags [\"e\"] @2\n"
-unfolding line_text operation_text digits worded_text stored_flags list_text string_text quoted
+unfolding line_text operation_text leaf_text digits worded_text stored_flags list_text string_text quoted stored_text copy_word
 fileinto_flags_line_row = refl
+
+-- fileinto :copy "A"; redirect :copy "a@b";
+fileinto_copy_line_row : line_text 0 (act_op (fileinto_leaf (one_text (codes "A")) (record plain_settings { copy = true })) 2) ≡ codes "0: fileinto \"A\" internal copy @2\n"
+unfolding line_text operation_text leaf_text digits worded_text stored_flags string_text quoted stored_text copy_word
+fileinto_copy_line_row = refl
+
+redirect_copy_line_row : line_text 1 (act_op (redirect_leaf (one_text (codes "a@b")) (record plain_settings { copy = true })) 3) ≡ codes "1: redirect \"a@b\" copy @3\n"
+unfolding line_text operation_text leaf_text digits worded_text string_text quoted copy_word
+redirect_copy_line_row = refl
 
 -- setflag "F" ["a", "b"];
 setflag_line_row : line_text 0 (act_op (flag_leaf Set (Some (local_variable (codes "f"))) (one_text (codes "a") ∷ one_text (codes "b") ∷ [])) 2) ≡ codes "0: setflag local(f) [\"a\", \"b\"] @2\n"
-unfolding line_text operation_text digits changing_words list_text string_text quoted
+unfolding line_text operation_text leaf_text digits changing_words list_text string_text quoted
 setflag_line_row = refl
 
 addflag_line_row : line_text 1 (act_op (flag_leaf Add None (one_text (codes "c") ∷ [])) 2) ≡ codes "1: addflag internal [\"c\"] @2\n"
-unfolding line_text operation_text digits changing_words list_text string_text quoted
+unfolding line_text operation_text leaf_text digits changing_words list_text string_text quoted
 addflag_line_row = refl
 
 -- hasflag :contains ["f", "G"] "a"
 variables_line_row : line_text 0 (test_op (compares (flag_values (Some ((local_part (codes "f") ∷ []) ∷ (local_part (codes "g") ∷ []) ∷ []))) Contains Casemap (one_text (codes "a") ∷ []))) ≡ codes "0: hasflag contains casemap [local(f), local(g)] [\"a\"]\n"
-unfolding line_text operation_text digits ask_text comparing_words flag_lists internal_list further_list list_text string_text quoted
+unfolding line_text operation_text digits ask_text source_text comparing_words internal_list further_list list_text string_text quoted
 variables_line_row = refl
 
 internal_line_row : line_text 0 (test_op (compares (flag_values None) Is Casemap (one_text (codes "a") ∷ []))) ≡ codes "0: hasflag is casemap internal [\"a\"]\n"
-unfolding line_text operation_text digits ask_text comparing_words flag_lists internal_list further_list list_text string_text quoted
+unfolding line_text operation_text digits ask_text source_text comparing_words internal_list further_list list_text string_text quoted
 internal_line_row = refl
 
 -- VARIABLES THAT SCRIPTS SHARE, AND SCRIPTS THAT ARE INCLUDED
 
 set_global_line_row : line_text 0 (act_op (set_leaf (global_variable (codes "g")) (record { letter_case = None; first_letter = None; quote_wildcard = false; length = false }) (one_text (codes "x"))) 2) ≡ codes "0: set global(g) \"x\" @2\n"
-unfolding line_text operation_text digits set_words modifier_words worded_variable worded_text string_text quoted
+unfolding line_text operation_text leaf_text digits set_words modifier_words worded_variable worded_text string_text quoted stored_text copy_word
 set_global_line_row = refl
 
 addflag_global_line_row : line_text 1 (act_op (flag_leaf Add (Some (global_variable (codes "h"))) (one_text (codes "y") ∷ [])) 2) ≡ codes "1: addflag global(h) [\"y\"] @2\n"
-unfolding line_text operation_text digits changing_words list_text string_text quoted
+unfolding line_text operation_text leaf_text digits changing_words list_text string_text quoted
 addflag_global_line_row = refl
 
 include_line_row : line_text 2 (act_op (include_leaf Global true false (codes "k")) 3) ≡ codes "2: include global once \"k\" @3\n"
-unfolding line_text operation_text digits include_words quoted
+unfolding line_text operation_text leaf_text digits include_words quoted
 include_line_row = refl
 
 optional_line_row : line_text 6 (act_op (include_leaf Personal false true (codes "x")) 5) ≡ codes "6: include personal optional \"x\" @5\n"
-unfolding line_text operation_text digits include_words quoted
+unfolding line_text operation_text leaf_text digits include_words quoted
 optional_line_row = refl
 
 return_line_row : line_text 3 return_op ≡ codes "3: return\n"
-unfolding line_text operation_text digits
+unfolding line_text operation_text leaf_text digits
 return_line_row = refl
 
 global_parts_row : string_text (literal (codes "a") ∷ global_part (codes "box") ∷ []) ≡ codes "\"a\"+global(box)"

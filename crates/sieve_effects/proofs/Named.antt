@@ -1,5 +1,5 @@
 -- What commands do whose strings name something or nothing.
-use Rattle.std.proofs.Common.{◌≡◌, ℕ, Bool, true, false, List, Option, Some, None, refl, ap, ◌∙◌}
+use Rattle.std.proofs.Common.{◌≡◌, ℕ, Bool, true, false, List, Some, None, refl, ap, ◌∙◌}
 use Rattle.std.specs.Prelude.{if◌then◌else◌}
 use Rattle.message_text.specs.Addresses.{addresses_of}
 use Rattle.sieve_effects.specs.Delivery.{Delivery}

@@ -4,7 +4,7 @@ use Rattle.std.specs.List.{IsDistinct}
 use Rattle.match_text.specs.declared.comparators.Collation.{Collation}
 use Rattle.match_text.specs.declared.comparators.Collation.TheVariants.{Octet, Casemap}
 use Rattle.message_text.specs.Fields.{fields_of, field_groups}
-use Rattle.sieve_reading.specs.Reading.{plain_settings, Ask, header_values, address_values, envelope_values, string_values, flag_values, compares, exists_ask, over_ask, under_ask, keep_leaf, fileinto_leaf, redirect_leaf, discard_leaf, set_leaf, flag_leaf, include_leaf}
+use Rattle.sieve_reading.specs.Reading.{Settings, plain_settings, Ask, header_values, address_values, envelope_values, string_values, flag_values, compares, exists_ask, over_ask, under_ask, keep_leaf, fileinto_leaf, redirect_leaf, discard_leaf, set_leaf, flag_leaf, include_leaf}
 use Rattle.sieve_reading.specs.Script.{Condition, always, never, asks, negated, both, either, Commands, no_commands, stops, acts, chooses, chain_of, node_before, block_commands, conditions_in}
 use Rattle.sieve_table.specs.Table.{command_named}
 use Rattle.sieve_variables.specs.Part.{Part, literal, local_part, match_part}
@@ -247,6 +247,30 @@ second_row_of_keep = refl
 fileinto_row : done [] (acts (fileinto_leaf (text (codes "A")) plain_settings) 1 (acts discard_leaf 2 (acts (fileinto_leaf (text (codes "A")) plain_settings) 3 no_commands))) ≡ goes_on (after (Store (codes "A") [] ∷ Discard ∷ []) true)
 unfolding exec flag_union distinct flags_without
 fileinto_row = refl
+
+-- fileinto :copy "A"; and with a plain one behind it, before it, and with discard; and redirect :copy "a@b";
+abbrev copying : Settings
+copying = record plain_settings { copy = true }
+
+copy_row : done [] (acts (fileinto_leaf (text (codes "A")) copying) 1 no_commands) ≡ goes_on (after (Store (codes "A") [] ∷ []) false)
+unfolding exec
+copy_row = refl
+
+plain_behind_copy_row : done [] (acts (fileinto_leaf (text (codes "A")) copying) 1 (acts (fileinto_leaf (text (codes "A")) plain_settings) 2 no_commands)) ≡ goes_on (after (Store (codes "A") [] ∷ []) true)
+unfolding exec flag_union distinct flags_without
+plain_behind_copy_row = refl
+
+copy_behind_plain_row : done [] (acts (fileinto_leaf (text (codes "A")) plain_settings) 1 (acts (fileinto_leaf (text (codes "A")) copying) 2 no_commands)) ≡ goes_on (after (Store (codes "A") [] ∷ []) true)
+unfolding exec flag_union distinct flags_without
+copy_behind_plain_row = refl
+
+copy_discard_row : done [] (acts (fileinto_leaf (text (codes "A")) copying) 1 (acts discard_leaf 1 no_commands)) ≡ goes_on (after (Store (codes "A") [] ∷ Discard ∷ []) true)
+unfolding exec
+copy_discard_row = refl
+
+redirect_copy_row : done [] (acts (redirect_leaf (text (codes "a@b")) copying) 1 no_commands) ≡ goes_on (after (Redirect (codes "a@b") ∷ []) false)
+unfolding exec addresses_of marks_from
+redirect_copy_row = refl
 
 -- discard; fileinto "";
 bad_mailbox_row : done [] (acts discard_leaf 1 (acts (fileinto_leaf (text []) plain_settings) 2 no_commands)) ≡ failed (record { script = main; line = 2; kind = BadMailbox }) (after (Discard ∷ []) true)

@@ -15,8 +15,6 @@ mod test_rows;
 pub use address::{is_address_field, is_envelope_part};
 pub use capability::{Capability, is_capability, is_name_of};
 pub use role::{has_role, is_expanded, names_variable};
-pub use row::{Form, Inner, Role, Row, Slot, TagKind, TagRow};
+pub use row::{Form, Inner, Role, Row, Slot, TagKind, TagRow, same_kind};
 pub use rule::Rule;
-pub use table::{
-    CommandKind, Tag, TestKind, command_named, same_kind, same_tag, tag_named, test_named,
-};
+pub use table::{CommandKind, Tag, TestKind, command_named, same_tag, tag_named, test_named};

@@ -1,4 +1,6 @@
 //! What a row of the table says.
+ghost use Rattle.std.specs.Prelude.{◌≡◌};
+ghost use Rattle.sieve_table.specs.Table.{same_kind};
 
 use crate::capability::Capability;
 use crate::table::Tag;
@@ -149,3 +151,10 @@ pub(crate) const FLAGS: Slot = Slot {
     role: Role::Flags,
     needs: None,
 };
+
+/// Whether two kinds of tags are one.
+pub fn same_kind(a: TagKind, b: TagKind) -> bool
+    ensures { result ≡ same_kind a b }
+{
+    a as u8 == b as u8
+}

@@ -1,6 +1,6 @@
 //! The table: a row for each command, test and tag that there is.
 ghost use Rattle.std.specs.Prelude.{◌≡◌, find};
-ghost use Rattle.sieve_table.specs.Table.{bare_tag, command_named, command_row, is_named, same_kind, same_tag, tag_named, tag_row, test_named, test_row};
+ghost use Rattle.sieve_table.specs.Table.{bare_tag, command_named, command_row, is_named, same_tag, tag_named, tag_row, test_named, test_row};
 ghost use Rattle.sieve_table.specs.view.Row.{row_as, tag_row_as};
 
 use crate::capability::Capability;
@@ -319,13 +319,6 @@ pub fn test_named(written: &[u8]) -> Option<TestKind>
 /// Whether two tags are one.
 pub fn same_tag(a: Tag, b: Tag) -> bool
     ensures { result ≡ same_tag a b }
-{
-    a as u8 == b as u8
-}
-
-/// Whether two kinds of tags are one.
-pub fn same_kind(a: TagKind, b: TagKind) -> bool
-    ensures { result ≡ same_kind a b }
 {
     a as u8 == b as u8
 }
