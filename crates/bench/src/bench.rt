@@ -1,3 +1,4 @@
+//! The bench: its edits, its report and the verdicts that it keeps.
 ghost use Rattle.std.specs.Prelude.{◌≡◌, ⊤, [], IfOk, OnOk, OnErr, IfErr, Ok, length};
 ghost use Rattle.std.specs.Option.{option_copied};
 ghost use Rattle.bench.specs.Bench.{RefusedAmong, verdict_at};

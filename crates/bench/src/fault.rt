@@ -1,3 +1,4 @@
+//! Why an edit is refused, and why a report is not written.
 ghost use Rattle.std.specs.Prelude.{◌≡◌};
 ghost use Rattle.bench.specs.declared.fault.EditFault.TheVariants as edit;
 

@@ -1,3 +1,4 @@
+//! Messages of octets.
 ghost use Rattle.std.specs.Prelude.{◌≡◌, ◌≤◌, IfOk, length};
 ghost use Rattle.sieve_base.specs.Limits.{message_limit};
 

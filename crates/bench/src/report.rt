@@ -1,3 +1,4 @@
+//! What a report runs, and what it writes (docs/FORMATS.md).
 ghost use Rattle.std.specs.Prelude.{◌≡◌, [], ◌∷◌, OnOk, OnErr, length, nat_eq};
 ghost use Rattle.std.specs.List.{flat_map};
 ghost use Rattle.std.specs.Option.{option_copied};

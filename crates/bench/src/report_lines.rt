@@ -1,3 +1,4 @@
+//! The lines of a report, one by one.
 ghost use Rattle.std.specs.Prelude.{◌≡◌, OnOk, OnErr};
 ghost use Rattle.std.specs.Option.{option_copied};
 ghost use Rattle.sieve_base.specs.Writers.{Wrote, WroteFront};

@@ -1,3 +1,4 @@
+//! How the test of a message ends.
 /// How the test of a message, or a dump, ended.
 #[derive(Clone, Copy, Debug, PartialEq, Eq)]
 pub enum TestEnd {

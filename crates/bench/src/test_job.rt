@@ -1,3 +1,4 @@
+//! What the test of a message is given.
 use sieve_base::{Octets, ScriptName};
 
 /// A script of a job: its name, of at most 1,024 octets, and its text, of at most 1,048,576.

@@ -1,3 +1,4 @@
+//! The values of a command line.
 ghost use Rattle.std.specs.Prelude.{◌≡◌, IfOk};
 
 use std::alloc::{AllocError, Global};

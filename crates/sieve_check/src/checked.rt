@@ -1,3 +1,4 @@
+//! Checked scripts.
 ghost use Rattle.std.specs.Prelude.{◌≡◌, map};
 ghost use Rattle.sieve_check.specs.Faultless.{AreFaultless};
 ghost use Rattle.sieve_reading.specs.view.Tree.{node_of};

@@ -8,7 +8,7 @@ ghost use Rattle.sieve_variables.specs.view.Part.{part_of, strings_of, variable_
 
 use sieve_base::SmallOctets;
 use sieve_effects::{CommandOp, SettingsOp, SourceOp, TestOp};
-use sieve_reading::{Ask, Leaf, Text, ValueSource};
+use sieve_reading::{Ask, Leaf, Settings, Text, ValueSource};
 use sieve_variables::{Part, Parts, Variable};
 use std::alloc::{AllocError, Global};
 

@@ -1,3 +1,4 @@
+//! Actions (RFC 5228, section 2.10).
 use match_text::FlagList;
 use sieve_base::Octets;
 

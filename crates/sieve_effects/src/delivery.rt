@@ -1,3 +1,4 @@
+//! A delivery, as tests and commands know it.
 use crate::envelope::Envelope;
 use message_text::Message;
 use sieve_base::ScriptName;

@@ -1,3 +1,4 @@
+//! The envelope of a delivery (RFC 5228, section 5.4).
 use sieve_base::Octets;
 
 /// What a run knows of a delivery beside the message (RFC 5228, section 5.4), each of any octets.

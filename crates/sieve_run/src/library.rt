@@ -1,3 +1,4 @@
+//! Where a run finds scripts.
 ghost use Rattle.sieve_run.specs.Library.{Lookup, lookup_of};
 ghost use Rattle.sieve_run.specs.view.Found.{FoundAs};
 

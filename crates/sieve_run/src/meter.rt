@@ -1,3 +1,4 @@
+//! The count of runs.
 ghost use Rattle.std.specs.Prelude.{◌≡◌, ◌+◌, ◌-◌, ◌^◌, min};
 ghost use Rattle.sieve_run.specs.Meter.{next_run};
 

@@ -1,3 +1,4 @@
+//! The verdict on a message.
 ghost use Rattle.std.specs.Prelude.{◌≡◌, ◌≤◌, length};
 ghost use Rattle.sieve_base.specs.Limits.{action_limit};
 ghost use Rattle.std.specs.Option.{option_copied};

@@ -1,3 +1,4 @@
+//! A script's text with its code or its first fault.
 ghost use Rattle.std.specs.Prelude.{◌≡◌, ◌≤◌, IfOk, Some, length};
 ghost use Rattle.sieve_base.specs.Limits.{text_limit};
 ghost use Rattle.sieve_check.specs.Judgement.{fault_of, judgement_of};

@@ -1,3 +1,4 @@
+//! A plain library: scripts by their names.
 ghost use Rattle.std.specs.Prelude.{◌≡◌, ◌<◌, ◌≤◌, IfOk, Some, length};
 ghost use Rattle.sieve_base.specs.Limits.{name_limit};
 ghost use Rattle.sieve_run.specs.Library.{lookup_of};

@@ -1,3 +1,4 @@
+//! The rules that a script can break, with their numbers and words.
 ghost use Rattle.std.specs.Prelude.{◌≡◌};
 ghost use Rattle.sieve_table.specs.Rule.{rule_number, rule_word};
 
