@@ -15,7 +15,7 @@ use Rattle.sieve_effects.specs.Delivery.{Delivery, inside}
 use Rattle.sieve_run.specs.Library.{Lookup, missing, invalid, present, found_at}
 use Rattle.sieve_effects.specs.Matching.{behind_test, truth_of}
 use Rattle.sieve_run.specs.Perform.{perform}
-use Rattle.sieve_effects.specs.Act.{deed_of, stores, Ending, goes_on, returned, stopped, failed, performed, one_too_many, same_action, joined_with, stored_flags, changes, ends_with, gives, performs, fails_at, is_mailbox, only_address, redirects, held_flags, changed_flags, flags_named, state_behind}
+use Rattle.sieve_effects.specs.Act.{deed_of, stores, Ending, goes_on, returned, stopped, failed, performed, one_too_many, same_action, joined_with, changes, ends_with, gives, performs, fails_at, is_mailbox, only_address, redirects, held_flags, changed_flags, flags_named, state_behind}
 use Rattle.sieve_run.specs.Run.{entering, included, include_of, includes, is_running, is_script, is_there, looked_up, act_of, and_then, answer_of, begun, chosen, delivery_to, exec, resumed, run_of, running, verdict_at, verdict_of, outcome_of, with_found_script, with_read}
 use Rattle.sieve_effects.specs.State.{RunState}
 use Rattle.sieve_effects.specs.declared.envelope.Envelope.{Envelope}
@@ -23,7 +23,7 @@ use Rattle.sieve_effects.specs.declared.flow.Flow.{Flow}
 use Rattle.sieve_effects.specs.declared.flow.Flow.TheVariants as flow
 use Rattle.sieve_base.specs.declared.name.ScriptName.{ScriptName}
 use Rattle.sieve_effects.specs.declared.action.Deed.{Deed}
-use Rattle.sieve_effects.specs.declared.action.Action.TheVariants.{Store, Redirect, Discard}
+use Rattle.sieve_effects.specs.declared.action.Action.TheVariants.{Redirect, Discard}
 use Rattle.sieve_effects.specs.declared.error.ErrorKind.TheVariants.{BadMailbox, TooManyGlobals, IncludeCount}
 use Rattle.sieve_effects.specs.view.Flow.{ending_by}
 use Rattle.sieve_run.specs.view.Step.{Acts, doing}

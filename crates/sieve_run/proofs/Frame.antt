@@ -17,13 +17,13 @@ use Rattle.sieve_effects.specs.Delivery.{Delivery, inside}
 use Rattle.sieve_run.specs.Frame.{Agree, Texts, outcome_over}
 use Rattle.sieve_run.specs.Library.{Lookup, missing, invalid, present, found_at, lookup_of}
 use Rattle.sieve_base.specs.Name.{name_eq, place_eq}
-use Rattle.sieve_effects.specs.Act.{deed_of, stores, Ending, goes_on, returned, stopped, failed, performed, one_too_many, same_action, joined_with, stored_flags, changes, changed_flags, ends_with, flags_named, held_flags, performs, fails_at, is_mailbox, only_address, redirects, act_by, state_behind}
+use Rattle.sieve_effects.specs.Act.{deed_of, stores, Ending, goes_on, returned, stopped, failed, performed, one_too_many, same_action, joined_with, changes, changed_flags, ends_with, flags_named, held_flags, performs, fails_at, is_mailbox, only_address, redirects, act_by, state_behind}
 use Rattle.sieve_run.specs.Run.{entering, included, include_of, includes, is_read, is_running, is_script, is_there, looked_up, act_of, and_then, answer_of, begun, chosen, decide, delivery_to, exec, resumed, run_of, running, verdict_at, verdict_of, outcome_of, with_found_script, with_read}
 use Rattle.sieve_effects.specs.State.{RunState}
 use Rattle.sieve_effects.specs.declared.envelope.Envelope.{Envelope}
 use Rattle.sieve_base.specs.declared.name.ScriptName.{ScriptName}
 use Rattle.sieve_effects.specs.declared.action.Deed.{Deed}
-use Rattle.sieve_effects.specs.declared.action.Action.TheVariants.{Store, Redirect, Discard}
+use Rattle.sieve_effects.specs.declared.action.Action.TheVariants.{Redirect, Discard}
 use Rattle.sieve_effects.specs.declared.error.ErrorKind.TheVariants.{BadMailbox, IncludeCount, TooManyGlobals}
 use Rattle.sieve_run.specs.view.Step.{Acts}
 use Rattle.sieve_variables.specs.Modifier.{modified}

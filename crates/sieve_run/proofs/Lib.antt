@@ -6,6 +6,6 @@ pub mod Unchanged
 pub mod Frame
 pub mod Includes
 pub mod Performing
-mod Lines
+mod Pieces
 pub mod LookedUp
 pub mod Stepping

@@ -151,9 +151,10 @@ fn act<L: Library>(
             optional,
             name,
         } => {
+            let octets = Octets::copied(delivery.alloc, name)?;
             let name = ScriptName {
                 place: *place,
-                name: Octets::copied(delivery.alloc, name)?,
+                name: octets,
             };
             include(lib, depth, delivery, &name, *once, *optional, line, state)
         }

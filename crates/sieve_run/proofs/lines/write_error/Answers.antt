@@ -1,4 +1,4 @@
-use Rattle.sieve_run.proofs.Lines.{error_pieces}
+use Rattle.sieve_run.proofs.Pieces.{error_pieces}
 use Rattle.sieve_run.proofs.lines.write_error.Goals as goal
 
 pub returns-clause-ok : goal.returns-clause-ok

@@ -2,7 +2,7 @@ use Rattle.std.proofs.Common.{◌<◌, subst}
 use Rattle.sieve_base.specs.Writers.{Wrote, WroteFront}
 use Rattle.sieve_base.proofs.Writing.{on_err_from, wrote_both, wrote_items_then_front}
 use Rattle.sieve_run.specs.Lines.{flag_word}
-use Rattle.sieve_run.proofs.Lines.{flag_there, flags_more}
+use Rattle.sieve_run.proofs.Pieces.{flag_there, flags_more}
 use Rattle.sieve_run.proofs.lines.write_flags.Goals as goal
 
 pub returns-in_err-write_flag-clause-err : goal.returns-in_err-write_flag-clause-err

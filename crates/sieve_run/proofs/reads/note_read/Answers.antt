@@ -1,7 +1,7 @@
 use Rattle.std.proofs.Common.{rules, ◌≡◌, sym, ◌∙◌}
 use Rattle.sieve_base.specs.Name.{name_eq}
 use Rattle.sieve_base.specs.declared.name.ScriptName.{ScriptName}
-use Rattle.sieve_effects.specs.contracts.name.ScriptNamePartialEq.TheImpl as equality
+use Rattle.sieve_base.specs.contracts.name.ScriptNamePartialEq.TheImpl as equality
 use Rattle.sieve_run.proofs.LookedUp.{lookup_read, read_is_new, read_stays}
 use Rattle.sieve_run.proofs.reads.note_read.Goals as goal
 

@@ -1,4 +1,4 @@
-use Rattle.std.proofs.Common.{◌≡◌, ◌&&◌, ◌∙◌, ◌<◌, ◌≤◌, ◌+◌, ◌-◌, true, false, IfOk, List, length, map, nat_lt, sym, ap, ap₂, subst, arith, Bor}
+use Rattle.std.proofs.Common.{◌≡◌, ◌&&◌, ◌∙◌, ◌<◌, ◌≤◌, ◌+◌, ◌-◌, true, false, IfOk, List, length, map, nat_lt, sym, ap, subst, arith, Bor}
 use Rattle.std.proofs.lemmas.Bool.Decides.{nat_tests}
 use Rattle.std.proofs.lemmas.Result.{IfOk-weaker}
 use Rattle.sieve_code.specs.Walk.{code_walk, walk_from}
@@ -32,7 +32,7 @@ pub carry_out-returns-in-Test : goal.carry_out-returns-in-Test
 carry_out-returns-in-Test g t c =
     let find : ScriptName → Lookup = λ name. lookup_of (g.L.Library.texts c.args.lib.now name) in
     let d = delivery_as c.args.delivery.now in
-    asks_follow (act_of find c.args.depth d) d (test_op_as c.in-Test.test.now) _ _ _ _ _ _ _ (ap op_as c.in-Test.is) c.holds-truth.ensures.truth c.holds-truth.ensures.behind c.tested.ensures
+    asks_follow (act_of find c.args.depth d) d (test_op_as c.in-Test.test) _ _ _ _ _ _ _ (ap op_as c.in-Test.is) c.holds-truth.ensures.truth c.holds-truth.ensures.behind c.tested.ensures
 
 pub carry_out-returns-in-Command : goal.carry_out-returns-in-Command
 carry_out-returns-in-Command g t c =
@@ -45,7 +45,7 @@ pub act-returns-in-Keep : goal.act-returns-in-Keep
 act-returns-in-Keep g t c =
     let find : ScriptName → Lookup = λ name. lookup_of (g.L.Library.texts c.args.lib.now name) in
     let d = delivery_as c.args.delivery.now in
-    does_so c.keep.result (state_of c.keep.new.state) (act_of find c.args.depth d) (keep_leaf (settings_op_as c.in-Keep.settings.now)) _ c.args.line (state_of c.args.state.now)
+    does_so c.keep.result (state_of c.keep.new.state) (act_of find c.args.depth d) (keep_leaf (settings_op_as c.in-Keep.settings)) _ c.args.line (state_of c.args.state.now)
     (ap command_op_as (sym c.in-Keep.is))
     c.keep.ensures
 
@@ -53,16 +53,16 @@ pub act-returns-in-Fileinto : goal.act-returns-in-Fileinto
 act-returns-in-Fileinto g t c =
     let find : ScriptName → Lookup = λ name. lookup_of (g.L.Library.texts c.args.lib.now name) in
     let d = delivery_as c.args.delivery.now in
-    does_so c.file_into.result (state_of c.file_into.new.state) (act_of find c.args.depth d) (fileinto_leaf (map part_of c.deref-in-Fileinto.result.now) (settings_op_as c.in-Fileinto.settings.now)) _ c.args.line (state_of c.args.state.now)
-    (ap (λ mailbox. fileinto_leaf (map part_of mailbox) (settings_op_as c.in-Fileinto.settings.now)) c.deref-in-Fileinto.ensures ∙ ap command_op_as (sym c.in-Fileinto.is))
+    does_so c.file_into.result (state_of c.file_into.new.state) (act_of find c.args.depth d) (fileinto_leaf (map part_of c.deref.result.now) (settings_op_as c.in-Fileinto.settings)) _ c.args.line (state_of c.args.state.now)
+    (ap (λ mailbox. fileinto_leaf (map part_of mailbox) (settings_op_as c.in-Fileinto.settings)) c.deref.ensures ∙ ap command_op_as (sym c.in-Fileinto.is))
     c.file_into.ensures
 
 pub act-returns-in-Redirect : goal.act-returns-in-Redirect
 act-returns-in-Redirect g t c =
     let find : ScriptName → Lookup = λ name. lookup_of (g.L.Library.texts c.args.lib.now name) in
     let d = delivery_as c.args.delivery.now in
-    does_so c.redirect.result (state_of c.redirect.new.state) (act_of find c.args.depth d) (redirect_leaf (map part_of c.deref-in-Redirect.result.now) (settings_op_as c.in-Redirect.settings.now)) _ c.args.line (state_of c.args.state.now)
-    (ap (λ address. redirect_leaf (map part_of address) (settings_op_as c.in-Redirect.settings.now)) c.deref-in-Redirect.ensures ∙ ap command_op_as (sym c.in-Redirect.is))
+    does_so c.redirect.result (state_of c.redirect.new.state) (act_of find c.args.depth d) (redirect_leaf (map part_of c.deref-in-Redirect.result.now) (settings_op_as c.in-Redirect.settings)) _ c.args.line (state_of c.args.state.now)
+    (ap (λ address. redirect_leaf (map part_of address) (settings_op_as c.in-Redirect.settings)) c.deref-in-Redirect.ensures ∙ ap command_op_as (sym c.in-Redirect.is))
     c.redirect.ensures
 
 pub act-returns-in-Discard : goal.act-returns-in-Discard
@@ -89,13 +89,13 @@ act-returns-in-Flags g t c =
     (ap (λ flags. flag_leaf c.in-Flags.how (option_map variable_of c.in-Flags.variable) (strings_of flags)) c.deref-in-Flags.ensures.value ∙ ap command_op_as (sym c.in-Flags.is))
     c.change.ensures
 
-pub act-returns-in_ok-copied-in-Include : goal.act-returns-in_ok-copied-in-Include
-act-returns-in_ok-copied-in-Include g t c =
+pub act-returns-in_ok-octets-in-Include : goal.act-returns-in_ok-octets-in-Include
+act-returns-in_ok-octets-in-Include g t c =
     let find : ScriptName → Lookup = λ name. lookup_of (g.L.Library.texts c.args.lib.now name) in
     let d = delivery_as c.args.delivery.now in
     let i = c.in-Include in
-    does_so c.include.result (state_of c.include.new.state) (act_of find c.args.depth d) (include_leaf i.place i.once i.optional c.in_ok-copied-in-Include.copied) _ c.args.line (state_of c.args.state.now)
-    (ap (include_leaf i.place i.once i.optional) (c.in_ok-copied-in-Include.ensures ∙ c.deref-in-Include.ensures) ∙ ap command_op_as (sym i.is))
+    does_so c.include.result (state_of c.include.new.state) (act_of find c.args.depth d) (include_leaf i.place i.once i.optional c.in_ok-octets-in-Include.octets) _ c.args.line (state_of c.args.state.now)
+    (ap (include_leaf i.place i.once i.optional) (c.in_ok-octets-in-Include.ensures ∙ c.deref-in-Include.ensures) ∙ ap command_op_as (sym i.is))
     c.include.ensures
 
 pub execute_inside-returns : goal.execute_inside-returns
