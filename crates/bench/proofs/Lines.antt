@@ -11,7 +11,7 @@ use Rattle.sieve_effects.specs.declared.error.RunError.{RunError}
 use Rattle.sieve_run.specs.Lines.{action_line, error_line, error_lines, implicit_line, implicit_lines, read_line, read_lines, verdict_lines}
 use Rattle.sieve_run.specs.Verdict.{Verdict}
 use Rattle.bench.specs.Report.{judgement_text, envelope_line, indented, script_line, total_line, verdict_text}
-use Rattle.bench.specs.view.Lines.{error_text, implicit_text, verdict_texts}
+use Rattle.bench.specs.view.Lines.{action_text, error_text, implicit_text, read_text, verdict_texts}
 
 -- the line of the envelope
 pub envelope_pieces : (envelope : Envelope) (from to mailbox : List ℕ) → from ≡ envelope.from → to ≡ envelope.to → mailbox ≡ envelope.mailbox
@@ -40,13 +40,25 @@ sound_line name text fault f is =
     ap (λ (l : List ℕ). codes "script " ++ name_text name ++ codes " " ++ l ++ codes "\n") (judgement_is (judgement_of text) ∙ ap fault_text (sym f ∙ is))
     ∙ simp append_assoc
 
+script_joined : (name fault : List ℕ) → codes "script " ++ name ++ codes " " ++ fault ++ codes "\n" ≡ codes "script " ++ (name ++ (codes " " ++ (fault ++ codes "\n")))
+script_joined name fault =
+    append_assoc (codes "script " ++ name ++ codes " ") fault (codes "\n")
+    ∙ append_assoc (codes "script " ++ name) (codes " ") (fault ++ codes "\n")
+    ∙ append_assoc (codes "script ") name (codes " " ++ (fault ++ codes "\n"))
+
+fault_joined : (line word : List ℕ) → codes "line " ++ line ++ codes " " ++ word ++ codes "\n" ≡ codes "line " ++ (line ++ (codes " " ++ (word ++ codes "\n")))
+fault_joined line word =
+    append_assoc (codes "line " ++ line ++ codes " ") word (codes "\n")
+    ∙ append_assoc (codes "line " ++ line) (codes " ") (word ++ codes "\n")
+    ∙ append_assoc (codes "line ") line (codes " " ++ (word ++ codes "\n"))
+
 -- the line of a script with a fault
 pub faulty_line : (name : ScriptName) (text kind_word : List ℕ) (fault : Option (ℕ × FaultKind)) (line : ℕ) (kind : FaultKind) → fault ≡ fault_of (judgement_of text) → fault ≡ Some (line, kind) → kind_word ≡ fault_word kind
     → script_line (name, text) ≡ codes "script " ++ (name_text name ++ (codes " line " ++ (decimal line ++ (codes " " ++ (kind_word ++ (codes "\n" ++ []))))))
 unfolding script_line
 faulty_line name text kind_word fault line kind f is k =
     ap (λ (l : List ℕ). codes "script " ++ name_text name ++ codes " " ++ l ++ codes "\n") (judgement_is (judgement_of text) ∙ ap fault_text (sym f ∙ is))
-    ∙ rw k (simp append_assoc)
+    ∙ rw k (script_joined (name_text name) (fault_text (Some (line, kind))) ∙ ap (λ l. codes "script " ++ (name_text name ++ (codes " " ++ l))) (fault_joined (decimal line) (fault_word kind)))
 
 -- the lines of a verdict are written in turn
 flat_map-map : {X Y : Type 0} (f : Y → List ℕ) (g : X → Y) (xs : List X) → flat_map f (map g xs) ≡ flat_map (λ x. f (g x)) xs
@@ -68,4 +80,6 @@ verdict_in_turn mailbox verdict =
     ∙ ap (λ l. l ++ flat_map indented (read_lines verdict))
     (flat_map-append indented (map action_line verdict.actions) (implicit_lines mailbox verdict.implicit ++ error_lines verdict.error)
     ∙ ap (λ l. flat_map indented (map action_line verdict.actions) ++ l) (flat_map-append indented (implicit_lines mailbox verdict.implicit) (error_lines verdict.error)))
-    ∙ rw (flat_map-map indented action_line verdict.actions, flat_map-map indented read_line verdict.reads, implicit_is mailbox verdict.implicit, error_is verdict.error) (simp append_assoc)
+    ∙ rw (flat_map-map indented action_line verdict.actions, flat_map-map indented read_line verdict.reads, implicit_is mailbox verdict.implicit, error_is verdict.error)
+      (append_assoc (flat_map action_text verdict.actions) (implicit_text mailbox verdict.implicit ++ error_text verdict.error) (flat_map read_text verdict.reads)
+      ∙ ap (λ l. flat_map action_text verdict.actions ++ l) (append_assoc (implicit_text mailbox verdict.implicit) (error_text verdict.error) (flat_map read_text verdict.reads)))

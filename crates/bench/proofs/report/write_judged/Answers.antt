@@ -1,4 +1,4 @@
-use Rattle.std.proofs.Common.{refl, sym}
+use Rattle.std.proofs.Common.{refl}
 use Rattle.bench.proofs.Lines.{verdict_in_turn}
 use Rattle.bench.proofs.Writing.{begins, goes_on, stops, stops_last, ends_last}
 use Rattle.bench.proofs.report.write_judged.Goals as goal
@@ -7,8 +7,8 @@ pub returns-in_err-write_message-clause-err : goal.returns-in_err-write_message-
 returns-in_err-write_message-clause-err g c = stops _ _ _ _ _ _ _ _ _ _ (begins _ _ _ _) refl c.in_err-write_message.ensures.err
 
 pub returns-clause-err : goal.returns-clause-err
-returns-clause-err g c = stops_last _ _ _ _ _ _ _ _ (goes_on _ _ _ _ _ _ _ _ (begins _ _ _ _) c.in_ok-write_message.ensures.ok) (rw (sym (verdict_in_turn c.args.envelope.now.mailbox c.args.outcome.now)) c.write_verdict.ensures.err)
+returns-clause-err g c = stops_last _ _ _ _ _ _ _ _ (goes_on _ _ _ _ _ _ _ _ (begins _ _ _ _) c.in_ok-write_message.ensures.ok) (rw (verdict_in_turn c.args.envelope.now.mailbox c.args.outcome.now) c.write_verdict.ensures.err)
 
 pub returns-clause-ok : goal.returns-clause-ok
 returns-clause-ok g c =
-    ends_last _ _ _ _ _ _ _ _ (goes_on _ _ _ _ _ _ _ _ (begins _ _ _ _) c.in_ok-write_message.ensures.ok) (rw (sym (verdict_in_turn c.args.envelope.now.mailbox c.args.outcome.now)) c.write_verdict.ensures.ok)
+    ends_last _ _ _ _ _ _ _ _ (goes_on _ _ _ _ _ _ _ _ (begins _ _ _ _) c.in_ok-write_message.ensures.ok) (rw (verdict_in_turn c.args.envelope.now.mailbox c.args.outcome.now) c.write_verdict.ensures.ok)
