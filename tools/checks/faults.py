@@ -10,7 +10,7 @@ TOP = pathlib.Path(__file__).resolve().parent.parent.parent
 TABLE = TOP / "docs/faults.tsv"
 COLUMNS = ["word", "sentence", "wrong", "right", "cause", "told", "front", "scripts"]
 # The functions that give the words, in the order in which the table has them.
-SOURCES = [TOP / "crates" / path for path in ("sieve_check/src/judged.rt", "sieve_table/src/rule.rt", "sieve_action/src/error.rt")]
+SOURCES = [TOP / "crates" / path for path in ("sieve_check/src/judged.rt", "sieve_table/src/rule.rt", "sieve_effects/src/error.rt")]
 WORD = re.compile(r'=> b"([a-z-]+)"')
 SERIES = re.compile(r"([^;]*?)(\d+)([^;]*;) \.\. \1(\d+)\3")
 

@@ -96,18 +96,18 @@ fn put_command(
     ensures value { IfOk result (λ new. branches_as new tail.new ≡ node_before (node_of command.now) (branches_as front tail.old)) }
 {
     match command.reading() {
-        Some(CommandReading::Opens) => {
+        Some(CommandReading::If) => {
             put_branch(alloc, command, front, tail)?;
             Ok(without_branch(tail))
         }
-        Some(CommandReading::Continues) => {
+        Some(CommandReading::Elsif) => {
             put_branch(alloc, command, front, tail)?;
             Ok(Front {
                 has_branch: true,
                 behind: front.behind,
             })
         }
-        Some(CommandReading::Otherwise) => {
+        Some(CommandReading::Else) => {
             tail.keep_last(front.behind);
             put_block(alloc, command, tail)?;
             Ok(Front {
@@ -115,15 +115,15 @@ fn put_command(
                 behind: front.behind,
             })
         }
-        Some(CommandReading::Acts(leaf)) => {
+        Some(CommandReading::Act(leaf)) => {
             let op = Op::Command {
                 command: command_op(alloc, leaf)?,
                 line: command.line,
             };
             put_alone(op, front, tail)
         }
-        Some(CommandReading::Stops) => put_alone(Op::Stop, front, tail),
-        Some(CommandReading::Returns) => put_alone(Op::Return, front, tail),
+        Some(CommandReading::Stop) => put_alone(Op::Stop, front, tail),
+        Some(CommandReading::Return) => put_alone(Op::Return, front, tail),
         Some(CommandReading::Nothing) => Ok(drop_branches(front, tail)),
         None => Ok(drop_branches(front, tail)),
     }

@@ -109,8 +109,8 @@ fn mailbox_named(
 }
 
 /// Stores into the mailbox of that name (RFC 5228, section 4.1), with the flags that are named or else the internal ones (RFC 5232,
-/// section 5). Under `:copy` the implicit keep stays as it is (RFC 3894, section 3). A name that no mailbox may have is an error of the script, and so is one action too many (RFC 5228, section 2.10.4).
-/// Fails where memory is refused.
+/// section 5). Under `:copy` the implicit keep stays as it is (RFC 3894, section 3). A name that no mailbox may have is an error of the
+/// script, and so is one action too many (RFC 5228, section 2.10.4). Fails where memory is refused.
 #[tactic(auto, using(crate::proofs::Named::filing))]
 pub fn file_into(
     delivery: &Delivery<'_>,

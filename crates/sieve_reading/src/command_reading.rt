@@ -30,7 +30,7 @@ fn keep_leaf<'a>(row: &Row, args: &'a [Argument]) -> Option<CommandReading<'a>>
     ensures { option_map command_reading_as result ≡ option_map reads_act (keep_by (labels_in (row_as row.now) (map argument_of args.now)) (map argument_of args.now)) }
 {
     let settings = settings_by(row, args)?;
-    Some(CommandReading::Acts(Leaf::Keep { settings }))
+    Some(CommandReading::Act(Leaf::Keep { settings }))
 }
 
 /// What a `fileinto` does.
@@ -39,7 +39,7 @@ fn fileinto_leaf<'a>(row: &Row, args: &'a [Argument]) -> Option<CommandReading<'
 {
     let mailbox = text_in(argument_in(row, Role::Mailbox, args))?;
     let settings = settings_by(row, args)?;
-    Some(CommandReading::Acts(Leaf::Fileinto { mailbox, settings }))
+    Some(CommandReading::Act(Leaf::Fileinto { mailbox, settings }))
 }
 
 /// What a `redirect` does.
@@ -48,7 +48,7 @@ fn redirect_leaf<'a>(row: &Row, args: &'a [Argument]) -> Option<CommandReading<'
 {
     let address = text_in(argument_in(row, Role::Address, args))?;
     let settings = settings_by(row, args)?;
-    Some(CommandReading::Acts(Leaf::Redirect { address, settings }))
+    Some(CommandReading::Act(Leaf::Redirect { address, settings }))
 }
 
 /// The case that one of two tags asks for.
@@ -85,7 +85,7 @@ fn set_leaf<'a>(row: &Row, args: &'a [Argument]) -> Option<CommandReading<'a>>
     let modifiers = modifiers_of(row, args);
     let variable = variable_in(argument_in(row, Role::NameToSet, args))?;
     let value = text_in(argument_in(row, Role::Text, args))?;
-    Some(CommandReading::Acts(Leaf::Set {
+    Some(CommandReading::Act(Leaf::Set {
         variable,
         modifiers,
         value,
@@ -98,7 +98,7 @@ fn flag_leaf<'a>(change: FlagChange, row: &Row, args: &'a [Argument]) -> Option<
 {
     let variable = given_variable(argument_in(row, Role::NameToSet, args))?;
     let flags = texts_in(argument_in(row, Role::Flags, args))?;
-    Some(CommandReading::Acts(Leaf::Flags {
+    Some(CommandReading::Act(Leaf::Flags {
         change,
         variable,
         flags,
@@ -124,7 +124,7 @@ fn include_leaf<'a>(row: &Row, args: &'a [Argument]) -> Option<CommandReading<'a
     let once = has_tag(row, Tag::Once, args);
     let optional = has_tag(row, Tag::Optional, args);
     let name = literal_in(argument_in(row, Role::ScriptName, args))?;
-    Some(CommandReading::Acts(Leaf::Include {
+    Some(CommandReading::Act(Leaf::Include {
         place,
         once,
         optional,
@@ -139,20 +139,20 @@ fn command_reading_by(kind: CommandKind, args: &[Argument]) -> Option<CommandRea
     let row = &kind.row();
     match kind {
         CommandKind::Require => Some(CommandReading::Nothing),
-        CommandKind::If => Some(CommandReading::Opens),
-        CommandKind::Elsif => Some(CommandReading::Continues),
-        CommandKind::Else => Some(CommandReading::Otherwise),
+        CommandKind::If => Some(CommandReading::If),
+        CommandKind::Elsif => Some(CommandReading::Elsif),
+        CommandKind::Else => Some(CommandReading::Else),
         CommandKind::Keep => keep_leaf(row, args),
         CommandKind::Fileinto => fileinto_leaf(row, args),
         CommandKind::Redirect => redirect_leaf(row, args),
-        CommandKind::Discard => Some(CommandReading::Acts(Leaf::Discard)),
-        CommandKind::Stop => Some(CommandReading::Stops),
+        CommandKind::Discard => Some(CommandReading::Act(Leaf::Discard)),
+        CommandKind::Stop => Some(CommandReading::Stop),
         CommandKind::Set => set_leaf(row, args),
         CommandKind::SetFlag => flag_leaf(FlagChange::Set, row, args),
         CommandKind::AddFlag => flag_leaf(FlagChange::Add, row, args),
         CommandKind::RemoveFlag => flag_leaf(FlagChange::Remove, row, args),
         CommandKind::Include => include_leaf(row, args),
-        CommandKind::Return => Some(CommandReading::Returns),
+        CommandKind::Return => Some(CommandReading::Return),
         CommandKind::Global => Some(CommandReading::Nothing),
     }
 }

@@ -178,17 +178,17 @@ pub enum Leaf<'a> {
 #[derive(Clone, Copy)]
 pub enum CommandReading<'a> {
     /// It is the first branch of a chain (RFC 5228, section 3.1).
-    Opens,
+    If,
     /// It is a branch behind another, with a test (RFC 5228, section 3.1).
-    Continues,
+    Elsif,
     /// It is the last branch of a chain (RFC 5228, section 3.1).
-    Otherwise,
+    Else,
     /// It ends the run (RFC 5228, section 3.3).
-    Stops,
+    Stop,
     /// It ends its script (RFC 6609, section 3.3).
-    Returns,
+    Return,
     /// It does nothing when it runs (RFC 5228, section 3.2; RFC 6609, section 3.4.1).
     Nothing,
     /// It acts.
-    Acts(Leaf<'a>),
+    Act(Leaf<'a>),
 }

@@ -21,8 +21,8 @@ fn check_named(rt: &impl Abort, command: &Command, name: &[u8], line: u64, kind:
 /// Whether a command reads as `keep` without flags.
 fn is_plain_keep(command: &Command) -> bool {
     match command.reading() {
-        Some(CommandReading::Acts(leaf)) => match leaf {
-            Leaf::Keep { flags } => flags.is_none(),
+        Some(CommandReading::Act(leaf)) => match leaf {
+            Leaf::Keep { settings } => settings.flags.is_none() && !settings.copy,
             _ => false,
         },
         _ => false,
@@ -67,7 +67,7 @@ fn check_stop(rt: &impl Abort, block: &[Command]) {
         panic!(rt; "not one command");
     };
     check_named(rt, stop, b"Stop", 3, CommandKind::Stop);
-    let stops = matches!(stop.reading(), Some(CommandReading::Stops));
+    let stops = matches!(stop.reading(), Some(CommandReading::Stop));
     holds(rt, "the reading of stop", stops);
 }
 
@@ -75,7 +75,7 @@ fn check_stop(rt: &impl Abort, block: &[Command]) {
 fn check_choice(rt: &impl Abort, choice: &Command) {
     holds(rt, "the line of if", choice.line == 2);
     holds(rt, "the kind of if", choice.kind() == Some(CommandKind::If));
-    let opens = matches!(choice.reading(), Some(CommandReading::Opens));
+    let opens = matches!(choice.reading(), Some(CommandReading::If));
     holds(rt, "the reading of if", opens);
     match (&choice.tests, &choice.block) {
         (Tests::One(negation), Some(block)) => {

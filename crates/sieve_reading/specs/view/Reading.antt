@@ -8,7 +8,7 @@ use Rattle.sieve_variables.specs.view.Part.{part_of, variable_of}
 use Rattle.sieve_reading.specs.declared.reading.Ask.{Ask}
 use Rattle.sieve_reading.specs.declared.reading.Ask.TheVariants.{Compares, Exists, Over, Under}
 use Rattle.sieve_reading.specs.declared.reading.CommandReading.{CommandReading}
-use Rattle.sieve_reading.specs.declared.reading.CommandReading.TheVariants.{Opens, Continues, Otherwise, Stops, Returns, Nothing, Acts}
+use Rattle.sieve_reading.specs.declared.reading.CommandReading.TheVariants.{If, Elsif, Else, Stop, Return, Nothing, Act}
 use Rattle.sieve_reading.specs.declared.reading.Leaf.{Leaf}
 use Rattle.sieve_reading.specs.declared.reading.Settings.{Settings}
 use Rattle.sieve_reading.specs.declared.reading.Leaf.TheVariants.{Keep, Fileinto, Redirect, Discard, Set, Flags, Include}
@@ -56,10 +56,10 @@ leaf_as (Flags change variable flags) = reading.flag_leaf change (option_map (λ
 leaf_as (Include place once optional name) = reading.include_leaf place once optional name.now
 
 abbrev pub command_reading_as : CommandReading → reading.CommandReading
-command_reading_as Opens = reading.reads_if
-command_reading_as Continues = reading.reads_elsif
-command_reading_as Otherwise = reading.reads_else
-command_reading_as Stops = reading.reads_stop
-command_reading_as Returns = reading.reads_return
+command_reading_as If = reading.reads_if
+command_reading_as Elsif = reading.reads_elsif
+command_reading_as Else = reading.reads_else
+command_reading_as Stop = reading.reads_stop
+command_reading_as Return = reading.reads_return
 command_reading_as Nothing = reading.reads_nothing
-command_reading_as (Acts leaf) = reading.reads_act (leaf_as leaf)
+command_reading_as (Act leaf) = reading.reads_act (leaf_as leaf)

@@ -28,73 +28,73 @@ put_branch-returns t c =
     ∙ ap (λ tail. jump_if_op false (length c.args.tail.now) ∷ tail) (c.in_ok-put_block.ensures ∙ ap (block_at n) c.in_ok-put_past.ensures)))
     c.put_first.ensures
 
-pub put_command-returns-in_ok-put_branch-in-Some-Opens-clause-value :
-    goal.put_command-returns-in_ok-put_branch-in-Some-Opens-clause-value
-put_command-returns-in_ok-put_branch-in-Some-Opens-clause-value t c =
+pub put_command-returns-in_ok-put_branch-in-Some-If-clause-value :
+    goal.put_command-returns-in_ok-put_branch-in-Some-If-clause-value
+put_command-returns-in_ok-put_branch-in-Some-If-clause-value t c =
     alone c.without_branch.result c.put_branch.new.tail c.without_branch.ensures.branches c.without_branch.ensures.behind
-    ∙ ap no_branch c.in_ok-put_branch-in-Some-Opens.ensures
+    ∙ ap no_branch c.in_ok-put_branch-in-Some-If.ensures
     ∙ command_put (node_of c.args.command.now) (Some reading.reads_if) (branches_as c.args.front c.args.tail.now)
-    (ap (λ r. Some (command_reading_as r)) (sym c.in-Some-Opens.field-0-is) ∙ c.in-Some-Opens.ensures)
+    (ap (λ r. Some (command_reading_as r)) (sym c.in-Some-If.field-0-is) ∙ c.in-Some-If.ensures)
 
-pub put_command-returns-in_ok-put_branch-in-Some-Continues-clause-within :
-    goal.put_command-returns-in_ok-put_branch-in-Some-Continues-clause-within
-put_command-returns-in_ok-put_branch-in-Some-Continues-clause-within t c =
+pub put_command-returns-in_ok-put_branch-in-Some-Elsif-clause-within :
+    goal.put_command-returns-in_ok-put_branch-in-Some-Elsif-clause-within
+put_command-returns-in_ok-put_branch-in-Some-Elsif-clause-within t c =
     let n = node_of c.args.command.now in
     let b = branches_as c.args.front c.args.tail.now in
-    omega (arith, c.requires, ap length c.in_ok-put_branch-in-Some-Continues.ensures, ends_below (branch_at n b) c.args.tail.now (branch_at_ends n b))
+    omega (arith, c.requires, ap length c.in_ok-put_branch-in-Some-Elsif.ensures, ends_below (branch_at n b) c.args.tail.now (branch_at_ends n b))
 
-pub put_command-returns-in_ok-put_branch-in-Some-Continues-clause-value :
-    goal.put_command-returns-in_ok-put_branch-in-Some-Continues-clause-value
-put_command-returns-in_ok-put_branch-in-Some-Continues-clause-value t c =
+pub put_command-returns-in_ok-put_branch-in-Some-Elsif-clause-value :
+    goal.put_command-returns-in_ok-put_branch-in-Some-Elsif-clause-value
+put_command-returns-in_ok-put_branch-in-Some-Elsif-clause-value t c =
     let n = node_of c.args.command.now in
     let b = branches_as c.args.front c.args.tail.now in
-    ap (λ tail. made true tail (last c.args.front.behind tail)) c.in_ok-put_branch-in-Some-Continues.ensures
+    ap (λ tail. made true tail (last c.args.front.behind tail)) c.in_ok-put_branch-in-Some-Elsif.ensures
     ∙ ap (made true (branch_at n b)) (with_front c.args.front.behind c.args.tail.now (branch_at n b) c.requires (branch_at_ends n b))
     ∙ command_put n (Some reading.reads_elsif) b
-    (ap (λ r. Some (command_reading_as r)) (sym c.in-Some-Continues.field-0-is) ∙ c.in-Some-Continues.ensures)
+    (ap (λ r. Some (command_reading_as r)) (sym c.in-Some-Elsif.field-0-is) ∙ c.in-Some-Elsif.ensures)
 
-pub put_command-returns-in_ok-put_block-in-Some-Otherwise-clause-within :
-    goal.put_command-returns-in_ok-put_block-in-Some-Otherwise-clause-within
-put_command-returns-in_ok-put_block-in-Some-Otherwise-clause-within t c =
+pub put_command-returns-in_ok-put_block-in-Some-Else-clause-within :
+    goal.put_command-returns-in_ok-put_block-in-Some-Else-clause-within
+put_command-returns-in_ok-put_block-in-Some-Else-clause-within t c =
     let n = node_of c.args.command.now in
     let kept = c.keep_last.new.self in
-    omega (arith, ap length c.keep_last.ensures, length_last c.args.front.behind c.args.tail.now c.requires, ap length c.in_ok-put_block-in-Some-Otherwise.ensures, ends_below (block_at n kept) kept (block_at_ends n kept))
+    omega (arith, ap length c.keep_last.ensures, length_last c.args.front.behind c.args.tail.now c.requires, ap length c.in_ok-put_block-in-Some-Else.ensures, ends_below (block_at n kept) kept (block_at_ends n kept))
 
-pub put_command-returns-in_ok-put_block-in-Some-Otherwise-clause-value :
-    goal.put_command-returns-in_ok-put_block-in-Some-Otherwise-clause-value
-put_command-returns-in_ok-put_block-in-Some-Otherwise-clause-value t c =
+pub put_command-returns-in_ok-put_block-in-Some-Else-clause-value :
+    goal.put_command-returns-in_ok-put_block-in-Some-Else-clause-value
+put_command-returns-in_ok-put_block-in-Some-Else-clause-value t c =
     let n = node_of c.args.command.now in
-    last_branch n c.args.front.behind c.args.tail.now c.keep_last.new.self c.put_block.new.tail c.requires c.keep_last.ensures c.in_ok-put_block-in-Some-Otherwise.ensures
+    last_branch n c.args.front.behind c.args.tail.now c.keep_last.new.self c.put_block.new.tail c.requires c.keep_last.ensures c.in_ok-put_block-in-Some-Else.ensures
     ∙ command_put n (Some reading.reads_else) (branches_as c.args.front c.args.tail.now)
-    (ap (λ r. Some (command_reading_as r)) (sym c.in-Some-Otherwise.field-0-is) ∙ c.in-Some-Otherwise.ensures)
+    (ap (λ r. Some (command_reading_as r)) (sym c.in-Some-Else.field-0-is) ∙ c.in-Some-Else.ensures)
 
-pub put_command-returns-in_ok-command_op-in-Some-Acts-clause-value :
-    goal.put_command-returns-in_ok-command_op-in-Some-Acts-clause-value
-put_command-returns-in_ok-command_op-in-Some-Acts-clause-value t c =
+pub put_command-returns-in_ok-command_op-in-Some-Act-clause-value :
+    goal.put_command-returns-in_ok-command_op-in-Some-Act-clause-value
+put_command-returns-in_ok-command_op-in-Some-Act-clause-value t c =
     let b = branches_as c.args.front c.args.tail.now in
-    let leaf = leaf_as c.in-Some-Acts.leaf in
+    let leaf = leaf_as c.in-Some-Act.leaf in
     fronts_along _ _ _ _
-    (ap (λ kept. no_branch (act_op kept (command_views.out-Command c.args.command.now).line ∷ b.behind_branches)) c.in_ok-command_op-in-Some-Acts.ensures
+    (ap (λ kept. no_branch (act_op kept (command_views.out-Command c.args.command.now).line ∷ b.behind_branches)) c.in_ok-command_op-in-Some-Act.ensures
     ∙ ap (λ line. no_branch (act_op leaf line ∷ b.behind_branches)) (sym (line_seen c.args.command.now))
     ∙ command_put (node_of c.args.command.now) (Some (reading.reads_act leaf)) b
-    (ap (λ r. Some (command_reading_as r)) (sym c.in-Some-Acts.field-0-is) ∙ c.in-Some-Acts.ensures))
+    (ap (λ r. Some (command_reading_as r)) (sym c.in-Some-Act.field-0-is) ∙ c.in-Some-Act.ensures))
     c.put_alone.ensures.value
 
-pub put_command-returns-in-Some-Stops-clause-value :
-    goal.put_command-returns-in-Some-Stops-clause-value
-put_command-returns-in-Some-Stops-clause-value t c =
+pub put_command-returns-in-Some-Stop-clause-value :
+    goal.put_command-returns-in-Some-Stop-clause-value
+put_command-returns-in-Some-Stop-clause-value t c =
     fronts_along _ _ _ _
     (command_put (node_of c.args.command.now) (Some reading.reads_stop) (branches_as c.args.front c.args.tail.now)
-    (ap (λ r. Some (command_reading_as r)) (sym c.in-Some-Stops.field-0-is) ∙ c.in-Some-Stops.ensures))
-    c.put_alone-in-Some-Stops.ensures.value
+    (ap (λ r. Some (command_reading_as r)) (sym c.in-Some-Stop.field-0-is) ∙ c.in-Some-Stop.ensures))
+    c.put_alone-in-Some-Stop.ensures.value
 
-pub put_command-returns-in-Some-Returns-clause-value :
-    goal.put_command-returns-in-Some-Returns-clause-value
-put_command-returns-in-Some-Returns-clause-value t c =
+pub put_command-returns-in-Some-Return-clause-value :
+    goal.put_command-returns-in-Some-Return-clause-value
+put_command-returns-in-Some-Return-clause-value t c =
     fronts_along _ _ _ _
     (command_put (node_of c.args.command.now) (Some reading.reads_return) (branches_as c.args.front c.args.tail.now)
-    (ap (λ r. Some (command_reading_as r)) (sym c.in-Some-Returns.field-0-is) ∙ c.in-Some-Returns.ensures))
-    c.put_alone-in-Some-Returns.ensures.value
+    (ap (λ r. Some (command_reading_as r)) (sym c.in-Some-Return.field-0-is) ∙ c.in-Some-Return.ensures))
+    c.put_alone-in-Some-Return.ensures.value
 
 pub put_command-returns-in-Some-Nothing-clause-value :
     goal.put_command-returns-in-Some-Nothing-clause-value
