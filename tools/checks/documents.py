@@ -1,5 +1,5 @@
-"""What the documents show: the lines of shell of `docs/FORMATS.md` that say how a session went, and the whole script and the contents of
-`docs/LANGUAGE.md`.
+"""What the documents show: the lines of shell of `docs/FORMATS.md` that say how a session went, the whole script and the contents of
+`docs/LANGUAGE.md`, and the caller of `docs/CALLING.md`.
 """
 import pathlib
 import re
@@ -9,6 +9,7 @@ from .runs import Run, lines, put
 
 TOP = pathlib.Path(__file__).resolve().parent.parent.parent
 FORMATS, LANGUAGE, SCRIPT = TOP / "docs/FORMATS.md", TOP / "docs/LANGUAGE.md", TOP / "examples/office/main.sieve"
+CALLING, CALLER = TOP / "docs/CALLING.md", TOP / "crates/library_tests/src/tests/caller.rt"
 # What writes the session in the document's lines; here a file has it.
 MAKER = "tools/make-session --main main scripts mails"
 SECTION, BLOCK = r"\n### {}\n((?:(?!\n##).)*)", r"```sh\n(.*?)```"
@@ -76,6 +77,13 @@ def of_language():
     yield Shown("the contents", wanted, re.findall(r"^- \[(.*?)\]\(#(.*?)\)", text, re.M))
 
 
+def of_calling():
+    """The caller, which is proved where it stands."""
+    (shown,) = re.findall(r"```rust\n(.*?)```", CALLING.read_text(encoding="utf-8"), re.S)
+    source = CALLER.read_text(encoding="utf-8")
+    yield Shown("the caller", shown, source[source.find(shown) :][: len(shown)])
+
+
 def of_documents(room):
     """All of them."""
     room = room / "documents"
@@ -83,3 +91,4 @@ def of_documents(room):
     yield from of_replies(room)
     yield from of_failing(room)
     yield from of_language()
+    yield from of_calling()
