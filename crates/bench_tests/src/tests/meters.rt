@@ -85,6 +85,11 @@ fn a_session_counts_the_runs_of_its_reports(rt: HostRuntime) -> Result<(), Alloc
     )?;
     check_session_runs(
         &rt,
+        b"script personal main 41\nrequire \"include\"; include :optional \"x\";message a 0\nmessage b 0\nmain personal main\nreport\nscript personal x 0\nreport\nrename personal main personal other\nreport\n",
+        6,
+    )?;
+    check_session_runs(
+        &rt,
         b"script personal main 0\nmessage a 0\nmain personal main\n",
         0,
     )

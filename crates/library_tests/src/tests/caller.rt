@@ -14,8 +14,10 @@ use std::test::Fail;
 /// The verdict on a mail of a script that stands alone.
 pub(crate) fn verdict_of(
     alloc: Global,
-    (name, text): (&ScriptName, &[u8]),
-    (envelope, mail): (&Envelope, &Message),
+    name: &ScriptName,
+    text: &[u8],
+    envelope: &Envelope,
+    mail: &Message,
     meter: &mut Meter,
 ) -> Result<Outcome, AllocError>
     requires { length name.now.name ≤ name_limit }
@@ -26,23 +28,63 @@ pub(crate) fn verdict_of(
     run(alloc, &shelf, Some(name), envelope, mail, meter)
 }
 
-/// Whether the mail of an address is discarded by a script that discards what it writes.
-fn is_discarded(alloc: Global, from: &[u8]) -> Result<bool, Fail> {
+/// Whether a script discards the mail of a sender with these octets.
+fn discards(alloc: Global, text: &[u8], from: &[u8], octets: Vec<u8>) -> Result<bool, Fail> {
     let name = ScriptName::new(Place::Personal, Vec::new(alloc));
     let envelope = Envelope {
         from: Octets::copied(alloc, from)?,
         to: Octets::copied(alloc, b"ada@example.org")?,
         mailbox: Octets::copied(alloc, b"INBOX")?,
     };
-    let mail = Message::new(alloc, Vec::from_slice(alloc, b"Subject: hello\r\n\r\n")?)?;
-    let text = b"require \"envelope\"; if envelope \"from\" \"bob@example.org\" { discard; }";
-    let verdict = verdict_of(alloc, (&name, text), (&envelope, &mail), &mut Meter::new())?;
+    let mail = Message::new(alloc, octets)?;
+    let verdict = verdict_of(alloc, &name, text, &envelope, &mail, &mut Meter::new())?;
     Ok(matches!(verdict.actions(), [Action::Discard]))
 }
 
 #[test]
 fn a_caller_has_the_verdict_of_one_script(rt: HostRuntime) -> Result<(), Fail> {
-    holds(&rt, "bob", is_discarded(rt.alloc(), b"bob@example.org")?);
-    holds(&rt, "eve", !is_discarded(rt.alloc(), b"eve@example.org")?);
+    let alloc = rt.alloc();
+    let text = b"require \"envelope\"; if envelope \"from\" \"bob@example.org\" { discard; }";
+    let is_bob = discards(alloc, text, b"bob@example.org", Vec::new(alloc))?;
+    let is_eve = discards(alloc, text, b"eve@example.org", Vec::new(alloc))?;
+    holds(&rt, "bob", is_bob);
+    holds(&rt, "eve", !is_eve);
+    Ok(())
+}
+
+/// A mail of so many octets, with an empty subject and no sender in its head.
+fn mail_of(alloc: Global, size: usize) -> Result<Vec<u8>, AllocError> {
+    let mut octets = Vec::from_slice(alloc, b"Subject:\r\n\r\n")?;
+    for _octet in octets.len()..size {
+        octets.push(b'x')?;
+    }
+    Ok(octets)
+}
+
+// 1K is 1,024 octets, which is neither over nor under itself (RFC 5228, sections 2.4.1 and 5.9). Each field contains the empty key, and an
+// absent one contains nothing (section 2.7.1).
+#[test]
+fn sizes_and_empty_keys(rt: HostRuntime) -> Result<(), Fail> {
+    let alloc = rt.alloc();
+    let rows: [(&[u8], usize, bool); 10] = [
+        (b"if size :over 1K { discard; }", 1_023, false),
+        (b"if size :over 1K { discard; }", 1_024, false),
+        (b"if size :over 1K { discard; }", 1_025, true),
+        (b"if size :under 1K { discard; }", 1_023, true),
+        (b"if size :under 1K { discard; }", 1_024, false),
+        (b"if size :under 1K { discard; }", 1_025, false),
+        (
+            b"if header :contains \"Subject\" \"\" { discard; }",
+            12,
+            true,
+        ),
+        (b"if header :is \"Subject\" \"\" { discard; }", 12, true),
+        (b"if header :contains \"From\" \"\" { discard; }", 12, false),
+        (b"if header :is \"From\" \"\" { discard; }", 12, false),
+    ];
+    for (text, size, wanted) in &rows {
+        let is_discarded = discards(alloc, text, b"", mail_of(alloc, *size)?)?;
+        holds(&rt, "a size or an empty key", is_discarded == *wanted);
+    }
     Ok(())
 }

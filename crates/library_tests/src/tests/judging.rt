@@ -3,8 +3,8 @@
 use super::{holds, same};
 use sieve_check::{CheckFault, Checked, Rule, check};
 use sieve_reading::{
-    Ask, Command, CommandKind, CommandReading, Leaf, MatchType, Part, Source, Test, TestReading,
-    Tests, Text,
+    Ask, Command, CommandKind, CommandReading, Leaf, MatchType, Part, Test, TestReading, Tests,
+    Text, ValueSource,
 };
 use sieve_syntax::{Script, parse};
 use std::alloc::Global;
@@ -129,7 +129,7 @@ fn check_header(rt: &impl Abort, test: &Test) {
         Some(
             TestReading::Asks(
                 Ask::Compares {
-                    source: Source::Header { names: [name] },
+                    source: ValueSource::Header { names: [name] },
                     match_type: MatchType::Is,
                     collation: match_text::Collation::Octet,
                     keys: [first, second],
