@@ -81,5 +81,5 @@ verdict_in_turn mailbox verdict =
     (flat_map-append indented (map action_line verdict.actions) (implicit_lines mailbox verdict.implicit ++ error_lines verdict.error)
     ∙ ap (λ l. flat_map indented (map action_line verdict.actions) ++ l) (flat_map-append indented (implicit_lines mailbox verdict.implicit) (error_lines verdict.error)))
     ∙ rw (flat_map-map indented action_line verdict.actions, flat_map-map indented read_line verdict.reads, implicit_is mailbox verdict.implicit, error_is verdict.error)
-      (append_assoc (flat_map action_text verdict.actions) (implicit_text mailbox verdict.implicit ++ error_text verdict.error) (flat_map read_text verdict.reads)
-      ∙ ap (λ l. flat_map action_text verdict.actions ++ l) (append_assoc (implicit_text mailbox verdict.implicit) (error_text verdict.error) (flat_map read_text verdict.reads)))
+    (append_assoc (flat_map action_text verdict.actions) (implicit_text mailbox verdict.implicit ++ error_text verdict.error) (flat_map read_text verdict.reads)
+    ∙ ap (λ l. flat_map action_text verdict.actions ++ l) (append_assoc (implicit_text mailbox verdict.implicit) (error_text verdict.error) (flat_map read_text verdict.reads)))

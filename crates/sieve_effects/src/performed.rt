@@ -95,6 +95,9 @@ pub(crate) fn add_action(
     if actions.len() >= MAX_ACTIONS {
         return Ok(false);
     }
+    if actions.is_empty() {
+        actions.reserve_exact(1)?;
+    }
     actions.push(action)?;
     Ok(true)
 }

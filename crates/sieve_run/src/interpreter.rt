@@ -62,7 +62,7 @@ fn first_read(
 ) -> Result<IndexMap<ScriptName, bool>, AllocError>
     ensures { IfOk result (λ reads. reads.entries ≡ (main.now, is_present) ∷ []) }
 {
-    let mut reads = IndexMap::new(alloc);
+    let mut reads = IndexMap::with_capacity(alloc, 1)?;
     reads.insert(main.copy(alloc)?, is_present)?;
     Ok(reads)
 }
