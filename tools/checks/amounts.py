@@ -167,6 +167,11 @@ def of_actions(room):
         yield reported(room, f"as many actions as there may be: {action}", many, [b""], [verdict])
         yield reported(room, "one that is there already needs no room", many + command % 7, [b""], [verdict])
         yield reported(room, "one more", many + command % 33, [b""], [KEPT + ['error personal "main" line 34 too-many-actions']])
+    many = b'require ["fileinto", "copy"];\n' + b"".join(b'fileinto :copy "%d";\n' % i for i in range(1, 33))
+    verdict = [f'store "{i}"' for i in range(1, 33)]
+    yield reported(room, "as many copies as there may be actions", many, [b""], [verdict + KEPT])
+    yield reported(room, "a copy that is there already needs no room", many + b'fileinto :copy "7";', [b""], [verdict + KEPT])
+    yield reported(room, "one copy more", many + b'fileinto :copy "33";', [b""], [KEPT + ['error personal "main" line 34 too-many-actions']])
     for size, verdict in [(MAILBOX_LIMIT, ['store "' + "b" * MAILBOX_LIMIT + '"']), (MAILBOX_LIMIT + 1, KEPT + ['error personal "main" line 1 bad-mailbox'])]:
         script = b'require "fileinto"; fileinto "' + b"b" * size + b'";'
         yield reported(room, f"a mailbox whose name has {size} octets", script, [b""], [verdict])

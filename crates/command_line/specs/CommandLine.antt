@@ -11,6 +11,7 @@ use Rattle.clap.specs.declared.builder.command.Command.{Command}
 use Rattle.clap.specs.declared.builder.command.Command.TheViews.{out-Command}
 use Rattle.command_line.specs.declared.words.Job.{Job}
 use Rattle.command_line.specs.declared.words.Job.TheVariants as job
+use Rattle.command_line.specs.declared.words.TestWords.{TestWords}
 use Rattle.command_line.specs.declared.words.UsageFault.{UsageFault}
 use Rattle.command_line.specs.declared.words.UsageFault.TheVariants.{Usage, NoMemory}
 
@@ -78,17 +79,24 @@ the_app = with_subcommand (with_subcommand (with_subcommand top_app session_shap
 abbrev pub value_in : List Row → Text → Text
 value_in rows argument = unwrap_or (first_of argument rows) []
 
--- the job of `test` with these matches: each word is the value of its own argument
-abbrev pub test_job : List Row → Job
-test_job rows = job.Test (first_of (codes "from") rows) (first_of (codes "to") rows) (first_of (codes "mailbox") rows)
-    (first_of (codes "personal") rows) (first_of (codes "global") rows) (value_in rows (codes "script")) (value_in rows (codes "mail"))
+-- the words of `test` with these matches: each is the value of its own argument
+abbrev pub test_words : List Row → TestWords
+test_words rows = record {
+  from = first_of (codes "from") rows;
+  to = first_of (codes "to") rows;
+  mailbox = first_of (codes "mailbox") rows;
+  personal = first_of (codes "personal") rows;
+  global = first_of (codes "global") rows;
+  script = value_in rows (codes "script");
+  mail = value_in rows (codes "mail");
+}
 
 -- the job of a subcommand of this name with these matches
 abbrev pub job_named : Text → List Row → Option Job
 job_named name rows =
     if bytes_eq name (codes "session") then Some job.Session
     else if bytes_eq name (codes "dump") then Some (job.Dump (value_in rows (codes "script")))
-    else if bytes_eq name (codes "test") then Some (test_job rows)
+    else if bytes_eq name (codes "test") then Some (job.Test (test_words rows))
     else None
 
 -- the job of the subcommand that was met

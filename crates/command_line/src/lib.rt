@@ -7,4 +7,4 @@ mod help;
 mod words;
 
 pub use argument::Argument;
-pub use words::{Job, UsageFault, command_of};
+pub use words::{Job, TestWords, UsageFault, command_of};

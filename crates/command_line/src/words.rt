@@ -2,7 +2,7 @@
 ghost use Rattle.std.specs.Prelude.{◌≡◌, ◌↔◌, IfOk, IfErr, IfSome, Some, false, true, map, IsTrue, option_map, IsSome, IsOkUnless, codes};
 ghost use Rattle.clap.specs.Words.{fault_of, first_of, kind_of, rows_of, subcommand_rows_of};
 ghost use Rattle.clap.specs.Matches.{found_of};
-ghost use Rattle.command_line.specs.CommandLine.{the_app, job_named, job_of, named_job, test_job, value_in, IsFaultFor, IsRefusalFor};
+ghost use Rattle.command_line.specs.CommandLine.{the_app, job_named, job_of, named_job, test_words, value_in, IsFaultFor, IsRefusalFor};
 
 use crate::argument::Argument;
 use crate::commands::program;
@@ -22,22 +22,26 @@ pub enum Job {
         script: Argument,
     },
     /// To print the report of a script and a message in files.
-    Test {
-        /// The sender's address in the envelope (RFC 5228, 5.4).
-        from: Option<Argument>,
-        /// The recipient's address in the envelope.
-        to: Option<Argument>,
-        /// The mailbox that mail is kept in.
-        mailbox: Option<Argument>,
-        /// The path of a folder of personal scripts (RFC 6609, 3.2).
-        personal: Option<Argument>,
-        /// The path of a folder of global scripts.
-        global: Option<Argument>,
-        /// The path of the main script.
-        script: Argument,
-        /// The path of the message.
-        mail: Argument,
-    },
+    Test(TestWords),
+}
+
+/// The words of a test.
+#[derive(Drop)]
+pub struct TestWords {
+    /// The sender's address in the envelope (RFC 5228, 5.4).
+    pub from: Option<Argument>,
+    /// The recipient's address in the envelope.
+    pub to: Option<Argument>,
+    /// The mailbox that mail is kept in.
+    pub mailbox: Option<Argument>,
+    /// The path of a folder of personal scripts (RFC 6609, 3.2).
+    pub personal: Option<Argument>,
+    /// The path of a folder of global scripts.
+    pub global: Option<Argument>,
+    /// The path of the main script.
+    pub script: Argument,
+    /// The path of the message.
+    pub mail: Argument,
 }
 
 /// Why a command line names no job.
@@ -100,11 +104,11 @@ fn option_in(
     }
 }
 
-// The job of `test` with these matches.
-fn test_job(alloc: Global, matches: &ArgMatches<'_>) -> Result<Job, AllocError>
-    ensures { IfOk result (λ job. job ≡ test_job (rows_of (found_of matches.now))) }
+// The words of `test` with these matches.
+fn test_words(alloc: Global, matches: &ArgMatches<'_>) -> Result<TestWords, AllocError>
+    ensures { IfOk result (λ words. words ≡ test_words (rows_of (found_of matches.now))) }
 {
-    Ok(Job::Test {
+    Ok(TestWords {
         from: option_in(alloc, matches, "from")?,
         to: option_in(alloc, matches, "to")?,
         mailbox: option_in(alloc, matches, "mailbox")?,
@@ -124,7 +128,7 @@ fn job_named(alloc: Global, name: &str, matches: &ArgMatches<'_>) -> Result<Opti
         "dump" => Ok(Some(Job::Dump {
             script: required_in(alloc, matches, "script")?,
         })),
-        "test" => Ok(Some(test_job(alloc, matches)?)),
+        "test" => Ok(Some(Job::Test(test_words(alloc, matches)?))),
         _ => Ok(None),
     }
 }

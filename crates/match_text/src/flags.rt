@@ -11,6 +11,7 @@ ghost use Rattle.sieve_base.specs.view.Texts.{octets_of_each};
 use crate::comparators::{AsciiCasemap, Comparator, is};
 use indexmap::IndexSet;
 use sieve_base::Octets;
+use sieve_base::octet::is_visible;
 use std::alloc::{AllocError, Global};
 use std::borrow::CowSlice;
 use std::hash::{Hash, Hasher};
@@ -200,7 +201,7 @@ fn insert_text(alloc: Global, flags: &mut IndexSet<Flag>, text: &[u8]) -> Result
 fn is_flag_octet(octet: u8) -> bool
     ensures { result ≡ is_flag_octet octet }
 {
-    matches!(octet, b'!'..=b'~') && !is_special(octet)
+    is_visible(octet) && !is_special(octet)
 }
 
 // Whether an octet is one of those that no atom has.

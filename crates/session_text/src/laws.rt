@@ -11,13 +11,13 @@ pub fn a_quoted_word_stands_for_its_octets()
     ensures { (octets : List ℕ) → All (λ octet. octet < 256) octets → word_value (quoted octets) ≡ Some octets }
 {}
 
-/// The words of a line that is made of words, with one space or more between each two and any in front and behind, are these words.
+/// The words of a line that is made of words, bare or in the quoted form that reports print, with one space or more between each two and any in front and behind, are these words.
 pub fn words_stand_between_spaces()
     ensures joined { (words : List (List ℕ)) → All IsWord words → line_words (joined words) ≡ words }
     ensures spaced { (words : List (List ℕ)) (line : List ℕ) → IsLineOf words line → line_words line ≡ words }
 {}
 
-/// A line of the quoted forms of values is one that a session reads, and gives back each value.
+/// A line of the quoted forms of values has no octet that a session refuses, and its words give back each value.
 pub fn a_line_gives_back_its_values()
     ensures plain { (values : List (List ℕ)) → All (All (λ octet. octet < 256)) values → list_all is_printable (joined (map quoted values)) ≡ true }
     ensures values { (values : List (List ℕ)) → All (All (λ octet. octet < 256)) values → map word_value (line_words (joined (map quoted values))) ≡ map Some values }

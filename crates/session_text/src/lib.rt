@@ -2,6 +2,7 @@
 //! for, and the counted octets that follow it.
 #![tactic(auto)]
 
+mod cutting;
 mod input;
 pub mod laws;
 mod line;

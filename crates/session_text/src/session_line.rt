@@ -1,12 +1,12 @@
 //! The lines of a session: what their words ask for. None of it takes memory.
-ghost use Rattle.std.specs.Prelude.{◌≡◌, ◌≢◌, ◌<◌, ◌≤◌, ◌∷◌, take, drop, slice_index, None, Some, length, IsTrue, ◌↔◌, MatchOption, []};
+ghost use Rattle.std.specs.Prelude.{◌≡◌, ◌<◌, None, Some, IsTrue, ◌↔◌, []};
 ghost use Rattle.std.specs.List.{list_all};
 ghost use Rattle.std.specs.Option.{option_map};
-ghost use Rattle.sieve_base.specs.Octet.{is_printable, octet_of};
-ghost use Rattle.session_text.specs.SessionLine.{outside, spot_behind, is_gap, piece_length, line_words};
-ghost use Rattle.session_text.specs.SessionLine.{is_text, place_of, count_of, last_count, named, last_name, last_value, script_command, message_command, rename_command, envelope_command, main_command, drop_script_command, dump_command, print_command, name_command, value_command, lone_command, command_by, command_of_line};
-ghost use Rattle.session_text.specs.view.Command.{command_as, spot_as};
+ghost use Rattle.sieve_base.specs.Octet.{is_printable};
+ghost use Rattle.session_text.specs.SessionLine.{line_words, is_text, place_of, count_of, last_count, named, last_name, last_value, script_command, message_command, rename_command, envelope_command, main_command, drop_script_command, dump_command, print_command, name_command, value_command, lone_command, command_by, command_of_line};
+ghost use Rattle.session_text.specs.view.Command.{command_as};
 
+use crate::cutting::next_word;
 use crate::word::Word;
 use sieve_base::Place;
 use sieve_base::octet::is_printable;
@@ -66,85 +66,6 @@ pub enum Command<'a> {
         place: Place,
         name: Word<'a>,
     },
-}
-
-/// How many spaces a line begins with.
-fn leading_spaces(line: &[u8]) -> usize
-    ensures within { result ≤ length line.now }
-    ensures words { line_words (drop result line.now) ≡ line_words line.now }
-    ensures stops { slice_index (drop result line.now) 0 ≢ octet_of " " }
-{
-    for (i, octet) in line.iter().enumerate() {
-        if *octet != b' ' {
-            return i;
-        }
-    }
-    line.len()
-}
-
-/// Where an octet of a line stands.
-#[derive(Clone, Copy)]
-pub(crate) enum Spot {
-    /// Outside quotes.
-    Outside,
-    /// Inside quotes.
-    Inside,
-    /// Behind a backslash inside quotes.
-    Escaped,
-}
-
-/// Where the octet behind an octet stands.
-fn spot_behind(spot: Spot, octet: u8) -> Spot
-    ensures { spot_as result ≡ spot_behind (spot_as spot) octet }
-{
-    match spot {
-        Spot::Outside => match octet {
-            b'"' => Spot::Inside,
-            _ => Spot::Outside,
-        },
-        Spot::Inside => match octet {
-            b'"' => Spot::Outside,
-            b'\\' => Spot::Escaped,
-            _ => Spot::Inside,
-        },
-        Spot::Escaped => Spot::Inside,
-    }
-}
-
-/// Whether an octet there is a space between words.
-fn is_gap(spot: Spot, octet: u8) -> bool
-    ensures { result ≡ is_gap (spot_as spot) octet }
-{
-    match spot {
-        Spot::Outside => octet == b' ',
-        Spot::Inside | Spot::Escaped => false,
-    }
-}
-
-/// How many octets stand before the first space that is outside quotes.
-fn word_len(line: &[u8]) -> usize
-    ensures value { result ≡ piece_length outside line.now }
-    ensures within { result ≤ length line.now }
-{
-    let mut spot = Spot::Outside;
-    for (i, octet) in line.iter().enumerate() {
-        if is_gap(spot, *octet) {
-            return i;
-        }
-        spot = spot_behind(spot, *octet);
-    }
-    line.len()
-}
-
-/// The first word of a line, and what is behind it.
-fn next_word(line: &[u8]) -> Option<(&[u8], &[u8])>
-    ensures { MatchOption result (line_words line.now ≡ []) (λ cut. line_words line.now ≡ cut.0.now ∷ line_words cut.1.now) }
-{
-    let (_, line) = line.split_at(leading_spaces(line));
-    if line.is_empty() {
-        return None;
-    }
-    Some(line.split_at(word_len(line)))
 }
 
 /// Whether a word is this text.

@@ -1,8 +1,14 @@
--- The names of the table.
-use Rattle.std.proofs.Common.{◌≡◌, Some, refl}
-use Rattle.sieve_table.specs.Table.{command_named, command_row, test_named, test_row}
+-- The names of the table, and of the capabilities.
+use Rattle.std.proofs.Common.{◌≡◌, Some, true, refl}
+use Rattle.sieve_table.specs.Capability.{capability_name, is_capability}
+use Rattle.sieve_table.specs.Table.{command_named, command_row, tag_named, tag_row, test_named, test_row}
+use Rattle.sieve_table.specs.view.Number.{all_tags}
+use Rattle.sieve_table.specs.declared.capability.Capability.{Capability}
+use Rattle.sieve_table.specs.declared.capability.Capability.TheVariants as capability
 use Rattle.sieve_table.specs.declared.table.CommandKind.{CommandKind}
 use Rattle.sieve_table.specs.declared.table.CommandKind.TheVariants as command
+use Rattle.sieve_table.specs.declared.table.Tag.{Tag}
+use Rattle.sieve_table.specs.declared.table.Tag.TheVariants as tag
 use Rattle.sieve_table.specs.declared.table.TestKind.{TestKind}
 use Rattle.sieve_table.specs.declared.table.TestKind.TheVariants as test
 
@@ -40,4 +46,37 @@ test_found test.False = refl
 test_found test.String = refl
 test_found test.HasFlag = refl
 
-pub ruleset names = (command_found, test_found)
+pub tag_found : (tag : Tag) → tag_named all_tags (tag_row tag).name ≡ Some tag
+tag_found tag.Comparator = refl
+tag_found tag.Is = refl
+tag_found tag.Contains = refl
+tag_found tag.Matches = refl
+tag_found tag.All = refl
+tag_found tag.LocalPart = refl
+tag_found tag.Domain = refl
+tag_found tag.Over = refl
+tag_found tag.Under = refl
+tag_found tag.Lower = refl
+tag_found tag.Upper = refl
+tag_found tag.LowerFirst = refl
+tag_found tag.UpperFirst = refl
+tag_found tag.QuoteWildcard = refl
+tag_found tag.Length = refl
+tag_found tag.Flags = refl
+tag_found tag.Personal = refl
+tag_found tag.Global = refl
+tag_found tag.Once = refl
+tag_found tag.Optional = refl
+tag_found tag.Copy = refl
+
+pub capability_found : (capability : Capability) → is_capability (capability_name capability) ≡ true
+capability_found capability.Fileinto = refl
+capability_found capability.Envelope = refl
+capability_found capability.Variables = refl
+capability_found capability.Imap4flags = refl
+capability_found capability.Include = refl
+capability_found capability.Copy = refl
+capability_found capability.OctetComparator = refl
+capability_found capability.CasemapComparator = refl
+
+pub ruleset names = (command_found, test_found, tag_found, capability_found)

@@ -1,5 +1,5 @@
--- The tree of a text with its strings cut into parts (RFC 5229, section 3). How a string is cut goes by its role; where the script
--- doesn't require variables, each is one literal. A name that the text before a command declares is that of a variable that scripts
+-- The tree of a text with its strings cut into parts (RFC 5229, section 3). How a string is cut goes by its role: one that names a
+-- variable is that variable; any other is one literal where the script doesn't require `variables`. A name that the text before a command declares is that of a variable that scripts
 -- share (RFC 6609, section 3.4.1).
 use Rattle.std.specs.Prelude.{ℕ, List, [], ◌∷◌, Option, Some, None, map, drop, if◌then◌else◌}
 use Rattle.sieve_syntax.specs.Tree as syntax

@@ -3,6 +3,7 @@ use Rattle.std.specs.Prelude.{Bool, true, false, not, ◌||◌, ◌&&◌, List, 
 use Rattle.std.specs.List.{list_any}
 use Rattle.sieve_syntax.specs.Tree.{Tests, no_tests, one_test, test_list, Block, no_block, block}
 use Rattle.sieve_check.specs.Context.{Required, is_required}
+use Rattle.sieve_reading.specs.Positional.{is_positional_label}
 use Rattle.sieve_reading.specs.Label.{labels_of, is_filled}
 use Rattle.sieve_table.specs.Table.{Row, same_kind, tag_row}
 use Rattle.sieve_reading.specs.declared.label.Label.{Label}
@@ -51,17 +52,10 @@ is_tag (Own slot) = false
 is_tag (InSlot slot) = false
 is_tag Unfit = false
 
-abbrev pub is_positional : Label → Bool
-is_positional (Tagged taken) = false
-is_positional OtherTag = false
-is_positional (Own slot) = false
-is_positional (InSlot slot) = true
-is_positional Unfit = true
-
 -- a tag stands behind a positional argument, and so behind the first of these
 abbrev pub has_late_tag : List Label → Bool
 has_late_tag [] = false
-has_late_tag (label ∷ labels) = if is_positional label then list_any is_tag labels else has_late_tag labels
+has_late_tag (label ∷ labels) = if is_positional_label label then list_any is_tag labels else has_late_tag labels
 
 -- a tag of that kind
 abbrev pub is_of_kind : TagKind → Label → Bool

@@ -17,8 +17,9 @@ ghost use Rattle.sieve_check.specs.Parted.{Cutting, cutting_at_start, declared_b
 ghost use Rattle.sieve_check.specs.Readable.{IsReadable, DoesAll};
 ghost use Rattle.sieve_check.specs.Requirement.{IsTextJudgedUnder, JudgesBehindRequires};
 ghost use Rattle.sieve_table.specs.Role.{names_variable};
-ghost use Rattle.sieve_table.specs.Capability.{is_name_of};
-ghost use Rattle.sieve_table.specs.Table.{command_named, command_row, test_named, test_row};
+ghost use Rattle.sieve_table.specs.Capability.{capability_name, is_capability, is_name_of};
+ghost use Rattle.sieve_table.specs.Table.{command_named, command_row, tag_named, tag_row, test_named, test_row};
+ghost use Rattle.sieve_table.specs.view.Number.{all_tags};
 ghost use Rattle.sieve_reading.specs.Tree as checked;
 ghost use Rattle.sieve_table.specs.declared.capability.Capability.{Capability};
 ghost use Rattle.sieve_table.specs.declared.row.Role.{Role};
@@ -38,7 +39,7 @@ pub fn first_breach_is_least()
     ensures least { (tree : List Node) (breach : Breach) → first_breach tree ≡ Some breach → IsLeastBreach tree breach }
 {}
 
-/// Behind a string that a `require` names, what was required is, and what the string names.
+/// Behind a string of a `require`, what was required still is, and what the string names, and nothing else.
 #[tactic(auto, using(crate::proofs::Required::named_is_required))]
 pub fn what_is_named_is_required()
     ensures { (required : Required) (name : List ℕ) (capability : Capability) → is_required (requiring required name) capability ≡ (is_required required capability || is_name_of name capability) }
@@ -69,13 +70,13 @@ pub fn strings_are_judged_as_they_are_cut()
     ensures strings { (tree : List Node) → breaches_of tree ≡ [] → All (IsTextJudgedUnder (cutting_at_start tree).required) (elements_of tree) }
 {}
 
-/// The names by which strings are cut are those by which rules judge.
+/// The names declared behind commands are the same for the cut of strings and for the rules.
 pub fn declared_names_are_one()
     ensures { (context : Context) (commands : Nodes) → declared_behind_nodes context.scope.declared commands ≡ (behind_nodes context commands).scope.declared }
 {}
 
 /// The variables that a text sets are the identifiers that it writes to set them, each once and as it is first written, but for those that
-/// it names or declares before: names ignore the case of ASCII (RFC 5229, sections 3 and 4; RFC 6609, section 3.4.1). So it is behind a
+/// it declares before: names ignore the case of ASCII (RFC 5229, sections 3 and 4; RFC 6609, section 3.4.1). So it is behind a
 /// text, and before each command, test and string of a script, wherever it stands: there those variables are set that are by the commands
 /// before its own.
 pub fn what_is_written_to_be_set_is_set()
@@ -83,11 +84,13 @@ pub fn what_is_written_to_be_set_is_set()
     ensures before { (tree : List Node) (place : ℕ) (element : Element) → slice_get (elements_of tree) place ≡ Some element → HasSetBefore (take place (elements_of tree)) element }
 {}
 
-/// Each command and each test is found by the name of its row.
+/// Each command, each test and each tag is found by the name of its row, and each capability by its name.
 #[tactic(auto, using(crate::proofs::Names::names))]
 pub fn names_are_found()
     ensures commands { (kind : CommandKind) → command_named (command_row kind).name ≡ Some kind }
     ensures tests { (kind : TestKind) → test_named (test_row kind).name ≡ Some kind }
+    ensures tags { (tag : Tag) → tag_named all_tags (tag_row tag).name ≡ Some tag }
+    ensures capabilities { (capability : Capability) → is_capability (capability_name capability) ≡ true }
 {}
 
 /// The abstract script of a readable tree has each command's choice, stop, return or act once, in the order of the text. So nothing of

@@ -4,7 +4,8 @@ ghost use Rattle.std.specs.List.{list_any};
 ghost use Rattle.sieve_syntax.specs.view.Tree.{argument_of, tests_of};
 ghost use Rattle.sieve_reading.specs.Label.{is_filled};
 ghost use Rattle.sieve_reading.specs.Shape.{shapes_of};
-ghost use Rattle.sieve_check.specs.Use.{are_bad, awaits, begins_own, has_bad_tag, has_late_tag, has_repeated, is_of_kind, is_other_tag, is_positional, is_repeated, is_tag, is_lacking, lacks_kind, lacks_needed, lacks_own, lacks_required, needed_by, tests_fit};
+ghost use Rattle.sieve_reading.specs.Positional.{is_positional_label};
+ghost use Rattle.sieve_check.specs.Use.{are_bad, awaits, begins_own, has_bad_tag, has_late_tag, has_repeated, is_of_kind, is_other_tag, is_repeated, is_tag, is_lacking, lacks_kind, lacks_needed, lacks_own, lacks_required, needed_by, tests_fit};
 ghost use Rattle.sieve_check.specs.view.Context.{required_as};
 ghost use Rattle.sieve_table.specs.view.Row.{row_as};
 
@@ -88,7 +89,7 @@ fn is_tag(label: Label) -> bool
 
 /// Whether it is a positional argument.
 fn is_positional(label: Label) -> bool
-    ensures { result ≡ is_positional label }
+    ensures { result ≡ is_positional_label label }
 {
     match label {
         Label::InSlot(_) | Label::Unfit => true,
@@ -97,7 +98,7 @@ fn is_positional(label: Label) -> bool
 }
 
 /// Whether a tag is among them.
-fn has_tag(labels: &[Label]) -> bool
+fn has_some_tag(labels: &[Label]) -> bool
     ensures { result ≡ list_any is_tag labels.now }
 {
     labels.iter().any(|label| is_tag(*label))
@@ -117,7 +118,7 @@ fn has_late_tag(labels: &[Label]) -> bool
     let mut left = labels;
     while let [first, rest @ ..] = left {
         if is_positional(*first) {
-            return has_tag(rest);
+            return has_some_tag(rest);
         }
         left = rest;
     }

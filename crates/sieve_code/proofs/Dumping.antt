@@ -10,7 +10,7 @@ use Rattle.sieve_variables.specs.declared.part.Part.{Part}
 use Rattle.sieve_code.specs.Dump.{case_word, first_word, given_word, list_text, modifier_words, part_text, separated, string_text}
 use Rattle.sieve_variables.specs.declared.modifier.Modifiers.{Modifiers}
 use Rattle.sieve_code.specs.view.Marked.{marked_part, marked_string}
-use Rattle.sieve_effects.specs.view.Ops.{parts_of}
+use Rattle.sieve_effects.specs.view.Ops.{held_parts}
 use Rattle.sieve_variables.specs.view.Part.{strings_of}
 
 pub marked_part_at : (parts : List Part) (i : ℕ) (part : Part) → part ≡ get_or parts i part → codes "+" ++ part_text (part_of part) ≡ marked_part (get_or parts i part)
@@ -20,7 +20,7 @@ marked_part_at parts i part is = ap (λ p. codes "+" ++ part_text (part_of p)) i
 pub marked_string_at : (strings : List (SmallVec Part)) (i : ℕ) (string : SmallVec Part) (parts : List Part) → parts ≡ string.items → string ≡ get_or strings i string → codes ", " ++ string_text (map part_of parts) ≡ marked_string (get_or strings i string)
 unfolding marked_string
 marked_string_at strings i string parts same is =
-    ap (λ ps. codes ", " ++ string_text (map part_of ps)) same ∙ ap (λ s. codes ", " ++ string_text (parts_of s)) is
+    ap (λ ps. codes ", " ++ string_text (map part_of ps)) same ∙ ap (λ s. codes ", " ++ string_text (held_parts s)) is
 
 parts_marked : (parts : List Part) → flat_map (λ p. codes "+" ++ part_text p) (map part_of parts) ≡ flat_map marked_part parts
 unfolding marked_part
@@ -30,7 +30,7 @@ parts_marked (p ∷ ps) = ap (λ t. (codes "+" ++ part_text (part_of p)) ++ t) (
 strings_marked : (strings : List (SmallVec Part)) → flat_map (λ s. codes ", " ++ string_text s) (strings_of strings) ≡ flat_map marked_string strings
 unfolding marked_string
 strings_marked [] = refl
-strings_marked (s ∷ ss) = ap (λ t. (codes ", " ++ string_text (parts_of s)) ++ t) (strings_marked ss)
+strings_marked (s ∷ ss) = ap (λ t. (codes ", " ++ string_text (held_parts s)) ++ t) (strings_marked ss)
 
 -- a string without parts
 pub string_none : (parts : List Part) → length parts ≤ 0 → codes "\"\"" ≡ string_text (map part_of parts)
@@ -49,8 +49,8 @@ pub strings_some : (strings : List (SmallVec Part)) (string : SmallVec Part) (pa
 strings_some [] string parts some same is = absurd (omega (arith, some))
 strings_some (s ∷ ss) string parts some same is =
     ap (λ ps. string_text (map part_of ps) ++ flat_map marked_string ss) same
-    ∙ ap (λ x. string_text (parts_of x) ++ flat_map marked_string ss) is
-    ∙ ap (λ t. string_text (parts_of s) ++ t) (sym (strings_marked ss))
+    ∙ ap (λ x. string_text (held_parts x) ++ flat_map marked_string ss) is
+    ∙ ap (λ t. string_text (held_parts s) ++ t) (sym (strings_marked ss))
 
 -- FRONTS
 

@@ -19,7 +19,7 @@ pub data Walk : Type 0 where
 -- THE WALK OF A TREE
 
 -- a condition, and the walks where it holds and where it doesn't: tests go from left to right, and no further than needed
--- (RFC 5228, section 5)
+-- (RFC 5229, section 3.2)
 unfoldable pub condition_walk : Condition → (held failed : Walk) → Walk
 condition_walk always held failed = held
 condition_walk never held failed = failed

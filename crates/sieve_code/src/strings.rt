@@ -3,7 +3,7 @@ ghost use Rattle.std.specs.Prelude.{◌≡◌, map, IfOk};
 ghost use Rattle.std.specs.Option.{option_map};
 ghost use Rattle.sieve_reading.specs.view.Reading.{ask_as, leaf_as, settings_as, source_as, texts_as};
 ghost use Rattle.sieve_reading.specs.view.Tree.{text_of};
-ghost use Rattle.sieve_effects.specs.view.Ops.{command_op_as, given_strings, parts_of, settings_op_as, source_op_as, test_op_as};
+ghost use Rattle.sieve_effects.specs.view.Ops.{command_op_as, given_strings, held_parts, settings_op_as, source_op_as, test_op_as};
 ghost use Rattle.sieve_variables.specs.view.Part.{part_of, strings_of, variable_of};
 
 use sieve_base::SmallOctets;
@@ -25,7 +25,7 @@ fn copied_part(alloc: Global, part: &Part) -> Result<Part, AllocError>
 
 /// Copies of the parts of a string.
 fn copied_parts(alloc: Global, parts: &[Part]) -> Result<Parts, AllocError>
-    ensures { IfOk result (λ copies. parts_of copies ≡ map part_of parts.now) }
+    ensures { IfOk result (λ copies. held_parts copies ≡ map part_of parts.now) }
 {
     let mut copies = Parts::with_capacity(alloc, parts.len())?;
     for part in parts {

@@ -3,7 +3,7 @@ use Rattle.std.proofs.Common.{◌≡◌, ℕ, Bool, true, false, List, Some, Non
 use Rattle.std.specs.Prelude.{if◌then◌else◌}
 use Rattle.message_text.specs.Addresses.{addresses_of}
 use Rattle.sieve_effects.specs.Delivery.{Delivery}
-use Rattle.sieve_effects.specs.Act.{Ending, deed_of, fails_at, files_into, is_mailbox, only_address, performs, redirects, sends, stored_flags, stores}
+use Rattle.sieve_effects.specs.Act.{Ending, deed_of, fails_at, files_into, is_mailbox, only_address, performs, redirects, sends, stored_flags, store_deed}
 use Rattle.sieve_effects.specs.State.{RunState}
 use Rattle.sieve_effects.specs.declared.action.Action.TheVariants.{Store, Redirect}
 use Rattle.sieve_effects.specs.declared.action.Deed.{Deed}
@@ -27,10 +27,10 @@ module _ (delivery : Delivery) (line : ℕ) (state : RunState) where
 
   pub files_there : (mailbox : List Part) (settings : Settings) (name : List ℕ) (flags : List (List ℕ)) (ending : Ending) → Some name ≡ mailbox_named state.values mailbox → flags ≡ stored_flags state settings.flags → ending ≡ performs delivery line (deed_of (Store name flags) settings) state → ending ≡ files_into delivery mailbox settings line state
   files_there mailbox settings name flags ending is has does =
-      does ∙ ap (λ f. performs delivery line (deed_of (Store name f) settings) state) has ∙ by_name (λ o. stores state o settings) (is_mailbox (text_value state.values mailbox)) (text_value state.values mailbox) name is
+      does ∙ ap (λ f. performs delivery line (deed_of (Store name f) settings) state) has ∙ by_name (λ o. store_deed state o settings) (is_mailbox (text_value state.values mailbox)) (text_value state.values mailbox) name is
 
   pub files_nowhere : (mailbox : List Part) (settings : Settings) → None ≡ mailbox_named state.values mailbox → fails_at delivery line BadMailbox state ≡ files_into delivery mailbox settings line state
-  files_nowhere mailbox settings is = by_none (stores state (text_value state.values mailbox) settings) (is_mailbox (text_value state.values mailbox)) (text_value state.values mailbox) is
+  files_nowhere mailbox settings is = by_none (store_deed state (text_value state.values mailbox) settings) (is_mailbox (text_value state.values mailbox)) (text_value state.values mailbox) is
 
   pub sends_to : (address : List Part) (settings : Settings) (octets : List ℕ) (ending : Ending) → Some octets ≡ only_address (addresses_of (text_value state.values address)) → ending ≡ performs delivery line (deed_of (Redirect octets) settings) state → ending ≡ sends delivery address settings line state
   sends_to address settings octets ending is does = does ∙ ap (λ o. redirects delivery line o settings state) is

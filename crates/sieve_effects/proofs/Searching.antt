@@ -16,7 +16,7 @@ use Rattle.sieve_table.specs.Address.{is_address_field}
 use Rattle.sieve_effects.specs.Delivery.{Delivery}
 use Rattle.match_text.specs.Flags.{flag_keys_of_texts, flag_list}
 use Rattle.sieve_effects.specs.State.{RunState}
-use Rattle.sieve_effects.specs.Matching.{envelope_named, envelope_text, first_match, first_some, is_field_named, match_found, match_of, pairs_with, parts_in, parts_named, parts_of_envelope, parts_of_value, values_named, values_of, keys_from, keys_of}
+use Rattle.sieve_effects.specs.Matching.{envelope_named, envelope_text, first_match, first_some, is_field_named, match_found, match_of, pairs_with, address_parts, parts_named, parts_of_envelope, parts_of_value, values_named, values_of, keys_from, keys_of}
 use Rattle.match_text.specs.Comparator.{fold_of}
 use Rattle.sieve_effects.specs.view.FieldTests.{cuts_keys, field_source, name_found, part_found, path_found, path_name_found, value_found}
 
@@ -131,9 +131,9 @@ module _ (find : List ℕ → Option (List (List ℕ))) where
   one_part (Some x) octets = refl
 
   -- what parts of addresses give is what the addresses give
-  first_part : (part : AddressPart) (addresses : List AddrSpec) → first_some find (parts_in part addresses) ≡ first_some (part_found find part) addresses
+  first_part : (part : AddressPart) (addresses : List AddrSpec) → first_some find (address_parts part addresses) ≡ first_some (part_found find part) addresses
   first_part part [] = refl
-  first_part part (address ∷ addresses) = one_part (part_of part address) (parts_in part addresses) ∙ ap (option_or (part_found find part address)) (first_part part addresses)
+  first_part part (address ∷ addresses) = one_part (part_of part address) (address_parts part addresses) ∙ ap (option_or (part_found find part address)) (first_part part addresses)
 
   where_so : (b : Bool) (octets : List (List ℕ)) → first_some find (if b then octets else []) ≡ (if b then first_some find octets else None)
   where_so true octets = refl

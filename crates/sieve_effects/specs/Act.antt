@@ -1,4 +1,4 @@
--- What commands do that act (RFC 5228, sections 2.10 and 4; RFC 5229, section 4; RFC 5232, sections 3 and 5).
+-- What commands do that act (RFC 5228, sections 2.10 and 4; RFC 5229, section 4; RFC 5232, sections 3 and 5; RFC 3894, section 3).
 use Rattle.std.specs.Prelude.{ℕ, List, [], ◌∷◌, ◌++◌, length, map, take, Bool, true, false, not, ◌&&◌, ◌||◌, Option, None, Some, is_some, if◌then◌else◌, nat_eq, nat_lt, nat_le}
 use Rattle.std.specs.List.{list_all, list_any}
 use lib.Pointwise.{pointwise}
@@ -115,11 +115,11 @@ only_address [] = None
 only_address (one ∷ []) = whole_address one
 only_address (one ∷ two ∷ more) = None
 
--- to the mailbox of that name, where it may have it (RFC 5228, section 4.1)
+-- a store is performed where a mailbox may have that name (RFC 5228, section 4.1); else the command fails
 abbrev pub files : Delivery → ℕ → (name : List ℕ) → Deed → RunState → Ending
 files delivery line name deed state = if is_mailbox name then performs delivery line deed state else fails_at delivery line BadMailbox state
 
--- to an address, where there is one (RFC 5228, section 4.2)
+-- a redirect is performed where there is an address (RFC 5228, section 4.2); else the command fails
 abbrev pub redirects : Delivery → ℕ → Option (List ℕ) → Settings → RunState → Ending
 redirects delivery line None settings state = fails_at delivery line BadAddress state
 redirects delivery line (Some address) settings state = performs delivery line (deed_of (Redirect address) settings) state
@@ -160,16 +160,16 @@ changes delivery line how (Some variable) texts state = gives delivery line vari
 -- WHAT COMMANDS DO THAT ACT
 
 -- a store into a mailbox, with the flags that are said beside
-abbrev pub stores : RunState → List ℕ → Settings → Deed
-stores state mailbox settings = deed_of (Store mailbox (stored_flags state settings.flags)) settings
+abbrev pub store_deed : RunState → List ℕ → Settings → Deed
+store_deed state mailbox settings = deed_of (Store mailbox (stored_flags state settings.flags)) settings
 
 -- keep stores into the delivery's mailbox (RFC 5228, section 4.3)
 abbrev pub keeps : Delivery → Settings → ℕ → RunState → Ending
-keeps delivery settings line state = performs delivery line (stores state delivery.envelope.mailbox settings) state
+keeps delivery settings line state = performs delivery line (store_deed state delivery.envelope.mailbox settings) state
 
 -- fileinto stores into the mailbox that it names (RFC 5228, section 4.1)
 abbrev pub files_into : Delivery → List Part → Settings → ℕ → RunState → Ending
-files_into delivery mailbox settings line state = files delivery line (text_value state.values mailbox) (stores state (text_value state.values mailbox) settings) state
+files_into delivery mailbox settings line state = files delivery line (text_value state.values mailbox) (store_deed state (text_value state.values mailbox) settings) state
 
 -- redirect sends the message on to an address (RFC 5228, section 4.2)
 abbrev pub sends : Delivery → List Part → Settings → ℕ → RunState → Ending

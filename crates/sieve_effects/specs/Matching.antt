@@ -46,12 +46,12 @@ abbrev pub pairs_with : List (List ℕ) → List ℕ → List Pair
 pairs_with keys value = map (λ key. record { value = value; key = key }) keys
 
 -- the part of each of some addresses; one that lacks the part gives nothing (RFC 5228, section 2.7.4)
-abbrev pub parts_in : AddressPart → List AddrSpec → List (List ℕ)
-parts_in part addresses = filter_map (part_of part) addresses
+abbrev pub address_parts : AddressPart → List AddrSpec → List (List ℕ)
+address_parts part addresses = filter_map (part_of part) addresses
 
 -- the parts of the addresses in a value
 abbrev pub parts_of_value : AddressPart → List ℕ → List (List ℕ)
-parts_of_value part value = parts_in part (addresses_of value)
+parts_of_value part value = address_parts part (addresses_of value)
 
 -- the parts of the addresses in the fields of a name, in order; a name that isn't of a field with addresses names nothing (RFC 5228, section 5.1)
 abbrev pub parts_named : AddressPart → List Field → List ℕ → List (List ℕ)
@@ -65,7 +65,7 @@ envelope_text envelope name =
 
 abbrev pub parts_of_envelope : AddressPart → Option (List ℕ) → List (List ℕ)
 parts_of_envelope part None = []
-parts_of_envelope part (Some text) = parts_in part (envelope_address_of text ∷ [])
+parts_of_envelope part (Some text) = address_parts part (envelope_address_of text ∷ [])
 
 abbrev pub envelope_named : AddressPart → Envelope → List ℕ → List (List ℕ)
 envelope_named part envelope name = parts_of_envelope part (envelope_text envelope name)
@@ -91,7 +91,7 @@ keys_from (flag_values variables) texts = flag_keys_of_texts texts
 abbrev pub keys_of : RunState → ValueSource → List (List Part) → List (List ℕ)
 keys_of state source keys = keys_from source (map (text_value state.values) keys)
 
--- each value with each key, in this order (RFC 5228, section 5.7)
+-- each value with each key, in this order, which is this project's choice (RFC 5229, section 3.2, leaves it open)
 abbrev pub pairs_of : List (List ℕ) → List (List ℕ) → List Pair
 pairs_of values keys = flat_map (pairs_with keys) values
 
@@ -104,7 +104,7 @@ abbrev pub first_some : {X Y : Type 0} → (X → Option Y) → List X → Optio
 first_some f [] = None
 first_some f (x ∷ xs) = option_or (f x) (first_some f xs)
 
--- what the first pair that matches gives (RFC 5228, section 5.7)
+-- what the first pair that matches gives (RFC 5229, section 3.2)
 abbrev pub first_match : MatchType → (ℕ → ℕ) → List Pair → Option (List (List ℕ))
 first_match match_type fold pairs = first_some (λ pair. match_of match_type fold pair.value pair.key) pairs
 

@@ -7,7 +7,8 @@ use Rattle.sieve_effects.specs.declared.action.Action.{Action}
 pub record RunState : Type 0 where
   -- the actions in order
   pub actions : List Action
-  -- whether one of them cancelled the implicit keep (RFC 5228, section 2.10.2)
+  -- whether an action that was performed cancelled the implicit keep, be it one that added no entry (RFC 5228, section 2.10.2; RFC
+  -- 3894, section 3)
   pub cancelled : Bool
   -- the names looked up so far, each present or missing
   pub reads : List (ScriptName × Bool)

@@ -1,5 +1,5 @@
--- How a command is read (RFC 5228, sections 3 and 4; RFC 5229, section 4; RFC 5232, section 3; RFC 6609, section 3). What no row allows
--- isn't read as anything.
+-- How a command is read (RFC 5228, sections 3 and 4; RFC 5229, section 4; RFC 5232, sections 3 and 5; RFC 6609, section 3; RFC 3894,
+-- section 3). What no row allows isn't read as anything.
 use Rattle.std.specs.Prelude.{Bool, true, false, List, Option, Some, None, if◌then◌else◌}
 use Rattle.std.specs.Option.{option_map}
 use Rattle.sieve_base.specs.declared.place.Place.{Place}

@@ -1,5 +1,5 @@
--- What the arguments of a command or a test give, by their labels, as the rules and the parts of strings go. What no row allows gives
--- nothing.
+-- What the arguments of a command or a test give, by their labels, by which the rules and the cut of strings go too. What no row allows
+-- gives nothing.
 use Rattle.std.specs.Prelude.{ℕ, Bool, false, List, [], ◌∷◌, Option, Some, None, map, drop, length, if◌then◌else◌}
 use Rattle.std.specs.List.{list_any}
 use Rattle.std.specs.Option.{option_and_then, option_map}
@@ -61,8 +61,7 @@ text_in (Some (strings (t ∷ s ∷ ts) bracketed)) = None
 text_in (Some (number value line)) = None
 text_in (Some (tag name line)) = None
 
--- The variable that an argument names. What is set is such a variable, and no match variable (RFC 5229, section 4; RFC 5232,
--- section 3).
+-- The variable that parts name. What is set is such a variable, and no match variable (RFC 5229, section 4; RFC 5232, section 3).
 abbrev pub variable_in_parts : List Part → Option Variable
 variable_in_parts [] = None
 variable_in_parts (literal octets ∷ parts) = None
@@ -70,6 +69,7 @@ variable_in_parts (variable_part variable ∷ []) = Some variable
 variable_in_parts (variable_part variable ∷ part ∷ parts) = None
 variable_in_parts (match_part index ∷ parts) = None
 
+-- the variable that an argument names
 abbrev pub variable_in : Option Argument → Option Variable
 variable_in None = None
 variable_in (Some (strings [] bracketed)) = None
@@ -83,7 +83,7 @@ abbrev pub given_variable : Option Argument → Option (Option Variable)
 given_variable None = Some None
 given_variable (Some a) = option_map Some (variable_in (Some a))
 
--- the octets of an argument that is one string, which stands for itself
+-- the octets of parts that are one literal
 abbrev pub literal_in_parts : List Part → Option (List ℕ)
 literal_in_parts [] = None
 literal_in_parts (literal octets ∷ []) = Some octets
@@ -91,6 +91,7 @@ literal_in_parts (literal octets ∷ part ∷ parts) = None
 literal_in_parts (variable_part variable ∷ parts) = None
 literal_in_parts (match_part index ∷ parts) = None
 
+-- the octets of an argument that is one string, which stands for itself
 abbrev pub literal_in : Option Argument → Option (List ℕ)
 literal_in None = None
 literal_in (Some (strings [] bracketed)) = None

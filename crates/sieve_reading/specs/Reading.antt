@@ -36,9 +36,9 @@ pub record Settings : Type 0 where
 abbrev pub plain_settings : Settings
 plain_settings = record { flags = None; copy = false }
 
--- A command that acts. One that changes flags changes
--- those that a variable holds, or else the internal ones (section 3). One that includes a script names its place and its name,
--- and says whether the script runs once at most, and whether it may be missing (RFC 6609, section 3.2).
+-- A command that acts. One that changes flags changes those that a variable holds, or else the internal ones (RFC 5232, section 3).
+-- One that includes a script names its place and its name, and says whether the script runs once at most, and whether it may be
+-- missing (RFC 6609, section 3.2).
 pub data Leaf : Type 0 where
   keep_leaf : (settings : Settings) → Leaf
   fileinto_leaf : (mailbox : List Part) (settings : Settings) → Leaf

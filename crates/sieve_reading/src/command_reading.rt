@@ -79,7 +79,7 @@ fn modifiers_of(row: &Row, args: &[Argument]) -> Modifiers
 }
 
 /// What a `set` does.
-fn set_leaf<'a>(row: &Row, args: &'a [Argument]) -> Option<CommandReading<'a>>
+fn set_by<'a>(row: &Row, args: &'a [Argument]) -> Option<CommandReading<'a>>
     ensures { option_map command_reading_as result ≡ option_map reads_act (set_by (labels_in (row_as row.now) (map argument_of args.now)) (map argument_of args.now)) }
 {
     let modifiers = modifiers_of(row, args);
@@ -93,7 +93,7 @@ fn set_leaf<'a>(row: &Row, args: &'a [Argument]) -> Option<CommandReading<'a>>
 }
 
 /// What a command does that changes flags.
-fn flag_leaf<'a>(change: FlagChange, row: &Row, args: &'a [Argument]) -> Option<CommandReading<'a>>
+fn flags_by<'a>(change: FlagChange, row: &Row, args: &'a [Argument]) -> Option<CommandReading<'a>>
     ensures { option_map command_reading_as result ≡ option_map reads_act (flags_by change (labels_in (row_as row.now) (map argument_of args.now)) (map argument_of args.now)) }
 {
     let variable = given_variable(argument_in(row, Role::NameToSet, args))?;
@@ -117,7 +117,7 @@ fn place_of(row: &Row, args: &[Argument]) -> Place
 }
 
 /// What an `include` does.
-fn include_leaf<'a>(row: &Row, args: &'a [Argument]) -> Option<CommandReading<'a>>
+fn include_by<'a>(row: &Row, args: &'a [Argument]) -> Option<CommandReading<'a>>
     ensures { option_map command_reading_as result ≡ option_map reads_act (include_by (labels_in (row_as row.now) (map argument_of args.now)) (map argument_of args.now)) }
 {
     let place = place_of(row, args);
@@ -147,11 +147,11 @@ fn command_reading_by(kind: CommandKind, args: &[Argument]) -> Option<CommandRea
         CommandKind::Redirect => redirect_leaf(row, args),
         CommandKind::Discard => Some(CommandReading::Act(Leaf::Discard)),
         CommandKind::Stop => Some(CommandReading::Stop),
-        CommandKind::Set => set_leaf(row, args),
-        CommandKind::SetFlag => flag_leaf(FlagChange::Set, row, args),
-        CommandKind::AddFlag => flag_leaf(FlagChange::Add, row, args),
-        CommandKind::RemoveFlag => flag_leaf(FlagChange::Remove, row, args),
-        CommandKind::Include => include_leaf(row, args),
+        CommandKind::Set => set_by(row, args),
+        CommandKind::SetFlag => flags_by(FlagChange::Set, row, args),
+        CommandKind::AddFlag => flags_by(FlagChange::Add, row, args),
+        CommandKind::RemoveFlag => flags_by(FlagChange::Remove, row, args),
+        CommandKind::Include => include_by(row, args),
         CommandKind::Return => Some(CommandReading::Return),
         CommandKind::Global => Some(CommandReading::Nothing),
     }

@@ -15,7 +15,7 @@ use Rattle.sieve_effects.specs.Delivery.{Delivery, inside}
 use Rattle.sieve_run.specs.Library.{Lookup, missing, invalid, present, found_at}
 use Rattle.sieve_effects.specs.Matching.{behind_test, truth_of}
 use Rattle.sieve_run.specs.Perform.{perform}
-use Rattle.sieve_effects.specs.Act.{deed_of, stores, Ending, goes_on, returned, stopped, failed, performed, one_too_many, same_action, joined_with, changes, ends_with, gives, performs, fails_at, is_mailbox, only_address, redirects, held_flags, changed_flags, flags_named, state_behind}
+use Rattle.sieve_effects.specs.Act.{deed_of, store_deed, Ending, goes_on, returned, stopped, failed, performed, one_too_many, same_action, joined_with, changes, ends_with, gives, performs, fails_at, is_mailbox, only_address, redirects, held_flags, changed_flags, flags_named, state_behind}
 use Rattle.sieve_run.specs.Run.{entering, included, include_of, includes, is_running, is_script, is_there, looked_up, act_of, and_then, answer_of, begun, chosen, delivery_to, exec, resumed, run_of, running, verdict_at, verdict_of, outcome_of, with_found_script, with_read}
 use Rattle.sieve_effects.specs.State.{RunState}
 use Rattle.sieve_effects.specs.declared.envelope.Envelope.{Envelope}
@@ -136,8 +136,8 @@ module _ (Holds : RunState → Type 0) (kept : IsKept Holds) where
   module _ (find : ScriptName → Lookup) where
     acts_hold : (depth : ℕ) (delivery : Delivery) → ((name : ScriptName) (once optional : Bool) (line : ℕ) (s : RunState) → Holds s → Ends (included find depth delivery name once optional line s))
         → (leaf : Leaf) (line : ℕ) (s : RunState) → Holds s → Ends (act_of find depth delivery leaf line s)
-    acts_hold depth delivery inner (keep_leaf settings) line s h = kept.acts delivery line (stores s delivery.envelope.mailbox settings) s h
-    acts_hold depth delivery inner (fileinto_leaf mailbox settings) line s h = filed delivery line (stores s (text_value s.values mailbox) settings) s h (is_mailbox (text_value s.values mailbox))
+    acts_hold depth delivery inner (keep_leaf settings) line s h = kept.acts delivery line (store_deed s delivery.envelope.mailbox settings) s h
+    acts_hold depth delivery inner (fileinto_leaf mailbox settings) line s h = filed delivery line (store_deed s (text_value s.values mailbox) settings) s h (is_mailbox (text_value s.values mailbox))
     acts_hold depth delivery inner (redirect_leaf address settings) line s h = redirected delivery line (only_address (addresses_of (text_value s.values address))) settings s h
     acts_hold depth delivery inner discard_leaf line s h = kept.acts delivery line (deed_of Discard plain_settings) s h
     acts_hold depth delivery inner (set_leaf variable modifiers value) line s h = given delivery line variable (modified modifiers (text_value s.values value)) s h

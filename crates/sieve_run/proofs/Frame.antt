@@ -17,7 +17,7 @@ use Rattle.sieve_effects.specs.Delivery.{Delivery, inside}
 use Rattle.sieve_run.specs.Frame.{Agree, Texts, outcome_over}
 use Rattle.sieve_run.specs.Library.{Lookup, missing, invalid, present, found_at, lookup_of}
 use Rattle.sieve_base.specs.Name.{name_eq, place_eq}
-use Rattle.sieve_effects.specs.Act.{deed_of, stores, Ending, goes_on, returned, stopped, failed, performed, one_too_many, same_action, joined_with, changes, changed_flags, ends_with, flags_named, held_flags, performs, fails_at, is_mailbox, only_address, redirects, act_by, state_behind}
+use Rattle.sieve_effects.specs.Act.{deed_of, store_deed, Ending, goes_on, returned, stopped, failed, performed, one_too_many, same_action, joined_with, changes, changed_flags, ends_with, flags_named, held_flags, performs, fails_at, is_mailbox, only_address, redirects, act_by, state_behind}
 use Rattle.sieve_run.specs.Run.{entering, included, include_of, includes, is_read, is_running, is_script, is_there, looked_up, act_of, and_then, answer_of, begun, chosen, decide, delivery_to, exec, resumed, run_of, running, verdict_at, verdict_of, outcome_of, with_found_script, with_read}
 use Rattle.sieve_effects.specs.State.{RunState}
 use Rattle.sieve_effects.specs.declared.envelope.Envelope.{Envelope}
@@ -278,8 +278,8 @@ module _ (find other : ScriptName → Lookup) where
 
   acts_frames : (delivery : Delivery) (include include' : ScriptName → (once optional : Bool) → ℕ → RunState → Ending) → ((name : ScriptName) (once optional : Bool) (line : ℕ) → Frames (include name once optional line) (include' name once optional line))
       → (leaf : Leaf) (line : ℕ) → Frames (act_by include delivery leaf line) (act_by include' delivery leaf line)
-  acts_frames delivery include include' frames (keep_leaf settings) line = own_frames _ (λ s. performs_reads delivery line (stores s delivery.envelope.mailbox settings) s)
-  acts_frames delivery include include' frames (fileinto_leaf mailbox settings) line = own_frames _ (λ s. filed_reads delivery line (stores s (text_value s.values mailbox) settings) s (is_mailbox (text_value s.values mailbox)))
+  acts_frames delivery include include' frames (keep_leaf settings) line = own_frames _ (λ s. performs_reads delivery line (store_deed s delivery.envelope.mailbox settings) s)
+  acts_frames delivery include include' frames (fileinto_leaf mailbox settings) line = own_frames _ (λ s. filed_reads delivery line (store_deed s (text_value s.values mailbox) settings) s (is_mailbox (text_value s.values mailbox)))
   acts_frames delivery include include' frames (redirect_leaf address settings) line = own_frames _ (λ s. redirected_reads delivery line (only_address (addresses_of (text_value s.values address))) settings s)
   acts_frames delivery include include' frames discard_leaf line = own_frames _ (λ s. performs_reads delivery line (deed_of Discard plain_settings) s)
   acts_frames delivery include include' frames (set_leaf variable modifiers value) line = own_frames _ (λ s. given_reads delivery line variable (modified modifiers (text_value s.values value)) s (has_room_for variable s.values))

@@ -6,8 +6,8 @@ use Rattle.sieve_reading.specs.declared.reading.MatchType.TheVariants.{Is, Conta
 use Rattle.sieve_reading.specs.Script.{Condition, always, never, asks, negated, both, either, Commands, stops, returns}
 use Rattle.sieve_effects.specs.Delivery.{Delivery}
 use Rattle.sieve_effects.specs.Matching.{behind_test, match_found, values_behind, with_found}
-use Rattle.sieve_effects.specs.Act.{Ending}
-use Rattle.sieve_run.specs.Run.{SetsMatched, Answer, answer_of, also, or_else, decide, exec}
+use Rattle.sieve_effects.specs.Act.{Ending, returned, stopped}
+use Rattle.sieve_run.specs.Run.{SetsMatched, Answer, and_then, answer_of, also, or_else, decide, exec}
 use Rattle.sieve_effects.specs.State.{RunState}
 use Rattle.sieve_variables.specs.Value.{with_matched}
 
@@ -52,11 +52,11 @@ decide_keeps delivery (either c d) state =
     or_else_keeps (decide (answer_of delivery) c state).truth (decide (answer_of delivery) d) state (decide (answer_of delivery) c state).state (decide_keeps delivery d) (decide_keeps delivery c state)
 
 -- nothing behind a stop is run
-pub stop_ends : (ask : Ask → RunState → Answer) (act : Leaf → ℕ → RunState → Ending) (rest other : Commands) (state : RunState) → exec ask act (stops rest) state ≡ exec ask act (stops other) state
+pub stop_ends : (ask : Ask → RunState → Answer) (act : Leaf → ℕ → RunState → Ending) (rest : Commands) (behind : RunState → Ending) (state : RunState) → and_then (exec ask act (stops rest) state) behind ≡ stopped state
 unfolding exec
-stop_ends ask act rest other state = refl
+stop_ends ask act rest behind state = refl
 
 -- nor behind a return
-pub return_ends : (ask : Ask → RunState → Answer) (act : Leaf → ℕ → RunState → Ending) (rest other : Commands) (state : RunState) → exec ask act (returns rest) state ≡ exec ask act (returns other) state
+pub return_ends : (ask : Ask → RunState → Answer) (act : Leaf → ℕ → RunState → Ending) (rest : Commands) (behind : RunState → Ending) (state : RunState) → and_then (exec ask act (returns rest) state) behind ≡ returned state
 unfolding exec
-return_ends ask act rest other state = refl
+return_ends ask act rest behind state = refl

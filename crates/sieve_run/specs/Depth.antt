@@ -11,7 +11,7 @@ use Rattle.sieve_effects.specs.State.{RunState}
 use Rattle.sieve_effects.specs.declared.envelope.Envelope.{Envelope}
 use Rattle.sieve_base.specs.declared.name.ScriptName.{ScriptName}
 
--- how deep scripts may include one another below the running one: it is deeper by each script that includes it
+-- how many scripts may still include one another below the running one: one less for each that includes it
 abbrev pub depth_left : Delivery → ℕ
 depth_left delivery = include_depth - length delivery.including
 
@@ -20,7 +20,7 @@ abbrev pub entered_within : (ScriptName → Lookup) → Delivery → Option (Scr
 entered_within find delivery =
     if nat_lt (length delivery.including) include_depth then Some (λ name. running find (depth_left (inside name delivery)) (inside name delivery)) else None
 
--- no script is entered from one that so many include
+-- as many scripts include the running one as may
 abbrev pub IsDeepest : Delivery → Type 0
 IsDeepest delivery = include_depth ≤ length delivery.including
 

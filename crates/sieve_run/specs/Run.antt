@@ -52,7 +52,7 @@ or_else true second state = record { truth = true; state = state }
 or_else false second state = second state
 
 -- A condition, where `ask` says what is asked: true (RFC 5228, section 5.10), false (section 5.6), not (section 5.8), allof
--- (section 5.2) and anyof (section 5.3). It goes from left to right and no further than needed (section 5).
+-- (section 5.2) and anyof (section 5.3). It goes from left to right and no further than needed (RFC 5229, section 3.2).
 unfoldable pub decide : (Ask → RunState → Answer) → Condition → RunState → Answer
 decide ask always state = record { truth = true; state = state }
 decide ask never state = record { truth = false; state = state }

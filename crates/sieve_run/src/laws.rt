@@ -13,22 +13,22 @@ ghost use Rattle.sieve_run.specs.Frame.{Agree, Texts, outcome_over};
 ghost use Rattle.sieve_run.specs.Library.{Lookup};
 ghost use Rattle.sieve_effects.specs.declared.envelope.Envelope.{Envelope};
 ghost use Rattle.sieve_run.specs.Perform.{answers_of, do_gone, perform};
-ghost use Rattle.sieve_effects.specs.Act.{Ending, state_behind};
-ghost use Rattle.sieve_run.specs.Run.{Answer, SetsMatched, answer_of, begun, decide, delivery_to, exec, include_of, included, outcome_of, run_of, running};
+ghost use Rattle.sieve_effects.specs.Act.{Ending, returned, state_behind, stopped};
+ghost use Rattle.sieve_run.specs.Run.{Answer, SetsMatched, and_then, answer_of, begun, decide, delivery_to, exec, include_of, included, outcome_of, run_of, running};
 ghost use Rattle.sieve_effects.specs.State.{RunState};
 ghost use Rattle.sieve_base.specs.declared.name.ScriptName as names;
 
-/// Commands behind a `stop` change nothing, whatever they are, whatever tests ask and whatever commands that act do
-/// (RFC 5228, section 3.3).
+/// Commands behind a `stop` change nothing, whatever they are, whatever tests ask and whatever commands that act do, be they behind it in
+/// its own block or behind that (RFC 5228, section 3.3).
 #[tactic(auto, using(crate::proofs::Unchanged::stop_ends))]
 pub fn stop_ends_the_commands()
-    ensures same { (ask : Ask → RunState → Answer) (act : Leaf → ℕ → RunState → Ending) (rest other : Commands) (state : RunState) → exec ask act (stops rest) state ≡ exec ask act (stops other) state }
+    ensures { (ask : Ask → RunState → Answer) (act : Leaf → ℕ → RunState → Ending) (rest : Commands) (behind : RunState → Ending) (state : RunState) → and_then (exec ask act (stops rest) state) behind ≡ stopped state }
 {}
 
 /// Nor do those behind a `return` (RFC 6609, section 3.3).
 #[tactic(auto, using(crate::proofs::Unchanged::return_ends))]
 pub fn return_ends_the_commands()
-    ensures same { (ask : Ask → RunState → Answer) (act : Leaf → ℕ → RunState → Ending) (rest other : Commands) (state : RunState) → exec ask act (returns rest) state ≡ exec ask act (returns other) state }
+    ensures { (ask : Ask → RunState → Answer) (act : Leaf → ℕ → RunState → Ending) (rest : Commands) (behind : RunState → Ending) (state : RunState) → and_then (exec ask act (returns rest) state) behind ≡ returned state }
 {}
 
 /// A run enters at most 256 scripts beside the main one.
@@ -73,7 +73,7 @@ pub fn a_run_does_its_walk()
     ensures met { (ask : Ask → RunState → Answer) (act : Leaf → ℕ → RunState → Ending) (tree : List Node) (state : RunState) → exec ask act (script_of tree) state ≡ do_gone ask act (gone (tree_walk tree) (answers_of ask act (tree_walk tree) state)) state }
 {}
 
-/// Whatever the scripts, the message and the envelope: no run performs more actions than it may (RFC 5228, section 2.10.4).
+/// Whatever the scripts, the message and the envelope: no verdict has more actions than a run may perform (RFC 5228, section 2.10.4).
 #[tactic(auto, using(crate::proofs::Bounds::outcome_bounded))]
 pub fn no_run_acts_too_often()
     ensures { (find : names.ScriptName → Lookup) (main : Option names.ScriptName) (envelope : Envelope) (message : List ℕ) → length (outcome_of find main envelope message).actions ≤ action_limit }

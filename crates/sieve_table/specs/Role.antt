@@ -17,10 +17,10 @@ has_role wanted (Some role) = same_role wanted role
 abbrev pub names_variable : Option Role → Bool
 names_variable given = has_role role.NameToSet given || has_role role.NamesToRead given
 
--- The roles of strings in which references to variables stand for values (RFC 5229, section 3). RFC 5229 leaves out
--- the names of variables that are set (section 4), and RFC 6609 the names of scripts (section 3.2) and those that are declared (section
--- 3.4.1). That the strings of `require`, comparators and the names that flag tests read are left out too is this project's choice: they
--- are known before the script runs.
+-- The roles of strings in which references to variables stand for values (RFC 5229, section 3). RFC 5229 leaves out the name of a `set`
+-- (section 4), and RFC 6609 the names of scripts (section 3.2) and those that are declared (section 3.4.1). That the strings of
+-- `require`, comparators, and the names that flag commands and flag tests have are left out too is this project's choice: they are
+-- known before the script runs.
 abbrev pub is_expanded : Role → Bool
 is_expanded role.Capabilities = false
 is_expanded role.ComparatorName = false

@@ -10,7 +10,7 @@ mod task;
 pub use bench::{
     Bench, EditFault, ReportFault, TestEnd, TestJob, TestScript, dump_text, test_bench,
 };
-pub use command_line::{Argument, Job, UsageFault, command_of};
+pub use command_line::{Argument, Job, TestWords, UsageFault, command_of};
 pub use server::session;
 pub use sieve_base::{Counted, Faults, Octets, Place, ScriptName, Sink, Source};
 pub use sieve_run::{Action, Meter, Outcome};

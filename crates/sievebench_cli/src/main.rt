@@ -22,7 +22,6 @@ use std::process::ExitCode;
 use std::rt::{Env, Files};
 use std::{env, io};
 use streams::{Held, Output, Replies, Requests};
-use test_files::TestWords;
 use test_run::run_test;
 
 // How many reads a session may make.
@@ -48,28 +47,7 @@ fn run(rt: &(impl Env + AllocGlobal + Input + Print + Eprint + Files)) -> u8 {
             status_of(End::Session(end))
         }
         Ok(Job::Dump { script }) => run_dump(rt, script.as_str()),
-        Ok(
-            Job::Test {
-                from,
-                to,
-                mailbox,
-                personal,
-                global,
-                script,
-                mail,
-            },
-        ) => {
-            let words = TestWords {
-                from,
-                to,
-                mailbox,
-                personal,
-                global,
-                script,
-                mail,
-            };
-            run_test(rt, &words)
-        }
+        Ok(Job::Test(words)) => run_test(rt, &words),
         Err(fault) => answer_usage(rt, fault),
     }
 }

@@ -3,24 +3,12 @@
 use crate::files::{ReadFault, octets_at, script_name};
 use crate::folder::read_folder;
 use sieve_base::limits::{MAX_ADDRESS, MAX_MAILBOX, MAX_MESSAGE, MAX_NAME, MAX_TEXT};
-use sievebench::{Argument, Octets, Place, ScriptName, TestJob, TestScript};
+use sievebench::{Argument, Octets, Place, ScriptName, TestJob, TestScript, TestWords};
 use std::alloc::{AllocError, Global};
 use std::rt::Files;
 
 /// The mailbox that mail is kept in where the words name none.
 const DEFAULT_MAILBOX: &str = "INBOX";
-
-/// The words of `sievebench test`.
-#[derive(Drop)]
-pub(crate) struct TestWords {
-    pub from: Option<Argument>,
-    pub to: Option<Argument>,
-    pub mailbox: Option<Argument>,
-    pub personal: Option<Argument>,
-    pub global: Option<Argument>,
-    pub script: Argument,
-    pub mail: Argument,
-}
 
 /// A test of which files were read.
 #[derive(Drop)]

@@ -3,9 +3,9 @@
 use crate::complaints::{complain, complain_of};
 use crate::files::ReadFault;
 use crate::streams::Output;
-use crate::test_files::{TestInput, TestWords, read_test};
+use crate::test_files::{TestInput, read_test};
 use sieve_base::Counted;
-use sievebench::{End, Meter, SessionEnd, TestEnd, TestJob, status_of, test_bench};
+use sievebench::{End, Meter, SessionEnd, TestEnd, TestJob, TestWords, status_of, test_bench};
 use std::alloc::Global;
 use std::io;
 use std::io::Write;

@@ -22,6 +22,6 @@ error_text (Some error) = indented (error_line error)
 abbrev pub read_text : ScriptName × Bool → List ℕ
 read_text read = indented (read_line read)
 
--- the same as they are written, in turn
+-- a verdict's lines in a report, as the program writes them in turn
 unfoldable pub verdict_texts : (mailbox : List ℕ) → Verdict → List ℕ
 verdict_texts mailbox verdict = flat_map action_text verdict.actions ++ (implicit_text mailbox verdict.implicit ++ (error_text verdict.error ++ flat_map read_text verdict.reads))

@@ -2,8 +2,8 @@
 use Rattle.session_text.specs.SessionLine as line
 use Rattle.session_text.specs.declared.session_line.Command.{Command}
 use Rattle.session_text.specs.declared.session_line.Command.TheVariants.{Nothing, Script, Message, Main, NoMain, Rename, DropScript, DropMessage, Envelope, Mailbox, Report, Dump}
-use Rattle.session_text.specs.declared.session_line.Spot.{Spot}
-use Rattle.session_text.specs.declared.session_line.Spot.TheVariants as spots
+use Rattle.session_text.specs.declared.cutting.Spot.{Spot}
+use Rattle.session_text.specs.declared.cutting.Spot.TheVariants as spots
 
 abbrev pub command_as : Command → line.Command
 command_as Nothing = line.nothing

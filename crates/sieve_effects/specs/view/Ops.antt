@@ -18,8 +18,8 @@ use Rattle.sieve_effects.specs.declared.ops.CommandOp.{CommandOp}
 use Rattle.sieve_effects.specs.declared.ops.CommandOp.TheVariants as command
 
 -- the parts of a string
-abbrev pub parts_of : SmallVec Part → List part.Part
-parts_of parts = map part_of parts.items
+abbrev pub held_parts : SmallVec Part → List part.Part
+held_parts parts = map part_of parts.items
 
 -- strings that may be left out
 abbrev pub given_strings : Option (Vec (SmallVec Part) Global) → Option (List (List part.Part))
@@ -43,9 +43,9 @@ settings_op_as s = record { flags = given_strings s.flags; copy = s.copy }
 
 abbrev pub command_op_as : CommandOp → Leaf
 command_op_as (command.Keep settings) = keep_leaf (settings_op_as settings)
-command_op_as (command.Fileinto mailbox settings) = fileinto_leaf (parts_of mailbox) (settings_op_as settings)
-command_op_as (command.Redirect address settings) = redirect_leaf (parts_of address) (settings_op_as settings)
+command_op_as (command.Fileinto mailbox settings) = fileinto_leaf (held_parts mailbox) (settings_op_as settings)
+command_op_as (command.Redirect address settings) = redirect_leaf (held_parts address) (settings_op_as settings)
 command_op_as command.Discard = discard_leaf
-command_op_as (command.Set variable modifiers value) = set_leaf (variable_of variable) modifiers (parts_of value)
+command_op_as (command.Set variable modifiers value) = set_leaf (variable_of variable) modifiers (held_parts value)
 command_op_as (command.Flags change variable flags) = flag_leaf change (option_map variable_of variable) (strings_of flags.items)
 command_op_as (command.Include place once optional name) = include_leaf place once optional name.items

@@ -32,34 +32,34 @@ returns-in-Redirect c =
 pub returns-in-Set : goal.returns-in-Set
 returns-in-Set c =
     let args = map argument_of c.args.args.now in
-    c.set_leaf.ensures
+    c.set_by.ensures
     ∙ ap (λ r. option_map reads_act (set_by (labels_in r args) args)) (c.row.ensures ∙ ap command_row c.in-Set.is)
     ∙ sym (ap (λ kind. command_reading_by (Some kind) args) c.in-Set.is)
 
 pub returns-in-SetFlag : goal.returns-in-SetFlag
 returns-in-SetFlag c =
     let args = map argument_of c.args.args.now in
-    c.flag_leaf.ensures
+    c.flags_by.ensures
     ∙ ap (λ r. option_map reads_act (flags_by change.Set (labels_in r args) args)) (c.row.ensures ∙ ap command_row c.in-SetFlag.is)
     ∙ sym (ap (λ kind. command_reading_by (Some kind) args) c.in-SetFlag.is)
 
 pub returns-in-AddFlag : goal.returns-in-AddFlag
 returns-in-AddFlag c =
     let args = map argument_of c.args.args.now in
-    c.flag_leaf-in-AddFlag.ensures
+    c.flags_by-in-AddFlag.ensures
     ∙ ap (λ r. option_map reads_act (flags_by change.Add (labels_in r args) args)) (c.row.ensures ∙ ap command_row c.in-AddFlag.is)
     ∙ sym (ap (λ kind. command_reading_by (Some kind) args) c.in-AddFlag.is)
 
 pub returns-in-RemoveFlag : goal.returns-in-RemoveFlag
 returns-in-RemoveFlag c =
     let args = map argument_of c.args.args.now in
-    c.flag_leaf-in-RemoveFlag.ensures
+    c.flags_by-in-RemoveFlag.ensures
     ∙ ap (λ r. option_map reads_act (flags_by change.Remove (labels_in r args) args)) (c.row.ensures ∙ ap command_row c.in-RemoveFlag.is)
     ∙ sym (ap (λ kind. command_reading_by (Some kind) args) c.in-RemoveFlag.is)
 
 pub returns-in-Include : goal.returns-in-Include
 returns-in-Include c =
     let args = map argument_of c.args.args.now in
-    c.include_leaf.ensures
+    c.include_by.ensures
     ∙ ap (λ r. option_map reads_act (include_by (labels_in r args) args)) (c.row.ensures ∙ ap command_row c.in-Include.is)
     ∙ sym (ap (λ kind. command_reading_by (Some kind) args) c.in-Include.is)

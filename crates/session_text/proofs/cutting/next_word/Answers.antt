@@ -1,7 +1,7 @@
 use Rattle.std.proofs.Common.{◌≡◌, ◌<◌, ap, sym, ◌∙◌, rules, ◌∷◌, take, drop}
 use Rattle.session_text.specs.SessionLine.{line_words}
 use Rattle.session_text.proofs.Words.{line_words-none, line_words-word, piece_length-some}
-use Rattle.session_text.proofs.session_line.next_word.Goals as goal
+use Rattle.session_text.proofs.cutting.next_word.Goals as goal
 
 pub returns-then-is_empty : goal.returns-then-is_empty
 returns-then-is_empty c = sym c.leading_spaces.ensures.words ∙ line_words-none _ (search rules)

@@ -1,7 +1,7 @@
 use Rattle.std.proofs.Common.{◌≡◌, ◌+◌, drop}
 use Rattle.session_text.specs.SessionLine.{piece_length, outside}
 use Rattle.session_text.specs.view.Command.{spot_as}
-use Rattle.session_text.proofs.session_line.word_len.Given as goal
+use Rattle.session_text.proofs.cutting.word_len.Given as goal
 
 -- the octets so far, and those of what is left before the first such space
 abbrev pub invariant-loop-i : goal.invariant-loop-i

@@ -1,6 +1,6 @@
 use Rattle.std.proofs.Common.{◌≡◌, drop}
 use Rattle.session_text.specs.SessionLine.{line_words}
-use Rattle.session_text.proofs.session_line.leading_spaces.Given as goal
+use Rattle.session_text.proofs.cutting.leading_spaces.Given as goal
 
 -- the octets so far are spaces, which change no word
 abbrev pub invariant-loop-i : goal.invariant-loop-i

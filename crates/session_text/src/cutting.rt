@@ -1,0 +1,84 @@
+//! How a line is cut into words.
+ghost use Rattle.std.specs.Prelude.{◌≡◌, ◌≢◌, ◌<◌, ◌≤◌, ◌∷◌, drop, slice_index, None, Some, length, MatchOption, []};
+ghost use Rattle.sieve_base.specs.Octet.{octet_of};
+ghost use Rattle.session_text.specs.SessionLine.{outside, spot_behind, is_gap, piece_length, line_words};
+ghost use Rattle.session_text.specs.view.Command.{spot_as};
+
+/// How many spaces a line begins with.
+fn leading_spaces(line: &[u8]) -> usize
+    ensures within { result ≤ length line.now }
+    ensures words { line_words (drop result line.now) ≡ line_words line.now }
+    ensures stops { slice_index (drop result line.now) 0 ≢ octet_of " " }
+{
+    for (i, octet) in line.iter().enumerate() {
+        if *octet != b' ' {
+            return i;
+        }
+    }
+    line.len()
+}
+
+/// Where an octet of a line stands.
+#[derive(Clone, Copy)]
+pub(crate) enum Spot {
+    /// Outside quotes.
+    Outside,
+    /// Inside quotes.
+    Inside,
+    /// Behind a backslash inside quotes.
+    Escaped,
+}
+
+/// Where the octet behind an octet stands.
+fn spot_behind(spot: Spot, octet: u8) -> Spot
+    ensures { spot_as result ≡ spot_behind (spot_as spot) octet }
+{
+    match spot {
+        Spot::Outside => match octet {
+            b'"' => Spot::Inside,
+            _ => Spot::Outside,
+        },
+        Spot::Inside => match octet {
+            b'"' => Spot::Outside,
+            b'\\' => Spot::Escaped,
+            _ => Spot::Inside,
+        },
+        Spot::Escaped => Spot::Inside,
+    }
+}
+
+/// Whether an octet there is a space between words.
+fn is_gap(spot: Spot, octet: u8) -> bool
+    ensures { result ≡ is_gap (spot_as spot) octet }
+{
+    match spot {
+        Spot::Outside => octet == b' ',
+        Spot::Inside | Spot::Escaped => false,
+    }
+}
+
+/// How many octets stand before the first space that is outside quotes.
+fn word_len(line: &[u8]) -> usize
+    ensures value { result ≡ piece_length outside line.now }
+    ensures within { result ≤ length line.now }
+{
+    let mut spot = Spot::Outside;
+    for (i, octet) in line.iter().enumerate() {
+        if is_gap(spot, *octet) {
+            return i;
+        }
+        spot = spot_behind(spot, *octet);
+    }
+    line.len()
+}
+
+/// The first word of a line, and what is behind it.
+pub(crate) fn next_word(line: &[u8]) -> Option<(&[u8], &[u8])>
+    ensures { MatchOption result (line_words line.now ≡ []) (λ cut. line_words line.now ≡ cut.0.now ∷ line_words cut.1.now) }
+{
+    let (_, line) = line.split_at(leading_spaces(line));
+    if line.is_empty() {
+        return None;
+    }
+    Some(line.split_at(word_len(line)))
+}
