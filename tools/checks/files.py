@@ -206,6 +206,40 @@ def of_trials(room):
         yield Run(f"the first file that is too large, {path}", case, words, b"", f'sievebench: too large "{path}"\n'.encode(), 2)
 
 
+def of_folders(room):
+    """Names of files in a folder that are taken or passed over, folders of many files with long names, and words that are empty or begin
+    and end with blanks."""
+    folder = room / "folders"
+    folder.mkdir()
+    names = {".x.sieve": ".x", "a.sieve": "a", "A.sieve": "A", " b.sieve": " b", "b .sieve": "b ", "c.sieve.sieve": "c.sieve"}
+    others = ["x.SIEVE", "x.Sieve", "y.sieve ", "y.sieve~", "sieve", "z.siev", "z_sieve"]
+    write(folder / "some", {name: b"" for name in [*names, *others]})
+    write(folder, {"main.sieve": b"", "m": b"", " m ": b"", " n.sieve ": b"", " n.sieve": b"", "n.sieve.sieve": b""})
+    kept, main = ['implicit "INBOX"'], 'personal "main" ok'
+    scripts = [f'personal "{name}" ok' for name in sorted(names.values())] + [main]
+    yield Run("names of a folder", folder, "sievebench test --personal some main.sieve m", report(scripts, "main", "m", kept))
+    scripts = [f'global "{name}" ok' for name in sorted(names.values())]
+    yield Run("names of a global folder", folder, "sievebench test --global some main.sieve m", report([main, *scripts], "main", "m", kept))
+    write(folder / "many", {f"{'n' * 200}{number:04}": b"kep;" for number in range(3_000)})
+    write(folder / "many", {"z.sieve": b"", "0.sieve": b""})
+    scripts = ['personal "0" ok', main, 'personal "z" ok']
+    yield Run("two scripts among many files", folder, "sievebench test --personal many main.sieve m", report(scripts, "main", "m", kept))
+    write(folder / "long", {f"{'n' * 240}{number:03}.sieve": b"" for number in range(1_000)})
+    scripts = [main, *(f'personal "{"n" * 240}{number:03}" ok' for number in range(1_000))]
+    yield Run("many scripts with long names", folder, "sievebench test --personal long main.sieve m", report(scripts, "main", "m", kept))
+    for words, script, mail, mailbox in [
+        ("-m '' main.sieve m", "main", "m", ""),
+        ("--to '' -f '' main.sieve m", "main", "m", "INBOX"),
+        ("-m ' B ' main.sieve ' m '", "main", " m ", " B "),
+        ("' n.sieve ' m", " n.sieve ", "m", "INBOX"),
+        ("' n.sieve' m", " n", "m", "INBOX"),
+        ("n.sieve.sieve m", "n.sieve", "m", "INBOX"),
+        ("./main.sieve ./m", "main", "./m", "INBOX"),
+    ]:
+        told = report([f'personal "{script}" ok'], script, mail, [f'implicit "{mailbox}"'], settings=f'envelope "" "" mailbox "{mailbox}"')
+        yield Run(f"test {words}", folder, f"sievebench test {words}", told)
+
+
 def write(folder, files):
     """Writes files into a folder, and makes all folders that they stand in."""
     folder.mkdir(exist_ok=True)
@@ -221,4 +255,5 @@ def of_files(room):
     yield from of_dumps(room)
     yield from of_words(room)
     yield from of_odd_names(room)
+    yield from of_folders(room)
     yield from of_limits(room)
