@@ -2,7 +2,7 @@
 from . import runs
 from .runs import lines, put, reported, session
 
-TEXT_LIMIT, MESSAGE_LIMIT, NAME_LIMIT, MAILBOX_LIMIT, SCRIPT_LIMIT, MAIL_LIMIT, LINE_LIMIT = 1_048_576, 16_777_216, 1_024, 255, 1_024, 65_536, 16_384
+TEXT_LIMIT, MESSAGE_LIMIT, EXPECTED_LIMIT, NAME_LIMIT, MAILBOX_LIMIT, SCRIPT_LIMIT, MAIL_LIMIT, LINE_LIMIT = 1_048_576, 16_777_216, 65_536, 1_024, 255, 4_096, 65_536, 16_384
 KEPT = ['implicit "INBOX"']
 SESSION = b"script personal main 9\ndiscard;\nmessage m1 0\nmain personal main\nreport\n"
 REPORT = lines('main personal "main"', runs.SETTINGS, 'script personal "main" ok', 'message "m1"', "  discard", '  read personal "main"', "total 1 messages 0 errors")
@@ -59,6 +59,8 @@ def of_words(room):
         (b"rename personal a personal ", NAME_LIMIT, b"\n", no_script, large),
         (b"drop-script personal ", NAME_LIMIT, b"\n", no_script, large),
         (b"drop-message ", NAME_LIMIT, b"\n", no_message, large),
+        (b"expect ", NAME_LIMIT, b" 0\n", no_message, large),
+        (b"no-expect ", NAME_LIMIT, b"\n", no_message, large),
         (b"dump personal ", NAME_LIMIT, b"\n", no_script, no_script),
     ]:
         title = f"the word behind `{front.decode()}`"
@@ -97,6 +99,8 @@ def of_counts(room):
         yield session(room, f"a script of {octets} octets", put(b"script personal a", b" " * octets) + b"report\n", lines(*told))
     octets = put(b"message m", b" " * MESSAGE_LIMIT) + put(b"message m", b" " * (MESSAGE_LIMIT + 1))
     yield session(room, "a message at its limit, and past it", octets, b"ok\nno too-large\n")
+    octets = b"message m 0\n" + put(b"expect m", b" " * EXPECTED_LIMIT) + put(b"expect m", b" " * (EXPECTED_LIMIT + 1)) + put(b"expect x", b" " * (EXPECTED_LIMIT + 1))
+    yield session(room, "an expected text at its limit, and past it", octets, b"ok\nok\nno too-large\nno too-large\n")
 
 
 def of_mails(room):

@@ -1,8 +1,9 @@
 """What the documents show: the lines of shell of `docs/FORMATS.md` that say how a session went, the whole script and the contents of
-`docs/LANGUAGE.md`, and the caller of `docs/CALLING.md`.
+`docs/LANGUAGE.md`, the caller of `docs/CALLING.md`, and what is expected and told of a mail in `docs/SITE.md`.
 """
 import pathlib
 import re
+import shlex
 import textwrap
 
 from .runs import Run, lines, put
@@ -10,6 +11,7 @@ from .runs import Run, lines, put
 TOP = pathlib.Path(__file__).resolve().parent.parent.parent
 FORMATS, LANGUAGE, SCRIPT = TOP / "docs/FORMATS.md", TOP / "docs/LANGUAGE.md", TOP / "examples/office/main.sieve"
 CALLING, CALLER = TOP / "docs/CALLING.md", TOP / "crates/library_tests/src/tests/caller.rt"
+SITE, OFFICE, TOOL = TOP / "docs/SITE.md", TOP / "examples/office-site", TOP / "tools/sievebench-site"
 # What writes the session in the document's lines; here a file has it.
 MAKER = "tools/make-session --main main scripts mails"
 SECTION, BLOCK = r"\n### {}\n((?:(?!\n##).)*)", r"```sh\n(.*?)```"
@@ -84,6 +86,14 @@ def of_calling():
     yield Shown("the caller", shown, source[source.find(shown) :][: len(shown)])
 
 
+def of_site(room):
+    """What is expected of the mail with an order, and what is told where the script of orders sets no keyword."""
+    expected, told = (textwrap.dedent(it).encode() for it in re.findall(r"```\n( +(?:\[|site/mails/).*?) +```", SITE.read_text(encoding="utf-8"), re.S))
+    yield Run("what is expected of a mail", OFFICE, "cat mails/04-order.eml.expect", expected)
+    changed = f"cp -R {shlex.quote(str(OFFICE))} site && sed -i 's/ :flags \"$Order\"//' site/personal/sales.sieve"
+    yield Run("what is told of a changed script", room, f"{changed} && {shlex.quote(str(TOOL))} check --strict site", told, status=1)
+
+
 def of_documents(room):
     """All of them."""
     room = room / "documents"
@@ -92,3 +102,4 @@ def of_documents(room):
     yield from of_failing(room)
     yield from of_language()
     yield from of_calling()
+    yield from of_site(room)

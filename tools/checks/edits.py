@@ -10,6 +10,7 @@ WALKS, STEPS = 12, 250
 NAMES = [b"main", b"a", b"b", b"c", b'd "e"']
 IDS = [b"m1", b"m2", b"m3", b"m 4"]
 SUBJECTS = [b"one", b"two", b"one two", b""]
+TEXTS = [b"", b"discard\n", b'implicit "INBOX"\n', b'implicit "Lists"\r\n', b'store "two"', b'implicit "INBOX"\nerror personal "main" line 0 missing-script\n']
 
 
 def quoted(octets):
@@ -50,7 +51,7 @@ class Bench:
 
     def edit(self, dice):
         """Makes an edit, and gives its octets and the reply that is due."""
-        kind = dice.choice(["script"] * 6 + ["rename"] * 3 + ["message"] * 3 + ["drop-script", "drop-script", "drop-message", "main", "main", "no-main", "envelope", "mailbox"])
+        kind = dice.choice(["script"] * 6 + ["rename"] * 3 + ["message"] * 3 + ["drop-script", "drop-script", "drop-message", "main", "main", "no-main", "envelope", "mailbox", "expect", "expect", "no-expect"])
         place, name = dice.choice([b"personal", b"personal", b"global"]), dice.choice(NAMES)
         words = place + b" " + quoted(name)
         key, at = (place != b"personal", name), dice.choice(IDS)
@@ -60,8 +61,15 @@ class Bench:
             return put(b"script " + words, text), b"ok"
         if kind == "message":
             octets = b"Subject: " + dice.choice(SUBJECTS) + b"\n\n"
-            self.messages[at] = octets
+            self.messages[at] = octets, self.messages.get(at, (b"", None))[1]
             return put(b"message " + quoted(at), octets), b"ok"
+        if kind in ("expect", "no-expect"):
+            text = dice.choice(TEXTS) if kind == "expect" else None
+            line = b"no-expect " + quoted(at) + b"\n" if text is None else put(b"expect " + quoted(at), text)
+            if at not in self.messages:
+                return line, b"no no-such-message"
+            self.messages[at] = self.messages[at][0], text
+            return line, b"ok"
         if kind == "rename":
             other = dice.choice([b"personal", b"personal", b"global"]), dice.choice(NAMES)
             new = (other[0] != b"personal", other[1])
@@ -94,7 +102,8 @@ class Bench:
         """A session that makes a new bench of this, and reports."""
         settings = [b"envelope %s %s\n" % tuple(quoted(it) for it in self.envelope), b"mailbox " + self.mailbox + b"\n"]
         scripts = [put(b"script %s %s" % (b"global" if shared else b"personal", quoted(name)), text) for (shared, name), text in self.scripts.items()]
-        messages = [put(b"message " + quoted(at), octets) for at, octets in self.messages.items()]
+        messages = [put(b"message " + quoted(at), octets) for at, (octets, _) in self.messages.items()]
+        messages += [put(b"expect " + quoted(at), text) for at, (_, text) in self.messages.items() if text is not None]
         main = [] if self.main is None else [b"main " + self.main + b"\n"]
         return b"".join(settings + scripts + messages + main) + b"report\n"
 

@@ -7,8 +7,8 @@ from .runs import lines, put, session
 
 WORD = r'(?:[!#-\[\]-~]+|"(?:[ !#-\[\]-~]|\\["\\]|\\x[0-9A-Fa-f]{2})*")'
 NAME = rf"(?:personal|global) +{WORD}"
-PLAIN = rf"main +{NAME}|no-main|rename +{NAME} +{NAME}|drop-script +{NAME}|drop-message +{WORD}|envelope +{WORD} +{WORD}|mailbox +{WORD}|report|dump +{NAME}"
-LINE = re.compile(rf" *(?:(?:{PLAIN})|(?:script +{NAME}|message +{WORD}) +([0-9]{{1,9}}))? *")
+PLAIN = rf"main +{NAME}|no-main|rename +{NAME} +{NAME}|drop-script +{NAME}|drop-message +{WORD}|no-expect +{WORD}|envelope +{WORD} +{WORD}|mailbox +{WORD}|report|dump +{NAME}"
+LINE = re.compile(rf" *(?:(?:{PLAIN})|(?:script +{NAME}|message +{WORD}|expect +{WORD}) +([0-9]{{1,9}}))? *")
 
 
 def report(settings):
@@ -24,6 +24,8 @@ STEPS = [
     (b'  main  personal "a b"\n', b"", b"ok\n"),
     (b"report\n", b"", report('"" "" mailbox "INBOX"')),
     (b" \n", b"", b""),
+    (b'expect "m1" 8\n', b"discard\n", b"ok\n"),
+    (b'no-expect "m1"\n', b"", b"ok\n"),
     (b'dump personal "a b"\r\n', b"", b"0: discard @1\nok\n"),
     (b'envelope "" ada@x.example\n', b"", b"ok\n"),
     (b'mailbox "In\\"box\\\\" \n', b"", b"ok\n"),

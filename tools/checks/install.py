@@ -17,13 +17,16 @@ printf '#!/bin/sh\\necho new "$@"\\n' > out/sievebench_cli
 chmod 700 out/sievebench_cli
 """
 OLD = {"p/bin/sievebench": b"#!/bin/sh\necho old\n"}
-PAGE = {"man/sievebench.1": b"page\n", "man/notes": b""}
+# The tool for sites, which is copied as it is, and pages of the manual with what is none.
+SITE = {"tools/sievebench-site": b"#!/bin/sh\necho site\n"}
+PAGES = {"docs/man/sievebench.1": b"page\n", "docs/man/sievebench-session.5": b"page of lines\n", "docs/man/notes": b""}
 
 
 def copy(room, rt, files):
     """A folder with what is needed of a repository, a script for `rt`, if any, and other files."""
     top = room / str(len(list(room.iterdir())))
-    write(top, {"tools/install": SOURCE.read_bytes(), "crates/sievebench_cli/args": b"", **({"kit/rt": rt} if rt else {}), **files})
+    site = {} if "tools/sievebench-site/x" in files else SITE
+    write(top, {"tools/install": SOURCE.read_bytes(), "crates/sievebench_cli/args": b"", **site, **({"kit/rt": rt} if rt else {}), **files})
     (top / "kit").mkdir(exist_ok=True)
     for command in COMMANDS:
         (top / "kit" / command).symlink_to(shutil.which(command))
@@ -45,21 +48,24 @@ def of_successes(room):
     """What is installed, and what is told of it."""
     top = copy(room, BUILDS, {})
     here = os.fsencode(os.path.realpath(top))
-    used = "find 'a b' -type f; 'a b/bin/sievebench' x; eval \"$(grep export told)\"; sievebench y"
-    yield Run("an install into a folder that isn't there", top, f"{INSTALL} 'a b' > told; echo $?; {used}", lines("0", "a b/bin/sievebench", "new x", "new y"))
+    used = "find 'a b' -type f | LC_ALL=C sort; 'a b/bin/sievebench' x; eval \"$(grep export told)\"; sievebench y; sievebench-site"
+    found = lines("0", "a b/bin/sievebench", "a b/bin/sievebench-site", "new x", "new y", "site")
+    yield Run("an install into a folder that isn't there", top, f"{INSTALL} 'a b' > told; echo $?; {used}", found)
     told = [b"installed as %s/a b/bin/sievebench.\n" % here, b"28 minutes", b"6 GB of disk", b"3 GB of memory"]
-    told += [b"rt run -- --version, in sievebench_cli\n", b"The program is %s/a b/bin/sievebench.\n" % here, b"The path does not have it."]
+    told += [b"rt run -- --version, in sievebench_cli\n", b"The program is %s/a b/bin/sievebench.\n" % here, b"Beside it is sievebench-site"]
+    told += [b"The path does not have it."]
     yield Run("what an install tells", top, "cat told", told)
     yield Run("an install where nothing is named", top, f"HOME=home {INSTALL} > told; home/.local/bin/sievebench x", b"new x\n")
     has = b"The path has it: sievebench --help tells how it is used.\n"
     yield Run("an install again, into a folder of the path", top, 'PATH="$PWD/kit:$PWD/home/.local/bin" tools/install home/.local | tail -n 1', has)
-    top = copy(room, BUILDS, {**OLD, **PAGE})
+    top = copy(room, BUILDS, {**OLD, **PAGES})
     here = os.fsencode(os.path.realpath(top))
     other = b"The path has another one before it, %s/p/bin/sievebench.\n" % here
     yield Run("an install where the path has another", top, 'PATH="$PWD/kit:$PWD/p/bin" tools/install q | tail -n 1', other)
-    found = lines("0", "p/bin/sievebench", "p/share/man/man1/sievebench.1", "new x", "page")
-    used = "find p -type f | sort; p/bin/sievebench x; cat p/share/man/man1/*"
-    yield Run("an install over an older one, with a page of the manual", top, f"{INSTALL} p > told; echo $?; {used}", found)
+    pages = ["p/share/man/man1/sievebench.1", "p/share/man/man5/sievebench-session.5"]
+    found = lines("0", "p/bin/sievebench", "p/bin/sievebench-site", *pages, "new x", "page", "page of lines")
+    used = "find p -type f | LC_ALL=C sort; p/bin/sievebench x; cat p/share/man/man1/* p/share/man/man5/*"
+    yield Run("an install over an older one, with pages of the manual", top, f"{INSTALL} p > told; echo $?; {used}", found)
 
 
 def of_failures(room):
@@ -72,7 +78,10 @@ def of_failures(room):
         ("proofs fail", fails, {}, "p > told; echo $?; find . -name p", b"7\n", failed),
         ("proofs fail, over an older one", fails, OLD, f"p > told; echo $?; {used}", b"7\n" + old, failed),
         ("no program is built", b"#!/bin/sh\n", OLD, f"p > told; echo $?; {used}", b"1\n" + old, [b"out/sievebench_cli"]),
-        ("a page can't be copied", BUILDS, {**OLD, "man/1.1/x": b""}, f"p > told; echo $?; {used}", b"1\n" + old, [b"man/1.1"]),
+        ("a page can't be copied", BUILDS, {**OLD, "docs/man/1.1/x": b""}, f"p > told; echo $?; {used}", b"1\n" + old, [b"docs/man/1.1"]),
+        ("the tool for sites can't be copied", BUILDS, {**OLD, "tools/sievebench-site/x": b""}, f"p > told; echo $?; {used}", b"1\n" + old, [b"tools/sievebench-site"]),
+        ("the folder of pages is a file", calls, {**OLD, **PAGES, "p/share": b""}, "p; echo $?; find p -type f | sort", lines("1", "p/bin/sievebench", "p/share"), [b"install: cannot write to ", b"/p/share\n"]),
+        ("the place of the tool for sites is a folder", calls, {"p/bin/sievebench-site/x": b""}, "p; echo $?; find p -type f", b"1\np/bin/sievebench-site/x\n", [b"/p/bin/sievebench-site is a folder\n"]),
         ("there is no rt", None, OLD, f"p; echo $?; {used}", b"1\n" + old, [b"install: there is no rt in the path"]),
         ("a folder is a file", calls, OLD, f"p/bin/sievebench; echo $?; {used}", b"1\n" + old, [b"install: cannot write to ", b"/p/bin/sievebench\n"]),
         ("the program's place is a folder", calls, {"p/bin/sievebench/x": b""}, "p; echo $?; find p -type f", b"1\np/bin/sievebench/x\n", [b"/p/bin/sievebench is a folder\n"]),

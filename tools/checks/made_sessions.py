@@ -194,7 +194,7 @@ def of_refusals(room):
         ("a long sender", f"--envelope {address} b s m", f'more than 1024 octets in "{address}"\n'),
         ("a long recipient", f"--envelope b {address} s m", f'more than 1024 octets in "{address}"\n'),
         ("a long mailbox", f"--mailbox {mailbox} s m", f'more than 255 octets in "{mailbox}"\n'),
-        ("many scripts", "--global full s m", 'more than 1024 scripts in "s" and "full"\n'),
+        ("many scripts", "--global full s m", 'more than 4096 scripts in "s" and "full"\n'),
         ("one folder", "s", "two folders are wanted, of scripts and of mails"),
         ("three folders", "s m m", "two folders are wanted, of scripts and of mails"),
         ("an unknown option", "--m\u00e4in a s m", '"--m\\xc3\\xa4in" is no option, stands twice, or wants a value'),

@@ -1,5 +1,6 @@
 """Many of each thing that a script or a message holds: a few, some more, and as many as there may be. What must come out is written from the
 rules: the report, the code, and the report once more behind two renames."""
+from .amounts import MAIL_LIMIT, SCRIPT_LIMIT
 from .runs import SETTINGS, lines, put, session
 
 COUNTS = (1, 12, 25, 60, 150, 1_200)
@@ -49,6 +50,9 @@ def of_messages(room):
             yield tested(room, f"{count} addresses, {key}", "", f'address "to" {key}', mail, holds, f'address is casemap all ["to"] [{key}]')
         mail = each("X: v%d\n", count, "")
         yield tested(room, f"{count} fields", "", f'header "x" "v{count}"', mail, True, f'header is casemap ["x"] ["v{count}"]')
+        mail = "Subject: " + each("=?utf-8?Q?w%d?=", count, " ") + "\n"
+        joined = each("w%d", count, "")
+        yield tested(room, f"{count} encoded words", "", f'header "subject" "{joined}"', mail, True, f'header is casemap ["subject"] ["{joined}"]')
         mail = "Subject: " + each("w%d", count, "\n ") + ";\n\n"
         yield tested(room, f"a field of {count} lines", "", f'header :matches "subject" "* w{count};"', mail, count > 1, f'header matches casemap ["subject"] ["* w{count};"]')
 
@@ -140,6 +144,13 @@ def of_flags(room):
         ]:
             script = f"{require}setflag {flags}; {commands} keep;"
             yield shown(room, f"{count} {title}", script, "", [f'store "INBOX"{stored}'], [f"setflag internal {flags} @2", *code, "keep internal @2"])
+        # A store that is joined again takes what came since it was joined last, what was removed and set again in between too.
+        steps = [f'addflag "f{number}"; removeflag "f{number}"; addflag "f{number}"; keep;' for number in range(1, count + 1)]
+        code = [line for number in range(1, count + 1) for line in (*(f'{command} internal ["f{number}"] @{number + 1}' for command in ("addflag", "removeflag", "addflag")), f"keep internal @{number + 1}")]
+        yield shown(room, f"{count} joined stores", require + "\n".join(steps), "", [f'store "INBOX"{held}'], code)
+        script = f'{require}setflag {flags}; keep; removeflag "f1"; keep; addflag ["f1", "x"]; keep;'
+        code = [f"setflag internal {flags} @2", "keep internal @2", 'removeflag internal ["f1"] @2', "keep internal @2", 'addflag internal ["f1", "x"] @2', "keep internal @2"]
+        yield shown(room, f"a store of {count} flags, joined behind changes", script, "", [f'store "INBOX"{held} "x"'], code)
         script = f'{require}setflag "k{count}"; if hasflag {keys} {{ discard; }}'
         code = [f'setflag internal ["k{count}"] @2', f"hasflag is casemap internal {keys}", "jump-if-false 4", "discard @2"]
         yield shown(room, f"{count} keys of hasflag", script, "", ["discard"], code)
@@ -148,9 +159,30 @@ def of_flags(room):
         yield shown(room, f"a key of hasflag and {count} flags", script, "", ["discard"], code)
 
 
+def of_benches(room):
+    """Scripts, messages, and texts that are expected: reported, each changed or renamed, and reported again."""
+    for count in counts(SCRIPT_LIMIT):
+        names = sorted(f"s{number}" for number in range(count))
+        puts = b"".join(put(f"script personal {name}".encode(), b"keep;") for name in names)
+        words = lines("report", *(f"rename personal {name} global {name}" for name in names), "report", *(f"drop-script global {name}" for name in names), "report")
+        told = ["main none", SETTINGS]
+        none, ok = "total 0 messages 0 errors", ["ok"] * count
+        reports = [[*told, *(f'script {place} "{name}" ok' for name in names), none] for place in ("personal", "global")]
+        yield session(room, f"{count} scripts", puts + words, lines(*ok, *reports[0], *ok, *reports[1], *ok, *told, none))
+    for count in counts(MAIL_LIMIT):
+        puts = b"".join(b"message m%d 0\n" % number for number in range(count))
+        texts = b"".join(put(b"expect m%d" % number, b"discard\n" if number % 3 else b'implicit "INBOX"\n') for number in range(count))
+        expected = ["unexpected" if number % 3 else "expected" for number in range(count)]
+        plain = [line for number in range(count) for line in (f'message "m{number}"', '  implicit "INBOX"')]
+        marked = [line for number in range(count) for line in (f'message "m{number}"', '  implicit "INBOX"', f"  {expected[number]}")]
+        told, ok, total = ["main none", SETTINGS], ["ok"] * count, f"total {count} messages 0 errors"
+        replies = lines(*ok, *told, *plain, total, *ok, *told, *marked, f"{total} {expected.count('unexpected')} unexpected")
+        yield session(room, f"{count} messages, and what is expected of them", puts + b"report\n" + texts + b"report\n", replies)
+
+
 def of_sessions(room):
     """All of them."""
-    for part in (of_messages, of_lists, of_conditions, of_commands, of_variables, of_flags):
+    for part in (of_messages, of_lists, of_conditions, of_commands, of_variables, of_flags, of_benches):
         folder = room / f"many_{part.__name__}"
         folder.mkdir()
         yield from part(folder)

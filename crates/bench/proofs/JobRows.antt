@@ -38,13 +38,13 @@ made_row : after_all new_content (set_envelope (codes "a@b.example") [] ∷ set_
       main = Some main;
       envelope = record { from = codes "a@b.example"; to = []; mailbox = codes "Box" };
       scripts = (other, codes "stop;") ∷ (main, codes "keep;") ∷ [];
-      messages = (codes "m", codes "x") ∷ [];
+      messages = (codes "m", record { octets = codes "x"; expected = None }) ∷ [];
     })
 made_row = refl
 
 -- a bench that has no room for a new script
 abbrev crowded : Content
-crowded = record new_content { scripts = replicate 1024 (other, []) }
+crowded = record new_content { scripts = replicate 4096 (other, []) }
 
 -- the main script's name is looked at only behind the scripts
 full_row : after_all crowded (put_script main [] ∷ set_main (personal (many 1025)) ∷ put_message (many 1025) [] ∷ []) ≡ Err Full
@@ -72,7 +72,7 @@ long_sender_row job long =
 
 -- one message, under a main script or none, where there are these scripts
 abbrev tested : Option ScriptName → List (ScriptName × List ℕ) → Content
-tested run scripts = record new_content { main = run; scripts = scripts; messages = (codes "m", []) ∷ [] }
+tested run scripts = record new_content { main = run; scripts = scripts; messages = (codes "m", record { octets = []; expected = None }) ∷ [] }
 
 -- there is no script, and the message is kept
 kept_row : test_end_of (tested None []) ≡ Clean

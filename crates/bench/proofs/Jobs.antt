@@ -3,7 +3,7 @@ use Rattle.std.proofs.Common.{◌≡◌, ℕ, ◌+◌, ◌<◌, Bool, true, fals
 use Rattle.std.proofs.lemmas.List.{drop_more}
 use Rattle.sieve_base.specs.declared.name.ScriptName.{ScriptName}
 use Rattle.bench.specs.Bench.{BenchState}
-use Rattle.bench.specs.Content.{Content, Edit, after, put_message, set_main, set_envelope, set_mailbox, Refuses, unless, script_refusal, message_refusal, main_refusal, envelope_refusal, mailbox_refusal, with_message}
+use Rattle.bench.specs.Content.{Content, Edit, Sample, after, put_message, set_main, set_envelope, set_mailbox, Refuses, unless, script_refusal, message_refusal, main_refusal, envelope_refusal, mailbox_refusal, with_message}
 use Rattle.bench.specs.Stale.{ids_where, is_among, stale_after, touches}
 use Rattle.bench.specs.Test.{after_all, put_of, then_edit}
 use Rattle.bench.specs.declared.fault.EditFault.{EditFault}
@@ -101,9 +101,9 @@ pub main_leaves_none : (name : ScriptName) (old new : Content) → old.messages 
 main_leaves_none name old new none made = ap (λ c. c.messages) (sym (made_is (main_refusal name) (record old { main = Some name }) new made)) ∙ none
 
 -- of one message those are the id alone that pass a test which it passes
-one_id : (test : List ℕ × List ℕ → Bool) (id bytes : List ℕ) → test (id, bytes) ≡ true → ids_where test ((id, bytes) ∷ []) ≡ id ∷ []
+one_id : (test : List ℕ × Sample → Bool) (id : List ℕ) (sample : Sample) → test (id, sample) ≡ true → ids_where test ((id, sample) ∷ []) ≡ id ∷ []
 unfolding ids_where
-one_id test id bytes is = rw is refl
+one_id test id sample is = rw is refl
 
 -- a message that is put where there is none is the only stale one
 pub first_put : (old new : BenchState) (id bytes : List ℕ) (outcome : Result Unit EditFault) → old.content.messages ≡ [] → OnOk outcome (after old.content (put_message id bytes) ≡ Ok new.content)
@@ -111,7 +111,7 @@ pub first_put : (old new : BenchState) (id bytes : List ℕ) (outcome : Result U
 first_put old new id bytes (Err fault) none ok stale = tt
 first_put old new id bytes (Ok done) none ok stale =
     let all : with_message id bytes old.content.messages ≡ new.content.messages = ap (λ c. c.messages) (made_is (message_refusal old.content.messages id bytes) (record old.content { messages = with_message id bytes old.content.messages }) new.content ok) in
-    let only : new.content.messages ≡ (id, bytes) ∷ [] = sym all ∙ ap (with_message id bytes) none in
+    let only : new.content.messages ≡ (id, record { octets = bytes; expected = None }) ∷ [] = sym all ∙ ap (with_message id bytes) none in
     stale
     ∙ ap (ids_where (λ message. touches old.content (put_message id bytes) message || is_among message.0 old.stale)) only
-    ∙ one_id (λ message. touches old.content (put_message id bytes) message || is_among message.0 old.stale) id bytes (rw (same_id id) refl)
+    ∙ one_id (λ message. touches old.content (put_message id bytes) message || is_among message.0 old.stale) id (record { octets = bytes; expected = None }) (rw (same_id id) refl)

@@ -1,16 +1,16 @@
 -- The verdicts that are kept, in the order of their messages.
-use Rattle.std.proofs.Common.{◌≡◌, ℕ, suc, ◌+◌, zero-add, List, [], ◌∷◌, ◌++◌, length, cond, Option, None, Some, IfSome, is_none, is_some, refl, sym, ap, ◌∙◌, append-nil, count_by}
+use Rattle.std.proofs.Common.{◌≡◌, ℕ, suc, ◌+◌, zero-add, List, [], ◌∷◌, ◌++◌, length, true, false, ◌||◌, cond, if◌then◌else◌, Option, None, Some, IfSome, is_none, is_some, refl, sym, ap, ◌∙◌, append-nil, count_by}
 use Rattle.std.proofs.lemmas.Grind.{flat_map-append}
 use Rattle.std.proofs.lemmas.List.Sums.{sum_by-cons}
-use Rattle.std.specs.List.{flat_map}
+use Rattle.std.specs.List.{flat_map, list_any}
 use Rattle.sieve_run.specs.Verdict.{Verdict}
 use Rattle.sieve_effects.specs.declared.envelope.Envelope.{Envelope}
 use Rattle.sieve_base.specs.declared.name.ScriptName.{ScriptName}
 use Rattle.bench.specs.Content.{Content}
-use Rattle.bench.specs.Report.{error_count, report_text, report_with, verdict_by, verdicts}
+use Rattle.bench.specs.Report.{Judged, error_count, is_unlike, report_text, report_with, unexpected_count, verdict_by, verdicts}
 use Rattle.bench.specs.Test.{is_clean, is_clean_with}
 use Rattle.bench.specs.declared.entry.Entry.{Entry}
-use Rattle.bench.specs.view.Entry.{has_error, judged_before, judged_of, messages_of, stale_of, KeepsDue}
+use Rattle.bench.specs.view.Entry.{disagrees, has_error, judged_before, judged_of, messages_of, stale_of, KeepsDue}
 
 -- where none is stale, what is kept are the verdicts on all messages
 pub all_judged : (main : Option ScriptName) (envelope : Envelope) (scripts : List (ScriptName × List ℕ)) (es : List (List ℕ × Entry)) → KeepsDue (verdict_by main envelope scripts) es → stale_of es ≡ []
@@ -19,11 +19,14 @@ unfolding KeepsDue stale_of judged_of messages_of verdicts
 all_judged main envelope scripts [] kept none = refl
 all_judged main envelope scripts (e ∷ es) kept none = by e.1.kept kept.0 none (λ h. all_judged main envelope scripts es kept.1 h)
   where
+    judged_now : Verdict → Judged
+    judged_now verdict = record { id = e.0; verdict = verdict; expected = e.1.expected }
+
     by : (found : Option Verdict) → IfSome found (λ verdict. verdict ≡ verdict_by main envelope scripts e.1.message) → cond (is_none found) (e.0 ∷ stale_of es) (stale_of es) ≡ []
         → (stale_of es ≡ [] → judged_of es ≡ verdicts main envelope scripts (messages_of es))
-        → judged_before e.0 found (judged_of es) ≡ (e.0, verdict_by main envelope scripts e.1.message) ∷ verdicts main envelope scripts (messages_of es)
+        → judged_before e.0 e.1.expected found (judged_of es) ≡ judged_now (verdict_by main envelope scripts e.1.message) ∷ verdicts main envelope scripts (messages_of es)
     by None is none more = absurd cc
-    by (Some verdict) is none more = ap (λ v. (e.0, v) ∷ judged_of es) is ∙ ap (λ l. (e.0, verdict_by main envelope scripts e.1.message) ∷ l) (more none)
+    by (Some verdict) is none more = ap (λ v. judged_now v ∷ judged_of es) is ∙ ap (λ l. judged_now (verdict_by main envelope scripts e.1.message) ∷ l) (more none)
 
 -- so the report of them is the report of the content
 pub report_is : (content : Content) (main : Option ScriptName) (es : List (List ℕ × Entry)) → main ≡ content.main → messages_of es ≡ content.messages → KeepsDue (verdict_by main content.envelope content.scripts) es → stale_of es ≡ []
@@ -45,7 +48,7 @@ unfolding stale_of judged_of
 judged-all [] none = refl
 judged-all (e ∷ es) none = by e.1.kept none (judged-all es)
   where
-    by : (kept : Option Verdict) → cond (is_none kept) (e.0 ∷ stale_of es) (stale_of es) ≡ [] → (stale_of es ≡ [] → length (judged_of es) ≡ length es) → length (judged_before e.0 kept (judged_of es)) ≡ length (e ∷ es)
+    by : (kept : Option Verdict) → cond (is_none kept) (e.0 ∷ stale_of es) (stale_of es) ≡ [] → (stale_of es ≡ [] → length (judged_of es) ≡ length es) → length (judged_before e.0 e.1.expected kept (judged_of es)) ≡ length (e ∷ es)
     by None none rest = absurd cc
     by (Some verdict) none rest = ap suc (rest none)
 
@@ -54,27 +57,61 @@ unfolding judged_of
 judged-errors [] = refl
 judged-errors (e ∷ es) = by e.1.kept (judged-errors es) ∙ sym (sum_by-cons (λ e. cond (has_error e.1.kept) 1 0) e es)
   where
-    by : (kept : Option Verdict) → error_count (judged_of es) ≡ count_by (λ e. has_error e.1.kept) es → error_count (judged_before e.0 kept (judged_of es)) ≡ cond (has_error kept) 1 0 + count_by (λ e. has_error e.1.kept) es
+    by : (kept : Option Verdict) → error_count (judged_of es) ≡ count_by (λ e. has_error e.1.kept) es → error_count (judged_before e.0 e.1.expected kept (judged_of es)) ≡ cond (has_error kept) 1 0 + count_by (λ e. has_error e.1.kept) es
     by None rest = rest ∙ sym (zero-add (count_by (λ e. has_error e.1.kept) es))
-    by (Some verdict) rest = sum_by-cons (λ (j : List ℕ × Verdict). cond (is_some j.1.error) 1 0) (e.0, verdict) (judged_of es) ∙ ap (λ n. cond (is_some verdict.error) 1 0 + n) rest
+    by (Some verdict) rest = sum_by-cons (λ (j : Judged). cond (is_some j.verdict.error) 1 0) (record { id = e.0; verdict = verdict; expected = e.1.expected }) (judged_of es) ∙ ap (λ n. cond (is_some verdict.error) 1 0 + n) rest
 
 -- the first entry's, and those of the others
 judged_cut : (e : List ℕ × Entry) (es : List (List ℕ × Entry)) → judged_of (e ∷ es) ≡ judged_of (e ∷ []) ++ judged_of es
 unfolding judged_of
 judged_cut e es = by e.1.kept
   where
-    by : (kept : Option Verdict) → judged_before e.0 kept (judged_of es) ≡ judged_before e.0 kept [] ++ judged_of es
+    by : (kept : Option Verdict) → judged_before e.0 e.1.expected kept (judged_of es) ≡ judged_before e.0 e.1.expected kept [] ++ judged_of es
     by None = refl
     by (Some verdict) = refl
 
-pub lines_cut : (lines : List ℕ × Verdict → List ℕ) (all es : List (List ℕ × Entry)) (e : List ℕ × Entry) → all ≡ e ∷ es → flat_map lines (judged_of all) ≡ flat_map lines (judged_of (e ∷ [])) ++ flat_map lines (judged_of es)
+pub lines_cut : (lines : Judged → List ℕ) (all es : List (List ℕ × Entry)) (e : List ℕ × Entry) → all ≡ e ∷ es → flat_map lines (judged_of all) ≡ flat_map lines (judged_of (e ∷ [])) ++ flat_map lines (judged_of es)
 lines_cut lines all es e cut = ap (λ l. flat_map lines (judged_of l)) cut ∙ ap (flat_map lines) (judged_cut e es) ∙ flat_map-append lines (judged_of (e ∷ [])) (judged_of es)
 
 -- those of one entry
-pub one_lines : (lines : List ℕ × Verdict → List ℕ) (id : List ℕ) (entry : Entry) (verdict : Verdict) → entry.kept ≡ Some verdict → flat_map lines (judged_of ((id, entry) ∷ [])) ≡ lines (id, verdict)
+pub one_lines : (lines : Judged → List ℕ) (id : List ℕ) (entry : Entry) (verdict : Verdict) → entry.kept ≡ Some verdict → flat_map lines (judged_of ((id, entry) ∷ [])) ≡ lines (record { id = id; verdict = verdict; expected = entry.expected })
 unfolding judged_of
-one_lines lines id entry verdict is = ap (λ k. flat_map lines (judged_before id k [])) is ∙ append-nil (lines (id, verdict))
+one_lines lines id entry verdict is = ap (λ k. flat_map lines (judged_before id entry.expected k [])) is ∙ append-nil (lines (record { id = id; verdict = verdict; expected = entry.expected }))
 
-pub judged_one : (id : List ℕ) (entry : Entry) (kept : Option Verdict) → entry.kept ≡ kept → judged_of ((id, entry) ∷ []) ≡ judged_before id kept []
+pub judged_one : (id : List ℕ) (entry : Entry) (kept : Option Verdict) → entry.kept ≡ kept → judged_of ((id, entry) ∷ []) ≡ judged_before id entry.expected kept []
 unfolding judged_of
-judged_one id entry kept is = ap (λ k. judged_before id k []) is
+judged_one id entry kept is = ap (λ k. judged_before id entry.expected k []) is
+
+-- how many are not as expected, and whether a text is expected of any
+pub judged-unlike : (mailbox : List ℕ) (es : List (List ℕ × Entry)) → count_by (λ j. is_unlike mailbox j.verdict j.expected) (judged_of es) ≡ count_by (λ e. disagrees mailbox e.1.expected e.1.kept) es
+unfolding judged_of
+judged-unlike mailbox [] = refl
+judged-unlike mailbox (e ∷ es) = by e.1.kept (judged-unlike mailbox es) ∙ sym (sum_by-cons (λ e. cond (disagrees mailbox e.1.expected e.1.kept) 1 0) e es)
+  where
+    by : (kept : Option Verdict) → count_by (λ j. is_unlike mailbox j.verdict j.expected) (judged_of es) ≡ count_by (λ e. disagrees mailbox e.1.expected e.1.kept) es
+        → count_by (λ j. is_unlike mailbox j.verdict j.expected) (judged_before e.0 e.1.expected kept (judged_of es)) ≡ cond (disagrees mailbox e.1.expected kept) 1 0 + count_by (λ e. disagrees mailbox e.1.expected e.1.kept) es
+    by None rest = rest ∙ sym (zero-add (count_by (λ e. disagrees mailbox e.1.expected e.1.kept) es))
+    by (Some verdict) rest =
+        sum_by-cons (λ (j : Judged). cond (is_unlike mailbox j.verdict j.expected) 1 0) (record { id = e.0; verdict = verdict; expected = e.1.expected }) (judged_of es)
+        ∙ ap (λ n. cond (is_unlike mailbox verdict e.1.expected) 1 0 + n) rest
+
+pub judged-expected : (es : List (List ℕ × Entry)) → stale_of es ≡ [] → list_any (λ j. is_some j.expected) (judged_of es) ≡ list_any (λ e. is_some e.1.expected) es
+unfolding stale_of judged_of
+judged-expected [] none = refl
+judged-expected (e ∷ es) none = by e.1.kept none (judged-expected es)
+  where
+    by : (kept : Option Verdict) → cond (is_none kept) (e.0 ∷ stale_of es) (stale_of es) ≡ [] → (stale_of es ≡ [] → list_any (λ j. is_some j.expected) (judged_of es) ≡ list_any (λ e. is_some e.1.expected) es)
+        → list_any (λ j. is_some j.expected) (judged_before e.0 e.1.expected kept (judged_of es)) ≡ (is_some e.1.expected || list_any (λ e. is_some e.1.expected) es)
+    by None none rest = absurd cc
+    by (Some verdict) none rest = ap (λ b. is_some e.1.expected || b) (rest none)
+
+-- what the last line says of that
+pub unexpected_some : (mailbox : List ℕ) (es : List (List ℕ × Entry)) → stale_of es ≡ [] → list_any (λ e. is_some e.1.expected) es ≡ true → unexpected_count mailbox (judged_of es) ≡ Some (count_by (λ e. disagrees mailbox e.1.expected e.1.kept) es)
+unfolding unexpected_count
+unexpected_some mailbox es none some =
+    ap (λ b. if b then Some (count_by (λ j. is_unlike mailbox j.verdict j.expected) (judged_of es)) else None) (judged-expected es none ∙ some) ∙ ap (λ n. Some n) (judged-unlike mailbox es)
+
+pub unexpected_none : (mailbox : List ℕ) (es : List (List ℕ × Entry)) → stale_of es ≡ [] → list_any (λ e. is_some e.1.expected) es ≡ false → unexpected_count mailbox (judged_of es) ≡ None
+unfolding unexpected_count
+unexpected_none mailbox es none absent =
+    ap (λ b. if b then Some (count_by (λ j. is_unlike mailbox j.verdict j.expected) (judged_of es)) else None) (judged-expected es none ∙ absent)

@@ -10,5 +10,7 @@ pub mod Marks
 pub mod Names
 pub mod Rebuilt
 pub mod Refreshing
+mod ReportRows
 pub mod Stales
+pub mod Within
 pub mod Writing

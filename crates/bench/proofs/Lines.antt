@@ -20,9 +20,14 @@ unfolding envelope_line
 envelope_pieces envelope from to mailbox f t m = rw (f, t, m) (simp append_assoc)
 
 -- the last line
-pub total_pieces : (messages errors : ℕ) → total_line messages errors ≡ codes "total " ++ (decimal messages ++ (codes " messages " ++ (decimal errors ++ (codes " errors\n" ++ []))))
+pub total_pieces : (messages errors : ℕ) → total_line messages errors None ≡ codes "total " ++ (decimal messages ++ (codes " messages " ++ (decimal errors ++ (codes " errors\n" ++ []))))
 unfolding total_line
 total_pieces messages errors = simp append_assoc
+
+pub unexpected_pieces : (messages errors unexpected : ℕ)
+    → total_line messages errors (Some unexpected) ≡ codes "total " ++ (decimal messages ++ (codes " messages " ++ (decimal errors ++ (codes " errors " ++ (decimal unexpected ++ (codes " unexpected\n" ++ []))))))
+unfolding total_line
+unexpected_pieces messages errors unexpected = simp append_assoc
 
 -- what a report says of a first fault, or of none
 abbrev fault_text : Option (ℕ × FaultKind) → List ℕ

@@ -12,9 +12,10 @@ use Rattle.sieve_base.specs.declared.name.ScriptName.{ScriptName}
 use Rattle.sieve_run.specs.Frame.{Agree, Texts, outcome_over}
 use Rattle.sieve_run.specs.Run.{is_read}
 use Rattle.sieve_run.specs.Verdict.{Verdict}
+use Rattle.bench.specs.Content.{Sample}
 use Rattle.bench.specs.Stale.{ids_where, is_among}
 use Rattle.bench.specs.declared.entry.Entry.{Entry}
-use Rattle.bench.specs.view.Entry.{is_stale, messages_of, stale_of, KeepsDue, forgotten, kept_without, unread}
+use Rattle.bench.specs.view.Entry.{is_stale, messages_of, sample_of, stale_of, KeepsDue, changed, expecting, forgotten, fresh_entry, kept_without, unread}
 use Rattle.bench.proofs.Names.{is_id, is_name, other_id, same_id}
 
 or_true : (a b : Bool) → a ≡ true → (a || b) ≡ true
@@ -36,8 +37,8 @@ unlisted id (e ∷ es) apart = by (is_stale e.1) (unlisted id es apart.1)
     by false rest = rest
 
 -- a test tells which entries are stale
-abbrev pub Tells : (List ℕ × List ℕ → Bool) → List (List ℕ × Entry) → Type 0
-Tells test es = AllByRecursion (λ e. test (e.0, e.1.message) ≡ is_stale e.1) es
+abbrev pub Tells : (List ℕ × Sample → Bool) → List (List ℕ × Entry) → Type 0
+Tells test es = AllByRecursion (λ e. test (e.0, sample_of e.1) ≡ is_stale e.1) es
 
 -- one more id in front, which is none of theirs
 more_told : (id : List ℕ) (b : Bool) (ids : List (List ℕ)) (es : List (List ℕ × Entry)) → AllByRecursion (λ k. pointwise nat_eq id k ≡ false) (keys_of es) → Tells (λ m. is_among m.0 ids) es → Tells (λ m. is_among m.0 (cond b (id ∷ ids) ids)) es
@@ -61,19 +62,19 @@ told (e ∷ es) distinct =
     by false absent = absent
 
 -- the stale ones are those that pass a test that tells
-pub passing : (test : List ℕ × List ℕ → Bool) (es : List (List ℕ × Entry)) → Tells test es → stale_of es ≡ ids_where test (messages_of es)
+pub passing : (test : List ℕ × Sample → Bool) (es : List (List ℕ × Entry)) → Tells test es → stale_of es ≡ ids_where test (messages_of es)
 unfolding stale_of messages_of ids_where
 passing test [] tells = refl
-passing test (e ∷ es) tells = rw (← tells.0) (by (test (e.0, e.1.message)) (passing test es tells.1))
+passing test (e ∷ es) tells = rw (← tells.0) (by (test (e.0, sample_of e.1)) (passing test es tells.1))
   where
-    by : (b : Bool) → stale_of es ≡ ids_where test (messages_of es) → cond b (e.0 ∷ stale_of es) (stale_of es) ≡ map (λ m. m.0) (cond b ((e.0, e.1.message) ∷ filter test (messages_of es)) (filter test (messages_of es)))
+    by : (b : Bool) → stale_of es ≡ ids_where test (messages_of es) → cond b (e.0 ∷ stale_of es) (stale_of es) ≡ map (λ m. m.0) (cond b ((e.0, sample_of e.1) ∷ filter test (messages_of es)) (filter test (messages_of es)))
     by true rest = ap (λ l. e.0 ∷ l) rest
     by false rest = rest
 
 -- the same test in other words
-pub tells_too : (test other : List ℕ × List ℕ → Bool) (es : List (List ℕ × Entry)) → ((m : List ℕ × List ℕ) → other m ≡ test m) → Tells test es → Tells other es
+pub tells_too : (test other : List ℕ × Sample → Bool) (es : List (List ℕ × Entry)) → ((m : List ℕ × Sample) → other m ≡ test m) → Tells test es → Tells other es
 tells_too test other [] alike tells = tt
-tells_too test other (e ∷ es) alike tells = (alike (e.0, e.1.message) ∙ tells.0, tells_too test other es alike tells.1)
+tells_too test other (e ∷ es) alike tells = (alike (e.0, sample_of e.1) ∙ tells.0, tells_too test other es alike tells.1)
 
 -- MARKS FOR A NAME
 
@@ -94,10 +95,10 @@ stale_for due name before (Some verdict) is tells = rw (tells, ← is) (by (is_r
     by false = refl
 
 -- behind a mark for a name those are stale whose runs looked it up, and those that were
-pub tells-marked : (due : List ℕ → Verdict) (name : ScriptName) (test : List ℕ × List ℕ → Bool) (es : List (List ℕ × Entry)) → KeepsDue due es → Tells test es → Tells (λ m. is_read name (due m.1).reads || test m) (marked name es)
+pub tells-marked : (due : List ℕ → Verdict) (name : ScriptName) (test : List ℕ × Sample → Bool) (es : List (List ℕ × Entry)) → KeepsDue due es → Tells test es → Tells (λ m. is_read name (due m.1.octets).reads || test m) (marked name es)
 unfolding KeepsDue
 tells-marked due name test [] kept tells = tt
-tells-marked due name test (e ∷ es) kept tells = (stale_for (due e.1.message) name (test (e.0, e.1.message)) e.1.kept kept.0 tells.0, tells-marked due name test es kept.1 tells.1)
+tells-marked due name test (e ∷ es) kept tells = (stale_for (due e.1.message) name (test (e.0, sample_of e.1)) e.1.kept kept.0 tells.0, tells-marked due name test es kept.1 tells.1)
 
 -- the frame: a verdict is the same over each library that has the same text, or none, at each name that it looked up
 abbrev pub IsFramed : Type 0
@@ -147,14 +148,14 @@ due-kept due name (e ∷ es) kept = (kept_due (due e.1.message) name e.1.kept ke
 pub messages-marked : (name : ScriptName) (es : List (List ℕ × Entry)) → messages_of (marked name es) ≡ messages_of es
 unfolding messages_of
 messages-marked name [] = refl
-messages-marked name (e ∷ es) = ap (λ l. (e.0, e.1.message) ∷ l) (messages-marked name es)
+messages-marked name (e ∷ es) = ap (λ l. (e.0, sample_of e.1) ∷ l) (messages-marked name es)
 
 -- MARKS FOR ALL
 
 abbrev pub all_marked : List (List ℕ × Entry) → List (List ℕ × Entry)
 all_marked es = map (λ e. (e.0, forgotten e.1)) es
 
-pub tells-all_marked : (test : List ℕ × List ℕ → Bool) (es : List (List ℕ × Entry)) → Tells (λ m. true || test m) (all_marked es)
+pub tells-all_marked : (test : List ℕ × Sample → Bool) (es : List (List ℕ × Entry)) → Tells (λ m. true || test m) (all_marked es)
 tells-all_marked test [] = tt
 tells-all_marked test (e ∷ es) = (refl, tells-all_marked test es)
 
@@ -166,42 +167,39 @@ due-all_marked due (e ∷ es) = (tt, due-all_marked due es)
 pub messages-all_marked : (es : List (List ℕ × Entry)) → messages_of (all_marked es) ≡ messages_of es
 unfolding messages_of
 messages-all_marked [] = refl
-messages-all_marked (e ∷ es) = ap (λ l. (e.0, e.1.message) ∷ l) (messages-all_marked es)
+messages-all_marked (e ∷ es) = ap (λ l. (e.0, sample_of e.1) ∷ l) (messages-all_marked es)
 
 -- AN ENTRY THAT IS PUT
 
-abbrev pub fresh_entry : List ℕ → Entry
-fresh_entry bytes = record { message = bytes; kept = None }
-
 -- ids that differ from one that is the same as another differ from that
-apart_from : (id other : List ℕ) (test : List ℕ × List ℕ → Bool) (es : List (List ℕ × Entry)) → pointwise nat_eq id other ≡ true → AllByRecursion (λ k. pointwise nat_eq other k ≡ false) (keys_of es) → Tells test es → Tells (λ m. pointwise nat_eq id m.0 || test m) es
+apart_from : (id other : List ℕ) (test : List ℕ × Sample → Bool) (es : List (List ℕ × Entry)) → pointwise nat_eq id other ≡ true → AllByRecursion (λ k. pointwise nat_eq other k ≡ false) (keys_of es) → Tells test es → Tells (λ m. pointwise nat_eq id m.0 || test m) es
 apart_from id other test [] is apart tells = tt
 apart_from id other test (e ∷ es) is apart tells =
     let here : pointwise nat_eq id e.0 ≡ false = rw (is_id id other is) apart.0 in
-    (or_false (pointwise nat_eq id e.0) (test (e.0, e.1.message)) here ∙ tells.0, apart_from id other test es is apart.1 tells.1)
+    (or_false (pointwise nat_eq id e.0) (test (e.0, sample_of e.1)) here ∙ tells.0, apart_from id other test es is apart.1 tells.1)
 
-pub tells-put : (id bytes : List ℕ) (test : List ℕ × List ℕ → Bool) (es : List (List ℕ × Entry)) → IsDistinct (pointwise nat_eq) (keys_of es) → Tells test es → Tells (λ m. pointwise nat_eq id m.0 || test m) (ordered.insert_entry (pointwise nat_eq) es id (fresh_entry bytes))
-tells-put id bytes test [] distinct tells = (or_true (pointwise nat_eq id id) (test (id, bytes)) (same_id id), tt)
-tells-put id bytes test (e ∷ es) distinct tells =
-    by (pointwise nat_eq id e.0) refl (IsDistinct-head (pointwise nat_eq) e.0 (keys_of es) distinct) (tells-put id bytes test es (IsDistinct-tail (pointwise nat_eq) e.0 (keys_of es) distinct) tells.1)
+pub tells-put : (id bytes : List ℕ) (expected : Option (List ℕ)) (test : List ℕ × Sample → Bool) (es : List (List ℕ × Entry)) → IsDistinct (pointwise nat_eq) (keys_of es) → Tells test es → Tells (λ m. pointwise nat_eq id m.0 || test m) (ordered.insert_entry (pointwise nat_eq) es id (fresh_entry bytes expected))
+tells-put id bytes expected test [] distinct tells = (or_true (pointwise nat_eq id id) (test (id, sample_of (fresh_entry bytes expected))) (same_id id), tt)
+tells-put id bytes expected test (e ∷ es) distinct tells =
+    by (pointwise nat_eq id e.0) refl (IsDistinct-head (pointwise nat_eq) e.0 (keys_of es) distinct) (tells-put id bytes expected test es (IsDistinct-tail (pointwise nat_eq) e.0 (keys_of es) distinct) tells.1)
   where
-    by : (b : Bool) → pointwise nat_eq id e.0 ≡ b → AllByRecursion (λ k. pointwise nat_eq e.0 k ≡ false) (keys_of es) → Tells (λ m. pointwise nat_eq id m.0 || test m) (ordered.insert_entry (pointwise nat_eq) es id (fresh_entry bytes))
-        → Tells (λ m. pointwise nat_eq id m.0 || test m) (if b then (e.0, fresh_entry bytes) ∷ es else e ∷ ordered.insert_entry (pointwise nat_eq) es id (fresh_entry bytes))
-    by true is apart rest = (or_true (pointwise nat_eq id e.0) (test (e.0, bytes)) is, apart_from id e.0 test es is apart tells.1)
-    by false is apart rest = (or_false (pointwise nat_eq id e.0) (test (e.0, e.1.message)) is ∙ tells.0, rest)
+    by : (b : Bool) → pointwise nat_eq id e.0 ≡ b → AllByRecursion (λ k. pointwise nat_eq e.0 k ≡ false) (keys_of es) → Tells (λ m. pointwise nat_eq id m.0 || test m) (ordered.insert_entry (pointwise nat_eq) es id (fresh_entry bytes expected))
+        → Tells (λ m. pointwise nat_eq id m.0 || test m) (if b then (e.0, fresh_entry bytes expected) ∷ es else e ∷ ordered.insert_entry (pointwise nat_eq) es id (fresh_entry bytes expected))
+    by true is apart rest = (or_true (pointwise nat_eq id e.0) (test (e.0, sample_of (fresh_entry bytes expected))) is, apart_from id e.0 test es is apart tells.1)
+    by false is apart rest = (or_false (pointwise nat_eq id e.0) (test (e.0, sample_of e.1)) is ∙ tells.0, rest)
 
-pub due-put : (due : List ℕ → Verdict) (id bytes : List ℕ) (es : List (List ℕ × Entry)) → KeepsDue due es → KeepsDue due (ordered.insert_entry (pointwise nat_eq) es id (fresh_entry bytes))
+pub due-put : (due : List ℕ → Verdict) (id bytes : List ℕ) (expected : Option (List ℕ)) (es : List (List ℕ × Entry)) → KeepsDue due es → KeepsDue due (ordered.insert_entry (pointwise nat_eq) es id (fresh_entry bytes expected))
 unfolding KeepsDue
-due-put due id bytes [] kept = (tt, tt)
-due-put due id bytes (e ∷ es) kept = by (pointwise nat_eq id e.0) (due-put due id bytes es kept.1)
+due-put due id bytes expected [] kept = (tt, tt)
+due-put due id bytes expected (e ∷ es) kept = by (pointwise nat_eq id e.0) (due-put due id bytes expected es kept.1)
   where
-    by : (b : Bool) → KeepsDue due (ordered.insert_entry (pointwise nat_eq) es id (fresh_entry bytes)) → KeepsDue due (if b then (e.0, fresh_entry bytes) ∷ es else e ∷ ordered.insert_entry (pointwise nat_eq) es id (fresh_entry bytes))
+    by : (b : Bool) → KeepsDue due (ordered.insert_entry (pointwise nat_eq) es id (fresh_entry bytes expected)) → KeepsDue due (if b then (e.0, fresh_entry bytes expected) ∷ es else e ∷ ordered.insert_entry (pointwise nat_eq) es id (fresh_entry bytes expected))
     by true rest = (tt, kept.1)
     by false rest = (kept.0, rest)
 
 -- AN ENTRY THAT IS REMOVED
 
-pub tells-removed : (at : List ℕ → Bool) (test : List ℕ × List ℕ → Bool) (es : List (List ℕ × Entry)) → Tells test es → Tells (λ m. false || test m) (remove_entry at es)
+pub tells-removed : (at : List ℕ → Bool) (test : List ℕ × Sample → Bool) (es : List (List ℕ × Entry)) → Tells test es → Tells (λ m. false || test m) (remove_entry at es)
 tells-removed at test [] tells = tt
 tells-removed at test (e ∷ es) tells = by (at e.0) (tells-removed at test es tells.1)
   where
@@ -218,6 +216,25 @@ due-removed due at (e ∷ es) kept = by (at e.0) (due-removed due at es kept.1)
     by true rest = kept.1
     by false rest = (kept.0, rest)
 
+-- AN ENTRY OF WHICH A TEXT IS EXPECTED
+
+pub tells-expecting : (id : List ℕ) (expected : Option (List ℕ)) (ids : List (List ℕ)) (es : List (List ℕ × Entry)) → Tells (λ m. is_among m.0 ids) es → Tells (λ m. false || is_among m.0 ids) (changed id (expecting expected) es)
+tells-expecting id expected ids [] tells = tt
+tells-expecting id expected ids (e ∷ es) tells = by (pointwise nat_eq id e.0) (tells-expecting id expected ids es tells.1)
+  where
+    by : (b : Bool) → Tells (λ m. false || is_among m.0 ids) (changed id (expecting expected) es) → Tells (λ m. false || is_among m.0 ids) (if b then (e.0, expecting expected e.1) ∷ es else e ∷ changed id (expecting expected) es)
+    by true rest = tells
+    by false rest = (tells.0, rest)
+
+pub due-expecting : (due : List ℕ → Verdict) (id : List ℕ) (expected : Option (List ℕ)) (es : List (List ℕ × Entry)) → KeepsDue due es → KeepsDue due (changed id (expecting expected) es)
+unfolding KeepsDue
+due-expecting due id expected [] kept = tt
+due-expecting due id expected (e ∷ es) kept = by (pointwise nat_eq id e.0) (due-expecting due id expected es kept.1)
+  where
+    by : (b : Bool) → KeepsDue due (changed id (expecting expected) es) → KeepsDue due (if b then (e.0, expecting expected e.1) ∷ es else e ∷ changed id (expecting expected) es)
+    by true rest = kept
+    by false rest = (kept.0, rest)
+
 -- WHAT IS KEPT
 
 -- what is kept of the entry that is found
@@ -226,7 +243,7 @@ kept_of None = None
 kept_of (Some entry) = entry.kept
 
 pub kept_at : (due : List ℕ → Verdict) (id : List ℕ) (es : List (List ℕ × Entry)) → IsDistinct (pointwise nat_eq) (keys_of es) → KeepsDue due es
-    → kept_of (lookup (pointwise nat_eq id) es) ≡ (if is_among id (stale_of es) then None else option_map due (lookup (pointwise nat_eq id) (messages_of es)))
+    → kept_of (lookup (pointwise nat_eq id) es) ≡ (if is_among id (stale_of es) then None else option_map (λ sample. due sample.octets) (lookup (pointwise nat_eq id) (messages_of es)))
 unfolding KeepsDue stale_of messages_of
 kept_at due id [] distinct kept = refl
 kept_at due id (e ∷ es) distinct kept =
@@ -242,8 +259,8 @@ kept_at due id (e ∷ es) distinct kept =
     skip false is = refl
 
     by : (b : Bool) → pointwise nat_eq id e.0 ≡ b → is_among e.0 (stale_of es) ≡ false
-        → kept_of (lookup (pointwise nat_eq id) es) ≡ (if is_among id (stale_of es) then None else option_map due (lookup (pointwise nat_eq id) (messages_of es)))
-        → kept_of (cond b (Some e.1) (lookup (pointwise nat_eq id) es)) ≡ (if is_among id (cond (is_stale e.1) (e.0 ∷ stale_of es) (stale_of es)) then None else option_map due (cond b (Some e.1.message) (lookup (pointwise nat_eq id) (messages_of es))))
+        → kept_of (lookup (pointwise nat_eq id) es) ≡ (if is_among id (stale_of es) then None else option_map (λ sample. due sample.octets) (lookup (pointwise nat_eq id) (messages_of es)))
+        → kept_of (cond b (Some e.1) (lookup (pointwise nat_eq id) es)) ≡ (if is_among id (cond (is_stale e.1) (e.0 ∷ stale_of es) (stale_of es)) then None else option_map (λ sample. due sample.octets) (cond b (Some (sample_of e.1)) (lookup (pointwise nat_eq id) (messages_of es))))
     by true is absent rest = rw (← is_id id e.0 is) (found e.1.kept kept.0 (rw (is_id id e.0 is) absent))
     by false is absent rest = rw (skip (is_stale e.1) is) rest
 
@@ -254,7 +271,7 @@ stale-listed es distinct = passing _ es (told es distinct)
 -- THE STALE ONES BEHIND AN EDIT
 
 pub stale-marked : (due : List ℕ → Verdict) (name : ScriptName) (es : List (List ℕ × Entry)) → KeepsDue due es → IsDistinct (pointwise nat_eq) (keys_of es)
-    → stale_of (marked name es) ≡ ids_where (λ m. is_read name (due m.1).reads || is_among m.0 (stale_of es)) (messages_of (marked name es))
+    → stale_of (marked name es) ≡ ids_where (λ m. is_read name (due m.1.octets).reads || is_among m.0 (stale_of es)) (messages_of (marked name es))
 stale-marked due name es kept distinct = passing _ (marked name es) (tells-marked due name (λ m. is_among m.0 (stale_of es)) es kept (told es distinct))
 
 or_assoc : (a b c : Bool) → ((a || b) || c) ≡ (a || (b || c))
@@ -263,21 +280,25 @@ or_assoc false b c = refl
 
 pub stale-marked_twice : (due : List ℕ → Verdict) (from to : ScriptName) (es : List (List ℕ × Entry)) → KeepsDue due es → IsDistinct (pointwise nat_eq) (keys_of es)
     → stale_of (marked from (marked to es))
-    ≡ ids_where (λ m. (is_read from (due m.1).reads || is_read to (due m.1).reads) || is_among m.0 (stale_of es)) (messages_of (marked from (marked to es)))
+    ≡ ids_where (λ m. (is_read from (due m.1.octets).reads || is_read to (due m.1.octets).reads) || is_among m.0 (stale_of es)) (messages_of (marked from (marked to es)))
 stale-marked_twice due from to es kept distinct =
-    let first : Tells (λ m. is_read to (due m.1).reads || is_among m.0 (stale_of es)) (marked to es) = tells-marked due to (λ m. is_among m.0 (stale_of es)) es kept (told es distinct) in
+    let first : Tells (λ m. is_read to (due m.1.octets).reads || is_among m.0 (stale_of es)) (marked to es) = tells-marked due to (λ m. is_among m.0 (stale_of es)) es kept (told es distinct) in
     passing _ (marked from (marked to es))
-    (tells_too (λ m. is_read from (due m.1).reads || (is_read to (due m.1).reads || is_among m.0 (stale_of es))) _ (marked from (marked to es))
-    (λ m. or_assoc (is_read from (due m.1).reads) (is_read to (due m.1).reads) (is_among m.0 (stale_of es)))
-    (tells-marked due from (λ m. is_read to (due m.1).reads || is_among m.0 (stale_of es)) (marked to es) (due-kept due to es kept) first))
+    (tells_too (λ m. is_read from (due m.1.octets).reads || (is_read to (due m.1.octets).reads || is_among m.0 (stale_of es))) _ (marked from (marked to es))
+    (λ m. or_assoc (is_read from (due m.1.octets).reads) (is_read to (due m.1.octets).reads) (is_among m.0 (stale_of es)))
+    (tells-marked due from (λ m. is_read to (due m.1.octets).reads || is_among m.0 (stale_of es)) (marked to es) (due-kept due to es kept) first))
 
 pub stale-all_marked : (es : List (List ℕ × Entry)) → stale_of (all_marked es) ≡ ids_where (λ m. true || is_among m.0 (stale_of es)) (messages_of (all_marked es))
 stale-all_marked es = passing _ (all_marked es) (tells-all_marked (λ m. is_among m.0 (stale_of es)) es)
 
-pub stale-put : (id bytes : List ℕ) (es : List (List ℕ × Entry)) → IsDistinct (pointwise nat_eq) (keys_of es)
-    → stale_of (ordered.insert_entry (pointwise nat_eq) es id (fresh_entry bytes)) ≡ ids_where (λ m. pointwise nat_eq id m.0 || is_among m.0 (stale_of es)) (messages_of (ordered.insert_entry (pointwise nat_eq) es id (fresh_entry bytes)))
-stale-put id bytes es distinct = passing _ (ordered.insert_entry (pointwise nat_eq) es id (fresh_entry bytes)) (tells-put id bytes (λ m. is_among m.0 (stale_of es)) es distinct (told es distinct))
+pub stale-put : (id bytes : List ℕ) (expected : Option (List ℕ)) (es : List (List ℕ × Entry)) → IsDistinct (pointwise nat_eq) (keys_of es)
+    → stale_of (ordered.insert_entry (pointwise nat_eq) es id (fresh_entry bytes expected)) ≡ ids_where (λ m. pointwise nat_eq id m.0 || is_among m.0 (stale_of es)) (messages_of (ordered.insert_entry (pointwise nat_eq) es id (fresh_entry bytes expected)))
+stale-put id bytes expected es distinct = passing _ (ordered.insert_entry (pointwise nat_eq) es id (fresh_entry bytes expected)) (tells-put id bytes expected (λ m. is_among m.0 (stale_of es)) es distinct (told es distinct))
 
 pub stale-removed : (at : List ℕ → Bool) (es : List (List ℕ × Entry)) → IsDistinct (pointwise nat_eq) (keys_of es)
     → stale_of (remove_entry at es) ≡ ids_where (λ m. false || is_among m.0 (stale_of es)) (messages_of (remove_entry at es))
 stale-removed at es distinct = passing _ (remove_entry at es) (tells-removed at (λ m. is_among m.0 (stale_of es)) es (told es distinct))
+
+pub stale-expecting : (id : List ℕ) (expected : Option (List ℕ)) (es : List (List ℕ × Entry)) → IsDistinct (pointwise nat_eq) (keys_of es)
+    → stale_of (changed id (expecting expected) es) ≡ ids_where (λ m. false || is_among m.0 (stale_of es)) (messages_of (changed id (expecting expected) es))
+stale-expecting id expected es distinct = passing _ (changed id (expecting expected) es) (tells-expecting id expected (stale_of es) es (told es distinct))

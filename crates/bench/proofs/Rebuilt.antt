@@ -3,23 +3,26 @@ use Rattle.std.proofs.Common.{◌≡◌, ℕ, ◌<◌, ◌≤◌, Bool, true, fa
 use Rattle.std.proofs.lemmas.Bool.Decides.{nat_tests}
 use Rattle.std.proofs.lemmas.List.Elements.{All-head, All-tail}
 use Rattle.std.proofs.lemmas.List.Sums.{fold-append}
-use Rattle.std.specs.List.{All, AllByRecursion, IsDistinct}
+use Rattle.std.specs.List.{All, AllByRecursion, IsDistinct, flat_map}
 use Rattle.std.specs.List.Sorted.{IsStrictlySortedBy}
 use Rattle.std.specs.Map.{keys_of, values_of}
+use Rattle.std.specs.Option.{option_and_then}
 use Rattle.std.specs.Ordering.{match_ordering}
 use Rattle.std.specs.declared.cmp.Ordering.TheVariants.{Less, Greater}
 use lib.Pointwise.{pointwise}
-use Rattle.sieve_base.specs.Limits.{address_limit, id_limit, mailbox_limit, message_count_limit, message_limit, name_limit, script_count_limit, text_limit}
+use Rattle.indexmap.specs.IndexMap as ordered
+use Rattle.sieve_base.specs.Limits.{address_limit, expected_limit, id_limit, mailbox_limit, message_count_limit, message_limit, name_limit, script_count_limit, text_limit}
 use Rattle.sieve_base.specs.Name.{name_cmp}
 use Rattle.sieve_base.specs.declared.name.ScriptName.{ScriptName}
-use Rattle.bench.specs.Content.{Content, Edit, after, new_content, put_script, put_message, set_envelope, set_mailbox, unless, text_at, message_at, with_script, with_message, is_long, is_long_id, script_refusal, message_refusal}
-use Rattle.bench.specs.Edits.{IsInOrder, IsWithinLimits, AreOrdered, AreDistinct, behind, content_after, main_edits, rebuild}
+use Rattle.bench.specs.Content.{Content, Edit, Sample, after, new_content, put_script, put_message, set_envelope, set_mailbox, unless, text_at, message_at, with_script, with_message, with_expected, is_long, is_long_id, script_refusal, message_refusal}
+use Rattle.bench.specs.Edits.{IsInOrder, IsWithinLimits, AreOrdered, AreDistinct, behind, content_after, expected_edits, main_edits, message_edits, rebuild}
 use Rattle.bench.specs.Test.{after_all, then_edit}
 use Rattle.bench.specs.declared.fault.EditFault.{EditFault}
-use Rattle.bench.specs.declared.fault.EditFault.TheVariants.{TooLarge, Full}
+use Rattle.bench.specs.declared.fault.EditFault.TheVariants.{TooLarge, Full, NoSuchMessage}
 use Rattle.bench.proofs.Jobs.{refusal_stays}
-use Rattle.bench.proofs.Names.{other_id}
-use Rattle.bench.proofs.Kept.{above, name_total, new_in_order, new_within, stays_in_order, stays_within}
+use Rattle.bench.proofs.Names.{other_id, same_id}
+use Rattle.bench.proofs.Kept.{above, name_total, new_in_order, stays_in_order}
+use Rattle.bench.proofs.Within.{new_within, stays_within}
 
 -- EDITS IN TURN
 
@@ -101,30 +104,75 @@ scripts_again content done (script ∷ rest) order few names texts =
 -- MESSAGES IN THEIR ORDER
 
 -- the ids before a message are others than its id
-ids_before : (done : List (List ℕ × List ℕ)) (message : List ℕ × List ℕ) (rest : List (List ℕ × List ℕ)) → AreDistinct (keys_of (done ++ message ∷ rest)) → AllByRecursion (λ id. pointwise nat_eq id message.0 ≡ false) (keys_of done)
+ids_before : (done : List (List ℕ × Sample)) (message : List ℕ × Sample) (rest : List (List ℕ × Sample)) → AreDistinct (keys_of (done ++ message ∷ rest)) → AllByRecursion (λ id. pointwise nat_eq id message.0 ≡ false) (keys_of done)
 unfolding IsDistinct
 ids_before [] message rest distinct = tt
 ids_before (first ∷ done) message rest distinct = (at done distinct.0, ids_before done message rest distinct.1)
   where
-    at : (done : List (List ℕ × List ℕ)) → AllByRecursion (λ id. pointwise nat_eq first.0 id ≡ false) (keys_of (done ++ message ∷ rest)) → pointwise nat_eq first.0 message.0 ≡ false
+    at : (done : List (List ℕ × Sample)) → AllByRecursion (λ id. pointwise nat_eq first.0 id ≡ false) (keys_of (done ++ message ∷ rest)) → pointwise nat_eq first.0 message.0 ≡ false
     at [] all = all.0
     at (one ∷ done) all = at done all.1
 
+-- octets of which nothing is expected
+abbrev plain : List ℕ → Sample
+plain octets = record { octets = octets; expected = None }
+
+-- an id that is none of theirs has no message
+none_there : (id : List ℕ) (messages : List (List ℕ × Sample)) → AllByRecursion (λ other. pointwise nat_eq other id ≡ false) (keys_of messages) → message_at messages id ≡ None
+none_there id [] apart = refl
+none_there id (e ∷ messages) apart = ap (λ b. if b then Some e.1 else message_at messages id) (other_id e.0 id apart.0) ∙ none_there id messages apart.1
+
 -- a message whose id is none of theirs is put last
-put_behind : (id bytes : List ℕ) (messages : List (List ℕ × List ℕ)) → AllByRecursion (λ other. pointwise nat_eq other id ≡ false) (keys_of messages) → with_message id bytes messages ≡ messages ++ (id, bytes) ∷ []
-put_behind id bytes [] apart = refl
-put_behind id bytes (e ∷ messages) apart =
-    ap (λ b. if b then (e.0, bytes) ∷ messages else e ∷ with_message id bytes messages) (other_id e.0 id apart.0) ∙ ap (λ l. e ∷ l) (put_behind id bytes messages apart.1)
+insert_behind : (id : List ℕ) (sample : Sample) (messages : List (List ℕ × Sample)) → AllByRecursion (λ other. pointwise nat_eq other id ≡ false) (keys_of messages) → ordered.insert_entry (pointwise nat_eq) messages id sample ≡ messages ++ (id, sample) ∷ []
+insert_behind id sample [] apart = refl
+insert_behind id sample (e ∷ messages) apart =
+    ap (λ b. if b then (e.0, sample) ∷ messages else e ∷ ordered.insert_entry (pointwise nat_eq) messages id sample) (other_id e.0 id apart.0) ∙ ap (λ l. e ∷ l) (insert_behind id sample messages apart.1)
+
+put_behind : (id bytes : List ℕ) (messages : List (List ℕ × Sample)) → AllByRecursion (λ other. pointwise nat_eq other id ≡ false) (keys_of messages) → with_message id bytes messages ≡ messages ++ (id, plain bytes) ∷ []
+put_behind id bytes messages apart =
+    ap (λ found. ordered.insert_entry (pointwise nat_eq) messages id (record { octets = bytes; expected = option_and_then (λ s. s.expected) found })) (none_there id messages apart)
+    ∙ insert_behind id (plain bytes) messages apart
+
+-- it is there then, and what is expected of it is set
+there_behind : (id : List ℕ) (sample : Sample) (messages : List (List ℕ × Sample)) → AllByRecursion (λ other. pointwise nat_eq other id ≡ false) (keys_of messages) → message_at (messages ++ (id, sample) ∷ []) id ≡ Some sample
+there_behind id sample [] apart = ap (λ b. if b then Some sample else None) (same_id id)
+there_behind id sample (e ∷ messages) apart = ap (λ b. if b then Some e.1 else message_at (messages ++ (id, sample) ∷ []) id) (other_id e.0 id apart.0) ∙ there_behind id sample messages apart.1
+
+expected_behind : (id octets text : List ℕ) (messages : List (List ℕ × Sample)) → AllByRecursion (λ other. pointwise nat_eq other id ≡ false) (keys_of messages)
+    → with_expected id (Some text) (messages ++ (id, plain octets) ∷ []) ≡ messages ++ (id, record { octets = octets; expected = Some text }) ∷ []
+expected_behind id octets text [] apart = ap (λ b. if b then (id, record { octets = octets; expected = Some text }) ∷ [] else (id, plain octets) ∷ []) (same_id id)
+expected_behind id octets text (e ∷ messages) apart =
+    ap (λ b. if b then (e.0, record e.1 { expected = Some text }) ∷ messages ++ (id, plain octets) ∷ [] else e ∷ with_expected id (Some text) (messages ++ (id, plain octets) ∷ [])) (other_id e.0 id apart.0)
+    ∙ ap (λ l. e ∷ l) (expected_behind id octets text messages apart.1)
+
+expected_unless : (long large missing : Bool) → long ≡ false → large ≡ false → missing ≡ false → (if long || large then Some TooLarge else if missing then Some NoSuchMessage else None) ≡ None
+expected_unless true large missing short small there = absurd cc
+expected_unless false true missing short small there = absurd cc
+expected_unless false false true short small there = absurd cc
+expected_unless false false false short small there = refl
+
+-- what is expected of the last message is set behind its put
+expected_again : (content : Content) (done : List (List ℕ × Sample)) (id octets : List ℕ) (expected : Option (List ℕ)) → AllByRecursion (λ other. pointwise nat_eq other id ≡ false) (keys_of done)
+    → length id ≤ id_limit → IfSome expected (λ text. length text ≤ expected_limit)
+    → after_all (record content { messages = done ++ (id, plain octets) ∷ [] }) (expected_edits id expected) ≡ Ok (record content { messages = done ++ (id, record { octets = octets; expected = expected }) ∷ [] })
+expected_again content done id octets None apart short small = refl
+expected_again content done id octets (Some text) apart short small =
+    ap (λ refusal. unless refusal (record content { messages = with_expected id (Some text) (done ++ (id, plain octets) ∷ []) }))
+    (expected_unless (is_long_id id) (nat_lt expected_limit (length text)) (is_none (message_at (done ++ (id, plain octets) ∷ []) id))
+    (within_limit id_limit (length id) short) (within_limit expected_limit (length text) small) (ap is_none (there_behind id (plain octets) done apart)))
+    ∙ ap (λ messages. Ok (record content { messages = messages })) (expected_behind id octets text done apart)
 
 -- putting messages in their order puts each behind those before it
-messages_again : (content : Content) (done rest : List (List ℕ × List ℕ)) → AreDistinct (keys_of (done ++ rest)) → length (done ++ rest) ≤ message_count_limit
-    → All (λ id. length id ≤ id_limit) (keys_of rest) → All (λ octets. length octets ≤ message_limit) (values_of rest)
-    → after_all (record content { messages = done }) (map (λ message. put_message message.0 message.1) rest) ≡ Ok (record content { messages = done ++ rest })
-messages_again content done [] distinct few ids octets = ap (λ messages. Ok (record content { messages = messages })) (sym (append-nil done))
-messages_again content done (message ∷ rest) distinct few ids octets =
-    ap (λ made. fold then_edit made (map (λ m. put_message m.0 m.1) rest)) first
+messages_again : (content : Content) (done rest : List (List ℕ × Sample)) → AreDistinct (keys_of (done ++ rest)) → length (done ++ rest) ≤ message_count_limit
+    → All (λ id. length id ≤ id_limit) (keys_of rest) → All (λ sample. length sample.octets ≤ message_limit) (values_of rest) → All (λ sample. IfSome sample.expected (λ text. length text ≤ expected_limit)) (values_of rest)
+    → after_all (record content { messages = done }) (flat_map message_edits rest) ≡ Ok (record content { messages = done ++ rest })
+messages_again content done [] distinct few ids octets texts = ap (λ messages. Ok (record content { messages = messages })) (sym (append-nil done))
+messages_again content done (message ∷ rest) distinct few ids octets texts =
+    fold-append then_edit (Ok (record content { messages = done })) (message_edits message) (flat_map message_edits rest)
+    ∙ ap (λ made. fold then_edit made (flat_map message_edits rest)) first
     ∙ messages_again content (done ++ message ∷ []) rest (subst (λ messages. AreDistinct (keys_of messages)) (sym again) distinct) (subst (λ messages. length messages ≤ message_count_limit) (sym again) few)
-    (All-tail (λ id. length id ≤ id_limit) message.0 (keys_of rest) ids) (All-tail (λ o. length o ≤ message_limit) message.1 (values_of rest) octets)
+    (All-tail (λ id. length id ≤ id_limit) message.0 (keys_of rest) ids) (All-tail (λ s. length s.octets ≤ message_limit) message.1 (values_of rest) octets)
+    (All-tail (λ s. IfSome s.expected (λ text. length text ≤ expected_limit)) message.1 (values_of rest) texts)
     ∙ ap (λ messages. Ok (record content { messages = messages })) again
   where
     again : (done ++ message ∷ []) ++ rest ≡ done ++ message ∷ rest
@@ -133,17 +181,28 @@ messages_again content done (message ∷ rest) distinct few ids octets =
     fits : length done < message_count_limit
     fits = let all = length-append done (message ∷ rest) in omega arith
 
-    none : message_refusal done message.0 message.1 ≡ None
+    apart : AllByRecursion (λ other. pointwise nat_eq other message.0 ≡ false) (keys_of done)
+    apart = ids_before done message rest distinct
+
+    short : length message.0 ≤ id_limit
+    short = All-head (λ id. length id ≤ id_limit) message.0 (keys_of rest) ids
+
+    none : message_refusal done message.0 message.1.octets ≡ None
     none =
-        put_refused_by (is_long_id message.0) (nat_lt message_limit (length message.1)) (is_none (message_at done message.0)) (nat_le message_count_limit (length done))
-        (within_limit id_limit (length message.0) (All-head (λ id. length id ≤ id_limit) message.0 (keys_of rest) ids))
-        (within_limit message_limit (length message.1) (All-head (λ o. length o ≤ message_limit) message.1 (values_of rest) octets))
+        put_refused_by (is_long_id message.0) (nat_lt message_limit (length message.1.octets)) (is_none (message_at done message.0)) (nat_le message_count_limit (length done))
+        (within_limit id_limit (length message.0) short)
+        (within_limit message_limit (length message.1.octets) (All-head (λ s. length s.octets ≤ message_limit) message.1 (values_of rest) octets))
         (has_room message_count_limit (length done) fits)
 
-    first : after (record content { messages = done }) (put_message message.0 message.1) ≡ Ok (record content { messages = done ++ message ∷ [] })
+    put : after (record content { messages = done }) (put_message message.0 message.1.octets) ≡ Ok (record content { messages = done ++ (message.0, plain message.1.octets) ∷ [] })
+    put =
+        ap (λ refusal. unless refusal (record content { messages = with_message message.0 message.1.octets done })) none
+        ∙ ap (λ messages. Ok (record content { messages = messages })) (put_behind message.0 message.1.octets done apart)
+
+    first : after_all (record content { messages = done }) (message_edits message) ≡ Ok (record content { messages = done ++ message ∷ [] })
     first =
-        ap (λ refusal. unless refusal (record content { messages = with_message message.0 message.1 done })) none
-        ∙ ap (λ messages. Ok (record content { messages = messages })) (put_behind message.0 message.1 done (ids_before done message rest distinct))
+        ap (λ made. fold then_edit made (expected_edits message.0 message.1.expected)) put
+        ∙ expected_again content done message.0 message.1.octets message.1.expected apart short (All-head (λ s. IfSome s.expected (λ text. length text ≤ expected_limit)) message.1 (values_of rest) texts)
 
 -- SETTINGS
 
@@ -190,12 +249,12 @@ module _ (content : Content) (order : IsInOrder content) (limits : IsWithinLimit
   pub made_again : after_all new_content (rebuild content) ≡ Ok content
   unfolding rebuild
   made_again =
-      fold-append then_edit (Ok new_content) (map (λ s. put_script s.0 s.1) content.scripts) (map (λ m. put_message m.0 m.1) content.messages ++ settings)
-      ∙ ap (λ made. fold then_edit made (map (λ m. put_message m.0 m.1) content.messages ++ settings))
+      fold-append then_edit (Ok new_content) (map (λ s. put_script s.0 s.1) content.scripts) (flat_map message_edits content.messages ++ settings)
+      ∙ ap (λ made. fold then_edit made (flat_map message_edits content.messages ++ settings))
       (scripts_again new_content [] content.scripts order.scripts limits.scripts.count limits.scripts.names limits.scripts.texts)
-      ∙ fold-append then_edit (Ok scripts_there) (map (λ m. put_message m.0 m.1) content.messages) settings
+      ∙ fold-append then_edit (Ok scripts_there) (flat_map message_edits content.messages) settings
       ∙ ap (λ made. fold then_edit made settings)
-      (messages_again scripts_there [] content.messages order.ids limits.messages.count limits.messages.ids limits.messages.octets)
+      (messages_again scripts_there [] content.messages order.ids limits.messages.count limits.messages.ids limits.messages.octets limits.messages.expected)
       ∙ set_again
 
 -- so it is with what edits make of a new bench's content

@@ -9,7 +9,7 @@ use Rattle.sieve_run.specs.Meter.{next_run, runs_after}
 use Rattle.sieve_run.specs.Verdict.{Verdict}
 use Rattle.bench.specs.Bench.{RefusedAmong}
 use Rattle.bench.specs.declared.entry.Entry.{Entry}
-use Rattle.bench.specs.view.Entry.{is_stale, messages_of, stale_of, KeepsDue, kept_or, refreshed, runs_at}
+use Rattle.bench.specs.view.Entry.{is_stale, messages_of, sample_of, stale_of, KeepsDue, kept_or, refreshed, runs_at}
 
 -- Between two states of the entries and the meter, the stale ones among the first so many were run.
 pub record Refreshing (due : List ℕ → Verdict) (old new : List (List ℕ × Entry)) (place before after : ℕ) : Type 0 where
@@ -30,8 +30,8 @@ module _ (due : List ℕ → Verdict) where
   pub messages-refreshed : (es : List (List ℕ × Entry)) (i : ℕ) (entry : Entry) → slice_get (values_of es) i ≡ Some entry → messages_of (set_value_at es i (refreshed due entry)) ≡ messages_of es
   unfolding messages_of
   messages-refreshed [] i entry at = refl
-  messages-refreshed (e ∷ es) zero entry at = let same : e.1 ≡ entry = cc in ap (λ x. (e.0, x.message) ∷ messages_of es) (sym same)
-  messages-refreshed (e ∷ es) (suc i) entry at = ap (λ l. (e.0, e.1.message) ∷ l) (messages-refreshed es i entry at)
+  messages-refreshed (e ∷ es) zero entry at = let same : e.1 ≡ entry = cc in ap (λ x. (e.0, sample_of x) ∷ messages_of es) (sym same)
+  messages-refreshed (e ∷ es) (suc i) entry at = ap (λ l. (e.0, sample_of e.1) ∷ l) (messages-refreshed es i entry at)
 
   due_entry : (message : List ℕ) (kept : Option Verdict) → IfSome kept (λ verdict. verdict ≡ due message) → IfSome (kept_or (due message) kept) (λ verdict. verdict ≡ due message)
   due_entry message None is = refl

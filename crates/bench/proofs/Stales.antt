@@ -1,5 +1,5 @@
 -- Worked rows of which messages are stale behind an edit, and behind a report that memory was refused to.
-use Rattle.std.proofs.Common.{◌≡◌, ℕ, ◌<◌, true, false, List, [], ◌∷◌, length, length-append, Some, Result, Ok, Err, nat_lt, refl, ap, codes, arith}
+use Rattle.std.proofs.Common.{◌≡◌, ℕ, ◌<◌, true, false, List, [], ◌∷◌, length, length-append, None, Some, Result, Ok, Err, nat_lt, refl, ap, codes, arith}
 use Rattle.sieve_base.specs.Limits.{text_limit}
 use Rattle.sieve_base.specs.declared.place.Place.TheVariants.{Personal, Global}
 use Rattle.sieve_check.specs.Judgement.{judgement_of, sound, faulty}
@@ -10,7 +10,7 @@ use Rattle.sieve_check.specs.declared.judged.FaultKind.{FaultKind}
 use Rattle.sieve_run.specs.Run.{outcome_of, exec}
 use Rattle.sieve_base.specs.declared.name.ScriptName.{ScriptName}
 use Rattle.bench.specs.Bench.{RefusedAmong}
-use Rattle.bench.specs.Content.{Content, Edit, after, put_script, put_message, set_main, rename_script, remove_script, remove_message, clear_main, set_envelope, set_mailbox}
+use Rattle.bench.specs.Content.{Content, Edit, after, put_script, put_message, set_main, rename_script, remove_script, remove_message, clear_main, set_envelope, set_mailbox, set_expected, clear_expected}
 use Rattle.bench.specs.Stale.{ids_where, stale_after, verdict_on}
 use Rattle.bench.specs.declared.fault.EditFault.{EditFault}
 
@@ -36,7 +36,7 @@ bench scripts = record {
   main = Some main;
   envelope = record { from = []; to = []; mailbox = codes "INBOX" };
   scripts = scripts;
-  messages = (codes "m1", codes "Subject: one\n\n") ∷ (codes "m2", codes "Subject: two\n\n") ∷ [];
+  messages = (codes "m1", record { octets = codes "Subject: one\n\n"; expected = None }) ∷ (codes "m2", record { octets = codes "Subject: two\n\n"; expected = Some (codes "keep\n") }) ∷ [];
 }
 
 -- the stale messages behind an edit: where it is refused, those that were stale
@@ -196,6 +196,19 @@ module _ (text : List ℕ) (alone : IsAlone text) where
   clear_main_row : touched (present text) clear_main ≡ both
   unfolding ids_where
   clear_main_row = refl
+
+  -- what is expected touches none, and leaves what was stale
+  expected_row : touched (present text) (set_expected (codes "m1") (codes "discard\n")) ≡ []
+  unfolding ids_where
+  expected_row = refl
+
+  expected_stays_row : marks (present text) (set_expected (codes "m1") (codes "discard\n")) first ≡ first
+  unfolding ids_where
+  expected_stays_row = refl
+
+  not_expected_row : touched (present text) (clear_expected (codes "m2")) ≡ []
+  unfolding ids_where
+  not_expected_row = refl
 
 -- A REPORT THAT MEMORY WAS REFUSED TO
 

@@ -13,7 +13,7 @@ pub record BenchState : Type 0 where
 
 -- the verdict on the message of an id that is not stale
 abbrev pub verdict_at : BenchState → List ℕ → Option Verdict
-verdict_at state id = if is_among id state.stale then None else option_map (verdict_on state.content) (message_at state.content.messages id)
+verdict_at state id = if is_among id state.stale then None else option_map (λ sample. verdict_on state.content sample.octets) (message_at state.content.messages id)
 
 -- Where memory is refused to a report, the first of the stale messages were run and are stale no more. The run on the next one was refused,
 -- and is counted too.

@@ -1,23 +1,29 @@
 -- What a bench holds, and what an edit makes of it.
-use Rattle.std.specs.Prelude.{◌≡◌, ⊤, ℕ, Bool, List, [], length, Option, None, Some, Result, Ok, Err, if◌then◌else◌, ◌||◌, ◌&&◌, is_none, is_some, nat_lt, nat_le, nat_eq, codes}
+use Rattle.std.specs.Prelude.{◌≡◌, ⊤, ℕ, Bool, List, [], ◌∷◌, length, Option, None, Some, Result, Ok, Err, if◌then◌else◌, ◌||◌, ◌&&◌, is_none, is_some, nat_lt, nat_le, nat_eq, codes}
 use Rattle.std.specs.Map.{lookup, remove_entry}
+use Rattle.std.specs.Option.{option_and_then}
 use Rattle.std.specs.BTreeMap as tree
 use Rattle.indexmap.specs.IndexMap as ordered
 use lib.Pointwise.{pointwise}
-use Rattle.sieve_base.specs.Limits.{address_limit, id_limit, mailbox_limit, message_count_limit, message_limit, name_limit, script_count_limit, text_limit}
+use Rattle.sieve_base.specs.Limits.{address_limit, expected_limit, id_limit, mailbox_limit, message_count_limit, message_limit, name_limit, script_count_limit, text_limit}
 use Rattle.sieve_base.specs.declared.name.ScriptName.{ScriptName}
 use Rattle.sieve_effects.specs.declared.envelope.Envelope.{Envelope}
 use Rattle.sieve_base.specs.Name.{name_cmp}
 use Rattle.bench.specs.declared.fault.EditFault.{EditFault}
 use Rattle.bench.specs.declared.fault.EditFault.TheVariants.{TooLarge, NoSuchScript, NameTaken, NoSuchMessage, Full, NoMemory}
 
+-- a message's octets, and the text that its verdict is expected to have, where there is one
+pub record Sample : Type 0 where
+  pub octets : List ℕ
+  pub expected : Option (List ℕ)
+
 -- the main script's name, the envelope, the scripts in printing order with their texts, and the messages in order
--- with their octets
+-- by their ids
 pub record Content : Type 0 where
   pub main : Option ScriptName
   pub envelope : Envelope
   pub scripts : List (ScriptName × List ℕ)
-  pub messages : List (List ℕ × List ℕ)
+  pub messages : List (List ℕ × Sample)
 
 -- what a new bench holds: mail is kept in the INBOX
 abbrev pub new_content : Content
@@ -33,29 +39,40 @@ pub data Edit : Type 0 where
   clear_main : Edit
   set_envelope : (from to : List ℕ) → Edit
   set_mailbox : (mailbox : List ℕ) → Edit
+  set_expected : (id text : List ℕ) → Edit
+  clear_expected : (id : List ℕ) → Edit
 
 -- the text of the script of that name
 abbrev pub text_at : List (ScriptName × List ℕ) → ScriptName → Option (List ℕ)
 text_at scripts name = lookup (tree.is_at (name_cmp name)) scripts
 
--- the octets of the message of that id
-abbrev pub message_at : List (List ℕ × List ℕ) → List ℕ → Option (List ℕ)
+-- the message of that id
+abbrev pub message_at : List (List ℕ × Sample) → List ℕ → Option Sample
 message_at messages id = lookup (pointwise nat_eq id) messages
+
+-- the text that is expected of it, where it is there and there is one
+abbrev pub expected_at : List (List ℕ × Sample) → List ℕ → Option (List ℕ)
+expected_at messages id = option_and_then (λ sample. sample.expected) (message_at messages id)
 
 -- the scripts with this text at the name: in the place of the one there, or where it belongs in the order
 abbrev pub with_script : ScriptName → List ℕ → List (ScriptName × List ℕ) → List (ScriptName × List ℕ)
 with_script name text scripts = tree.insert_entry name_cmp scripts name text
 
--- the messages with these octets at the id: in the place of the one there, or last
-abbrev pub with_message : List ℕ → List ℕ → List (List ℕ × List ℕ) → List (List ℕ × List ℕ)
-with_message id bytes messages = ordered.insert_entry (pointwise nat_eq) messages id bytes
+-- the messages with these octets at the id: in the place of the one there, of which is expected what was, or last
+abbrev pub with_message : List ℕ → List ℕ → List (List ℕ × Sample) → List (List ℕ × Sample)
+with_message id bytes messages = ordered.insert_entry (pointwise nat_eq) messages id (record { octets = bytes; expected = expected_at messages id })
+
+-- the messages with this text expected of the one at the id, or with none; the others stay as they are
+abbrev pub with_expected : List ℕ → Option (List ℕ) → List (List ℕ × Sample) → List (List ℕ × Sample)
+with_expected id expected [] = []
+with_expected id expected (m ∷ ms) = if pointwise nat_eq id m.0 then (m.0, record m.1 { expected = expected }) ∷ ms else m ∷ with_expected id expected ms
 
 -- the scripts without the one at the name
 abbrev pub without_script : ScriptName → List (ScriptName × List ℕ) → List (ScriptName × List ℕ)
 without_script name scripts = remove_entry (tree.is_at (name_cmp name)) scripts
 
 -- the messages without the one at the id; the others stay in their order
-abbrev pub without_message : List ℕ → List (List ℕ × List ℕ) → List (List ℕ × List ℕ)
+abbrev pub without_message : List ℕ → List (List ℕ × Sample) → List (List ℕ × Sample)
 without_message id messages = remove_entry (pointwise nat_eq id) messages
 
 -- the scripts with the text at one name put at another
@@ -79,7 +96,7 @@ script_refusal scripts name text =
     else None
 
 -- the id and the octets have their limits, and a new message must find room among the others
-abbrev pub message_refusal : List (List ℕ × List ℕ) → List ℕ → List ℕ → Option EditFault
+abbrev pub message_refusal : List (List ℕ × Sample) → List ℕ → List ℕ → Option EditFault
 message_refusal messages id bytes =
     if is_long_id id || nat_lt message_limit (length bytes) then Some TooLarge
     else if is_none (message_at messages id) && nat_le message_count_limit (length messages) then Some Full
@@ -102,9 +119,17 @@ remove_script_refusal scripts name =
     else if is_none (text_at scripts name) then Some NoSuchScript
     else None
 
-abbrev pub remove_message_refusal : List (List ℕ × List ℕ) → List ℕ → Option EditFault
-remove_message_refusal messages id =
+-- the id has its limit, and its message must be there
+abbrev pub absent_refusal : List (List ℕ × Sample) → List ℕ → Option EditFault
+absent_refusal messages id =
     if is_long_id id then Some TooLarge
+    else if is_none (message_at messages id) then Some NoSuchMessage
+    else None
+
+-- the id and the text have their limits, and the message must be there
+abbrev pub expected_refusal : List (List ℕ × Sample) → List ℕ → List ℕ → Option EditFault
+expected_refusal messages id text =
+    if is_long_id id || nat_lt expected_limit (length text) then Some TooLarge
     else if is_none (message_at messages id) then Some NoSuchMessage
     else None
 
@@ -128,10 +153,12 @@ after content (put_message id bytes) = unless (message_refusal content.messages 
 after content (set_main name) = unless (main_refusal name) (record content { main = Some name })
 after content (rename_script from to) = unless (rename_refusal content.scripts from to) (record content { scripts = with_renamed from (text_at content.scripts from) to content.scripts })
 after content (remove_script name) = unless (remove_script_refusal content.scripts name) (record content { scripts = without_script name content.scripts })
-after content (remove_message id) = unless (remove_message_refusal content.messages id) (record content { messages = without_message id content.messages })
+after content (remove_message id) = unless (absent_refusal content.messages id) (record content { messages = without_message id content.messages })
 after content clear_main = Ok (record content { main = None })
 after content (set_envelope from to) = unless (envelope_refusal from to) (record content { envelope = record content.envelope { from = from; to = to } })
 after content (set_mailbox mailbox) = unless (mailbox_refusal mailbox) (record content { envelope = record content.envelope { mailbox = mailbox } })
+after content (set_expected id text) = unless (expected_refusal content.messages id text) (record content { messages = with_expected id (Some text) content.messages })
+after content (clear_expected id) = unless (absent_refusal content.messages id) (record content { messages = with_expected id None content.messages })
 
 -- an edit that takes no memory answers as it must
 abbrev pub Answers : Result Content EditFault → Result Unit EditFault → Type 0

@@ -1,14 +1,14 @@
 -- What edits in turn make of a content, what holds of each content that they make of a new bench's, and which edits make a content anew.
 use Rattle.std.specs.Prelude.{ℕ, ◌≤◌, List, [], ◌∷◌, ◌++◌, length, map, Option, None, Some, IfSome, Result, Ok, Err, nat_eq}
-use Rattle.std.specs.List.{All, IsDistinct}
+use Rattle.std.specs.List.{All, IsDistinct, flat_map}
 use Rattle.std.specs.List.Sorted.{IsStrictlySortedBy}
 use Rattle.std.specs.Map.{keys_of, values_of}
 use lib.Pointwise.{pointwise}
-use Rattle.sieve_base.specs.Limits.{address_limit, id_limit, mailbox_limit, message_count_limit, message_limit, name_limit, script_count_limit, text_limit}
+use Rattle.sieve_base.specs.Limits.{address_limit, expected_limit, id_limit, mailbox_limit, message_count_limit, message_limit, name_limit, script_count_limit, text_limit}
 use Rattle.sieve_base.specs.Name.{name_cmp}
 use Rattle.sieve_effects.specs.declared.envelope.Envelope.{Envelope}
 use Rattle.sieve_base.specs.declared.name.ScriptName.{ScriptName}
-use Rattle.bench.specs.Content.{Content, Edit, after, put_script, put_message, set_main, set_envelope, set_mailbox}
+use Rattle.bench.specs.Content.{Content, Edit, Sample, after, put_script, put_message, set_main, set_envelope, set_mailbox, set_expected}
 use Rattle.bench.specs.declared.fault.EditFault.{EditFault}
 
 -- EDITS IN TURN
@@ -50,11 +50,12 @@ pub record AreScriptsWithin (scripts : List (ScriptName × List ℕ)) : Type 0 w
   pub names : All (λ name. length name.name ≤ name_limit) (keys_of scripts)
   pub texts : All (λ text. length text ≤ text_limit) (values_of scripts)
 
--- so with messages
-pub record AreMessagesWithin (messages : List (List ℕ × List ℕ)) : Type 0 where
+-- so with messages, and with the texts that are expected of them
+pub record AreMessagesWithin (messages : List (List ℕ × Sample)) : Type 0 where
   pub count : length messages ≤ message_count_limit
   pub ids : All (λ id. length id ≤ id_limit) (keys_of messages)
-  pub octets : All (λ octets. length octets ≤ message_limit) (values_of messages)
+  pub octets : All (λ sample. length sample.octets ≤ message_limit) (values_of messages)
+  pub expected : All (λ sample. IfSome sample.expected (λ text. length text ≤ expected_limit)) (values_of messages)
 
 -- all is within the limits
 pub record IsWithinLimits (content : Content) : Type 0 where
@@ -70,10 +71,19 @@ abbrev pub main_edits : Option ScriptName → List Edit
 main_edits None = []
 main_edits (Some name) = set_main name ∷ []
 
+-- the edit that says what is expected of a message, where anything is
+abbrev pub expected_edits : List ℕ → Option (List ℕ) → List Edit
+expected_edits id None = []
+expected_edits id (Some text) = set_expected id text ∷ []
+
+-- a message is put, and then what is expected of it
+abbrev pub message_edits : List ℕ × Sample → List Edit
+message_edits message = put_message message.0 message.1.octets ∷ expected_edits message.0 message.1.expected
+
 -- all that a content has, as edits of a new bench: the scripts in their order, the messages in theirs, the envelope, the mailbox and the
 -- main script
 unfoldable pub rebuild : Content → List Edit
 rebuild content =
     map (λ script. put_script script.0 script.1) content.scripts
-    ++ (map (λ message. put_message message.0 message.1) content.messages
+    ++ (flat_map message_edits content.messages
     ++ (set_envelope content.envelope.from content.envelope.to ∷ set_mailbox content.envelope.mailbox ∷ main_edits content.main))

@@ -5,7 +5,7 @@ use lib.Pointwise.{pointwise}
 use Rattle.sieve_base.specs.declared.name.ScriptName.{ScriptName}
 use Rattle.sieve_run.specs.Run.{is_read}
 use Rattle.sieve_run.specs.Verdict.{Verdict}
-use Rattle.bench.specs.Content.{Content, Edit, put_script, put_message, set_main, rename_script, remove_script, remove_message, clear_main, set_envelope, set_mailbox}
+use Rattle.bench.specs.Content.{Content, Edit, Sample, put_script, put_message, set_main, rename_script, remove_script, remove_message, clear_main, set_envelope, set_mailbox, set_expected, clear_expected}
 use Rattle.bench.specs.Report.{verdict_by}
 
 -- the verdict on a message of a content
@@ -16,24 +16,26 @@ verdict_on content bytes = verdict_by content.main content.envelope content.scri
 abbrev pub looks_up : Content → ScriptName → List ℕ → Bool
 looks_up content name bytes = is_read name (verdict_on content bytes).reads
 
--- whether an edit of a content touches a message, told by its id and its octets
-abbrev pub touches : Content → Edit → List ℕ × List ℕ → Bool
-touches content (put_script name text) message = looks_up content name message.1
+-- whether an edit of a content touches a message, told by its id and its octets; what is expected of it is no part of the run
+abbrev pub touches : Content → Edit → List ℕ × Sample → Bool
+touches content (put_script name text) message = looks_up content name message.1.octets
 touches content (put_message id bytes) message = pointwise nat_eq id message.0
 touches content (set_main name) message = true
-touches content (rename_script from to) message = looks_up content from message.1 || looks_up content to message.1
-touches content (remove_script name) message = looks_up content name message.1
+touches content (rename_script from to) message = looks_up content from message.1.octets || looks_up content to message.1.octets
+touches content (remove_script name) message = looks_up content name message.1.octets
 touches content (remove_message id) message = false
 touches content clear_main message = true
 touches content (set_envelope from to) message = true
 touches content (set_mailbox mailbox) message = true
+touches content (set_expected id text) message = false
+touches content (clear_expected id) message = false
 
 -- whether an id is among some
 abbrev pub is_among : List ℕ → List (List ℕ) → Bool
 is_among id ids = list_any (pointwise nat_eq id) ids
 
 -- the ids of the messages that pass a test, in their order
-unfoldable pub ids_where : (List ℕ × List ℕ → Bool) → List (List ℕ × List ℕ) → List (List ℕ)
+unfoldable pub ids_where : (List ℕ × Sample → Bool) → List (List ℕ × Sample) → List (List ℕ)
 ids_where test messages = map (λ m. m.0) (filter test messages)
 
 -- the stale messages behind an edit that makes a content of another, told by their ids in the list's order: of those that are there then,

@@ -3,10 +3,9 @@ use Rattle.std.specs.Prelude.{◌≡◌, ◌⊎◌, ℕ, Bool, true, false, ◌&
 use Rattle.std.specs.List.{list_all}
 use Rattle.sieve_check.specs.Judgement.{Judgement, judgement_of, sound, faulty}
 use Rattle.sieve_run.specs.Meter.{next_run}
-use Rattle.sieve_run.specs.Verdict.{Verdict}
 use Rattle.sieve_base.specs.declared.name.ScriptName.{ScriptName}
 use Rattle.bench.specs.Content.{Content, Edit, after, new_content, put_script, put_message, set_main, set_envelope, set_mailbox}
-use Rattle.bench.specs.Report.{error_count, report_text, verdicts}
+use Rattle.bench.specs.Report.{Judged, error_count, report_text, verdicts}
 use Rattle.bench.specs.declared.fault.EditFault.{EditFault}
 use Rattle.bench.specs.declared.fault.EditFault.TheVariants as edit
 use Rattle.bench.specs.declared.test_end.TestEnd.{TestEnd}
@@ -46,7 +45,7 @@ is_sound (sound tree) = true
 is_sound (faulty line kind) = false
 
 -- whether a report of scripts with these verdicts has nothing to complain of: each script's line says `ok`, and no message has an error
-abbrev pub is_clean_with : List (ScriptName × List ℕ) → List (List ℕ × Verdict) → Bool
+abbrev pub is_clean_with : List (ScriptName × List ℕ) → List Judged → Bool
 is_clean_with scripts judged = list_all (λ e. is_sound (judgement_of e.1)) scripts && (error_count judged == 0)
 
 -- whether the report of a content has nothing to complain of

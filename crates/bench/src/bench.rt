@@ -11,21 +11,21 @@ ghost use Rattle.bench.specs.Report.{report_text};
 ghost use Rattle.bench.specs.Test.{is_clean};
 ghost use Rattle.bench.specs.view.ReportFault.{MatchReportFault};
 ghost use Rattle.bench.specs.Content.{after, Answers, new_content, Refuses, text_at};
-ghost use Rattle.bench.specs.Content.{put_script, put_message, set_main, rename_script, remove_script, remove_message, clear_main, set_envelope, set_mailbox};
+ghost use Rattle.bench.specs.Content.{put_script, put_message, set_main, rename_script, remove_script, remove_message, clear_main, set_envelope, set_mailbox, set_expected, clear_expected};
 
 use crate::entry::Entry;
 use crate::fault::{EditFault, ReportFault};
 use crate::marking::{forget_all, forget_readers};
 use crate::message::message_of;
+use crate::messages::{expect, put};
 use crate::refusal::{
-    is_long, refuse_envelope, refuse_mailbox, refuse_main, refuse_message, refuse_remove_script,
-    refuse_rename, refuse_script,
+    is_long, refuse_absent, refuse_envelope, refuse_expected, refuse_mailbox, refuse_main,
+    refuse_message, refuse_remove_script, refuse_rename, refuse_script,
 };
 use crate::report::{is_clean, run_stale, write_report};
 use crate::scripts::Scripts;
 use crate::sought::{Sought, remove_sought};
 use indexmap::IndexMap;
-use sieve_base::limits::MAX_ID;
 use sieve_base::{Octets, ScriptName, Sink};
 use sieve_run::{Envelope, Found, Library, Meter, Outcome};
 use std::alloc::{AllocError, Global};
@@ -98,14 +98,23 @@ impl Bench {
             return Err(fault);
         }
         let message = message_of(self.alloc, bytes)?;
-        let entry = Entry {
-            message,
-            kept: None,
-        };
-        match self.messages.insert(id, entry) {
-            Ok(_) => Ok(()),
-            Err(_) => Err(EditFault::NoMemory),
+        put(&mut self.messages, id, message)?;
+        Ok(())
+    }
+
+    /// Expects a text of a message's verdict, which needn't be copied.
+    #[tactic(auto, using(crate::proofs::Entries::entries))]
+    pub fn keep_expected(&mut self, id: &[u8], text: Octets) -> Result<(), EditFault>
+        ensures ok { OnOk result (after self.old.content (set_expected id.now text) ≡ Ok self.new.content) }
+        ensures stale { OnOk result (self.new.stale ≡ stale_after self.old.content (set_expected id.now text) self.old.stale self.new.content) }
+        ensures err { OnErr result (self.new ≡ self.old) }
+        ensures refused { Answers (after self.old.content (set_expected id.now text)) result }
+    {
+        if let Some(fault) = refuse_expected(&self.messages, id, text.as_slice()) {
+            return Err(fault);
         }
+        expect(&mut self.messages, Sought { octets: id }, Some(text));
+        Ok(())
     }
 
     /// A bench with no scripts, no messages, no main script, an empty envelope, and the mailbox `INBOX`.
@@ -144,7 +153,8 @@ impl Bench {
         self.keep_script(name, text)
     }
 
-    /// Puts a message's octets at an id: a new id goes last, a present one keeps its place.
+    /// Puts a message's octets at an id: a new id goes last, and nothing is expected of its verdict; a present one keeps its place, and the text that is
+    /// expected.
     pub fn put_message(&mut self, id: &Octets, bytes: &[u8]) -> Result<(), EditFault>
         ensures ok { OnOk result (after self.old.content (put_message id.now bytes.now) ≡ Ok self.new.content) }
         ensures stale { OnOk result (self.new.stale ≡ stale_after self.old.content (put_message id.now bytes.now) self.old.stale self.new.content) }
@@ -210,7 +220,7 @@ impl Bench {
         Ok(())
     }
 
-    /// Removes a message. The others stay in their order. Takes no memory.
+    /// Removes a message, and what is expected of it. The others stay in their order. Takes no memory.
     #[tactic(auto, using(crate::proofs::Entries::entries))]
     pub fn remove_message(&mut self, id: &[u8]) -> Result<(), EditFault>
         ensures ok { OnOk result (after self.old.content (remove_message id.now) ≡ Ok self.new.content) }
@@ -218,14 +228,40 @@ impl Bench {
         ensures err { OnErr result (self.new ≡ self.old) }
         ensures refused { Answers (after self.old.content (remove_message id.now)) result }
     {
-        let sought = Sought { octets: id };
-        if id.len() > MAX_ID {
-            return Err(EditFault::TooLarge);
+        if let Some(fault) = refuse_absent(&self.messages, id) {
+            return Err(fault);
         }
-        if !self.messages.contains_key(sought) {
-            return Err(EditFault::NoSuchMessage);
+        remove_sought(&mut self.messages, Sought { octets: id });
+        Ok(())
+    }
+
+    /// Expects a text of a message's verdict, in place of what was expected. Each report tells whether the verdict's lines are those of the text, as
+    /// `Outcome::agrees` does. Makes no message stale.
+    pub fn set_expected(&mut self, id: &[u8], text: &[u8]) -> Result<(), EditFault>
+        ensures ok { OnOk result (after self.old.content (set_expected id.now text.now) ≡ Ok self.new.content) }
+        ensures stale { OnOk result (self.new.stale ≡ stale_after self.old.content (set_expected id.now text.now) self.old.stale self.new.content) }
+        ensures err { OnErr result (self.new ≡ self.old) }
+        ensures refused { Refuses (after self.old.content (set_expected id.now text.now)) result }
+    {
+        if let Some(fault) = refuse_expected(&self.messages, id, text) {
+            return Err(fault);
         }
-        remove_sought(&mut self.messages, sought);
+        let copy = Octets::copied(self.alloc, text)?;
+        self.keep_expected(id, copy)
+    }
+
+    /// Expects no text of a message's verdict any more, also where none was expected. Makes no message stale. Takes no memory.
+    #[tactic(auto, using(crate::proofs::Entries::entries))]
+    pub fn clear_expected(&mut self, id: &[u8]) -> Result<(), EditFault>
+        ensures ok { OnOk result (after self.old.content (clear_expected id.now) ≡ Ok self.new.content) }
+        ensures stale { OnOk result (self.new.stale ≡ stale_after self.old.content (clear_expected id.now) self.old.stale self.new.content) }
+        ensures err { OnErr result (self.new ≡ self.old) }
+        ensures refused { Answers (after self.old.content (clear_expected id.now)) result }
+    {
+        if let Some(fault) = refuse_absent(&self.messages, id) {
+            return Err(fault);
+        }
+        expect(&mut self.messages, Sought { octets: id }, None);
         Ok(())
     }
 

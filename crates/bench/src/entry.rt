@@ -1,20 +1,21 @@
 //! A message of a bench, with the verdict on it.
-ghost use Rattle.std.specs.Prelude.{◌≡◌, OnOk, OnErr, None};
+ghost use Rattle.std.specs.Prelude.{◌≡◌, OnOk, OnErr, None, is_some};
 ghost use Rattle.std.specs.Option.{option_copied};
 ghost use Rattle.sieve_run.specs.Meter.{next_run};
 ghost use Rattle.sieve_run.specs.Run.{is_read};
-ghost use Rattle.bench.specs.Report.{verdict_by};
-ghost use Rattle.bench.specs.view.Entry.{forgotten, has_error, refreshed, runs_at, unread};
+ghost use Rattle.bench.specs.Report.{is_unlike, verdict_by};
+ghost use Rattle.bench.specs.view.Entry.{disagrees, expecting, forgotten, has_error, refreshed, renewed, runs_at, unread};
 
 use crate::scripts::Scripts;
-use sieve_base::ScriptName;
+use sieve_base::{Octets, ScriptName};
 use sieve_run::{Envelope, Message, Meter, Outcome, run};
 use std::alloc::{AllocError, Global};
 
-/// A message with the verdict on it, unless it is stale.
+/// A message with the text that its verdict is expected to have, where there is one, and with the verdict on it, unless it is stale.
 #[derive(Drop)]
 pub(crate) struct Entry {
     pub(crate) message: Message,
+    pub(crate) expected: Option<Octets>,
     pub(crate) kept: Option<Outcome>,
 }
 
@@ -25,12 +26,37 @@ fn looked_up(outcome: &Outcome, name: &ScriptName) -> bool
     outcome.reads().contains_key(name)
 }
 
+/// Whether a text is expected of a verdict, and it has another.
+fn is_unlike(outcome: &Outcome, mailbox: &[u8], expected: Option<&Octets>) -> bool
+    ensures { result ≡ is_unlike mailbox.now outcome.now (option_copied expected.entry) }
+{
+    match expected {
+        Some(text) => !outcome.agrees(mailbox, text.as_slice()),
+        None => false,
+    }
+}
+
 impl Entry {
     /// Marks the message stale.
     pub(crate) fn forget(&mut self)
         ensures { self.new ≡ forgotten self.old }
     {
         self.kept = None;
+    }
+
+    /// Takes another message's place, of which is expected what was. It is stale.
+    pub(crate) fn renew(&mut self, message: Message)
+        ensures { self.new ≡ renewed message self.old }
+    {
+        self.message = message;
+        self.kept = None;
+    }
+
+    /// Expects this text of the message's verdict, or none. What is kept stays.
+    pub(crate) fn expect(&mut self, text: Option<Octets>)
+        ensures { self.new ≡ expecting text self.old }
+    {
+        self.expected = text;
     }
 
     /// Marks the message stale if its run looked the name up.
@@ -72,6 +98,23 @@ impl Entry {
     {
         match &self.kept {
             Some(outcome) => outcome.error().is_some(),
+            None => false,
+        }
+    }
+
+    /// Whether a text is expected of the message's verdict.
+    pub(crate) fn is_expecting(&self) -> bool
+        ensures { result ≡ is_some self.now.expected }
+    {
+        self.expected.is_some()
+    }
+
+    /// Whether the verdict that is kept is not as it is expected to be.
+    pub(crate) fn disagrees(&self, mailbox: &[u8]) -> bool
+        ensures { result ≡ disagrees mailbox.now self.now.expected self.now.kept }
+    {
+        match &self.kept {
+            Some(outcome) => is_unlike(outcome, mailbox, self.expected.as_ref()),
             None => false,
         }
     }

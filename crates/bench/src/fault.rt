@@ -18,11 +18,11 @@ pub enum EditFault {
     /// There is no message of that id.
     #[error("no such message")]
     NoSuchMessage = 3,
-    /// There are 1,024 scripts, or 65,536 messages, and this is one more.
+    /// There are 4,096 scripts, or 65,536 messages, and this is one more.
     #[error("the bench is full")]
     Full = 4,
-    /// A text of more than 1,048,576 octets, a message of more than 16,777,216, or a name or an id of more than
-    /// 1,024.
+    /// A text of more than 1,048,576 octets, a message of more than 16,777,216, an expected text of more than 65,536, or a
+    /// name or an id of more than 1,024.
     #[error("too large")]
     TooLarge = 5,
     /// Memory was refused.

@@ -9,6 +9,7 @@ mod fault;
 pub mod laws;
 mod marking;
 mod message;
+mod messages;
 mod refusal;
 mod report;
 mod report_lines;

@@ -1,14 +1,16 @@
 //! Why an edit is refused, apart from memory.
 ghost use Rattle.std.specs.Prelude.{◌≡◌};
-ghost use Rattle.bench.specs.Content.{is_long, script_refusal, message_refusal, main_refusal, rename_refusal, remove_script_refusal, envelope_refusal, mailbox_refusal};
+ghost use Rattle.bench.specs.Content.{is_long, script_refusal, message_refusal, absent_refusal, expected_refusal, main_refusal, rename_refusal, remove_script_refusal, envelope_refusal, mailbox_refusal};
 ghost use Rattle.bench.specs.view.Entry.{messages_of};
 
 use crate::entry::Entry;
 use crate::fault::EditFault;
 use crate::scripts::Scripts;
+use crate::sought::Sought;
 use indexmap::IndexMap;
 use sieve_base::limits::{
-    MAX_ADDRESS, MAX_ID, MAX_MAILBOX, MAX_MESSAGE, MAX_MESSAGES, MAX_NAME, MAX_SCRIPTS, MAX_TEXT,
+    MAX_ADDRESS, MAX_EXPECTED, MAX_ID, MAX_MAILBOX, MAX_MESSAGE, MAX_MESSAGES, MAX_NAME,
+    MAX_SCRIPTS, MAX_TEXT,
 };
 use sieve_base::{Octets, ScriptName};
 
@@ -48,6 +50,38 @@ pub(crate) fn refuse_message(
         return Some(EditFault::Full);
     }
     None
+}
+
+/// Why a message isn't removed, or why what is expected of it isn't.
+#[tactic(auto, using(crate::proofs::Entries::entries))]
+pub(crate) fn refuse_absent(messages: &IndexMap<Octets, Entry>, id: &[u8]) -> Option<EditFault>
+    ensures { result ≡ absent_refusal (messages_of messages.now.entries) id.now }
+{
+    if id.len() > MAX_ID {
+        Some(EditFault::TooLarge)
+    } else if !messages.contains_key(Sought { octets: id }) {
+        Some(EditFault::NoSuchMessage)
+    } else {
+        None
+    }
+}
+
+/// Why a text isn't expected of a message, apart from memory.
+#[tactic(auto, using(crate::proofs::Entries::entries))]
+pub(crate) fn refuse_expected(
+    messages: &IndexMap<Octets, Entry>,
+    id: &[u8],
+    text: &[u8],
+) -> Option<EditFault>
+    ensures { result ≡ expected_refusal (messages_of messages.now.entries) id.now text.now }
+{
+    if id.len() > MAX_ID || text.len() > MAX_EXPECTED {
+        Some(EditFault::TooLarge)
+    } else if !messages.contains_key(Sought { octets: id }) {
+        Some(EditFault::NoSuchMessage)
+    } else {
+        None
+    }
 }
 
 /// Why a main script's name isn't taken, apart from memory.

@@ -1,21 +1,21 @@
 //! What a report runs, and what it writes (docs/FORMATS.md).
-ghost use Rattle.std.specs.Prelude.{◌≡◌, [], ◌∷◌, OnOk, OnErr, length, nat_eq};
-ghost use Rattle.std.specs.List.{flat_map};
+ghost use Rattle.std.specs.Prelude.{◌≡◌, [], ◌∷◌, OnOk, OnErr, count_by, is_some, length, nat_eq};
+ghost use Rattle.std.specs.List.{flat_map, list_any};
 ghost use Rattle.std.specs.Option.{option_copied};
 ghost use Rattle.indexmap.specs.IndexMap.{IsUnique};
 ghost use lib.Pointwise.{pointwise};
 ghost use Rattle.sieve_base.specs.Writers.{Wrote, WroteFront};
 ghost use Rattle.bench.specs.Bench.{RefusedAmong};
-ghost use Rattle.bench.specs.Report.{script_line, verdict_by, message_lines, error_count, total_line, report_with};
+ghost use Rattle.bench.specs.Report.{script_line, verdict_by, message_lines, error_count, unexpected_count, total_line, report_with};
 ghost use Rattle.bench.specs.view.Lines.{action_text, read_text, verdict_texts};
 ghost use Rattle.sieve_run.specs.Meter.{runs_after};
 ghost use Rattle.bench.specs.Test.{is_clean_with};
-ghost use Rattle.bench.specs.view.Entry.{KeepsDue, judged_of, messages_of, stale_of};
+ghost use Rattle.bench.specs.view.Entry.{KeepsDue, disagrees, judged_of, messages_of, stale_of};
 
 use crate::entry::Entry;
 use crate::report_lines::{
-    write_action_line, write_envelope, write_error_line, write_implicit_line, write_main,
-    write_message, write_read_line, write_script, write_total,
+    write_action_line, write_envelope, write_error_line, write_expectation, write_implicit_line,
+    write_main, write_message, write_read_line, write_script, write_total,
 };
 use crate::scripts::Scripts;
 use indexmap::IndexMap;
@@ -113,23 +113,27 @@ fn write_entry<W: Sink>(
     ensures err { OnErr result (WroteFront W.contents W.fault_count writer.old writer.new (flat_map (message_lines envelope.now.mailbox) (judged_of ((id.now, entry.now) ∷ [])))) }
 {
     match &entry.kept {
-        Some(outcome) => write_judged(envelope, id, outcome, writer),
+        Some(outcome) => write_judged(envelope, id, outcome, entry.expected.as_ref(), writer),
         None => Ok(()),
     }
 }
 
-/// Writes the lines of a message with the verdict on it.
+/// Writes the lines of a message with the verdict on it, and whether that is as it is expected to be.
 fn write_judged<W: Sink>(
     envelope: &Envelope,
     id: &Octets,
     outcome: &Outcome,
+    expected: Option<&Octets>,
     writer: &mut W,
 ) -> Result<(), WriteFault>
-    ensures ok { OnOk result (Wrote W.contents W.fault_count writer.old writer.new (message_lines envelope.now.mailbox (id.now, outcome.now))) }
-    ensures err { OnErr result (WroteFront W.contents W.fault_count writer.old writer.new (message_lines envelope.now.mailbox (id.now, outcome.now))) }
+    ensures ok { OnOk result (Wrote W.contents W.fault_count writer.old writer.new
+        (message_lines envelope.now.mailbox (record { id = id.now; verdict = outcome.now; expected = option_copied expected.entry }))) }
+    ensures err { OnErr result (WroteFront W.contents W.fault_count writer.old writer.new
+        (message_lines envelope.now.mailbox (record { id = id.now; verdict = outcome.now; expected = option_copied expected.entry }))) }
 {
     write_message(id, writer)?;
-    write_verdict(envelope, outcome, writer)
+    write_verdict(envelope, outcome, writer)?;
+    write_expectation(envelope, outcome, expected, writer)
 }
 
 /// Writes the lines of all messages whose verdicts are kept.
@@ -158,6 +162,35 @@ fn error_count(messages: &IndexMap<Octets, Entry>) -> usize
         .count()
 }
 
+/// Whether a text is expected of some message's verdict.
+fn are_expecting(messages: &IndexMap<Octets, Entry>) -> bool
+    ensures { result ≡ list_any (λ e. is_some e.1.expected) messages.now.entries }
+{
+    messages.iter().any(|(_, entry)| entry.is_expecting())
+}
+
+/// How many of the verdicts that are kept are not as they are expected to be.
+fn unlike_count(mailbox: &[u8], messages: &IndexMap<Octets, Entry>) -> usize
+    ensures { result ≡ count_by (λ e. disagrees mailbox.now e.1.expected e.1.kept) messages.now.entries }
+{
+    messages
+        .iter()
+        .filter(|(_, entry)| entry.disagrees(mailbox))
+        .count()
+}
+
+/// How many verdicts are not as expected, where a text is expected of some.
+fn unexpected_count(mailbox: &[u8], messages: &IndexMap<Octets, Entry>) -> Option<u64>
+    requires { stale_of messages.now.entries ≡ [] }
+    ensures { result ≡ unexpected_count mailbox.now (judged_of messages.now.entries) }
+{
+    if are_expecting(messages) {
+        Some(unlike_count(mailbox, messages) as u64)
+    } else {
+        None
+    }
+}
+
 /// Whether no script has a fault, and no verdict that is kept an error.
 pub(crate) fn is_clean(scripts: &Scripts, messages: &IndexMap<Octets, Entry>) -> bool
     ensures { result ≡ is_clean_with scripts.now (judged_of messages.now.entries) }
@@ -183,19 +216,26 @@ pub(crate) fn write_report<W: Sink>(
     write_envelope(envelope, writer)?;
     write_scripts(scripts, writer)?;
     write_kept(envelope, messages, writer)?;
-    write_totals(messages, writer)
+    write_totals(envelope, messages, writer)
 }
 
 /// Writes the last line.
 fn write_totals<W: Sink>(
+    envelope: &Envelope,
     messages: &IndexMap<Octets, Entry>,
     writer: &mut W,
 ) -> Result<(), WriteFault>
     requires { stale_of messages.now.entries ≡ [] }
     ensures ok { OnOk result (Wrote W.contents W.fault_count writer.old writer.new
-        (total_line (length (judged_of messages.now.entries)) (error_count (judged_of messages.now.entries)))) }
+        (total_line (length (judged_of messages.now.entries)) (error_count (judged_of messages.now.entries)) (unexpected_count envelope.now.mailbox (judged_of messages.now.entries)))) }
     ensures err { OnErr result (WroteFront W.contents W.fault_count writer.old writer.new
-        (total_line (length (judged_of messages.now.entries)) (error_count (judged_of messages.now.entries)))) }
+        (total_line (length (judged_of messages.now.entries)) (error_count (judged_of messages.now.entries)) (unexpected_count envelope.now.mailbox (judged_of messages.now.entries)))) }
 {
-    write_total(messages.len() as u64, error_count(messages) as u64, writer)
+    let unexpected = unexpected_count(envelope.mailbox.as_slice(), messages);
+    write_total(
+        messages.len() as u64,
+        error_count(messages) as u64,
+        unexpected,
+        writer,
+    )
 }

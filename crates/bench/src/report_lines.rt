@@ -2,7 +2,7 @@
 ghost use Rattle.std.specs.Prelude.{◌≡◌, OnOk, OnErr};
 ghost use Rattle.std.specs.Option.{option_copied};
 ghost use Rattle.sieve_base.specs.Writers.{Wrote, WroteFront};
-ghost use Rattle.bench.specs.Report.{main_line, envelope_line, script_line, indent, indented, message_line, total_line};
+ghost use Rattle.bench.specs.Report.{main_line, envelope_line, script_line, indent, indented, message_line, expectation_line, expectation_text, total_line};
 ghost use Rattle.bench.specs.view.Lines.{action_text, error_text, implicit_text, read_text};
 ghost use Rattle.sieve_run.specs.Lines.{error_line, implicit_line};
 
@@ -185,23 +185,72 @@ pub(crate) fn write_read_line<W: Sink>(
     write_out(b"\n", writer)
 }
 
-/// Writes the last line: how many messages there are, and how many of them have an error.
+/// Writes whether a verdict is as it is expected to be.
+#[tactic(auto, unfolding(crate::specs::Report::indent))]
+fn write_agreement<W: Sink>(agrees: bool, writer: &mut W) -> Result<(), WriteFault>
+    ensures ok { OnOk result (Wrote W.contents W.fault_count writer.old writer.new (indented (expectation_line agrees))) }
+    ensures err { OnErr result (WroteFront W.contents W.fault_count writer.old writer.new (indented (expectation_line agrees))) }
+{
+    if agrees {
+        write_out(b"  expected\n", writer)
+    } else {
+        write_out(b"  unexpected\n", writer)
+    }
+}
+
+/// Writes whether a verdict is as it is expected to be, where a text is expected.
+pub(crate) fn write_expectation<W: Sink>(
+    envelope: &Envelope,
+    outcome: &Outcome,
+    expected: Option<&Octets>,
+    writer: &mut W,
+) -> Result<(), WriteFault>
+    ensures ok { OnOk result (Wrote W.contents W.fault_count writer.old writer.new (expectation_text envelope.now.mailbox outcome.now (option_copied expected.entry))) }
+    ensures err { OnErr result (WroteFront W.contents W.fault_count writer.old writer.new (expectation_text envelope.now.mailbox outcome.now (option_copied expected.entry))) }
+{
+    match expected {
+        Some(text) => {
+            write_agreement(
+                outcome.agrees(envelope.mailbox.as_slice(), text.as_slice()),
+                writer,
+            )
+        }
+        None => write_out(b"", writer),
+    }
+}
+
+/// Writes the last line: how many messages there are, how many of them have an error, and where that is told, how many are not as expected.
 pub(crate) fn write_total<W: Sink>(
     messages: u64,
     errors: u64,
+    unexpected: Option<u64>,
     writer: &mut W,
 ) -> Result<(), WriteFault>
-    ensures ok { OnOk result (Wrote W.contents W.fault_count writer.old writer.new (total_line messages errors)) }
-    ensures err { OnErr result (WroteFront W.contents W.fault_count writer.old writer.new (total_line messages errors)) }
+    ensures ok { OnOk result (Wrote W.contents W.fault_count writer.old writer.new (total_line messages errors unexpected)) }
+    ensures err { OnErr result (WroteFront W.contents W.fault_count writer.old writer.new (total_line messages errors unexpected)) }
 {
-    write_pieces(
-        &[
-            Piece::Raw(b"total "),
-            Piece::Number(messages),
-            Piece::Raw(b" messages "),
-            Piece::Number(errors),
-            Piece::Raw(b" errors\n"),
-        ],
-        writer,
-    )
+    match unexpected {
+        None => write_pieces(
+            &[
+                Piece::Raw(b"total "),
+                Piece::Number(messages),
+                Piece::Raw(b" messages "),
+                Piece::Number(errors),
+                Piece::Raw(b" errors\n"),
+            ],
+            writer,
+        ),
+        Some(count) => write_pieces(
+            &[
+                Piece::Raw(b"total "),
+                Piece::Number(messages),
+                Piece::Raw(b" messages "),
+                Piece::Number(errors),
+                Piece::Raw(b" errors "),
+                Piece::Number(count),
+                Piece::Raw(b" unexpected\n"),
+            ],
+            writer,
+        ),
+    }
 }

@@ -19,7 +19,7 @@ pub struct TestJob {
     pub to: Octets,
     /// The mailbox that `keep` stores into, of at most 255 octets.
     pub mailbox: Octets,
-    /// The scripts in the order in which they are put, 1,024 names at most. A later one takes the place of one of its name.
+    /// The scripts in the order in which they are put, 4,096 names at most. A later one takes the place of one of its name.
     pub scripts: Vec<TestScript>,
     /// The script that is run, which need not be among the others.
     pub main: ScriptName,

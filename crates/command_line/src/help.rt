@@ -40,6 +40,9 @@ A line of the input is a command; each is answered by a reply:
   rename PLACE NAME PLACE NAME    rename the first script to the second name
   drop-script PLACE NAME          remove a script
   drop-message ID                 remove a message
+  expect ID N                     expect the N octets behind the line's end as the lines of a
+                                  message's verdict, without the names that it looked up
+  no-expect ID                    expect nothing of it
   envelope FROM TO                set the addresses of the sender and of the recipient
   mailbox BOX                     set the mailbox that mail is kept in
   report                          print the report, as 'sievebench help test' shows it, of all
@@ -107,7 +110,7 @@ Names, addresses, mailboxes and flags are quoted: \\ before \" and \\, and \\xHH
 outside 32 to 126.
 
 Limits: 1048576 octets a script, 16777216 the mail; 1024 a name, an address and the word MAIL; 255
-the mailbox; 1024 scripts.
+the mailbox; 4096 scripts.
 
 Exit status: 0 done, 1 a script has a fault or the verdict is an error, 2 a mistake in the command
 line, something too large or too many scripts, 3 something could not be read or written, 4 out of

@@ -1,8 +1,8 @@
 -- Lists of flags that are joined, filtered and taken once each.
-use Rattle.std.proofs.Common.{◌≡◌, ℕ, ◌+◌, ◌<◌, ◌≤◌, length, drop, get_or, Bool, true, false, not, cond, ◌&&◌, ◌||◌, List, [], ◌∷◌, ◌++◌, filter, if◌then◌else◌, refl, sym, ap, subst, ◌∙◌, append-nil, append_assoc, true≢false}
+use Rattle.std.proofs.Common.{◌≡◌, ℕ, zero, suc, ◌-◌, arith, ◌+◌, ◌<◌, ◌≤◌, length, drop, get_or, take, Bool, true, false, not, cond, ◌&&◌, ◌||◌, List, [], ◌∷◌, ◌++◌, filter, if◌then◌else◌, refl, sym, ap, subst, ◌∙◌, append-nil, append_assoc, true≢false}
 use Rattle.std.specs.List.{All, AllByRecursion, IsDistinct, flat_map}
-use Rattle.std.proofs.lemmas.List.{at_drop_more, drop_all}
-use Rattle.std.proofs.lemmas.List.Elements.{All-cons, All-filter, All-head, All-tail, filter-append, filter_agree, filter_passes}
+use Rattle.std.proofs.lemmas.List.{at_drop_more, drop_all, length-drop, take_all}
+use Rattle.std.proofs.lemmas.List.Elements.{All-cons, All-filter, All-head, All-nil, All-tail, filter-append, filter_agree, filter_passes}
 use Rattle.std.proofs.lemmas.List.Folds.{list_any-append}
 use Rattle.std.proofs.lemmas.Map.Steps.{list_any_congr}
 use Rattle.indexmap.specs.IndexSet.{insert_key}
@@ -33,7 +33,7 @@ either_not true t = refl
 either_not false t = refl
 
 -- without some, and then without others, is without both
-without_twice : (flags a b : List (List ℕ)) → flags_without (flags_without flags a) b ≡ flags_without flags (a ++ b)
+pub without_twice : (flags a b : List (List ℕ)) → flags_without (flags_without flags a) b ≡ flags_without flags (a ++ b)
 unfolding flags_without
 without_twice flags a b =
     filter_twice (other a) (other b) (other (a ++ b))
@@ -106,6 +106,47 @@ union_append a [] c = ap (λ l. flag_union l c) (union_nil a)
 union_append a (flag ∷ b) c =
     ap (λ l. flag_union l c) (sym (union_step a flag b))
     ∙ union_append (flag_union a (flag ∷ [])) b c ∙ union_step a flag (b ++ c)
+
+-- FLAGS THAT ARE THERE
+
+union_present : (a : List (List ℕ)) (flag : List ℕ) → has_flag a flag ≡ true → flag_union a (flag ∷ []) ≡ a
+union_present a flag there = sym (union_one a flag) ∙ ap (λ b. if b then a else a ++ flag ∷ []) there
+
+-- flags that are there already bring nothing
+union_known : (a b c : List (List ℕ)) → All (λ flag. has_flag a flag ≡ true) b → flag_union a (b ++ c) ≡ flag_union a c
+union_known a [] c known = refl
+union_known a (flag ∷ b) c known =
+    sym (union_step a flag (b ++ c)) ∙ ap (λ l. flag_union l (b ++ c)) (union_present a flag (All-head (λ x. has_flag a x ≡ true) flag b known))
+    ∙ union_known a b c (All-tail (λ x. has_flag a x ≡ true) flag b known)
+
+in_two : {X : Type 0} (n : ℕ) (xs : List X) → take n xs ++ drop n xs ≡ xs
+in_two zero xs = refl
+in_two (suc n) [] = refl
+in_two (suc n) (x ∷ xs) = ap (λ l. x ∷ l) (in_two n xs)
+
+pub union_behind : (a flags : List (List ℕ)) (n : ℕ) → n ≤ length flags → All (λ flag. has_flag a flag ≡ true) (take n flags) → flag_union a (drop n flags) ≡ flag_union a flags
+union_behind a flags n within known = sym (union_known a (take n flags) (drop n flags) known) ∙ ap (flag_union a) (in_two n flags)
+
+-- the same of what a slice has of the flags
+pub union_slice : (a flags items : List (List ℕ)) (n : ℕ) → items ≡ flags → n ≤ length flags → All (λ flag. has_flag a flag ≡ true) (take n flags)
+    → flag_union a (take (length items - n) (drop n items)) ≡ flag_union a flags
+union_slice a flags items n are within known =
+    let long = length-drop n flags in
+    ap (λ l. flag_union a (take (length l - n) (drop n l))) are ∙ ap (flag_union a) (take_all (length flags - n) (drop n flags) (omega arith)) ∙ union_behind a flags n within known
+
+-- what is there stays there
+union_keeps : (a b : List (List ℕ)) (x : List ℕ) → has_flag a x ≡ true → has_flag (flag_union a b) x ≡ true
+unfolding flag_union
+union_keeps a b x there = list_any-append (same ascii_casemap x) a (flags_without (distinct b) a) ∙ ap (λ s. s || has_flag (flags_without (distinct b) a) x) there
+
+-- all flags of the second are there
+pub union_has : (a b : List (List ℕ)) → All (λ flag. has_flag (flag_union a b) flag ≡ true) b
+union_has a [] = All-nil (λ flag. has_flag (flag_union a []) flag ≡ true)
+union_has a (flag ∷ b) =
+    let more = union_has (flag_union a (flag ∷ [])) b in
+    All-cons (λ x. has_flag (flag_union a (flag ∷ b)) x ≡ true) flag b
+    (ap (λ l. has_flag l flag) (sym (union_step a flag b)) ∙ union_keeps (flag_union a (flag ∷ [])) b flag (has_one_more a flag flag ∙ ap (λ s. s || has_flag a flag) (same_equiv.refl flag)))
+    (subst (λ l. All (λ x. has_flag l x ≡ true) b) (union_step a flag b) more)
 
 -- One more of the items of a loop, where F gives the flags of those that are left, and each those of one.
 module _ {X : Type 0} (F : List X → List (List ℕ)) where

@@ -1,6 +1,7 @@
 pub mod Places
 pub mod Letters
 pub mod Deciding
+pub mod Finding
 pub mod Folding
 pub mod LeastFit
 pub mod Greedy

@@ -42,6 +42,10 @@ is_flag text = is_system_flag text || is_keyword text
 abbrev pub has_flag : List (List ℕ) → List ℕ → Bool
 has_flag flags flag = list_any (same ascii_casemap flag) flags
 
+-- whether a member of the list is equal to a key, where equal octets have equal folds
+abbrev pub has_key : (ℕ → ℕ) → List (List ℕ) → List ℕ → Bool
+has_key fold flags key = list_any (λ flag. same fold flag key) flags
+
 -- no two are the same
 abbrev pub AreDistinct : List (List ℕ) → Type 0
 AreDistinct flags = IsDistinct (same ascii_casemap) flags

@@ -1,17 +1,17 @@
 //! Lists of flags (RFC 5232, sections 2 and 3).
-ghost use Rattle.std.specs.Prelude.{◌≡◌, ◌<◌, ◌↔◌, ◌++◌, [], ◌∷◌, IfOk, IsTrue, OnOk, Some, filter, fold, length, nat_eq, slice_get};
-ghost use Rattle.std.specs.List.{list_all};
-ghost use Rattle.match_text.specs.Comparator.{ascii_casemap, same};
-ghost use Rattle.match_text.specs.Flags.{AreDistinct, flag_keys, flag_keys_of_texts, flag_list, flag_text, flag_union, flags_in};
+ghost use Rattle.std.specs.Prelude.{◌≡◌, ◌<◌, ◌≤◌, ◌↔◌, ◌++◌, [], ◌∷◌, IfNone, IfOk, IfSome, IsTrue, OnOk, Some, filter, fold, length, nat_eq, remove, slice_get, take, true};
+ghost use Rattle.std.specs.List.{All};
+ghost use Rattle.match_text.specs.Comparator.{ascii_casemap, fold_of, same};
+ghost use Rattle.match_text.specs.Flags.{AreDistinct, has_flag, has_key, flag_keys, flag_keys_of_texts, flag_list, flag_text, flag_union, flags_in};
 ghost use Rattle.match_text.specs.Flags.{flags_of_texts, flags_without, is_filled, is_flag, is_flag_octet, is_keyword, is_special, is_system_flag, pieces};
 ghost use Rattle.match_text.specs.view.Hashing.{flag_hash, same_alike, same_equiv, same_per};
-ghost use Rattle.match_text.specs.view.Segment.{texts_of};
+ghost use Rattle.std.specs.Cmp.{on_equiv, partial_equiv_from_equiv};
 ghost use Rattle.sieve_base.specs.view.Texts.{octets_of_each};
 
-use crate::comparators::{AsciiCasemap, Comparator, is};
-use indexmap::IndexSet;
+use crate::comparators::{AsciiCasemap, Collation, Comparator, Octet, is};
+use crate::flag_spelling::{is_flag, pieces};
+use indexmap::{Equivalent, IndexSet};
 use sieve_base::Octets;
-use sieve_base::octet::is_visible;
 use std::alloc::{AllocError, Global};
 use std::borrow::CowSlice;
 use std::hash::{Hash, Hasher};
@@ -70,6 +70,48 @@ impl Hash for Flag {
 
     fn hash<H: Hasher>(&self, state: &mut H) {
         write_folded(self.as_slice(), state);
+    }
+}
+
+/// A spelling to look for, which need not be copied.
+#[derive(Clone, Copy)]
+struct Sought<'a> {
+    spelling: &'a [u8],
+}
+
+impl PartialEq for Sought<'_> {
+    ghost eq = { λ a b. same ascii_casemap a.spelling.now b.spelling.now };
+
+    ghost laws = { partial_equiv_from_equiv (on_equiv (λ sought. sought.spelling.now) same_equiv) };
+
+    fn eq(&self, other: &Self) -> bool {
+        is::<AsciiCasemap>(self.spelling, other.spelling)
+    }
+}
+
+impl Eq for Sought<'_> {
+    ghost laws = { on_equiv (λ sought. sought.spelling.now) same_equiv };
+}
+
+impl Hash for Sought<'_> {
+    ghost hash_input = { λ sought. flag_hash sought.spelling.now };
+
+    ghost respects_eq = { λ a b alike. same_alike.fed a.spelling.now b.spelling.now alike };
+
+    fn hash<H: Hasher>(&self, state: &mut H) {
+        write_folded(self.spelling, state);
+    }
+}
+
+impl Equivalent<Flag> for Sought<'_> {
+    ghost equivalent = { λ sought flag. same ascii_casemap sought.spelling.now flag };
+
+    ghost respects_hash = { λ sought flag alike. same_alike.fed sought.spelling.now flag alike };
+
+    ghost respects_eq = { λ sought x y. same_equiv.congr sought.spelling.now x y };
+
+    fn equivalent(&self, flag: &Flag) -> bool {
+        is::<AsciiCasemap>(self.spelling, flag.as_slice())
     }
 }
 
@@ -133,13 +175,52 @@ impl FlagList {
         self.flags.as_slice()[i].as_slice()
     }
 
+    /// Whether a flag of the list is equal to a key under a comparator. Takes no memory.
+    pub fn has(&self, collation: Collation, key: &[u8]) -> bool
+        ensures { result ≡ has_key (fold_of collation) self.now key.now }
+    {
+        match self.flags.get(Sought { spelling: key }) {
+            Some(flag) => match collation {
+                Collation::Octet => is::<Octet>(flag.as_slice(), key),
+                Collation::Casemap => true,
+            },
+            None => false,
+        }
+    }
+
+    /// Adds the flags of another list that aren't there yet (RFC 5232, section 3.2). The first of them, as many as `known`, are there
+    /// and aren't looked at. Where memory is refused, some may have been added.
+    pub fn add(&mut self, alloc: Global, flags: &FlagList, known: usize) -> Result<(), AllocError>
+        requires within { known ≤ length flags.now }
+        requires known { All (λ flag. has_flag self.old flag ≡ true) (take known flags.now) }
+        ensures union { OnOk result (self.new ≡ flag_union self.old flags.now) }
+        ensures there { OnOk result (All (λ flag. has_flag self.new flag ≡ true) flags.now) }
+    {
+        let added = insert_each(alloc, &mut self.flags, &flags.flags.as_slice()[known..]);
+        // The set tells here that no two of them are the same.
+        let _count = self.flags.len();
+        added
+    }
+
+    /// Takes a flag out, in whatever case it is spelled, and gives the place where it stood (RFC 5232, section 3.3). The others stay in
+    /// their order. Takes no memory.
+    pub fn take_out(&mut self, flag: &[u8]) -> Option<usize>
+        ensures without { self.new ≡ flags_without self.old (flag.now ∷ []) }
+        ensures some { IfSome result (λ i. (i < length self.old) × (self.new ≡ remove self.old i)) }
+        ensures none { IfNone result (self.new ≡ self.old) }
+    {
+        let place = self.flags.get_index_of(Sought { spelling: flag })?;
+        self.flags.shift_remove_index(place);
+        Some(place)
+    }
+
     /// A copy of the list.
     #[tactic(auto, using(crate::proofs::FlagLists::union_copies))]
     pub fn copied(&self, alloc: Global) -> Result<FlagList, AllocError>
         ensures { IfOk result (λ copy. copy ≡ self.now) }
     {
         let mut flags = IndexSet::new(alloc);
-        insert_each(alloc, &mut flags, self)?;
+        insert_each(alloc, &mut flags, self.flags.as_slice())?;
         Ok(list_of(flags))
     }
 }
@@ -163,12 +244,11 @@ fn insert(alloc: Global, flags: &mut IndexSet<Flag>, flag: &[u8]) -> Result<(), 
     }
 }
 
-// Adds each flag of a list that isn't there yet.
-fn insert_each(alloc: Global, flags: &mut IndexSet<Flag>, list: &FlagList) -> Result<(), AllocError>
-    ensures keys { OnOk result (flags.new.keys ≡ flag_union flags.old.keys list.now) }
-    ensures distinct { AreDistinct list.now }
+// Adds each of some flags that isn't there yet.
+fn insert_each(alloc: Global, flags: &mut IndexSet<Flag>, list: &[Flag]) -> Result<(), AllocError>
+    ensures { OnOk result (flags.new.keys ≡ flag_union flags.old.keys list.now) }
 {
-    for flag in list.flags.as_slice() {
+    for flag in list {
         insert(alloc, flags, flag.as_slice())?;
     }
     Ok(())
@@ -195,66 +275,6 @@ fn insert_text(alloc: Global, flags: &mut IndexSet<Flag>, text: &[u8]) -> Result
         insert_piece(alloc, flags, piece)?;
     }
     Ok(())
-}
-
-// Whether an octet may stand in a keyword.
-fn is_flag_octet(octet: u8) -> bool
-    ensures { result ≡ is_flag_octet octet }
-{
-    is_visible(octet) && !is_special(octet)
-}
-
-// Whether an octet is one of those that no atom has.
-fn is_special(octet: u8) -> bool
-    ensures { result ≡ is_special octet }
-{
-    matches!(
-        octet,
-        b'(' | b')' | b'{' | b'%' | b'*' | b'"' | b'\\' | b']'
-    )
-}
-
-// Whether a text is a flag.
-fn is_flag(text: &[u8]) -> bool
-    ensures { result ≡ is_flag text.now }
-{
-    is_system_flag(text) || is_keyword(text)
-}
-
-// Whether a text is one of the flags with a `\`.
-fn is_system_flag(text: &[u8]) -> bool
-    ensures { result ≡ is_system_flag text.now }
-{
-    is::<AsciiCasemap>(text, b"\\Answered")
-        || is::<AsciiCasemap>(text, b"\\Flagged")
-        || is::<AsciiCasemap>(text, b"\\Deleted")
-        || is::<AsciiCasemap>(text, b"\\Seen")
-        || is::<AsciiCasemap>(text, b"\\Draft")
-}
-
-// Whether a text is an atom.
-fn is_keyword(text: &[u8]) -> bool
-    ensures { result ≡ is_keyword text.now }
-{
-    !text.is_empty() && are_flag_octets(text)
-}
-
-// Whether each octet may stand in a keyword.
-fn are_flag_octets(text: &[u8]) -> bool
-    ensures { result ≡ list_all is_flag_octet text.now }
-{
-    text.iter().all(|octet| is_flag_octet(*octet))
-}
-
-// What stands between the spaces of a text.
-fn pieces(alloc: Global, text: &[u8]) -> Result<Vec<&[u8]>, AllocError>
-    ensures { IfOk result (λ found. texts_of found.items ≡ pieces text.now) }
-{
-    let mut found = Vec::new(alloc);
-    for piece in text.split(|octet| *octet == b' ') {
-        found.push(piece)?;
-    }
-    Ok(found)
 }
 
 /// The flags of a text: what stands between spaces, each flag once, where it stands first. What isn't a flag is left out
@@ -286,8 +306,8 @@ pub fn union(alloc: Global, a: &FlagList, b: &FlagList) -> Result<FlagList, Allo
     ensures { IfOk result (λ list. list ≡ flag_union a.now b.now) }
 {
     let mut flags = IndexSet::new(alloc);
-    insert_each(alloc, &mut flags, a)?;
-    insert_each(alloc, &mut flags, b)?;
+    insert_each(alloc, &mut flags, a.flags.as_slice())?;
+    insert_each(alloc, &mut flags, b.flags.as_slice())?;
     Ok(list_of(flags))
 }
 
@@ -332,60 +352,4 @@ pub fn flag_text(alloc: Global, list: &FlagList) -> Result<Vec<u8>, AllocError>
         }
     }
     Ok(text)
-}
-
-/// What a key of a test stands for: what stands between spaces, whether it is a flag or not. The empty key stands for itself,
-/// and spaces alone stand for nothing (RFC 5232, section 4).
-pub fn flag_keys(alloc: Global, key: &[u8]) -> Result<Vec<CowSlice<'_, u8>>, AllocError>
-    ensures { IfOk result (λ keys. octets_of_each keys.items ≡ flag_keys key.now) }
-{
-    let mut keys = Vec::new(alloc);
-    push_keys(alloc, &mut keys, key)?;
-    Ok(keys)
-}
-
-/// What each key of a test stands for, in order (RFC 5232, section 4).
-#[tactic(auto, unfolding(crate::specs::Flags::flag_keys_of_texts))]
-pub fn flag_keys_of_texts<'a>(
-    alloc: Global,
-    keys: &'a [CowSlice<'a, u8>],
-) -> Result<Vec<CowSlice<'a, u8>>, AllocError>
-    ensures { IfOk result (λ found. octets_of_each found.items ≡ flag_keys_of_texts (octets_of_each keys.now)) }
-{
-    let mut found = Vec::new(alloc);
-    for key in keys {
-        push_keys(alloc, &mut found, key.as_slice())?;
-    }
-    Ok(found)
-}
-
-// Adds what a key stands for.
-#[tactic(auto, unfolding(crate::specs::Flags::flag_keys))]
-fn push_keys<'a>(
-    alloc: Global,
-    found: &mut Vec<CowSlice<'a, u8>>,
-    key: &'a [u8],
-) -> Result<(), AllocError>
-    ensures { OnOk result (octets_of_each found.new.items ≡ octets_of_each found.old.items ++ flag_keys key.now) }
-{
-    if key.is_empty() {
-        found.push(CowSlice::Borrowed(key))?;
-        return Ok(());
-    }
-    let pieces = pieces(alloc, key)?;
-    for piece in &pieces {
-        push_filled(found, piece)?;
-    }
-    Ok(())
-}
-
-// Adds a piece that has octets.
-fn push_filled<'a>(found: &mut Vec<CowSlice<'a, u8>>, piece: &'a [u8]) -> Result<(), AllocError>
-    ensures { OnOk result (octets_of_each found.new.items
-        ≡ octets_of_each found.old.items ++ filter is_filled (piece.now ∷ [])) }
-{
-    if !piece.is_empty() {
-        found.push(CowSlice::Borrowed(piece))?;
-    }
-    Ok(())
 }

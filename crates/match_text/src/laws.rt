@@ -1,5 +1,5 @@
 //! Laws over the definitions. Each of these functions does nothing: its contract is the law.
-ghost use Rattle.std.specs.Prelude.{◌≡◌, ◌↔◌, ℕ, List, [], None, Some, length, map, true};
+ghost use Rattle.std.specs.Prelude.{◌≡◌, ◌∷◌, ◌↔◌, ℕ, List, [], None, Some, length, map, true};
 ghost use Rattle.std.specs.List.{All};
 ghost use Rattle.match_text.specs.Comparator.{IsPart, Same, is_part, same};
 ghost use Rattle.match_text.specs.Flags.{AreDistinct, distinct, flag_list, flag_union, flags_of_texts, flags_without, is_flag};
@@ -46,4 +46,10 @@ pub fn each_of_a_list_is_a_flag()
 pub fn distinct_flags_stay()
     ensures distinct { (flags : List (List ℕ)) → AreDistinct flags → distinct flags ≡ flags }
     ensures union { (flags : List (List ℕ)) → AreDistinct flags → flag_union [] flags ≡ flags }
+{}
+
+/// To take flags out is to take each of them out in turn (RFC 5232, section 3.3).
+pub fn flags_are_taken_out_in_turn()
+    ensures none { (flags : List (List ℕ)) → flags_without flags [] ≡ flags }
+    ensures more { (flags others : List (List ℕ)) (flag : List ℕ) → flags_without flags (flag ∷ others) ≡ flags_without (flags_without flags (flag ∷ [])) others }
 {}

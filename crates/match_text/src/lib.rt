@@ -5,16 +5,17 @@
 #![tactic(auto)]
 
 mod comparators;
+mod flag_spelling;
 mod flags;
 pub mod laws;
 mod pattern;
 mod segments;
+mod sought_flags;
 mod wildcards;
 
 pub use crate::comparators::{
     AsciiCasemap, Collation, Comparator, Octet, collation_named, contains, contains_in, is,
 };
-pub use crate::flags::{
-    FlagList, flag_keys, flag_keys_of_texts, flag_text, flags_of, flags_of_texts, union, without,
-};
+pub use crate::flags::{FlagList, flag_text, flags_of, flags_of_texts, union, without};
+pub use crate::sought_flags::{flag_keys, flag_keys_of_texts};
 pub use crate::wildcards::{Captures, matches};

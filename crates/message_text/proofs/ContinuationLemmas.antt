@@ -1,17 +1,13 @@
 -- What a text's first octet says of its first line.
-use Rattle.std.proofs.Common.{◌≡◌, ℕ, suc, ◌+◌, ◌-◌, ◌<◌, Bool, true, false, ◌==◌, List, [], ◌∷◌, ◌++◌, length, take, drop, slice_index, get_or, refl, sym, ap, ◌∙◌, arith}
+use Rattle.std.proofs.Common.{◌≡◌, ℕ, suc, ◌+◌, ◌-◌, ◌<◌, ◌≤◌, true, false, not, cond, ◌==◌, List, [], ◌∷◌, ◌++◌, length, take, drop, slice_index, get_or, refl, sym, ap, ◌∙◌, arith}
 use Rattle.std.specs.List.{concat, onto_first, slice_split, take_while}
 use Rattle.std.specs.Str.Lines.{lines, lines_of_parts, strip_carriage_return}
 use Rattle.std.proofs.lemmas.Bool.{cond_both, cond-false, cond-true, eqb-true, ne_eqb}
-use Rattle.std.proofs.lemmas.List.{drop_more}
+use Rattle.std.proofs.lemmas.List.{drop_all, drop_more}
 use Rattle.std.proofs.lemmas.List.Sums.{take_while-cons}
 use Rattle.sieve_base.specs.Octet.{is_blank}
 use Rattle.message_text.specs.Fields.{is_continuation}
-
--- the first line begins with space or tab
-abbrev pub continues : List (List ℕ) → Bool
-continues [] = false
-continues (line ∷ more) = is_continuation line
+use Rattle.message_text.specs.view.Spans.{continues}
 
 -- a line feed ends an empty line
 continues-empty : (parts : List (List ℕ)) → continues (lines_of_parts ([] ∷ parts)) ≡ false
@@ -50,3 +46,20 @@ pub concat-continuation : (text more : List (List ℕ)) (line : List ℕ) → te
 concat-continuation text more line is continued =
     ap (λ (all : List (List ℕ)). concat (take_while is_continuation all)) is
     ∙ ap concat (take_while-cons is_continuation line more ∙ cond-true (is_continuation line) (line ∷ take_while is_continuation more) [] continued)
+
+-- a text without octets has no line
+pub continues-end : (octets : List ℕ) (start : ℕ) → length octets ≤ start → continues (lines (drop start octets)) ≡ false
+continues-end octets start end = ap (λ (rest : List ℕ). continues (lines rest)) (drop_all start octets end)
+
+pub none_continues : (text : List (List ℕ)) → (length (take_while is_continuation text) == 0) ≡ not (continues text)
+none_continues [] = refl
+none_continues (line ∷ more) =
+    ap (λ (lines : List (List ℕ)). length lines == 0) (take_while-cons is_continuation line more)
+    ∙ elim (is_continuation line) as (λ b. (length (cond b (line ∷ take_while is_continuation more) []) == 0) ≡ not b) [
+      | true ↦ ne_eqb (length (line ∷ take_while is_continuation more)) 0 (omega arith)
+      | false ↦ refl
+    ]
+
+pub no_lines : (text : List (List ℕ)) → continues text ≡ false → take_while is_continuation text ≡ []
+no_lines [] none = refl
+no_lines (line ∷ more) none = take_while-cons is_continuation line more ∙ cond-false (is_continuation line) (line ∷ take_while is_continuation more) [] none

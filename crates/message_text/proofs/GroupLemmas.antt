@@ -1,5 +1,5 @@
 -- Groups of lines, one line at a time.
-use Rattle.std.proofs.Common.{◌≡◌, ℕ, ◌+◌, ◌-◌, ◌<◌, ◌≤◌, true, false, cond, List, [], ◌∷◌, ◌++◌, length, take, drop, filter, map, slice_range, refl, sym, ap, ◌∙◌, arith}
+use Rattle.std.proofs.Common.{◌≡◌, ℕ, ◌+◌, ◌-◌, ◌<◌, ◌≤◌, Bool, not, true, false, cond, List, [], ◌∷◌, ◌++◌, length, take, drop, filter, map, slice_range, refl, sym, ap, ◌∙◌, arith}
 use Rattle.std.specs.List.{All, take_while}
 use Rattle.std.specs.Str.Lines.{lines}
 use Rattle.std.proofs.lemmas.Bool.{cond-true, cond-false, lt-ltb}
@@ -7,7 +7,9 @@ use Rattle.std.proofs.lemmas.List.{append-nil, drop-drop, drop-take, length-drop
 use Rattle.std.proofs.lemmas.List.Sums.{take_while-cons}
 use Rattle.message_text.specs.Fields.{Group, field_groups, groups_of, is_continuation, is_field, is_filled}
 use Rattle.message_text.specs.view.Heads.{IsHead}
-use Rattle.message_text.specs.view.Spans.{AreSpans, IsSpan, field_here, group_at}
+use Rattle.message_text.specs.view.NameHash.{name_hash}
+use Rattle.message_text.proofs.ContinuationLemmas.{none_continues}
+use Rattle.message_text.specs.view.Spans.{AreSpans, IsSpan, continues, field_here, group_at}
 use Rattle.message_text.specs.declared.fields.FieldSpan.{FieldSpan}
 
 -- a line that isn't empty is of the header section where it stands first
@@ -54,8 +56,8 @@ unfolding field_groups
 field_groups-nil = refl
 
 -- the span of a field with this head
-pub span_at : (octets : List ℕ) (start end next name_len colon : ℕ) → start ≤ end → end ≤ length octets → next ≤ length octets → IsHead (slice_range octets start end) name_len colon → IsSpan octets (record { start = start; name_end = start + name_len; value_start = start + colon + 1; end = end; next = next })
-span_at octets start end next name_len colon ordered within next_within head =
+pub span_at : (octets : List ℕ) (start end next name_len colon hash : ℕ) (unfolded : Bool) → hash ≡ name_hash (slice_range octets start (start + name_len)) → unfolded ≡ not (continues (lines (drop next octets))) → start ≤ end → end ≤ length octets → next ≤ length octets → IsHead (slice_range octets start end) name_len colon → IsSpan octets (record { start = start; name_end = start + name_len; value_start = start + colon + 1; end = end; next = next; is_unfolded = unfolded; name_hash = hash })
+span_at octets start end next name_len colon hash unfolded hashed more ordered within next_within head =
     let rest = drop start octets in
     let line = slice_range octets start end in
     let len : length line ≡ end - start = length-take-le (end - start) rest (omega (arith, length-drop start octets)) in
@@ -68,6 +70,8 @@ span_at octets start end next name_len colon ordered within next_within head =
       value_ordered = omega arith;
       value_within = within;
       next_within = next_within;
+      hash = hashed;
+      unfolded = more ∙ sym (none_continues (lines (drop next octets)));
       name = head.name ∙ take-take name_len (end - start) rest (omega arith) ∙ ap (λ n. take n rest) (omega arith);
       value = ap (λ k. drop (k + 1) line) head.at_colon
           ∙ ap (λ n. drop (colon + 1) (take n rest)) past

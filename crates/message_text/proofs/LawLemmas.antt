@@ -6,14 +6,14 @@ use Rattle.std.proofs.lemmas.List.{drop_more, get_or-reverse, length-reverse, le
 use Rattle.std.proofs.lemmas.List.Elements.{All-cons, All-nil}
 use Rattle.std.proofs.lemmas.List.Sums.{prefix_len_stops}
 use Rattle.sieve_base.specs.Octet.{octet_of}
-use Rattle.message_text.specs.Addresses.{IsAddrSpec, address_by, address_in, address_marks, addresses_of, divided, is_free, is_mark_plain, marks_from, marks_of, octets_of, separates, spot_behind, value_start}
+use Rattle.message_text.specs.Addresses.{IsAddrSpec, address_by, address_in, address_marks, addresses_of, divided, is_free, is_mark_plain, marks_from, marks_of, octets_of, separates, surroundings_behind, value_start}
 use Rattle.message_text.specs.declared.marks.Marked.{Marked}
-use Rattle.message_text.specs.declared.marks.Spot.{Spot}
+use Rattle.message_text.specs.declared.marks.Surroundings.{Surroundings}
 
-octets_of-marks_from : (spot : Spot) (value : List ℕ) → octets_of (marks_from spot value) ≡ value
+octets_of-marks_from : (spot : Surroundings) (value : List ℕ) → octets_of (marks_from spot value) ≡ value
 unfolding marks_from
 octets_of-marks_from spot [] = refl
-octets_of-marks_from spot (b ∷ rest) = ap (λ (octets : List ℕ). b ∷ octets) (octets_of-marks_from (spot_behind spot b) rest)
+octets_of-marks_from spot (b ∷ rest) = ap (λ (octets : List ℕ). b ∷ octets) (octets_of-marks_from (surroundings_behind spot b) rest)
 
 pub marks_are_of_the_octets : (value : List ℕ) → octets_of (marks_of value) ≡ value
 marks_are_of_the_octets value = octets_of-marks_from value_start value

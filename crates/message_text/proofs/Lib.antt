@@ -12,3 +12,4 @@ pub mod GroupLemmas
 pub mod TrimLemmas
 pub mod ContinuationLemmas
 pub mod FieldLemmas
+pub mod NameLemmas

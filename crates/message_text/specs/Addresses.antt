@@ -11,7 +11,7 @@ use Rattle.message_text.specs.declared.marks.Inside.TheVariants as inside
 use Rattle.message_text.specs.declared.marks.Mark.{Mark}
 use Rattle.message_text.specs.declared.marks.Mark.TheVariants as mark
 use Rattle.message_text.specs.declared.marks.Marked.{Marked}
-use Rattle.message_text.specs.declared.marks.Spot.{Spot}
+use Rattle.message_text.specs.declared.marks.Surroundings.{Surroundings}
 
 -- an address: its whole text, and its local part and its domain where it has them (RFC 5322, section 3.4.1)
 pub record AddrSpec : Type 0 where
@@ -28,7 +28,7 @@ part_of part.Domain address = address.domain
 -- MARKS
 
 -- at the start of a value nothing is open; what is opened and not closed lasts to its end
-abbrev pub value_start : Spot
+abbrev pub value_start : Surroundings
 value_start = record { inside = inside.Nothing; is_protected = false; in_angle = false }
 
 -- An octet outside of quoted strings, comments and literals opens one of these, or an angle, or closes the angle, or stands for
@@ -56,7 +56,7 @@ mark_in (inside.Comment depth) is_protected in_angle is_last b = mark.Comment
 mark_in inside.DomainLiteral is_protected in_angle is_last b = mark.Literal
 
 -- the mark of the octet at a place
-abbrev pub mark_at : Spot → (is_last : Bool) → ℕ → Mark
+abbrev pub mark_at : Surroundings → (is_last : Bool) → ℕ → Mark
 mark_at spot is_last b = mark_in spot.inside spot.is_protected spot.in_angle is_last b
 
 -- behind an octet outside of these
@@ -94,17 +94,17 @@ angle_behind (inside.Comment depth) in_angle b = in_angle
 angle_behind inside.DomainLiteral in_angle b = in_angle
 
 -- what is open behind an octet; one that is protected opens and closes nothing
-abbrev pub spot_behind : Spot → ℕ → Spot
-spot_behind spot b = record {
+abbrev pub surroundings_behind : Surroundings → ℕ → Surroundings
+surroundings_behind spot b = record {
   inside = if spot.is_protected then spot.inside else inside_behind spot.inside b;
   is_protected = not spot.is_protected && (is_protecting spot.inside && b == octet_of "\\");
   in_angle = angle_behind spot.inside spot.in_angle b;
 }
 
 -- the octets from some place on, each with its mark
-unfoldable pub marks_from : Spot → List ℕ → List Marked
+unfoldable pub marks_from : Surroundings → List ℕ → List Marked
 marks_from spot [] = []
-marks_from spot (b ∷ rest) = record { octet = b; mark = mark_at spot (length rest == 0) b; in_angle = spot.in_angle } ∷ marks_from (spot_behind spot b) rest
+marks_from spot (b ∷ rest) = record { octet = b; mark = mark_at spot (length rest == 0) b; in_angle = spot.in_angle } ∷ marks_from (surroundings_behind spot b) rest
 
 -- the octets of a value, each with its mark
 abbrev pub marks_of : List ℕ → List Marked

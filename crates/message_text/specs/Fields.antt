@@ -1,7 +1,9 @@
 -- The header fields of a message (RFC 5322, sections 2.1 and 2.2), by whole lines and groups of lines.
-use Rattle.std.specs.Prelude.{◌≡◌, ℕ, Bool, true, false, ◌&&◌, ◌==◌, nat_lt, length, cond, List, [], ◌∷◌, ◌++◌, Some, map, filter}
+use Rattle.std.specs.Prelude.{◌≡◌, ◌<◌, ◌≤◌, ℕ, Bool, true, false, ◌&&◌, ◌==◌, nat_lt, length, cond, List, [], ◌∷◌, ◌++◌, Some, map, filter}
 use Rattle.std.specs.List.{after_first, before_first, concat, list_all, list_any, slice_get, take_while}
 use Rattle.std.specs.Str.Lines.{lines}
+use Rattle.encoded_words.specs.Scan.{decoded_of, has_word, has_written}
+use Rattle.match_text.specs.Comparator.{ascii_casemap, same}
 use Rattle.sieve_base.specs.Octet.{octet_of, is_blank, is_visible}
 use Rattle.message_text.specs.Blanks.{trim, trim_end}
 
@@ -79,12 +81,41 @@ names_of message = map (λ field. field.name) (fields_of message)
 abbrev pub values_of : List ℕ → List (List ℕ)
 values_of message = map (λ field. field.value) (fields_of message)
 
+-- no line continues the first one of a group
+abbrev pub is_unfolded : Group → Bool
+is_unfolded group = length group.continuations == 0
+
 -- field i stands on one line
 abbrev pub IsUnfolded : List ℕ → ℕ → Type 0
-IsUnfolded message i =
-    slice_get (map (λ group. length group.continuations == 0) (field_groups message)) i ≡ Some true
+IsUnfolded message i = slice_get (map is_unfolded (field_groups message)) i ≡ Some true
 
 -- field i goes on in lines that continue its first one
 abbrev pub IsFolded : List ℕ → ℕ → Type 0
-IsFolded message i =
-    slice_get (map (λ group. length group.continuations == 0) (field_groups message)) i ≡ Some false
+IsFolded message i = slice_get (map is_unfolded (field_groups message)) i ≡ Some false
+
+-- the values of the fields with their encoded words replaced, in order (RFC 2047)
+abbrev pub decoded_values_of : List ℕ → List (List ℕ)
+decoded_values_of message = map decoded_of (values_of message)
+
+-- a word is replaced in the value of field i
+abbrev pub IsReplaced : List ℕ → ℕ → Type 0
+IsReplaced message i = slice_get (map has_word (values_of message)) i ≡ Some true
+
+-- no word is replaced in the value of field i
+abbrev pub IsUnreplaced : List ℕ → ℕ → Type 0
+IsUnreplaced message i = slice_get (map has_word (values_of message)) i ≡ Some false
+
+-- no word is written in the value of field i, not even one that can't be decoded
+abbrev pub IsUnwritten : List ℕ → ℕ → Type 0
+IsUnwritten message i = slice_get (map has_written (values_of message)) i ≡ Some false
+
+-- whether a field has that name; names of fields ignore the case of ASCII (RFC 5228, section 2.4.2.2)
+abbrev pub is_field_named : List ℕ → Field → Bool
+is_field_named name field = same ascii_casemap field.name name
+
+-- field i is the first of that name at or behind a place
+pub record IsNextNamed (fields : List Field) (name : List ℕ) (start i : ℕ) : Type 0 where
+  pub behind : start ≤ i
+  pub within : i < length fields
+  pub is : slice_get (map (is_field_named name) fields) i ≡ Some true
+  pub others : (k : ℕ) → start ≤ k → k < i → slice_get (map (is_field_named name) fields) k ≡ Some false

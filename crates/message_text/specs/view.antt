@@ -2,5 +2,6 @@
 pub mod Depths
 pub mod Divisions
 pub mod Heads
+pub mod NameHash
 pub mod Positions
 pub mod Spans

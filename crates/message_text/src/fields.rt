@@ -1,14 +1,15 @@
 //! Where the header fields of a message stand.
-ghost use Rattle.std.specs.Prelude.{◌≡◌, ◌<◌, ◌++◌, IfNone, IfOk, IfSome, OnOk, Some, false, length, map, option_to_list, slice_get, slice_range, drop};
+ghost use Rattle.std.specs.Prelude.{◌≡◌, ◌<◌, ◌++◌, IfNone, IfOk, IfSome, OnOk, Some, false, true, length, map, option_to_list, slice_get, slice_range, drop};
 ghost use Rattle.std.specs.List.{All};
 ghost use Rattle.std.specs.Str.Lines.{lines};
 ghost use Rattle.message_text.specs.Fields.{begins_field, field_groups, fields_of, is_continuation, is_name};
 ghost use Rattle.message_text.specs.view.Heads.{IsHead};
 ghost use Rattle.message_text.specs.view.Positions.{IsLineAt};
-ghost use Rattle.message_text.specs.view.Spans.{AreSpans, IsSpan, field_here, group_at};
+ghost use Rattle.message_text.specs.view.Spans.{AreSpans, IsSpan, continues, field_here, group_at};
 
 use crate::blanks::trim_end;
-use crate::lines::{Line, line_at};
+use crate::lines::{LineSpan, line_at};
+use crate::names::name_hash;
 use memchr::memchr;
 use sieve_base::octet::{is_blank, is_visible};
 use std::alloc::{AllocError, Global};
@@ -26,13 +27,28 @@ pub(crate) struct FieldSpan {
     pub(crate) end: usize,
     /// Where the line after its first one begins.
     pub(crate) next: usize,
+    /// Whether no line continues its first one.
+    pub(crate) is_unfolded: bool,
+    /// The hash of its name.
+    pub(crate) name_hash: u32,
 }
 
 // The places of a field's name and colon in its first line.
 #[derive(Clone, Copy)]
-struct Head {
+struct FieldHead {
     name_len: usize,
     colon: usize,
+}
+
+/// Whether a line stands at `start` that continues the one before.
+pub(crate) fn continues_at(octets: &[u8], start: usize) -> bool
+    ensures is { result ≡ continues (lines (drop start octets.now)) }
+    ensures within { result ≡ true → start < length octets.now }
+{
+    match octets.get(start) {
+        Some(octet) => is_blank(*octet),
+        None => false,
+    }
 }
 
 /// Whether the line begins with space or tab, so that it continues the line before.
@@ -53,7 +69,7 @@ fn is_name(text: &[u8]) -> bool
 }
 
 // The name and the colon of a field's first line, or nothing where no field begins so.
-fn head_of(line: &[u8]) -> Option<Head>
+fn head_of(line: &[u8]) -> Option<FieldHead>
     ensures none { IfNone result (begins_field line.now ≡ false) }
     ensures some { IfSome result (λ head. IsHead line.now head.name_len head.colon) }
 {
@@ -62,14 +78,14 @@ fn head_of(line: &[u8]) -> Option<Head>
     if !is_name(name) {
         return None;
     }
-    Some(Head {
+    Some(FieldHead {
         name_len: name.len(),
         colon,
     })
 }
 
 // The field whose first line stands at `start`, or nothing where none begins there.
-fn span_of(octets: &[u8], start: usize, line: Line) -> Option<FieldSpan>
+fn span_of(octets: &[u8], start: usize, line: LineSpan) -> Option<FieldSpan>
     requires { IsLineAt octets.now start line.end line.next }
     ensures groups { map (group_at octets.now) (option_to_list result)
         ≡ field_here (slice_range octets.now start line.end) (lines (drop line.next octets.now)) }
@@ -86,6 +102,8 @@ fn span_of(octets: &[u8], start: usize, line: Line) -> Option<FieldSpan>
         value_start: start + head.colon + 1,
         end: line.end,
         next: line.next,
+        is_unfolded: !continues_at(octets, line.next),
+        name_hash: name_hash(&octets[start..start + head.name_len]),
     })
 }
 
@@ -94,7 +112,7 @@ fn push_span(
     spans: &mut Vec<FieldSpan>,
     octets: &[u8],
     start: usize,
-    line: Line,
+    line: LineSpan,
 ) -> Result<(), AllocError>
     requires { IsLineAt octets.now start line.end line.next }
     ensures groups { OnOk result (map (group_at octets.now) spans.new.items

@@ -11,8 +11,10 @@ pub mod laws;
 mod lines;
 mod marks;
 mod messages;
+mod names;
 mod pieces;
 mod values;
 
 pub use crate::addressing::{Address, AddressPart, addresses};
 pub use crate::messages::{Message, MessageFault};
+pub use crate::names::FieldName;

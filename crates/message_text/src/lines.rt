@@ -7,7 +7,7 @@ use memchr::memchr;
 
 /// The places of a line in a text.
 #[derive(Clone, Copy)]
-pub(crate) struct Line {
+pub(crate) struct LineSpan {
     /// Where its octets end: before its line feed and a carriage return directly before that.
     pub(crate) end: usize,
     /// Where the next line begins.
@@ -15,18 +15,18 @@ pub(crate) struct Line {
 }
 
 /// The line that begins at `start`.
-pub(crate) fn line_at(text: &[u8], start: usize) -> Line
+pub(crate) fn line_at(text: &[u8], start: usize) -> LineSpan
     requires { start < length text.now }
     ensures { IsLineAt text.now start result.end result.next }
 {
     let Some(len) = memchr(b'\n', &text[start..]) else {
-        return Line {
+        return LineSpan {
             end: text.len(),
             next: text.len(),
         };
     };
     let feed = start + len;
-    Line {
+    LineSpan {
         end: start + without_return(&text[start..feed]).len(),
         next: feed + 1,
     }

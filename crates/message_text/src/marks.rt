@@ -1,6 +1,6 @@
 //! The octets of a value, each marked with what it stands in (RFC 5322, sections 3.2 and 3.4).
 ghost use Rattle.std.specs.Prelude.{◌≡◌, ◌≤◌, ◌<◌, ◌+◌, ◌^◌, IfOk};
-ghost use Rattle.message_text.specs.Addresses.{angle_behind, comment_behind, free_mark, inside_behind, is_protecting, mark_at, marks_of, opened_by, quoted_mark, spot_behind};
+ghost use Rattle.message_text.specs.Addresses.{angle_behind, comment_behind, free_mark, inside_behind, is_protecting, mark_at, marks_of, opened_by, quoted_mark, surroundings_behind};
 ghost use Rattle.message_text.specs.view.Depths.{depth_of};
 
 use std::alloc::{AllocError, Global};
@@ -39,7 +39,7 @@ pub(crate) enum Inside {
 
 /// A place of a value.
 #[derive(Clone, Copy)]
-pub(crate) struct Spot {
+pub(crate) struct Surroundings {
     /// What is open there.
     pub(crate) inside: Inside,
     /// Whether a backslash before it protects its octet.
@@ -86,7 +86,7 @@ fn quoted_mark(is_protected: bool, is_last: bool, octet: u8) -> Mark
 }
 
 // The mark of the octet at a place.
-fn mark_at(spot: Spot, is_last: bool, octet: u8) -> Mark
+fn mark_at(spot: Surroundings, is_last: bool, octet: u8) -> Mark
     ensures { result ≡ mark_at spot is_last octet }
 {
     match spot.inside {
@@ -158,12 +158,12 @@ fn angle_behind(inside: Inside, in_angle: bool, octet: u8) -> bool
 }
 
 // The place behind an octet.
-fn spot_behind(spot: Spot, octet: u8) -> Spot
+fn surroundings_behind(spot: Surroundings, octet: u8) -> Surroundings
     requires { depth_of spot.inside + 1 < 2 ^ 64 }
-    ensures spot { result ≡ spot_behind spot octet }
+    ensures spot { result ≡ surroundings_behind spot octet }
     ensures depth { depth_of result.inside ≤ depth_of spot.inside + 1 }
 {
-    Spot {
+    Surroundings {
         inside: if spot.is_protected {
             spot.inside
         } else {
@@ -179,7 +179,7 @@ pub(crate) fn marks_of(alloc: Global, value: &[u8]) -> Result<Vec<Marked>, Alloc
     ensures { IfOk result (λ marked. marked.items ≡ marks_of value.now) }
 {
     let mut marked = Vec::new(alloc);
-    let mut spot = Spot {
+    let mut spot = Surroundings {
         inside: Inside::Nothing,
         is_protected: false,
         in_angle: false,
@@ -190,7 +190,7 @@ pub(crate) fn marks_of(alloc: Global, value: &[u8]) -> Result<Vec<Marked>, Alloc
             mark: mark_at(spot, place + 1 == value.len(), *octet),
             in_angle: spot.in_angle,
         })?;
-        spot = spot_behind(spot, *octet);
+        spot = surroundings_behind(spot, *octet);
     }
     Ok(marked)
 }

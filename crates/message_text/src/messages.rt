@@ -1,11 +1,13 @@
 //! A message and its header fields.
-ghost use Rattle.std.specs.Prelude.{◌≡◌, ◌<◌, ◌≤◌, ◌↔◌, IfErr, IfOk, IsErrAnd, IsOkAnd, Some, length, slice_get};
+ghost use Rattle.std.specs.Prelude.{◌≡◌, ◌<◌, ◌≤◌, ◌↔◌, ◌^◌, ◌-◌, IfErr, IfOk, IsErrAnd, IfNone, IfSome, IsOk, IsOkAnd, Some, false, length, map, slice_get, ℕ};
 ghost use Rattle.std.specs.Cow.{IsBorrowedSlice, IsOwnedSlice, cow_slice_items};
 ghost use Rattle.sieve_base.specs.Limits.{message_limit};
-ghost use Rattle.message_text.specs.Fields.{IsFolded, IsUnfolded, fields_of, names_of, values_of};
+ghost use Rattle.message_text.specs.Fields.{IsFolded, IsNextNamed, IsReplaced, IsUnfolded, IsUnreplaced, IsUnwritten, decoded_values_of, fields_of, is_field_named, names_of, values_of};
 
 use crate::fields::{FieldSpan, span_in, spans_of};
+use crate::names::{FieldName, next_named};
 use crate::values::value_at;
+use encoded_words::decoded_value;
 use sieve_base::limits::MAX_MESSAGE;
 use std::alloc::{AllocError, Global};
 use std::borrow::CowSlice;
@@ -94,6 +96,18 @@ impl Message {
         &octets[span.start..span.name_end]
     }
 
+    /// The place of the first field of that name at or behind place `start`, or nothing where no further field has
+    /// it. Names ignore the case of ASCII (RFC 5228, section 2.4.2.2). Takes no memory.
+    pub fn next_named(&self, name: &FieldName<'_>, start: usize) -> Option<usize>
+        ensures some { IfSome result (IsNextNamed (fields_of self.now) name.now start) }
+        ensures none { IfNone result ((k : ℕ) → start ≤ k → k < length (fields_of self.now)
+            → slice_get (map (is_field_named name.now) (fields_of self.now)) k ≡ Some false) }
+        // So a search can go on behind it.
+        ensures countable { IfSome result (λ i. i < 2 ^ 64 - 1) }
+    {
+        next_named(self.octets.as_slice(), &self.fields, name, start)
+    }
+
     /// The value of field `i`: what follows the colon, the lines joined as they are, without outer
     /// spaces and tabs.
     ///
@@ -109,5 +123,25 @@ impl Message {
         let octets = self.octets.as_slice();
         let span = span_in(octets, &self.fields, i);
         value_at(alloc, octets, span)
+    }
+
+    /// The value of field `i` with its encoded words (RFC 2047) replaced by what they stand for, in UTF-8.
+    ///
+    /// A word is replaced wherever it stands in the unfolded and trimmed value, also inside another that can't be
+    /// decoded; spaces and tabs between two such words are dropped. The result isn't trimmed again.
+    ///
+    /// It is borrowed from the message where the field stands on one line and no word was replaced, and else a copy.
+    /// No memory is taken where the field stands on one line in which no word is written.
+    pub fn decoded(&self, alloc: Global, i: usize) -> Result<CowSlice<'_, u8>, AllocError>
+        requires { i < length (fields_of self.now) }
+        ensures octets { IfOk result (λ value. slice_get (decoded_values_of self.now) i
+            ≡ Some (cow_slice_items value)) }
+        ensures unchanged { IsUnfolded self.now i → IsUnreplaced self.now i → IfOk result IsBorrowedSlice }
+        ensures folded { IsFolded self.now i → IfOk result IsOwnedSlice }
+        ensures replaced { IsReplaced self.now i → IfOk result IsOwnedSlice }
+        ensures unwritten { IsUnfolded self.now i → IsUnwritten self.now i → IsOk result }
+    {
+        let value = self.value(alloc, i)?;
+        decoded_value(alloc, value)
     }
 }

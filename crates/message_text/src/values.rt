@@ -9,21 +9,20 @@ ghost use Rattle.message_text.specs.view.Positions.{IsLineAt};
 ghost use Rattle.message_text.specs.view.Spans.{IsSpan, group_at};
 
 use crate::blanks::{trim, trim_end, trim_start};
-use crate::fields::FieldSpan;
-use crate::lines::{Line, line_at};
-use sieve_base::octet::is_blank;
+use crate::fields::{FieldSpan, continues_at};
+use crate::lines::{LineSpan, line_at};
 use std::alloc::{AllocError, Global};
 use std::borrow::CowSlice;
 
 /// The line at `start`, if it continues the one before.
-pub(crate) fn continuation_at(octets: &[u8], start: usize) -> Option<Line>
+pub(crate) fn continuation_at(octets: &[u8], start: usize) -> Option<LineSpan>
     requires { start ≤ length octets.now }
     ensures none { IfNone result (take_while is_continuation (lines (drop start octets.now)) ≡ []) }
     ensures line { IfSome result (λ line. IsLineAt octets.now start line.end line.next) }
     ensures continues { IfSome result (λ line.
         is_continuation (slice_range octets.now start line.end) ≡ true) }
 {
-    if start == octets.len() || !is_blank(octets[start]) {
+    if !continues_at(octets, start) {
         return None;
     }
     Some(line_at(octets, start))
@@ -43,7 +42,7 @@ pub(crate) fn value_at(
     ensures folded { (group_at octets.now span).continuations ≢ [] → IfOk result IsOwnedSlice }
 {
     let first = &octets[span.value_start..span.end];
-    if continuation_at(octets, span.next).is_none() {
+    if span.is_unfolded {
         return Ok(CowSlice::Borrowed(trim(first)));
     }
     let value = unfolded(alloc, octets, first, span.next)?;

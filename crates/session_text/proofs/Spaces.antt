@@ -6,18 +6,18 @@ use Rattle.std.proofs.lemmas.Bool.Decides.{nat_tests}
 use Rattle.std.proofs.lemmas.List.Elements.{recursion_from_All}
 use Rattle.sieve_base.specs.Writers.{hex_digit, octet_spelling, quoted}
 use Rattle.session_text.specs.LineOf.{IsLineOf, IsWord, behind_space, first_word, joined, last_word, no_words}
-use Rattle.session_text.specs.SessionLine.{Spot, inside, is_bare, line_words, outside, piece_length, word_value}
+use Rattle.session_text.specs.SessionLine.{Quoting, inside, is_bare, line_words, outside, piece_length, word_value}
 use Rattle.session_text.proofs.Quoting.{quoted_stands}
 use Rattle.session_text.proofs.Words.{line_words-none, line_words-space, line_words-word}
 
 -- no space that stands between words is among octets that stand from one spot to another
-abbrev Passes : Spot → List ℕ → Spot → Type 0
+abbrev Passes : Quoting → List ℕ → Quoting → Type 0
 Passes spot octets spot' = (rest : List ℕ) → piece_length spot (octets ++ rest) ≡ length octets + piece_length spot' rest
 
-passes_nothing : (spot : Spot) → Passes spot [] spot
+passes_nothing : (spot : Quoting) → Passes spot [] spot
 passes_nothing spot rest = omega arith
 
-passes_both : (s t u : Spot) (a b : List ℕ) → Passes s a t → Passes t b u → Passes s (a ++ b) u
+passes_both : (s t u : Quoting) (a b : List ℕ) → Passes s a t → Passes t b u → Passes s (a ++ b) u
 passes_both s t u a b first second rest =
     let size = length-append a b in
     let one = first (b ++ rest) in

@@ -2,7 +2,7 @@
 use Rattle.std.proofs.Common.{◌≡◌, ◌≢◌, ℕ, ◌+◌, ◌<◌, ◌≤◌, List, [], ◌∷◌, length, get_or, take, drop, sym, ap, ◌∙◌, refl, arith, filter, length-take, rules, Bool, true, false}
 use Rattle.std.proofs.lemmas.Bool.Decides.{nat_tests}
 use Rattle.std.proofs.lemmas.List.{drop_more}
-use Rattle.session_text.specs.SessionLine.{pieces_from, piece_length, line_words, grow_first, is_word, is_gap, spot_behind, Spot, outside, inside, escaped}
+use Rattle.session_text.specs.SessionLine.{pieces_from, piece_length, line_words, grow_first, is_word, is_gap, quoting_behind, Quoting, outside, inside, escaped}
 
 -- a space in front changes no word
 pub line_words-space : (bs : List ℕ) → line_words (32 ∷ bs) ≡ line_words bs
@@ -20,35 +20,35 @@ behind_space [] = []
 behind_space (b ∷ bs) = pieces_from outside bs
 
 -- a piece lies in the line
-pub piece_length-within : (spot : Spot) (line : List ℕ) → piece_length spot line ≤ length line
+pub piece_length-within : (spot : Quoting) (line : List ℕ) → piece_length spot line ≤ length line
 piece_length-within spot [] = omega arith
-piece_length-within spot (b ∷ bs) = by_gap (is_gap spot b) refl (piece_length-within (spot_behind spot b) bs)
+piece_length-within spot (b ∷ bs) = by_gap (is_gap spot b) refl (piece_length-within (quoting_behind spot b) bs)
   where
-    by_gap : (gap : Bool) → is_gap spot b ≡ gap → piece_length (spot_behind spot b) bs ≤ length bs → piece_length spot (b ∷ bs) ≤ length (b ∷ bs)
+    by_gap : (gap : Bool) → is_gap spot b ≡ gap → piece_length (quoting_behind spot b) bs ≤ length bs → piece_length spot (b ∷ bs) ≤ length (b ∷ bs)
     by_gap true is later = rw is (omega arith)
     by_gap false is later = rw is (omega (arith, later))
 
 -- the first piece, and those behind it
-pieces_from-first : (spot : Spot) (line : List ℕ) → pieces_from spot line ≡ take (piece_length spot line) line ∷ behind_space (drop (piece_length spot line) line)
+pieces_from-first : (spot : Quoting) (line : List ℕ) → pieces_from spot line ≡ take (piece_length spot line) line ∷ behind_space (drop (piece_length spot line) line)
 pieces_from-first spot [] = refl
-pieces_from-first spot (b ∷ bs) = by_gap (is_gap spot b) refl (pieces_from-first (spot_behind spot b) bs)
+pieces_from-first spot (b ∷ bs) = by_gap (is_gap spot b) refl (pieces_from-first (quoting_behind spot b) bs)
   where
-    by_gap : (gap : Bool) → is_gap spot b ≡ gap → pieces_from (spot_behind spot b) bs ≡ take (piece_length (spot_behind spot b) bs) bs ∷ behind_space (drop (piece_length (spot_behind spot b) bs) bs) → pieces_from spot (b ∷ bs) ≡ take (piece_length spot (b ∷ bs)) (b ∷ bs) ∷ behind_space (drop (piece_length spot (b ∷ bs)) (b ∷ bs))
+    by_gap : (gap : Bool) → is_gap spot b ≡ gap → pieces_from (quoting_behind spot b) bs ≡ take (piece_length (quoting_behind spot b) bs) bs ∷ behind_space (drop (piece_length (quoting_behind spot b) bs) bs) → pieces_from spot (b ∷ bs) ≡ take (piece_length spot (b ∷ bs)) (b ∷ bs) ∷ behind_space (drop (piece_length spot (b ∷ bs)) (b ∷ bs))
     by_gap true is later = rw is refl
     by_gap false is later = rw is (ap (grow_first b) later)
 
 -- what is behind a piece begins with a space, which changes no word
-behind_piece : (spot : Spot) (line : List ℕ) → filter is_word (behind_space (drop (piece_length spot line) line)) ≡ line_words (drop (piece_length spot line) line)
+behind_piece : (spot : Quoting) (line : List ℕ) → filter is_word (behind_space (drop (piece_length spot line) line)) ≡ line_words (drop (piece_length spot line) line)
 unfolding line_words
 behind_piece spot [] = refl
-behind_piece spot (b ∷ bs) = by_gap (is_gap spot b) refl (behind_piece (spot_behind spot b) bs)
+behind_piece spot (b ∷ bs) = by_gap (is_gap spot b) refl (behind_piece (quoting_behind spot b) bs)
   where
-    at_gap : (spot : Spot) → is_gap spot b ≡ true → filter is_word (pieces_from outside bs) ≡ filter is_word (pieces_from outside (b ∷ bs))
+    at_gap : (spot : Quoting) → is_gap spot b ≡ true → filter is_word (pieces_from outside bs) ≡ filter is_word (pieces_from outside (b ∷ bs))
     at_gap outside is = rw is refl
     at_gap inside is = absurd (search rules)
     at_gap escaped is = absurd (search rules)
 
-    by_gap : (gap : Bool) → is_gap spot b ≡ gap → filter is_word (behind_space (drop (piece_length (spot_behind spot b) bs) bs)) ≡ filter is_word (pieces_from outside (drop (piece_length (spot_behind spot b) bs) bs))
+    by_gap : (gap : Bool) → is_gap spot b ≡ gap → filter is_word (behind_space (drop (piece_length (quoting_behind spot b) bs) bs)) ≡ filter is_word (pieces_from outside (drop (piece_length (quoting_behind spot b) bs) bs))
         → filter is_word (behind_space (drop (piece_length spot (b ∷ bs)) (b ∷ bs))) ≡ filter is_word (pieces_from outside (drop (piece_length spot (b ∷ bs)) (b ∷ bs)))
     by_gap true is later = rw is (at_gap spot is)
     by_gap false is later = rw is later

@@ -44,19 +44,19 @@ abbrev pub is_long_so_far : List ℕ → Bool
 is_long_so_far read = nat_lt line_limit (length (without_cr read))
 
 -- where an octet of a line stands: outside quotes, inside them, or behind a backslash there
-pub data Spot : Type 0 where
-  outside : Spot
-  inside : Spot
-  escaped : Spot
+pub data Quoting : Type 0 where
+  outside : Quoting
+  inside : Quoting
+  escaped : Quoting
 
 -- where the octet behind an octet stands
-abbrev pub spot_behind : Spot → ℕ → Spot
-spot_behind outside b = if b == octet_of "\"" then inside else outside
-spot_behind inside b = if b == octet_of "\"" then outside else if b == octet_of "\\" then escaped else inside
-spot_behind escaped b = inside
+abbrev pub quoting_behind : Quoting → ℕ → Quoting
+quoting_behind outside b = if b == octet_of "\"" then inside else outside
+quoting_behind inside b = if b == octet_of "\"" then outside else if b == octet_of "\\" then escaped else inside
+quoting_behind escaped b = inside
 
 -- whether a space there stands between words
-abbrev pub is_gap : Spot → ℕ → Bool
+abbrev pub is_gap : Quoting → ℕ → Bool
 is_gap outside b = b == octet_of " "
 is_gap inside b = false
 is_gap escaped b = false
@@ -66,14 +66,14 @@ grow_first b [] = (b ∷ []) ∷ []
 grow_first b (piece ∷ pieces) = (b ∷ piece) ∷ pieces
 
 -- the pieces between the spaces that no quotes hold
-abbrev pub pieces_from : Spot → List ℕ → List (List ℕ)
+abbrev pub pieces_from : Quoting → List ℕ → List (List ℕ)
 pieces_from spot [] = [] ∷ []
-pieces_from spot (b ∷ bs) = if is_gap spot b then [] ∷ pieces_from outside bs else grow_first b (pieces_from (spot_behind spot b) bs)
+pieces_from spot (b ∷ bs) = if is_gap spot b then [] ∷ pieces_from outside bs else grow_first b (pieces_from (quoting_behind spot b) bs)
 
 -- how many octets stand before the first such space
-abbrev pub piece_length : Spot → List ℕ → ℕ
+abbrev pub piece_length : Quoting → List ℕ → ℕ
 piece_length spot [] = 0
-piece_length spot (b ∷ bs) = if is_gap spot b then 0 else suc (piece_length (spot_behind spot b) bs)
+piece_length spot (b ∷ bs) = if is_gap spot b then 0 else suc (piece_length (quoting_behind spot b) bs)
 
 abbrev pub is_word : List ℕ → Bool
 is_word [] = false
@@ -129,19 +129,21 @@ word_value [] = None
 word_value (b ∷ bs) = if b == octet_of "\"" then quoted_value bs else if list_all is_bare (b ∷ bs) then Some (b ∷ bs) else None
 
 -- what a line asks for
-pub data Command : Type 0 where
-  nothing : Command
-  script : (place : Place) (name : List ℕ) (count : ℕ) → Command
-  message : (id : List ℕ) (count : ℕ) → Command
-  main : (place : Place) (name : List ℕ) → Command
-  no_main : Command
-  rename : (place : Place) (name : List ℕ) (new_place : Place) (new_name : List ℕ) → Command
-  drop_script : (place : Place) (name : List ℕ) → Command
-  drop_message : (id : List ℕ) → Command
-  envelope : (from to : List ℕ) → Command
-  mailbox : (box : List ℕ) → Command
-  report : Command
-  dump : (place : Place) (name : List ℕ) → Command
+pub data SessionCommand : Type 0 where
+  nothing : SessionCommand
+  script : (place : Place) (name : List ℕ) (count : ℕ) → SessionCommand
+  message : (id : List ℕ) (count : ℕ) → SessionCommand
+  main : (place : Place) (name : List ℕ) → SessionCommand
+  no_main : SessionCommand
+  rename : (place : Place) (name : List ℕ) (new_place : Place) (new_name : List ℕ) → SessionCommand
+  drop_script : (place : Place) (name : List ℕ) → SessionCommand
+  drop_message : (id : List ℕ) → SessionCommand
+  envelope : (from to : List ℕ) → SessionCommand
+  mailbox : (box : List ℕ) → SessionCommand
+  report : SessionCommand
+  dump : (place : Place) (name : List ℕ) → SessionCommand
+  expect : (id : List ℕ) (count : ℕ) → SessionCommand
+  no_expect : (id : List ℕ) → SessionCommand
 
 -- whether a word is this text
 unfoldable pub is_text : List ℕ → List ℕ → Bool
@@ -182,64 +184,75 @@ last_value [] = None
 last_value (word ∷ []) = word_value word
 last_value (word ∷ more ∷ rest) = None
 
-abbrev pub script_command : List (List ℕ) → Option Command
+abbrev pub script_command : List (List ℕ) → Option SessionCommand
 script_command [] = None
 script_command (place ∷ []) = None
 script_command (place ∷ name ∷ words) = option_and_then (λ n. option_map (λ count. script n.0 n.1 count) (last_count words)) (named place name)
 
-abbrev pub message_command : List (List ℕ) → Option Command
+abbrev pub message_command : List (List ℕ) → Option SessionCommand
 message_command [] = None
 message_command (id ∷ words) = option_and_then (λ i. option_map (λ count. message i count) (last_count words)) (word_value id)
 
-abbrev pub rename_command : List (List ℕ) → Option Command
+abbrev pub expect_command : List (List ℕ) → Option SessionCommand
+expect_command [] = None
+expect_command (id ∷ words) = option_and_then (λ i. option_map (λ count. expect i count) (last_count words)) (word_value id)
+
+abbrev pub rename_command : List (List ℕ) → Option SessionCommand
 rename_command [] = None
 rename_command (place ∷ []) = None
 rename_command (place ∷ name ∷ words) = option_and_then (λ from. option_map (λ to. rename from.0 from.1 to.0 to.1) (last_name words)) (named place name)
 
-abbrev pub envelope_command : List (List ℕ) → Option Command
+abbrev pub envelope_command : List (List ℕ) → Option SessionCommand
 envelope_command [] = None
 envelope_command (from ∷ words) = option_and_then (λ f. option_map (λ t. envelope f t) (last_value words)) (word_value from)
 
-abbrev pub main_command : List (List ℕ) → Option Command
+abbrev pub main_command : List (List ℕ) → Option SessionCommand
 main_command words = option_map (λ n. main n.0 n.1) (last_name words)
 
-abbrev pub drop_script_command : List (List ℕ) → Option Command
+abbrev pub drop_script_command : List (List ℕ) → Option SessionCommand
 drop_script_command words = option_map (λ n. drop_script n.0 n.1) (last_name words)
 
-abbrev pub dump_command : List (List ℕ) → Option Command
+abbrev pub dump_command : List (List ℕ) → Option SessionCommand
 dump_command words = option_map (λ n. dump n.0 n.1) (last_name words)
 
--- a command that prints what there is at a place and a name
-abbrev pub print_command : List ℕ → List (List ℕ) → Option Command
-print_command word words = if is_text (codes "dump") word then dump_command words else None
+-- a command that says what is expected of a message
+abbrev pub expecting_command : List ℕ → List (List ℕ) → Option SessionCommand
+expecting_command word words =
+    if is_text (codes "expect") word then expect_command words
+    else if is_text (codes "no-expect") word then option_map (λ id. no_expect id) (last_value words)
+    else None
+
+-- a command that prints what there is at a place and a name, or one of those
+abbrev pub print_command : List ℕ → List (List ℕ) → Option SessionCommand
+print_command word words = if is_text (codes "dump") word then dump_command words else expecting_command word words
 
 -- a command of a place and a name
-abbrev pub name_command : List ℕ → List (List ℕ) → Option Command
+abbrev pub name_command : List ℕ → List (List ℕ) → Option SessionCommand
 name_command word words =
     if is_text (codes "main") word then main_command words
     else if is_text (codes "drop-script") word then drop_script_command words
     else print_command word words
 
 -- a command of one word, or one of those
-abbrev pub value_command : List ℕ → List (List ℕ) → Option Command
+abbrev pub value_command : List ℕ → List (List ℕ) → Option SessionCommand
 value_command word words =
     if is_text (codes "drop-message") word then option_map (λ id. drop_message id) (last_value words)
     else if is_text (codes "mailbox") word then option_map (λ box. mailbox box) (last_value words)
     else name_command word words
 
-abbrev pub alone : Command → List (List ℕ) → Option Command
+abbrev pub alone : SessionCommand → List (List ℕ) → Option SessionCommand
 alone command [] = Some command
 alone command (more ∷ rest) = None
 
 -- a command of no words, or one of those
-abbrev pub lone_command : List ℕ → List (List ℕ) → Option Command
+abbrev pub lone_command : List ℕ → List (List ℕ) → Option SessionCommand
 lone_command word words =
     if is_text (codes "no-main") word then alone no_main words
     else if is_text (codes "report") word then alone report words
     else value_command word words
 
 -- the command of a first word, and the words behind it
-abbrev pub command_by : List ℕ → List (List ℕ) → Option Command
+abbrev pub command_by : List ℕ → List (List ℕ) → Option SessionCommand
 command_by word words =
     if is_text (codes "script") word then script_command words
     else if is_text (codes "message") word then message_command words
@@ -248,10 +261,10 @@ command_by word words =
     else lone_command word words
 
 -- the command of some words
-abbrev pub command_of_words : List (List ℕ) → Option Command
+abbrev pub command_of_words : List (List ℕ) → Option SessionCommand
 command_of_words [] = Some nothing
 command_of_words (word ∷ words) = command_by word words
 
 -- what a line asks for, if it is one of the lines that there are: of visible octets of ASCII and spaces alone
-unfoldable pub command_of_line : List ℕ → Option Command
+unfoldable pub command_of_line : List ℕ → Option SessionCommand
 command_of_line line = if list_all is_printable line then command_of_words (line_words line) else None

@@ -1,8 +1,8 @@
 //! How a line is cut into words.
 ghost use Rattle.std.specs.Prelude.{◌≡◌, ◌≢◌, ◌<◌, ◌≤◌, ◌∷◌, drop, slice_index, None, Some, length, MatchOption, []};
 ghost use Rattle.sieve_base.specs.Octet.{octet_of};
-ghost use Rattle.session_text.specs.SessionLine.{outside, spot_behind, is_gap, piece_length, line_words};
-ghost use Rattle.session_text.specs.view.Command.{spot_as};
+ghost use Rattle.session_text.specs.SessionLine.{outside, quoting_behind, is_gap, piece_length, line_words};
+ghost use Rattle.session_text.specs.view.Command.{quoting_as};
 
 /// How many spaces a line begins with.
 fn leading_spaces(line: &[u8]) -> usize
@@ -20,7 +20,7 @@ fn leading_spaces(line: &[u8]) -> usize
 
 /// Where an octet of a line stands.
 #[derive(Clone, Copy)]
-pub(crate) enum Spot {
+pub(crate) enum Quoting {
     /// Outside quotes.
     Outside,
     /// Inside quotes.
@@ -30,30 +30,30 @@ pub(crate) enum Spot {
 }
 
 /// Where the octet behind an octet stands.
-fn spot_behind(spot: Spot, octet: u8) -> Spot
-    ensures { spot_as result ≡ spot_behind (spot_as spot) octet }
+fn quoting_behind(spot: Quoting, octet: u8) -> Quoting
+    ensures { quoting_as result ≡ quoting_behind (quoting_as spot) octet }
 {
     match spot {
-        Spot::Outside => match octet {
-            b'"' => Spot::Inside,
-            _ => Spot::Outside,
+        Quoting::Outside => match octet {
+            b'"' => Quoting::Inside,
+            _ => Quoting::Outside,
         },
-        Spot::Inside => match octet {
-            b'"' => Spot::Outside,
-            b'\\' => Spot::Escaped,
-            _ => Spot::Inside,
+        Quoting::Inside => match octet {
+            b'"' => Quoting::Outside,
+            b'\\' => Quoting::Escaped,
+            _ => Quoting::Inside,
         },
-        Spot::Escaped => Spot::Inside,
+        Quoting::Escaped => Quoting::Inside,
     }
 }
 
 /// Whether an octet there is a space between words.
-fn is_gap(spot: Spot, octet: u8) -> bool
-    ensures { result ≡ is_gap (spot_as spot) octet }
+fn is_gap(spot: Quoting, octet: u8) -> bool
+    ensures { result ≡ is_gap (quoting_as spot) octet }
 {
     match spot {
-        Spot::Outside => octet == b' ',
-        Spot::Inside | Spot::Escaped => false,
+        Quoting::Outside => octet == b' ',
+        Quoting::Inside | Quoting::Escaped => false,
     }
 }
 
@@ -62,12 +62,12 @@ fn word_len(line: &[u8]) -> usize
     ensures value { result ≡ piece_length outside line.now }
     ensures within { result ≤ length line.now }
 {
-    let mut spot = Spot::Outside;
+    let mut spot = Quoting::Outside;
     for (i, octet) in line.iter().enumerate() {
         if is_gap(spot, *octet) {
             return i;
         }
-        spot = spot_behind(spot, *octet);
+        spot = quoting_behind(spot, *octet);
     }
     line.len()
 }

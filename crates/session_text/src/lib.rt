@@ -13,5 +13,5 @@ mod word;
 pub use input::Input;
 pub use line::Line;
 pub use payload::{Taken, take_octets};
-pub use session_line::{Command, command_of_line};
+pub use session_line::{SessionCommand, command_of_line};
 pub use word::Word;

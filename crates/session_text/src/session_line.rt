@@ -3,7 +3,7 @@ ghost use Rattle.std.specs.Prelude.{◌≡◌, ◌<◌, None, Some, IsTrue, ◌�
 ghost use Rattle.std.specs.List.{list_all};
 ghost use Rattle.std.specs.Option.{option_map};
 ghost use Rattle.sieve_base.specs.Octet.{is_printable};
-ghost use Rattle.session_text.specs.SessionLine.{line_words, is_text, place_of, count_of, last_count, named, last_name, last_value, script_command, message_command, rename_command, envelope_command, main_command, drop_script_command, dump_command, print_command, name_command, value_command, lone_command, command_by, command_of_line};
+ghost use Rattle.session_text.specs.SessionLine.{line_words, is_text, place_of, count_of, last_count, named, last_name, last_value, script_command, message_command, expect_command, rename_command, envelope_command, main_command, drop_script_command, dump_command, expecting_command, print_command, name_command, value_command, lone_command, command_by, command_of_line};
 ghost use Rattle.session_text.specs.view.Command.{command_as};
 
 use crate::cutting::next_word;
@@ -13,7 +13,7 @@ use sieve_base::octet::is_printable;
 
 /// What a line asks for. The words are those of the line, and no copies.
 #[derive(Drop)]
-pub enum Command<'a> {
+pub enum SessionCommand<'a> {
     /// The line has no words.
     Nothing,
     /// To put a script, whose text is the next `count` octets.
@@ -65,6 +65,15 @@ pub enum Command<'a> {
     Dump {
         place: Place,
         name: Word<'a>,
+    },
+    /// To expect a text of a message's verdict, which is the next `count` octets.
+    Expect {
+        id: Word<'a>,
+        count: u64,
+    },
+    /// To expect no text of a message's verdict.
+    NoExpect {
+        id: Word<'a>,
     },
 }
 
@@ -152,35 +161,45 @@ fn last_value(line: &[u8]) -> Option<Word<'_>>
 }
 
 /// What `script PLACE NAME N` asks for, behind its first word.
-fn script_command(line: &[u8]) -> Option<Command<'_>>
+fn script_command(line: &[u8]) -> Option<SessionCommand<'_>>
     ensures { option_map command_as result ≡ script_command (line_words line.now) }
 {
     let (place, line) = next_word(line)?;
     let (name, line) = next_word(line)?;
     let (place, name) = named(place, name)?;
     let count = last_count(line)?;
-    Some(Command::Script { place, name, count })
+    Some(SessionCommand::Script { place, name, count })
 }
 
 /// What `message ID N` asks for, behind its first word.
-fn message_command(line: &[u8]) -> Option<Command<'_>>
+fn message_command(line: &[u8]) -> Option<SessionCommand<'_>>
     ensures { option_map command_as result ≡ message_command (line_words line.now) }
 {
     let (id, line) = next_word(line)?;
     let id = Word::new(id)?;
     let count = last_count(line)?;
-    Some(Command::Message { id, count })
+    Some(SessionCommand::Message { id, count })
+}
+
+/// What `expect ID N` asks for, behind its first word.
+fn expect_command(line: &[u8]) -> Option<SessionCommand<'_>>
+    ensures { option_map command_as result ≡ expect_command (line_words line.now) }
+{
+    let (id, line) = next_word(line)?;
+    let id = Word::new(id)?;
+    let count = last_count(line)?;
+    Some(SessionCommand::Expect { id, count })
 }
 
 /// What `rename PLACE NAME PLACE NAME` asks for, behind its first word.
-fn rename_command(line: &[u8]) -> Option<Command<'_>>
+fn rename_command(line: &[u8]) -> Option<SessionCommand<'_>>
     ensures { option_map command_as result ≡ rename_command (line_words line.now) }
 {
     let (place, line) = next_word(line)?;
     let (name, line) = next_word(line)?;
     let (place, name) = named(place, name)?;
     let (new_place, new_name) = last_name(line)?;
-    Some(Command::Rename {
+    Some(SessionCommand::Rename {
         place,
         name,
         new_place,
@@ -189,52 +208,66 @@ fn rename_command(line: &[u8]) -> Option<Command<'_>>
 }
 
 /// What `envelope FROM TO` asks for, behind its first word.
-fn envelope_command(line: &[u8]) -> Option<Command<'_>>
+fn envelope_command(line: &[u8]) -> Option<SessionCommand<'_>>
     ensures { option_map command_as result ≡ envelope_command (line_words line.now) }
 {
     let (from, line) = next_word(line)?;
     let from = Word::new(from)?;
     let to = last_value(line)?;
-    Some(Command::Envelope { from, to })
+    Some(SessionCommand::Envelope { from, to })
 }
 
 /// What `main PLACE NAME` asks for, behind its first word.
-fn main_command(line: &[u8]) -> Option<Command<'_>>
+fn main_command(line: &[u8]) -> Option<SessionCommand<'_>>
     ensures { option_map command_as result ≡ main_command (line_words line.now) }
 {
     let (place, name) = last_name(line)?;
-    Some(Command::Main { place, name })
+    Some(SessionCommand::Main { place, name })
 }
 
 /// What `drop-script PLACE NAME` asks for, behind its first word.
-fn drop_script_command(line: &[u8]) -> Option<Command<'_>>
+fn drop_script_command(line: &[u8]) -> Option<SessionCommand<'_>>
     ensures { option_map command_as result ≡ drop_script_command (line_words line.now) }
 {
     let (place, name) = last_name(line)?;
-    Some(Command::DropScript { place, name })
+    Some(SessionCommand::DropScript { place, name })
 }
 
 /// What `dump PLACE NAME` asks for, behind its first word.
-fn dump_command(line: &[u8]) -> Option<Command<'_>>
+fn dump_command(line: &[u8]) -> Option<SessionCommand<'_>>
     ensures { option_map command_as result ≡ dump_command (line_words line.now) }
 {
     let (place, name) = last_name(line)?;
-    Some(Command::Dump { place, name })
+    Some(SessionCommand::Dump { place, name })
 }
 
-/// What a line that prints what there is at a place and a name asks for.
-fn print_command<'a>(word: &[u8], line: &'a [u8]) -> Option<Command<'a>>
-    ensures { option_map command_as result ≡ print_command word.now (line_words line.now) }
+/// What a line that says what is expected of a message asks for.
+fn expecting_command<'a>(word: &[u8], line: &'a [u8]) -> Option<SessionCommand<'a>>
+    ensures { option_map command_as result ≡ expecting_command word.now (line_words line.now) }
 {
-    if is_text(word, b"dump") {
-        dump_command(line)
+    if is_text(word, b"expect") {
+        expect_command(line)
+    } else if is_text(word, b"no-expect") {
+        let id = last_value(line)?;
+        Some(SessionCommand::NoExpect { id })
     } else {
         None
     }
 }
 
+/// What a line that prints what there is at a place and a name asks for.
+fn print_command<'a>(word: &[u8], line: &'a [u8]) -> Option<SessionCommand<'a>>
+    ensures { option_map command_as result ≡ print_command word.now (line_words line.now) }
+{
+    if is_text(word, b"dump") {
+        dump_command(line)
+    } else {
+        expecting_command(word, line)
+    }
+}
+
 /// What a line with a place and a name behind its first word asks for.
-fn name_command<'a>(word: &[u8], line: &'a [u8]) -> Option<Command<'a>>
+fn name_command<'a>(word: &[u8], line: &'a [u8]) -> Option<SessionCommand<'a>>
     ensures { option_map command_as result ≡ name_command word.now (line_words line.now) }
 {
     if is_text(word, b"main") {
@@ -247,33 +280,33 @@ fn name_command<'a>(word: &[u8], line: &'a [u8]) -> Option<Command<'a>>
 }
 
 /// What a line with one word behind its first asks for.
-fn value_command<'a>(word: &[u8], line: &'a [u8]) -> Option<Command<'a>>
+fn value_command<'a>(word: &[u8], line: &'a [u8]) -> Option<SessionCommand<'a>>
     ensures { option_map command_as result ≡ value_command word.now (line_words line.now) }
 {
     if is_text(word, b"drop-message") {
         let id = last_value(line)?;
-        Some(Command::DropMessage { id })
+        Some(SessionCommand::DropMessage { id })
     } else if is_text(word, b"mailbox") {
         let mailbox = last_value(line)?;
-        Some(Command::Mailbox { mailbox })
+        Some(SessionCommand::Mailbox { mailbox })
     } else {
         name_command(word, line)
     }
 }
 
 /// What a line of one word asks for.
-fn lone_command<'a>(word: &[u8], line: &'a [u8]) -> Option<Command<'a>>
+fn lone_command<'a>(word: &[u8], line: &'a [u8]) -> Option<SessionCommand<'a>>
     ensures { option_map command_as result ≡ lone_command word.now (line_words line.now) }
 {
     if is_text(word, b"no-main") {
         if is_over(line) {
-            Some(Command::NoMain)
+            Some(SessionCommand::NoMain)
         } else {
             None
         }
     } else if is_text(word, b"report") {
         if is_over(line) {
-            Some(Command::Report)
+            Some(SessionCommand::Report)
         } else {
             None
         }
@@ -283,7 +316,7 @@ fn lone_command<'a>(word: &[u8], line: &'a [u8]) -> Option<Command<'a>>
 }
 
 /// What a line of some words asks for.
-fn command_by<'a>(word: &[u8], line: &'a [u8]) -> Option<Command<'a>>
+fn command_by<'a>(word: &[u8], line: &'a [u8]) -> Option<SessionCommand<'a>>
     ensures { option_map command_as result ≡ command_by word.now (line_words line.now) }
 {
     if is_text(word, b"script") {
@@ -303,14 +336,14 @@ fn command_by<'a>(word: &[u8], line: &'a [u8]) -> Option<Command<'a>>
 /// an octet that is neither a visible one of ASCII nor a space, an unknown first word, a word that is ill quoted, too
 /// few words or too many, or a count that isn't one to nine digits. Takes no memory.
 #[tactic(auto, unfolding(crate::specs::SessionLine::command_of_line))]
-pub fn command_of_line(line: &[u8]) -> Option<Command<'_>>
+pub fn command_of_line(line: &[u8]) -> Option<SessionCommand<'_>>
     ensures { option_map command_as result ≡ command_of_line line.now }
 {
     if !is_plain(line) {
         return None;
     }
     match next_word(line) {
-        None => Some(Command::Nothing),
+        None => Some(SessionCommand::Nothing),
         Some((word, line)) => command_by(word, line),
     }
 }

@@ -13,7 +13,7 @@ name_limit = 1024
 
 -- the most scripts of a bench
 abbrev pub script_count_limit : ℕ
-script_count_limit = 1024
+script_count_limit = 4096
 
 -- how deep tests may go: a test directly in a command has depth 1 (RFC 5228, section 2.10.7, asks for 15 at least)
 abbrev pub test_depth : ℕ
@@ -32,6 +32,10 @@ message_limit = 16777216
 -- the most octets of a message's id
 abbrev pub id_limit : ℕ
 id_limit = 1024
+
+-- the most octets of the text that a message's verdict is expected to have: 2 ^ 16
+abbrev pub expected_limit : ℕ
+expected_limit = 65536
 
 -- the most messages of a bench
 abbrev pub message_count_limit : ℕ

@@ -1,14 +1,14 @@
 //! The limits of the project, each once, for code. Contracts name the limits of the definitions.
 
 ghost use Rattle.std.specs.Prelude.{◌≡◌};
-ghost use Rattle.sieve_base.specs.Limits.{action_limit, address_limit, block_room, global_limit, id_limit, include_depth, include_limit, line_limit, local_limit, mailbox_limit, match_limit, message_count_limit, message_limit, name_limit, script_count_limit, test_depth, text_limit, value_limit};
+ghost use Rattle.sieve_base.specs.Limits.{action_limit, address_limit, block_room, expected_limit, global_limit, id_limit, include_depth, include_limit, line_limit, local_limit, mailbox_limit, match_limit, message_count_limit, message_limit, name_limit, script_count_limit, test_depth, text_limit, value_limit};
 
 /// The most octets of a script's text.
 pub const MAX_TEXT: usize = 1_048_576;
 /// The most octets of a script's name.
 pub const MAX_NAME: usize = 1_024;
 /// The most scripts of a bench.
-pub const MAX_SCRIPTS: usize = 1_024;
+pub const MAX_SCRIPTS: usize = 4_096;
 /// How deep tests may go: a test directly in a command has depth 1.
 pub const MAX_TEST_DEPTH: usize = 32;
 /// The most blocks that may stand open at once.
@@ -17,6 +17,8 @@ pub const MAX_OPEN_BLOCKS: usize = 32;
 pub const MAX_MESSAGE: usize = 16_777_216;
 /// The most octets of a message's id.
 pub const MAX_ID: usize = 1_024;
+/// The most octets of the text that a message's verdict is expected to have.
+pub const MAX_EXPECTED: usize = 65_536;
 /// The most messages of a bench.
 pub const MAX_MESSAGES: usize = 65_536;
 /// The most octets of an address of the envelope.
@@ -49,6 +51,7 @@ pub fn constants_are_limits()
     ensures blocks { MAX_OPEN_BLOCKS ≡ block_room }
     ensures message { MAX_MESSAGE ≡ message_limit }
     ensures id { MAX_ID ≡ id_limit }
+    ensures expected { MAX_EXPECTED ≡ expected_limit }
     ensures messages { MAX_MESSAGES ≡ message_count_limit }
     ensures address { MAX_ADDRESS ≡ address_limit }
     ensures mailbox { MAX_MAILBOX ≡ mailbox_limit }

@@ -10,7 +10,7 @@ use Rattle.sieve_code.specs.Choice.{Tail, Branches, no_branch, past_branches, br
 use Rattle.sieve_code.specs.Operation.{jump_op, jump_if_op, act_op, stop_op, return_op}
 use Rattle.sieve_code.specs.Walk.{Walk, by_stop, by_return, acted, condition_walk, commands_walk}
 use Rattle.sieve_code.proofs.Tails.{Walks, Ends, Forward, ends_self, ends_more, ends_trans, walks_acts, walks_stops, walks_returns, walks_jumps, walks_jumps_if, forward_plain, forward_jumps, forward_jumps_if, landed}
-use Rattle.sieve_code.proofs.Conditions.{IsCode, first_code}
+use Rattle.sieve_code.proofs.Conditions.{IsConditionCode, first_code}
 
 -- a tail goes this walk, whatever is in the register, and its jumps go forward
 pub record Goes (tail : Tail) (walk : Walk) : Type 0 where
@@ -85,7 +85,7 @@ past_goes false w r behind other after rest branch alone = record {
 }
 
 -- a branch with a test: its block, or the other branches, and what is behind them
-test_branch : (first inner : Tail → Tail) (condition : Condition) (cs : Commands) (b : Branches) (chain : Chain) (behind : Tail) (next : Walk) → IsCode first condition → IsBlock inner cs → IsChain b chain behind next → GoesBefore (branch_before first inner b) b.with_branch (condition_walk condition (commands_walk cs (commands_walk chain.rest next)) (commands_walk chain.otherwise (commands_walk chain.rest next)))
+test_branch : (first inner : Tail → Tail) (condition : Condition) (cs : Commands) (b : Branches) (chain : Chain) (behind : Tail) (next : Walk) → IsConditionCode first condition → IsBlock inner cs → IsChain b chain behind next → GoesBefore (branch_before first inner b) b.with_branch (condition_walk condition (commands_walk cs (commands_walk chain.rest next)) (commands_walk chain.otherwise (commands_walk chain.rest next)))
 test_branch first inner condition cs b chain behind next f i c =
     let after = commands_walk chain.rest next in
     let other = commands_walk chain.otherwise after in
@@ -103,7 +103,7 @@ test_branch first inner condition cs b chain behind next f i c =
 
 -- COMMANDS
 
-module _ (first inner : Tail → Tail) (condition : Condition) (cs : Commands) (f : IsCode first condition) (i : IsBlock inner cs) (b : Branches) (chain : Chain) (behind : Tail) (next : Walk) (c : IsChain b chain behind next) where
+module _ (first inner : Tail → Tail) (condition : Condition) (cs : Commands) (f : IsConditionCode first condition) (i : IsBlock inner cs) (b : Branches) (chain : Chain) (behind : Tail) (next : Walk) (c : IsChain b chain behind next) where
   command_chain : (r : Option CommandReading) (line : ℕ) → IsChain (command_before r line first inner b) (script.command_before r line condition cs chain) behind next
   unfolding commands_walk
   command_chain None line = plain_chain b.behind_branches chain.rest behind next c.rest

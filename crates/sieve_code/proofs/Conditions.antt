@@ -11,12 +11,12 @@ use Rattle.sieve_code.specs.Walk.{Walk, condition_walk}
 use Rattle.sieve_code.proofs.Tails.{Walks, Ends, Forward, ends_self, ends_more, ends_trans, walks_sets, walks_inverts, walks_asks, walks_jumps_if, forward_plain, forward_jumps_if, landed}
 
 -- what is put in front of a tail asks what a condition asks, and goes on in the tail with its truth in the register
-pub record IsCode (before : Tail → Tail) (c : Condition) : Type 0 where
+pub record IsConditionCode (before : Tail → Tail) (c : Condition) : Type 0 where
   pub ends : (behind : Tail) → Ends (before behind) behind
   pub forward : (behind : Tail) → Forward behind → Forward (before behind)
   pub walks : (behind : Tail) (does : Bool → Walk) → Walks behind does → Walks (before behind) (λ r. condition_walk c (does true) (does false))
 
-always_code : IsCode (λ behind. set_op true ∷ behind) always
+always_code : IsConditionCode (λ behind. set_op true ∷ behind) always
 unfolding condition_walk
 always_code = record {
   ends = λ behind. ends_more (set_op true) behind behind (ends_self behind);
@@ -24,7 +24,7 @@ always_code = record {
   walks = λ behind does w. walks_sets behind does w true;
 }
 
-never_code : IsCode (λ behind. set_op false ∷ behind) never
+never_code : IsConditionCode (λ behind. set_op false ∷ behind) never
 unfolding condition_walk
 never_code = record {
   ends = λ behind. ends_more (set_op false) behind behind (ends_self behind);
@@ -32,7 +32,7 @@ never_code = record {
   walks = λ behind does w. walks_sets behind does w false;
 }
 
-asks_code : (ask : Ask) → IsCode (λ behind. test_op ask ∷ behind) (script.asks ask)
+asks_code : (ask : Ask) → IsConditionCode (λ behind. test_op ask ∷ behind) (script.asks ask)
 unfolding condition_walk
 asks_code ask = record {
   ends = λ behind. ends_more (test_op ask) behind behind (ends_self behind);
@@ -40,7 +40,7 @@ asks_code ask = record {
   walks = λ behind does w. walks_asks behind does w ask;
 }
 
-negated_code : (before : Tail → Tail) (c : Condition) → IsCode before c → IsCode (λ behind. before (invert_op ∷ behind)) (negated c)
+negated_code : (before : Tail → Tail) (c : Condition) → IsConditionCode before c → IsConditionCode (λ behind. before (invert_op ∷ behind)) (negated c)
 unfolding condition_walk
 negated_code before c code = record {
   ends = λ behind. ends_trans (before (invert_op ∷ behind)) (invert_op ∷ behind) behind (code.ends (invert_op ∷ behind)) (ends_more invert_op behind behind (ends_self behind));
@@ -49,7 +49,7 @@ negated_code before c code = record {
 }
 
 -- two conditions that have one walk
-like_code : (before : Tail → Tail) (c d : Condition) → ((held failed : Walk) → condition_walk c held failed ≡ condition_walk d held failed) → IsCode before c → IsCode before d
+like_code : (before : Tail → Tail) (c d : Condition) → ((held failed : Walk) → condition_walk c held failed ≡ condition_walk d held failed) → IsConditionCode before c → IsConditionCode before d
 like_code before c d same code = record {
   ends = code.ends;
   forward = code.forward;
@@ -63,11 +63,11 @@ abbrev pub joined_by : Bool → List Condition → Condition
 joined_by false cs = all_of cs
 joined_by true cs = any_of cs
 
-none_code : (truth : Bool) → IsCode (λ behind. set_op (not truth) ∷ behind) (joined_by truth [])
+none_code : (truth : Bool) → IsConditionCode (λ behind. set_op (not truth) ∷ behind) (joined_by truth [])
 none_code true = never_code
 none_code false = always_code
 
-one_code : (truth : Bool) (before : Tail → Tail) (c : Condition) → IsCode before c → IsCode before (joined_by truth (c ∷ []))
+one_code : (truth : Bool) (before : Tail → Tail) (c : Condition) → IsConditionCode before c → IsConditionCode before (joined_by truth (c ∷ []))
 unfolding condition_walk
 one_code true before c code = like_code before c (either c never) (λ h f. refl) code
 one_code false before c code = like_code before c (both c always) (λ h f. refl) code
@@ -76,7 +76,7 @@ one_code false before c code = like_code before c (both c always) (λ h f. refl)
 abbrev more_before : Bool → (before others : Tail → Tail) → Tail → Tail
 more_before truth before others behind = before (jump_if_op truth (length behind) ∷ others behind)
 
-joint_code : (truth : Bool) (before others : Tail → Tail) (c : Condition) (cs : List Condition) → IsCode before c → IsCode others (joined_by truth cs) → IsCode (more_before truth before others) (joined_by truth (c ∷ cs))
+joint_code : (truth : Bool) (before others : Tail → Tail) (c : Condition) (cs : List Condition) → IsConditionCode before c → IsConditionCode others (joined_by truth cs) → IsConditionCode (more_before truth before others) (joined_by truth (c ∷ cs))
 unfolding condition_walk
 joint_code true before others c cs code more = record {
   ends = λ behind. ends_trans _ _ behind (code.ends (jump_if_op true (length behind) ∷ others behind)) (ends_more _ _ behind (more.ends behind));
@@ -92,35 +92,35 @@ joint_code false before others c cs code more = record {
 -- what is known of a list of tests: of all, and of the first
 abbrev ListCode : Bool → TestList → Type 0
 ListCode truth end_tests = Unit {0}
-ListCode truth (more_tests t ts) = IsCode (list_before truth (more_tests t ts)) (joined_by truth (conditions (more_tests t ts)))
+ListCode truth (more_tests t ts) = IsConditionCode (list_before truth (more_tests t ts)) (joined_by truth (conditions (more_tests t ts)))
 
 abbrev HeadCode : TestList → Type 0
 HeadCode end_tests = Unit {0}
-HeadCode (more_tests t ts) = IsCode (test_before t) (condition_of t)
+HeadCode (more_tests t ts) = IsConditionCode (test_before t) (condition_of t)
 
-more_code : (truth : Bool) (t : Test) (ts : TestList) → IsCode (test_before t) (condition_of t) → ListCode truth ts → ListCode truth (more_tests t ts)
+more_code : (truth : Bool) (t : Test) (ts : TestList) → IsConditionCode (test_before t) (condition_of t) → ListCode truth ts → ListCode truth (more_tests t ts)
 unfolding list_before conditions
 more_code truth t end_tests code more = one_code truth (test_before t) (condition_of t) code
 more_code truth t (more_tests u us) code more = joint_code truth (test_before t) (list_before truth (more_tests u us)) (condition_of t) (conditions (more_tests u us)) code more
 
-tests_list_code : (truth : Bool) (ts : TestList) → ListCode truth ts → IsCode (tests_before truth (test_list ts)) (joined_by truth (conditions_in (test_list ts)))
+tests_list_code : (truth : Bool) (ts : TestList) → ListCode truth ts → IsConditionCode (tests_before truth (test_list ts)) (joined_by truth (conditions_in (test_list ts)))
 unfolding tests_before conditions_in
 tests_list_code truth end_tests more = none_code truth
 tests_list_code truth (more_tests t ts) more = more
 
-first_list_code : (ts : TestList) → HeadCode ts → IsCode (first_before (test_list ts)) (branch_condition (conditions_in (test_list ts)))
+first_list_code : (ts : TestList) → HeadCode ts → IsConditionCode (first_before (test_list ts)) (branch_condition (conditions_in (test_list ts)))
 unfolding first_before conditions_in
 first_list_code end_tests code = never_code
 first_list_code (more_tests t ts) code = code
 
 -- TESTS
 
-not_code : (first : Tail → Tail) (cs : List Condition) → IsCode first (branch_condition cs) → IsCode (λ behind. first (invert_op ∷ behind)) (negation_of cs)
+not_code : (first : Tail → Tail) (cs : List Condition) → IsConditionCode first (branch_condition cs) → IsConditionCode (λ behind. first (invert_op ∷ behind)) (negation_of cs)
 unfolding condition_walk
 not_code first [] code = like_code _ (negated never) always (λ h f. refl) (negated_code first never code)
 not_code first (c ∷ cs) code = negated_code first c code
 
-reading_code : (r : Option TestReading) (all any first : Tail → Tail) (cs : List Condition) → IsCode all (all_of cs) → IsCode any (any_of cs) → IsCode first (branch_condition cs) → IsCode (reading_before r all any first) (joined r cs)
+reading_code : (r : Option TestReading) (all any first : Tail → Tail) (cs : List Condition) → IsConditionCode all (all_of cs) → IsConditionCode any (any_of cs) → IsConditionCode first (branch_condition cs) → IsConditionCode (reading_before r all any first) (joined r cs)
 reading_code None all any first cs a o f = never_code
 reading_code (Some reads_always) all any first cs a o f = always_code
 reading_code (Some reads_never) all any first cs a o f = never_code
@@ -129,22 +129,22 @@ reading_code (Some reads_all) all any first cs a o f = a
 reading_code (Some reads_any) all any first cs a o f = o
 reading_code (Some reads_not) all any first cs a o f = not_code first cs f
 
-one_tests_code : (truth : Bool) (t : Test) → IsCode (test_before t) (condition_of t) → IsCode (tests_before truth (one_test t)) (joined_by truth (conditions_in (one_test t)))
+one_tests_code : (truth : Bool) (t : Test) → IsConditionCode (test_before t) (condition_of t) → IsConditionCode (tests_before truth (one_test t)) (joined_by truth (conditions_in (one_test t)))
 unfolding tests_before conditions_in
 one_tests_code truth t code = one_code truth (test_before t) (condition_of t) code
 
 mutual
   unfolding test_before tests_before first_before condition_of conditions_in
 
-  pub test_code : (t : Test) → IsCode (test_before t) (condition_of t)
+  pub test_code : (t : Test) → IsConditionCode (test_before t) (condition_of t)
   test_code (test name line args ts) = reading_code (test_reading (test name line args ts)) (tests_before false ts) (tests_before true ts) (first_before ts) (conditions_in ts) (tests_code false ts) (tests_code true ts) (first_code ts)
 
-  pub tests_code : (truth : Bool) (ts : Tests) → IsCode (tests_before truth ts) (joined_by truth (conditions_in ts))
+  pub tests_code : (truth : Bool) (ts : Tests) → IsConditionCode (tests_before truth ts) (joined_by truth (conditions_in ts))
   tests_code truth no_tests = none_code truth
   tests_code truth (one_test t) = one_tests_code truth t (test_code t)
   tests_code truth (test_list ts) = tests_list_code truth ts (list_code truth ts)
 
-  pub first_code : (ts : Tests) → IsCode (first_before ts) (branch_condition (conditions_in ts))
+  pub first_code : (ts : Tests) → IsConditionCode (first_before ts) (branch_condition (conditions_in ts))
   first_code no_tests = never_code
   first_code (one_test t) = test_code t
   first_code (test_list ts) = first_list_code ts (head_code ts)

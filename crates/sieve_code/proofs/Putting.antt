@@ -17,7 +17,7 @@ use Rattle.sieve_reading.specs.declared.tree.Tests.TheVariants as test_variants
 use Rattle.sieve_code.specs.Choice.{Tail, Branches, no_branch, past_branches, joint, reading_before, test_before, tests_before, list_before, first_before, command_before, node_before, block_before, nodes_before}
 use Rattle.sieve_code.specs.Operation.{Operation, set_op, jump_op, jump_if_op}
 use Rattle.sieve_code.specs.view.Branches.{block_at, branch_at, branches_as, first_at, last}
-use Rattle.sieve_code.specs.declared.command_code.Front.{Front}
+use Rattle.sieve_code.specs.declared.command_code.TailFront.{TailFront}
 use Rattle.sieve_code.proofs.Tails.{Ends, last_of}
 use Rattle.sieve_code.proofs.Conditions.{first_code}
 use Rattle.sieve_code.proofs.Suffixes.{Extends, block_ends, branch_ends}
@@ -28,8 +28,8 @@ pub on_ok_along : {T E X : Type 0} (r : Result T E) (a b c : X) → b ≡ c → 
 on_ok_along r a b c same h = subst (λ x. OnOk r (a ≡ x)) same h
 
 -- so may the branches behind a front
-pub fronts_along : {E : Type 0} (r : Result Front E) (tail : Tail) (b c : Branches) → b ≡ c → IfOk r (λ front. branches_as front tail ≡ b) → IfOk r (λ front. branches_as front tail ≡ c)
-fronts_along r tail b c same h = subst (λ (x : Branches). IfOk r (λ (front : Front). branches_as front tail ≡ x)) same h
+pub fronts_along : {E : Type 0} (r : Result TailFront E) (tail : Tail) (b c : Branches) → b ≡ c → IfOk r (λ front. branches_as front tail ≡ b) → IfOk r (λ front. branches_as front tail ≡ c)
+fronts_along r tail b c same h = subst (λ (x : Branches). IfOk r (λ (front : TailFront). branches_as front tail ≡ x)) same h
 
 -- DROPPING
 
@@ -139,11 +139,11 @@ pub length_last : (count : ℕ) (tail : Tail) → count ≤ length tail → leng
 length_last count tail le = omega (arith, length-drop (length tail - count) tail)
 
 -- a jump past the branches
-pub past : (front : Front) (tail : Tail) → front.behind ≤ length tail → past_branches (branches_as front tail) ≡ (if front.has_branch then jump_op front.behind ∷ tail else tail)
+pub past : (front : TailFront) (tail : Tail) → front.behind ≤ length tail → past_branches (branches_as front tail) ≡ (if front.has_branch then jump_op front.behind ∷ tail else tail)
 past front tail le = ap (λ n. if front.has_branch then jump_op n ∷ tail else tail) (length_last front.behind tail le)
 
 -- a tail without a branch in front
-pub alone : (front : Front) (tail : Tail) → front.has_branch ≡ false → front.behind ≡ length tail → branches_as front tail ≡ no_branch tail
+pub alone : (front : TailFront) (tail : Tail) → front.has_branch ≡ false → front.behind ≡ length tail → branches_as front tail ≡ no_branch tail
 alone front tail none all =
     ap (λ h. made h tail (last front.behind tail)) none
     ∙ ap (λ n. made false tail (last n tail)) all

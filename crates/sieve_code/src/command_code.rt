@@ -15,7 +15,7 @@ use std::alloc::{AllocError, Global};
 
 /// What stands at the front of a tail.
 #[derive(Clone, Copy)]
-pub(crate) struct Front {
+pub(crate) struct TailFront {
     /// Whether a branch `elsif` or `else` stands there.
     has_branch: bool,
     /// How many operations stand behind such branches.
@@ -23,18 +23,18 @@ pub(crate) struct Front {
 }
 
 /// The front of a tail where no branch stands.
-fn without_branch(tail: &Tail) -> Front
+fn without_branch(tail: &Tail) -> TailFront
     ensures branches { result.has_branch ≡ false }
     ensures behind { result.behind ≡ length tail.now }
 {
-    Front {
+    TailFront {
         has_branch: false,
         behind: tail.len(),
     }
 }
 
 /// Drops the branches at the front of a tail, which no `if` opens.
-fn drop_branches(front: Front, tail: &mut Tail) -> Front
+fn drop_branches(front: TailFront, tail: &mut Tail) -> TailFront
     ensures within { result.behind ≤ length tail.new }
     ensures value { branches_as result tail.new ≡ no_branch (last front.behind tail.old) }
 {
@@ -43,7 +43,7 @@ fn drop_branches(front: Front, tail: &mut Tail) -> Front
 }
 
 /// Puts an operation in front of a tail, in the place of the branches there, which no `if` opens.
-fn put_alone(op: Op, front: Front, tail: &mut Tail) -> Result<Front, AllocError>
+fn put_alone(op: Op, front: TailFront, tail: &mut Tail) -> Result<TailFront, AllocError>
     ensures within { IfOk result (λ new. new.behind ≤ length tail.new) }
     ensures value { IfOk result (λ new. branches_as new tail.new ≡ no_branch (op_as op ∷ last front.behind tail.old)) }
 {
@@ -54,7 +54,7 @@ fn put_alone(op: Op, front: Front, tail: &mut Tail) -> Result<Front, AllocError>
 
 /// Puts a jump past the branches in front of a tail where a branch stands there.
 #[tactic(auto, using(crate::proofs::Putting::past))]
-fn put_past(front: Front, tail: &mut Tail) -> Result<(), AllocError>
+fn put_past(front: TailFront, tail: &mut Tail) -> Result<(), AllocError>
     requires { front.behind ≤ length tail.old }
     ensures { OnOk result (tail.new ≡ past_branches (branches_as front tail.old)) }
 {
@@ -88,9 +88,9 @@ pub(crate) fn put_commands(
 fn put_command(
     alloc: Global,
     command: &Command,
-    front: Front,
+    front: TailFront,
     tail: &mut Tail,
-) -> Result<Front, AllocError>
+) -> Result<TailFront, AllocError>
     requires { front.behind ≤ length tail.old }
     ensures within { IfOk result (λ new. new.behind ≤ length tail.new) }
     ensures value { IfOk result (λ new. branches_as new tail.new ≡ node_before (node_of command.now) (branches_as front tail.old)) }
@@ -102,7 +102,7 @@ fn put_command(
         }
         Some(CommandReading::Elsif) => {
             put_branch(alloc, command, front, tail)?;
-            Ok(Front {
+            Ok(TailFront {
                 has_branch: true,
                 behind: front.behind,
             })
@@ -110,7 +110,7 @@ fn put_command(
         Some(CommandReading::Else) => {
             tail.keep_last(front.behind);
             put_block(alloc, command, tail)?;
-            Ok(Front {
+            Ok(TailFront {
                 has_branch: true,
                 behind: front.behind,
             })
@@ -134,7 +134,7 @@ fn put_command(
 fn put_branch(
     alloc: Global,
     command: &Command,
-    front: Front,
+    front: TailFront,
     tail: &mut Tail,
 ) -> Result<(), AllocError>
     requires { front.behind ≤ length tail.old }

@@ -1,12 +1,14 @@
 -- What one field or one name gives, in what all of them give.
-use Rattle.std.proofs.Common.{◌≡◌, ℕ, zero, suc, ◌+◌, Bool, true, false, ◌||◌, List, [], ◌∷◌, ◌++◌, map, filter, length, drop, cond, Option, None, Some, Result, refl, subst, sym, ap, ◌∙◌, add-one}
-use Rattle.std.specs.Prelude.{IfOk, if◌then◌else◌}
+use Rattle.std.proofs.Common.{◌≡◌, ℕ, zero, suc, ◌+◌, ◌-◌, ◌<◌, ◌≤◌, arith, Bool, true, false, ◌||◌, List, [], ◌∷◌, ◌++◌, map, filter, length, drop, cond, Option, None, Some, Result, refl, subst, sym, ap, ◌∙◌, add-one}
+use Rattle.std.specs.Prelude.{IfNone, IfOk, IfSome, is_some, if◌then◌else◌}
 use Rattle.std.specs.List.{cons_option, flat_map, list_any, slice_get}
 use Rattle.std.specs.Option.{option_and_then, option_map, option_or}
 use Rattle.std.proofs.Math.Bool.{or-true}
+use Rattle.std.proofs.lemmas.List.{drop_all}
+use Rattle.encoded_words.specs.Scan.{decoded_of}
 use Rattle.match_text.specs.declared.comparators.Collation.{Collation}
 use Rattle.message_text.specs.Addresses.{AddrSpec, addresses_of, envelope_address_of, part_of}
-use Rattle.message_text.specs.Fields.{Field, fields_of}
+use Rattle.message_text.specs.Fields.{Field, IsNextNamed, fields_of, is_field_named}
 use Rattle.message_text.specs.declared.addressing.AddressPart.{AddressPart}
 use Rattle.sieve_reading.specs.Reading.{ValueSource, address_values, envelope_values, flag_values, header_values, string_values}
 use Rattle.sieve_variables.specs.Part.{Part}
@@ -16,15 +18,15 @@ use Rattle.sieve_table.specs.Address.{is_address_field}
 use Rattle.sieve_effects.specs.Delivery.{Delivery}
 use Rattle.match_text.specs.Flags.{flag_keys_of_texts, flag_list}
 use Rattle.sieve_effects.specs.State.{RunState}
-use Rattle.sieve_effects.specs.Matching.{envelope_named, envelope_text, first_match, first_some, is_field_named, match_found, match_of, pairs_with, address_parts, parts_named, parts_of_envelope, parts_of_value, values_named, values_of, keys_from, keys_of}
+use Rattle.sieve_effects.specs.Matching.{envelope_named, envelope_text, first_match, first_some, match_found, match_of, pairs_with, address_parts, decoded_named, parts_named, parts_of_envelope, parts_of_value, values_named, values_of, keys_from, keys_of}
 use Rattle.match_text.specs.Comparator.{fold_of}
-use Rattle.sieve_effects.specs.view.FieldTests.{cuts_keys, field_source, name_found, part_found, path_found, path_name_found, value_found}
+use Rattle.sieve_effects.specs.view.FieldTests.{cuts_keys, field_found, field_source, name_found, part_found, path_found, path_name_found, value_found}
 
--- a function of an element that is known at a place
-pub get-mapped : {X Y Z : Type 0} (h : X → Y) (k : Y → Z) (xs : List X) (i : ℕ) (y : Y) → slice_get (map h xs) i ≡ Some y → slice_get (map (λ x. k (h x)) xs) i ≡ Some (k y)
-get-mapped h k [] i y at = cc
-get-mapped h k (x ∷ xs) zero y at = ap (option_map k) at
-get-mapped h k (x ∷ xs) (suc i) y at = get-mapped h k xs i y at
+-- a function of what is made of an element in two steps
+pub get-mapped-twice : {W X Y Z : Type 0} (g : W → X) (h : X → Y) (k : Y → Z) (ws : List W) (i : ℕ) (y : Y) → slice_get (map h (map g ws)) i ≡ Some y → slice_get (map (λ w. k (h (g w))) ws) i ≡ Some (k y)
+get-mapped-twice g h k [] i y at = cc
+get-mapped-twice g h k (w ∷ ws) zero y at = ap (option_map k) at
+get-mapped-twice g h k (w ∷ ws) (suc i) y at = get-mapped-twice g h k ws i y at
 
 pub get_map : {X Y : Type 0} (f : X → Y) (xs : List X) (i : ℕ) (x : X) → slice_get xs i ≡ Some x → slice_get (map f xs) i ≡ Some (f x)
 get_map f [] i x at = cc
@@ -50,22 +52,6 @@ module _ {X : Type 0} (q : X → Bool) where
   any_at (x ∷ xs) zero at = let e : q x ≡ true = cc in ap (λ b. b || list_any q xs) e
   any_at (x ∷ xs) (suc i) at = ap (λ b. q x || b) (any_at xs i at) ∙ or-true (q x)
 
-  any_past : (xs : List X) (i : ℕ) → slice_get (map q xs) i ≡ Some false → list_any q (drop (suc i) xs) ≡ list_any q (drop i xs)
-  any_past [] i at = cc
-  any_past (x ∷ xs) zero at = let e : q x ≡ false = cc in sym (ap (λ b. b || list_any q xs) e)
-  any_past (x ∷ xs) (suc i) at = any_past xs i at
-
-  -- an element that fails leaves it to those behind it
-  pub any_after : (xs : List X) (i : ℕ) (b : Bool) → list_any q (drop i xs) ≡ b → slice_get (map q xs) i ≡ Some false → list_any q (drop (i + 1) xs) ≡ b
-  any_after xs i b so at = ap (λ n. list_any q (drop n xs)) (add-one i) ∙ any_past xs i at ∙ so
-
-  pub any_of_none : (xs : List X) (n : ℕ) (b : Bool) → list_any q (drop n xs) ≡ b → n ≡ length xs → false ≡ b
-  any_of_none xs n b so all = sym (nothing xs) ∙ sym (ap (λ k. list_any q (drop k xs)) all) ∙ so
-    where
-      nothing : (ys : List X) → list_any q (drop (length ys) ys) ≡ false
-      nothing [] = refl
-      nothing (y ∷ ys) = nothing ys
-
 module _ {X Y : Type 0} (f : X → Option Y) where
   -- an element that gives something
   pub first_at : (xs : List X) (i : ℕ) (y : Y) (o : Option Y) → first_some f (drop i xs) ≡ o → slice_get (map f xs) i ≡ Some (Some y) → Some y ≡ o
@@ -81,6 +67,72 @@ module _ {X Y : Type 0} (f : X → Option Y) where
   -- one that gives nothing leaves it to those behind it
   pub first_after : (xs : List X) (i : ℕ) (o : Option Y) → first_some f (drop i xs) ≡ o → slice_get (map f xs) i ≡ Some None → first_some f (drop (i + 1) xs) ≡ o
   first_after xs i o so at = ap (λ n. first_some f (drop n xs)) (add-one i) ∙ first_past xs i at ∙ so
+
+module _ {X Y : Type 0} (p : X → Bool) (f : X → Option Y) where
+  -- elements for which the test fails give nothing
+  skips_by : (xs : List X) (i d : ℕ) → ((k : ℕ) → i ≤ k → k < i + d → slice_get (map p xs) k ≡ Some false) → first_some (λ x. if p x then f x else None) (drop (i + d) xs) ≡ first_some (λ x. if p x then f x else None) (drop i xs)
+  skips_by xs i zero fail = let same : i + 0 ≡ i = omega arith in ap (λ n. first_some (λ x. if p x then f x else None) (drop n xs)) same
+  skips_by xs i (suc d) fail =
+      let next : i + suc d ≡ suc (i + d) = omega arith in
+      ap (λ n. first_some (λ x. if p x then f x else None) (drop n xs)) next
+      ∙ first_past (λ x. if p x then f x else None) xs (i + d) (get-fails p f xs (i + d) (fail (i + d) (omega arith) (omega arith)))
+      ∙ skips_by xs i d (λ k low high. fail k low (omega arith))
+
+  pub skips : (xs : List X) (i j : ℕ) → i ≤ j → ((k : ℕ) → i ≤ k → k < j → slice_get (map p xs) k ≡ Some false) → first_some (λ x. if p x then f x else None) (drop j xs) ≡ first_some (λ x. if p x then f x else None) (drop i xs)
+  skips xs i j ordered fail =
+      let is : i + (j - i) ≡ j = omega arith in
+      ap (λ n. first_some (λ x. if p x then f x else None) (drop n xs)) (sym is)
+      ∙ skips_by xs i (j - i) (λ k low high. fail k low (omega arith))
+
+  -- where it fails for all that are left, they give nothing
+  pub gives_none : (xs : List X) (i : ℕ) → i ≤ length xs → ((k : ℕ) → i ≤ k → k < length xs → slice_get (map p xs) k ≡ Some false) → first_some (λ x. if p x then f x else None) (drop i xs) ≡ None
+  gives_none xs i ordered fail = sym (skips xs i (length xs) ordered fail) ∙ nothing xs
+    where
+      nothing : (ys : List X) → first_some (λ x. if p x then f x else None) (drop (length ys) ys) ≡ None
+      nothing [] = refl
+      nothing (y ∷ ys) = nothing ys
+
+-- no element passes
+pub none_passes : {X : Type 0} (p : X → Bool) (xs : List X) → ((k : ℕ) → 0 ≤ k → k < length xs → slice_get (map p xs) k ≡ Some false) → list_any p xs ≡ false
+none_passes p [] fail = refl
+none_passes p (x ∷ xs) fail =
+    let first : p x ≡ false = (let at = fail 0 (omega arith) (omega arith) in cc) in
+    ap (λ b. b || list_any p xs) first ∙ none_passes p xs (λ k low high. fail (suc k) (omega arith) (omega arith))
+
+within : {X Y : Type 0} (h : X → Y) (xs : List X) (i : ℕ) (y : Y) → slice_get (map h xs) i ≡ Some y → i < length xs
+within h [] i y at = cc
+within h (x ∷ xs) zero y at = omega arith
+within h (x ∷ xs) (suc i) y at = let rest = within h xs i y at in omega arith
+
+-- FIELDS BY THEIR NAMES
+
+-- the next field of a name is there
+pub next_within : {fields : List Field} {name : List ℕ} {start i : ℕ} → IsNextNamed fields name start i → i < length fields
+next_within {fields = fields} {name = name} {i = i} next = within (is_field_named name) fields i true next.is
+
+-- whether there is one
+pub has_next : (found : Option ℕ) (fields : List Field) (name : List ℕ) → IfSome found (IsNextNamed fields name 0)
+    → IfNone found ((k : ℕ) → 0 ≤ k → k < length fields → slice_get (map (is_field_named name) fields) k ≡ Some false) → is_some found ≡ list_any (is_field_named name) fields
+has_next None fields name some none = sym (none_passes (is_field_named name) fields none)
+has_next (Some i) fields name some none = sym (any_at (is_field_named name) fields i some.is)
+
+module _ (find : List ℕ → Option (List (List ℕ))) (part : Option AddressPart) (fields : List Field) (name : List ℕ) where
+  -- the next field of a name gives what its value gives, and those in front of it nothing
+  pub next_found : (start i : ℕ) (found o : Option (List (List ℕ))) → first_some (field_found find part name) (drop start fields) ≡ o → IsNextNamed fields name start i
+      → slice_get (map (λ field. value_found find part field.value) fields) i ≡ Some found → (slice_get (map (field_found find part name) fields) i ≡ Some found) × (first_some (field_found find part name) (drop i fields) ≡ o)
+  next_found start i found o so next at = (
+    get-passes (is_field_named name) (λ field. value_found find part field.value) fields i found next.is at,
+    skips (is_field_named name) (λ field. value_found find part field.value) fields start i next.behind next.others ∙ so,
+  )
+
+  -- where no field of the name is left, nothing is found
+  pub none_left : (start : ℕ) (o : Option (List (List ℕ))) → first_some (field_found find part name) (drop start fields) ≡ o → start ≤ length fields
+      → ((k : ℕ) → start ≤ k → k < length fields → slice_get (map (is_field_named name) fields) k ≡ Some false) → None ≡ o
+  none_left start o so ordered fail = sym (gives_none (is_field_named name) (λ field. value_found find part field.value) fields start ordered fail) ∙ so
+
+  -- behind all fields there is nothing
+  pub none_behind : (start : ℕ) (o : Option (List (List ℕ))) → first_some (field_found find part name) (drop start fields) ≡ o → length fields ≤ start → None ≡ o
+  none_behind start o so behind = sym (ap (first_some (field_found find part name)) (drop_all start fields behind)) ∙ so
 
 not_both : false ≡ true → ⊥
 not_both e = cc
@@ -102,6 +154,10 @@ first_append f (x ∷ xs) ys = ap (option_or (f x)) (first_append f xs ys) ∙ s
 first_flat : {X Y Z : Type 0} (f : Y → Option Z) (g : X → List Y) (xs : List X) → first_some f (flat_map g xs) ≡ first_some (λ x. first_some f (g x)) xs
 first_flat f g [] = refl
 first_flat f g (x ∷ xs) = first_append f (g x) (flat_map g xs) ∙ ap (option_or (first_some f (g x))) (first_flat f g xs)
+
+first_map : {X Y Z : Type 0} (f : Y → Option Z) (g : X → Y) (xs : List X) → first_some f (map g xs) ≡ first_some (λ x. f (g x)) xs
+first_map f g [] = refl
+first_map f g (x ∷ xs) = ap (option_or (f (g x))) (first_map f g xs)
 
 first_same : {X Y : Type 0} (f g : X → Option Y) → ((x : X) → f x ≡ g x) → (xs : List X) → first_some f xs ≡ first_some g xs
 first_same f g same [] = refl
@@ -147,10 +203,14 @@ module _ (find : List ℕ → Option (List (List ℕ))) where
       ∙ first_same (λ value. first_some find (parts_of_value part value)) (value_found find (Some part)) (λ value. first_part part (addresses_of value)) (values_named fields name)
       ∙ first_named (value_found find (Some part)) name fields)
 
-  first_of_names : (part : Option AddressPart) (delivery : Delivery) (state : RunState) (names : List (List Part)) → first_some find (values_of delivery state (field_source part names)) ≡ first_some (name_found find part (fields_of delivery.message)) (map (text_value state.values) names)
+  -- what decoded values of a name give is what the fields give that have it
+  first_decoded_named : (name : List ℕ) (fields : List Field) → first_some find (decoded_named fields name) ≡ name_found find None fields name
+  first_decoded_named name fields = first_map find decoded_of (values_named fields name) ∙ first_named (value_found find None) name fields
+
+  pub first_of_names : (part : Option AddressPart) (delivery : Delivery) (state : RunState) (names : List (List Part)) → first_some find (values_of delivery state (field_source part names)) ≡ first_some (name_found find part (fields_of delivery.message)) (map (text_value state.values) names)
   first_of_names None delivery state names =
-      first_flat find (values_named (fields_of delivery.message)) (map (text_value state.values) names)
-      ∙ first_same (λ name. first_some find (values_named (fields_of delivery.message) name)) (name_found find None (fields_of delivery.message)) (λ name. first_named find name (fields_of delivery.message)) (map (text_value state.values) names)
+      first_flat find (decoded_named (fields_of delivery.message)) (map (text_value state.values) names)
+      ∙ first_same (λ name. first_some find (decoded_named (fields_of delivery.message) name)) (name_found find None (fields_of delivery.message)) (λ name. first_decoded_named name (fields_of delivery.message)) (map (text_value state.values) names)
   first_of_names (Some part) delivery state names =
       first_flat find (parts_named part (fields_of delivery.message)) (map (text_value state.values) names)
       ∙ first_same (λ name. first_some find (parts_named part (fields_of delivery.message) name)) (name_found find (Some part) (fields_of delivery.message)) (λ name. first_parts_named part (fields_of delivery.message) name) (map (text_value state.values) names)
@@ -159,19 +219,13 @@ module _ (find : List ℕ → Option (List (List ℕ))) where
   first_of_path part None = refl
   first_of_path part (Some text) = one_part (part_of part (envelope_address_of text)) [] ∙ or_none (part_found find part (envelope_address_of text))
 
-  first_of_paths : (part : AddressPart) (delivery : Delivery) (state : RunState) (names : List (List Part)) → first_some find (values_of delivery state (envelope_values part names)) ≡ first_some (path_name_found find part delivery.envelope) (map (text_value state.values) names)
+  pub first_of_paths : (part : AddressPart) (delivery : Delivery) (state : RunState) (names : List (List Part)) → first_some find (values_of delivery state (envelope_values part names)) ≡ first_some (path_name_found find part delivery.envelope) (map (text_value state.values) names)
   first_of_paths part delivery state names =
       first_flat find (envelope_named part delivery.envelope) (map (text_value state.values) names)
       ∙ first_same (λ name. first_some find (envelope_named part delivery.envelope name)) (path_name_found find part delivery.envelope) (λ name. first_of_path part (envelope_text delivery.envelope name)) (map (text_value state.values) names)
 
 -- where these are the octets of a test's strings, what they give is what the values of its source give
 module _ (find : List ℕ → Option (List (List ℕ))) (delivery : Delivery) (state : RunState) where
-  pub named_values : (part : Option AddressPart) (names : List (List Part)) (named : List (List ℕ)) → named ≡ map (text_value state.values) names → first_some (name_found find part (fields_of delivery.message)) named ≡ first_some find (values_of delivery state (field_source part names))
-  named_values part names named is = ap (first_some (name_found find part (fields_of delivery.message))) is ∙ sym (first_of_names find part delivery state names)
-
-  pub path_values : (part : AddressPart) (names : List (List Part)) (named : List (List ℕ)) → named ≡ map (text_value state.values) names → first_some (path_name_found find part delivery.envelope) named ≡ first_some find (values_of delivery state (envelope_values part names))
-  path_values part names named is = ap (first_some (path_name_found find part delivery.envelope)) is ∙ sym (first_of_paths find part delivery state names)
-
   pub held_values : (variables : List (List Part)) (held : List (List ℕ)) → held ≡ map (text_value state.values) variables → first_some (λ text. first_some find (flag_list text)) held ≡ first_some find (values_of delivery state (flag_values (Some variables)))
   held_values variables held is = ap (first_some (λ text. first_some find (flag_list text))) is ∙ sym (first_flat find flag_list (map (text_value state.values) variables))
 

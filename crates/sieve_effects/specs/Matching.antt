@@ -4,12 +4,13 @@ use Rattle.std.specs.Prelude.{ℕ, Bool, List, [], ◌∷◌, Option, None, Some
 use Rattle.std.specs.List.{filter_map, flat_map, list_any, list_all}
 use Rattle.std.specs.Option.{option_or}
 use Rattle.std.specs.Str.{str_eq_ignore_ascii_case}
-use Rattle.match_text.specs.Comparator.{same, is_part, ascii_casemap, fold_of}
+use Rattle.encoded_words.specs.Scan.{decoded_of}
+use Rattle.match_text.specs.Comparator.{same, is_part, fold_of}
 use Rattle.match_text.specs.Flags.{flag_keys_of_texts, flag_list}
 use Rattle.match_text.specs.Wildcard.{matched}
 use Rattle.match_text.specs.declared.comparators.Collation.{Collation}
 use Rattle.message_text.specs.Addresses.{AddrSpec, part_of, addresses_of, envelope_address_of}
-use Rattle.message_text.specs.Fields.{Field, fields_of}
+use Rattle.message_text.specs.Fields.{Field, fields_of, is_field_named}
 use Rattle.message_text.specs.declared.addressing.AddressPart.{AddressPart}
 use Rattle.sieve_reading.specs.Reading.{ValueSource, header_values, address_values, envelope_values, string_values, flag_values, Ask, compares, exists_ask, over_ask, under_ask}
 use Rattle.sieve_reading.specs.declared.reading.MatchType.{MatchType}
@@ -33,13 +34,13 @@ pub record Pair : Type 0 where
   pub value : List ℕ
   pub key : List ℕ
 
--- whether a field has that name; names of fields ignore the case of ASCII (RFC 5228, section 2.4.2.2)
-abbrev pub is_field_named : List ℕ → Field → Bool
-is_field_named name field = same ascii_casemap field.name name
-
 -- the values of the fields of that name, in order
 abbrev pub values_named : List Field → List ℕ → List (List ℕ)
 values_named fields name = map (λ field. field.value) (filter (is_field_named name) fields)
+
+-- the same with their encoded words (RFC 2047) replaced, as a `header` test sees them (RFC 5228, section 2.7.2)
+abbrev pub decoded_named : List Field → List ℕ → List (List ℕ)
+decoded_named fields name = map decoded_of (values_named fields name)
 
 -- a value with each key
 abbrev pub pairs_with : List (List ℕ) → List ℕ → List Pair
@@ -73,7 +74,7 @@ envelope_named part envelope name = parts_of_envelope part (envelope_text envelo
 -- What a test compares with its keys, by names, then by fields, then by addresses; an absent field gives nothing. Strings stand for
 -- what they do when the test begins.
 abbrev pub values_of : Delivery → RunState → ValueSource → List (List ℕ)
-values_of delivery state (header_values names) = flat_map (values_named (fields_of delivery.message)) (map (text_value state.values) names)
+values_of delivery state (header_values names) = flat_map (decoded_named (fields_of delivery.message)) (map (text_value state.values) names)
 values_of delivery state (address_values part names) = flat_map (parts_named part (fields_of delivery.message)) (map (text_value state.values) names)
 values_of delivery state (envelope_values part names) = flat_map (envelope_named part delivery.envelope) (map (text_value state.values) names)
 values_of delivery state (string_values texts) = map (text_value state.values) texts

@@ -3,11 +3,13 @@ ghost use Rattle.std.specs.Prelude.{◌≡◌, IfOk, map};
 ghost use Rattle.std.specs.List.{list_all};
 ghost use Rattle.std.specs.Option.{option_map};
 ghost use Rattle.message_text.specs.Addresses.{addresses_of};
-ghost use Rattle.sieve_effects.specs.Act.{discards, files_into, gives, is_mailbox, is_no_control, keeps, only_address, performs, sends, sets, whole_address};
+ghost use Rattle.sieve_effects.specs.Act.{Performed, discards, files_into, ends_with, gives, is_mailbox, is_no_control, keeps, only_address, performs, sends, sets, store_deed, whole_address};
 ghost use Rattle.sieve_effects.specs.view.Delivery.{delivery_as};
 ghost use Rattle.sieve_effects.specs.view.Flow.{ending_by};
 ghost use Rattle.sieve_effects.specs.view.Ops.{settings_op_as};
 ghost use Rattle.sieve_effects.specs.view.Acting.{mailbox_named};
+ghost use Rattle.sieve_effects.specs.view.Actions.{performed_as};
+ghost use Rattle.sieve_effects.specs.declared.action.Deed as deeds;
 ghost use Rattle.sieve_effects.specs.view.State.{state_of};
 ghost use Rattle.sieve_variables.specs.Modifier.{modified};
 ghost use Rattle.sieve_variables.specs.Value.{text_value};
@@ -16,10 +18,9 @@ ghost use Rattle.sieve_variables.specs.view.Part.{part_of, strings_of, variable_
 use crate::action::{Action, Deed};
 use crate::delivery::Delivery;
 use crate::error::ErrorKind;
-use crate::flagging::stored_flags;
+use crate::flagging::flags_named;
 use crate::flow::{Flow, fail};
 use crate::ops::SettingsOp;
-use crate::performed::add_action;
 use crate::state::State;
 use message_text::{Address, AddressPart, addresses};
 use sieve_base::Octets;
@@ -36,12 +37,49 @@ fn perform(
 ) -> Result<Flow, AllocError>
     ensures { IfOk result (λ flow. ending_by flow (state_of state.new) ≡ performs (delivery_as delivery.now) line deed (state_of state.old)) }
 {
-    let copy = deed.copy;
-    if add_action(delivery.alloc, &mut state.actions, deed.action)? {
+    let has_room = state.actions.add(delivery.alloc, deed.action)?;
+    end_with(delivery, has_room, deed.copy, line, state)
+}
+
+/// Ends a command that performed an action, where there was room for it.
+fn end_with(
+    delivery: &Delivery<'_>,
+    has_room: bool,
+    copy: bool,
+    line: u64,
+    state: &mut State,
+) -> Result<Flow, AllocError>
+    ensures { (performed : Performed) (deed : deeds.Deed) → performed_as has_room (state_of state.old).actions ≡ performed → deed.copy ≡ copy → IfOk result (λ flow. ending_by flow (state_of state.new) ≡ ends_with (delivery_as delivery.now) line deed performed (state_of state.old)) }
+{
+    if has_room {
         state.cancelled = !copy || state.cancelled;
         Ok(Flow::GoesOn)
     } else {
         fail(delivery, line, ErrorKind::TooManyActions)
+    }
+}
+
+/// Stores into a mailbox, with the flags that are named or else the internal ones (RFC 5232, section 5).
+fn store(
+    delivery: &Delivery<'_>,
+    mailbox: Octets,
+    settings: &SettingsOp,
+    line: u64,
+    state: &mut State,
+) -> Result<Flow, AllocError>
+    ensures { IfOk result (λ flow. ending_by flow (state_of state.new) ≡ performs (delivery_as delivery.now) line (store_deed (state_of state.old) mailbox (settings_op_as settings.now)) (state_of state.old)) }
+{
+    let copy = settings.copy;
+    match &settings.flags {
+        Some(texts) => {
+            let flags = flags_named(delivery, &*state, texts)?;
+            let action = Action::Store { mailbox, flags };
+            perform(delivery, Deed { action, copy }, line, state)
+        }
+        None => {
+            let has_room = state.actions.store(delivery.alloc, mailbox)?;
+            end_with(delivery, has_room, copy, line, state)
+        }
     }
 }
 
@@ -56,10 +94,7 @@ pub fn keep(
     ensures { IfOk result (λ flow. ending_by flow (state_of state.new) ≡ keeps (delivery_as delivery.now) (settings_op_as settings.now) line (state_of state.old)) }
 {
     let mailbox = Octets::copied(delivery.alloc, delivery.envelope.mailbox.as_slice())?;
-    let flags = stored_flags(delivery, &*state, &settings.flags)?;
-    let action = Action::Store { mailbox, flags };
-    let copy = settings.copy;
-    perform(delivery, Deed { action, copy }, line, state)
+    store(delivery, mailbox, settings, line, state)
 }
 
 /// Discards the message (RFC 5228, section 4.4). One action too many is an error of the script (section 2.10.4). Fails where memory is refused.
@@ -122,12 +157,7 @@ pub fn file_into(
     ensures { IfOk result (λ flow. ending_by flow (state_of state.new) ≡ files_into (delivery_as delivery.now) (map part_of mailbox.now) (settings_op_as settings.now) line (state_of state.old)) }
 {
     match mailbox_named(delivery, &state.values, mailbox)? {
-        Some(mailbox) => {
-            let flags = stored_flags(delivery, &*state, &settings.flags)?;
-            let action = Action::Store { mailbox, flags };
-            let copy = settings.copy;
-            perform(delivery, Deed { action, copy }, line, state)
-        }
+        Some(mailbox) => store(delivery, mailbox, settings, line, state),
         None => fail(delivery, line, ErrorKind::BadMailbox),
     }
 }

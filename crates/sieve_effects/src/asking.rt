@@ -1,17 +1,18 @@
 //! What tests ask of a delivery, and what they find (RFC 5228, sections 2.7 and 5).
-ghost use Rattle.std.specs.Prelude.{◌≡◌, IfOk, length, nat_lt};
+ghost use Rattle.std.specs.Prelude.{◌≡◌, IfOk, length, map, nat_lt};
 ghost use Rattle.sieve_reading.specs.Reading.{compares, exists_ask};
 ghost use Rattle.match_text.specs.Comparator.{fold_of};
 ghost use Rattle.sieve_effects.specs.Matching.{behind_test, first_match, first_some, match_found, pairs_with, truth_of, values_of};
 ghost use Rattle.sieve_effects.specs.view.Delivery.{delivery_as};
-ghost use Rattle.sieve_effects.specs.view.FieldTests.{cuts_keys, found_with};
+ghost use Rattle.sieve_effects.specs.view.FieldTests.{cuts_keys, found_with, key_texts};
 ghost use Rattle.sieve_effects.specs.view.Ops.{source_op_as, test_op_as};
 ghost use Rattle.sieve_effects.specs.view.State.{state_of};
+ghost use Rattle.sieve_variables.specs.Value.{text_value};
 ghost use Rattle.sieve_variables.specs.view.Part.{strings_of};
-ghost use Rattle.sieve_base.specs.view.Texts.{octets_of_each};
 
-use crate::comparison::{Comparison, MatchValues, keep_found};
+use crate::comparison::{Comparison, Keys, MatchValues, keep_found};
 use crate::delivery::Delivery;
+use crate::field_reads::FieldReads;
 use crate::field_values::{find_in_named, has_fields};
 use crate::flag_values::find_in_held;
 use crate::ops::{SourceOp, TestOp};
@@ -22,21 +23,25 @@ use match_text::{Collation, flag_keys_of_texts};
 use sieve_reading::MatchType;
 use sieve_variables::Parts;
 use std::alloc::AllocError;
-use std::borrow::CowSlice;
 
 /// What the first value of a source gives that matches some key.
 fn find_in_source(
     delivery: &Delivery<'_>,
+    fields: &mut FieldReads<'_>,
     state: &State,
     source: &SourceOp,
     comparison: &Comparison<'_>,
 ) -> Result<Option<MatchValues>, AllocError>
-    ensures { IfOk result (λ found. found ≡ first_some (found_with comparison.now) (values_of (delivery_as delivery.now) (state_of state.now) (source_op_as source.now))) }
+    requires { fields.old ≡ (delivery_as delivery.now).message }
+    ensures message { fields.new ≡ fields.old }
+    ensures found { IfOk result (λ found. found ≡ first_some (found_with comparison.now) (values_of (delivery_as delivery.now) (state_of state.now) (source_op_as source.now))) }
 {
     match source {
-        SourceOp::Header { names } => find_in_named(delivery, state, None, names, comparison),
+        SourceOp::Header { names } => {
+            find_in_named(delivery, fields, state, None, names, comparison)
+        }
         SourceOp::Address { part, names } => {
-            find_in_named(delivery, state, Some(*part), names, comparison)
+            find_in_named(delivery, fields, state, Some(*part), names, comparison)
         }
         SourceOp::Envelope { part, names } => {
             find_in_paths(delivery, state, *part, names, comparison)
@@ -49,20 +54,23 @@ fn find_in_source(
 /// What the first value of a source gives that matches one of these keys.
 fn find_keyed(
     delivery: &Delivery<'_>,
+    fields: &mut FieldReads<'_>,
     state: &State,
     source: &SourceOp,
     match_type: MatchType,
     collation: Collation,
-    keys: &[CowSlice<'_, u8>],
+    keys: Keys<'_>,
 ) -> Result<Option<MatchValues>, AllocError>
-    ensures { IfOk result (λ found. found ≡ first_some (λ value. first_match match_type (fold_of collation) (pairs_with (octets_of_each keys.now) value)) (values_of (delivery_as delivery.now) (state_of state.now) (source_op_as source.now))) }
+    requires { fields.old ≡ (delivery_as delivery.now).message }
+    ensures message { fields.new ≡ fields.old }
+    ensures found { IfOk result (λ found. found ≡ first_some (λ value. first_match match_type (fold_of collation) (pairs_with (key_texts keys.entry) value)) (values_of (delivery_as delivery.now) (state_of state.now) (source_op_as source.now))) }
 {
     let comparison = Comparison {
         match_type,
         collation,
         keys,
     };
-    find_in_source(delivery, state, source, &comparison)
+    find_in_source(delivery, fields, state, source, &comparison)
 }
 
 /// Whether the keys of a test are cut at spaces (RFC 5232, section 4).
@@ -78,24 +86,62 @@ fn cuts_keys(source: &SourceOp) -> bool
     }
 }
 
-/// What a test finds that compares values with keys. The keys are expanded first.
-fn find_match(
+/// Whether each of these strings is borrowed where it is expanded.
+fn are_borrowed(strings: &[Parts]) -> bool {
+    strings.iter().all(|parts| parts.len() == 1)
+}
+
+/// What the first value of a source gives that matches one of these keys. Keys that have to be made are made first, since each value is
+/// compared with each.
+fn find_whole(
     delivery: &Delivery<'_>,
+    fields: &mut FieldReads<'_>,
     state: &State,
     source: &SourceOp,
     match_type: MatchType,
     collation: Collation,
     keys: &[Parts],
 ) -> Result<Option<MatchValues>, AllocError>
-    ensures { IfOk result (λ found. found ≡ match_found (delivery_as delivery.now) (state_of state.now) (source_op_as source.now) match_type collation (strings_of keys.now)) }
+    requires { fields.old ≡ (delivery_as delivery.now).message }
+    ensures message { fields.new ≡ fields.old }
+    ensures found { IfOk result (λ found. found ≡ first_some (λ value. first_match match_type (fold_of collation) (pairs_with (map (text_value (state_of state.now).values) (strings_of keys.now)) value)) (values_of (delivery_as delivery.now) (state_of state.now) (source_op_as source.now))) }
 {
-    let texts = state.values.expanded(delivery.alloc, keys)?;
-    if cuts_keys(source) {
-        let cut = flag_keys_of_texts(delivery.alloc, &texts)?;
-        find_keyed(delivery, state, source, match_type, collation, &cut)
-    } else {
-        find_keyed(delivery, state, source, match_type, collation, &texts)
+    let values = &state.values;
+    if are_borrowed(keys) {
+        let strings = keys;
+        let whole = Keys::Strings { values, strings };
+        return find_keyed(
+            delivery, fields, state, source, match_type, collation, whole,
+        );
     }
+    let texts = values.expanded(delivery.alloc, keys)?;
+    let whole = Keys::Texts(&texts);
+    find_keyed(
+        delivery, fields, state, source, match_type, collation, whole,
+    )
+}
+
+/// What a test finds that compares values with keys.
+fn find_match(
+    delivery: &Delivery<'_>,
+    fields: &mut FieldReads<'_>,
+    state: &State,
+    source: &SourceOp,
+    match_type: MatchType,
+    collation: Collation,
+    keys: &[Parts],
+) -> Result<Option<MatchValues>, AllocError>
+    requires { fields.old ≡ (delivery_as delivery.now).message }
+    ensures message { fields.new ≡ fields.old }
+    ensures found { IfOk result (λ found. found ≡ match_found (delivery_as delivery.now) (state_of state.now) (source_op_as source.now) match_type collation (strings_of keys.now)) }
+{
+    if !cuts_keys(source) {
+        return find_whole(delivery, fields, state, source, match_type, collation, keys);
+    }
+    let texts = state.values.expanded(delivery.alloc, keys)?;
+    let cut = flag_keys_of_texts(delivery.alloc, &texts)?;
+    let keys = Keys::Texts(&cut);
+    find_keyed(delivery, fields, state, source, match_type, collation, keys)
 }
 
 /// Whether some value of a source matches some key. Under `:matches` the first that does sets the match variables (RFC 5229, section
@@ -103,16 +149,21 @@ fn find_match(
 #[tactic(auto, unfolding(crate::specs::Matching::truth_of, crate::specs::Matching::values_behind))]
 fn compare(
     delivery: &Delivery<'_>,
+    fields: &mut FieldReads<'_>,
     source: &SourceOp,
     match_type: MatchType,
     collation: Collation,
     keys: &[Parts],
     state: &mut State,
 ) -> Result<bool, AllocError>
+    requires { fields.old ≡ (delivery_as delivery.now).message }
+    ensures message { fields.new ≡ fields.old }
     ensures truth { IfOk result (λ truth. truth ≡ truth_of (delivery_as delivery.now) (state_of state.old) (compares (source_op_as source.now) match_type collation (strings_of keys.now))) }
     ensures behind { IfOk result (λ truth. state_of state.new ≡ behind_test (delivery_as delivery.now) (compares (source_op_as source.now) match_type collation (strings_of keys.now)) (state_of state.old)) }
 {
-    let found = find_match(delivery, &*state, source, match_type, collation, keys)?;
+    let found = find_match(
+        delivery, fields, &*state, source, match_type, collation, keys,
+    )?;
     Ok(keep_found(match_type, found, state))
 }
 
@@ -121,8 +172,7 @@ fn compare(
 fn exists(delivery: &Delivery<'_>, state: &State, names: &[Parts]) -> Result<bool, AllocError>
     ensures { IfOk result (λ truth. truth ≡ truth_of (delivery_as delivery.now) (state_of state.now) (exists_ask (strings_of names.now))) }
 {
-    let names = state.values.expanded(delivery.alloc, names)?;
-    Ok(has_fields(delivery.message, &names))
+    has_fields(delivery.alloc, delivery.message, &state.values, names)
 }
 
 /// Whether the message has more octets than the limit (RFC 5228, section 5.9).
@@ -141,9 +191,16 @@ fn is_under(delivery: &Delivery<'_>, limit: u64) -> bool
 
 /// Whether what a test asks is so (RFC 5228, section 5; RFC 5229, section 5; RFC 5232, section 4). A test that compares under `:matches`
 /// sets the match variables where some pair matches (RFC 5229, section 3.2). All strings of a test stand for what they do when it begins.
-/// Fails where memory is refused.
+/// What is read of the message's fields is kept, and read once. Fails where memory is refused.
 #[tactic(auto, unfolding(crate::specs::Matching::truth_of, crate::specs::Matching::values_behind))]
-pub fn holds(delivery: &Delivery<'_>, test: &TestOp, state: &mut State) -> Result<bool, AllocError>
+pub fn holds(
+    delivery: &Delivery<'_>,
+    test: &TestOp,
+    fields: &mut FieldReads<'_>,
+    state: &mut State,
+) -> Result<bool, AllocError>
+    requires { fields.old ≡ (delivery_as delivery.now).message }
+    ensures message { fields.new ≡ fields.old }
     ensures truth { IfOk result (λ truth. truth ≡ truth_of (delivery_as delivery.now) (state_of state.old) (test_op_as test.now)) }
     ensures behind { IfOk result (λ truth. state_of state.new ≡ behind_test (delivery_as delivery.now) (test_op_as test.now) (state_of state.old)) }
 {
@@ -153,7 +210,15 @@ pub fn holds(delivery: &Delivery<'_>, test: &TestOp, state: &mut State) -> Resul
             match_type,
             collation,
             keys,
-        } => compare(delivery, source, *match_type, *collation, keys, state),
+        } => compare(
+            delivery,
+            fields,
+            source,
+            *match_type,
+            *collation,
+            keys,
+            state,
+        ),
         TestOp::Exists { names } => exists(delivery, &*state, names),
         TestOp::Over { limit } => Ok(is_over(delivery, *limit)),
         TestOp::Under { limit } => Ok(is_under(delivery, *limit)),

@@ -1,10 +1,14 @@
 //! How a test compares a value with keys (RFC 5228, section 2.7.1).
-ghost use Rattle.std.specs.Prelude.{◌≡◌, [], IfOk, None, Some, is_some, if◌then◌else◌};
+ghost use Rattle.std.specs.Prelude.{◌≡◌, [], IfOk, None, Some, is_some, map, if◌then◌else◌};
 ghost use Rattle.match_text.specs.Wildcard.{matched};
 ghost use Rattle.sieve_effects.specs.Matching.{match_of, with_found};
 ghost use Rattle.match_text.specs.Comparator.{fold_of};
+ghost use Rattle.sieve_base.specs.view.Texts.{octets_of_each};
+ghost use Rattle.sieve_effects.specs.Matching.{first_match, pairs_with};
 ghost use Rattle.sieve_effects.specs.view.FieldTests.{found_with};
 ghost use Rattle.sieve_effects.specs.view.State.{state_of};
+ghost use Rattle.sieve_variables.specs.Value.{text_value};
+ghost use Rattle.sieve_variables.specs.view.Part.{strings_of};
 
 use crate::state::State;
 use match_text::{
@@ -12,6 +16,7 @@ use match_text::{
 };
 use sieve_base::Octets;
 use sieve_reading::MatchType;
+use sieve_variables::{Parts, Values};
 use std::alloc::{AllocError, Global};
 use std::borrow::CowSlice;
 use std::marker::Model;
@@ -75,7 +80,7 @@ pub(crate) fn keep_found(
 }
 
 /// What a match gives that sets nothing, where there is one.
-fn plain_match(alloc: Global, is_match: bool) -> Option<MatchValues>
+pub(crate) fn plain_match(alloc: Global, is_match: bool) -> Option<MatchValues>
     ensures { result ≡ if is_match then Some [] else None }
 {
     if is_match {
@@ -99,12 +104,24 @@ fn wildcard_match<C: Comparator>(
     }
 }
 
+/// The keys of a test.
+#[derive(Clone, Copy)]
+pub(crate) enum Keys<'a> {
+    /// Strings, each of which is expanded when its turn comes.
+    Strings {
+        values: &'a Values,
+        strings: &'a [Parts],
+    },
+    /// Texts.
+    Texts(&'a [CowSlice<'a, u8>]),
+}
+
 /// How a test compares a value with keys.
 #[derive(Clone, Copy)]
 pub(crate) struct Comparison<'a> {
     pub(crate) match_type: MatchType,
     pub(crate) collation: Collation,
-    pub(crate) keys: &'a [CowSlice<'a, u8>],
+    pub(crate) keys: Keys<'a>,
 }
 
 impl Comparison<'_> {
@@ -136,6 +153,43 @@ impl Comparison<'_> {
         }
     }
 
+    /// What a value gives by the first of these texts that it matches.
+    fn first_of_texts(
+        &self,
+        alloc: Global,
+        texts: &[CowSlice<'_, u8>],
+        value: &[u8],
+    ) -> Result<Option<MatchValues>, AllocError>
+        ensures { IfOk result (λ found. found ≡ first_match self.now.match_type (fold_of self.now.collation) (pairs_with (octets_of_each texts.now) value.now)) }
+    {
+        for key in texts {
+            if let Some(found) = self.match_of(alloc, value, key.as_slice())? {
+                return Ok(Some(found));
+            }
+        }
+        Ok(None)
+    }
+
+    /// What a value gives by the first of these strings that it matches.
+    fn first_of_strings(
+        &self,
+        alloc: Global,
+        values: &Values,
+        strings: &[Parts],
+        value: &[u8],
+    ) -> Result<Option<MatchValues>, AllocError>
+        ensures { IfOk result (λ found. found ≡ first_match self.now.match_type (fold_of self.now.collation) (pairs_with (map (text_value values.now) (strings_of strings.now)) value.now)) }
+    {
+        let mut buffer = Vec::new(alloc);
+        for parts in strings {
+            let key = values.expanded_in(parts, &mut buffer)?;
+            if let Some(found) = self.match_of(alloc, value, key)? {
+                return Ok(Some(found));
+            }
+        }
+        Ok(None)
+    }
+
     /// What a value gives by the first key that it matches.
     pub(crate) fn first_match(
         &self,
@@ -144,11 +198,11 @@ impl Comparison<'_> {
     ) -> Result<Option<MatchValues>, AllocError>
         ensures { IfOk result (λ found. found ≡ found_with self.now value.now) }
     {
-        for key in self.keys {
-            if let Some(values) = self.match_of(alloc, value, key.as_slice())? {
-                return Ok(Some(values));
+        match self.keys {
+            Keys::Strings { values, strings } => {
+                self.first_of_strings(alloc, values, strings, value)
             }
+            Keys::Texts(texts) => self.first_of_texts(alloc, texts, value),
         }
-        Ok(None)
     }
 }

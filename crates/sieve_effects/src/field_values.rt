@@ -1,50 +1,48 @@
 //! What a test finds in the fields of a message (RFC 5228, sections 5.1, 5.5 and 5.7).
-ghost use Rattle.std.specs.Prelude.{◌≡◌, ◌<◌, length, map, Some, slice_get, IfOk};
+ghost use Rattle.std.specs.Prelude.{◌≡◌, ◌<◌, length, map, None, Some, slice_get, IfOk};
 ghost use Rattle.std.specs.List.{list_all};
 ghost use Rattle.std.specs.Option.{option_and_then, option_map};
 ghost use Rattle.message_text.specs.Fields.{fields_of};
-ghost use Rattle.sieve_effects.specs.Matching.{first_some, has_field, is_field_named, values_of};
+ghost use Rattle.sieve_effects.specs.Matching.{first_some, has_field, values_of};
 ghost use Rattle.sieve_effects.specs.view.Delivery.{delivery_as};
 ghost use Rattle.sieve_effects.specs.view.FieldTests.{field_found, field_source, found_with, is_looked_at, name_found, part_found, value_found};
 ghost use Rattle.sieve_effects.specs.view.State.{state_of};
+ghost use Rattle.sieve_variables.specs.Value.{text_value};
 ghost use Rattle.sieve_variables.specs.view.Part.{strings_of};
-ghost use Rattle.sieve_base.specs.view.Texts.{octets_of_each};
 
 use crate::comparison::{Comparison, MatchValues};
 use crate::delivery::Delivery;
+use crate::field_reads::FieldReads;
 use crate::state::State;
-use match_text::{AsciiCasemap, is};
-use message_text::{Address, AddressPart, Message, addresses};
+use message_text::{Address, AddressPart, FieldName, Message};
 use sieve_table::is_address_field;
-use sieve_variables::Parts;
+use sieve_variables::{Parts, Values};
 use std::alloc::{AllocError, Global};
-use std::borrow::CowSlice;
-
-/// Whether field `i` has that name.
-fn is_named(message: &Message, i: usize, name: &[u8]) -> bool
-    requires { i < length (fields_of message.now) }
-    ensures { slice_get (map (is_field_named name.now) (fields_of message.now)) i ≡ Some result }
-{
-    is::<AsciiCasemap>(message.name(i), name)
-}
 
 /// Whether a field of that name is there.
 fn has_field(message: &Message, name: &[u8]) -> bool
     ensures { result ≡ has_field (fields_of message.now) name.now }
 {
-    for i in 0..message.fields() {
-        if is_named(message, i, name) {
-            return true;
-        }
-    }
-    false
+    message.next_named(&FieldName::new(name), 0).is_some()
 }
 
 /// Whether there is a field of each name.
-pub(crate) fn has_fields(message: &Message, names: &[CowSlice<'_, u8>]) -> bool
-    ensures { result ≡ list_all (has_field (fields_of message.now)) (octets_of_each names.now) }
+pub(crate) fn has_fields(
+    alloc: Global,
+    message: &Message,
+    values: &Values,
+    names: &[Parts],
+) -> Result<bool, AllocError>
+    ensures { IfOk result (λ has. has ≡ list_all (has_field (fields_of message.now)) (map (text_value values.now) (strings_of names.now))) }
 {
-    names.iter().all(|name| has_field(message, name.as_slice()))
+    let mut buffer = Vec::new(alloc);
+    for parts in names {
+        let name = values.expanded_in(parts, &mut buffer)?;
+        if !has_field(message, name) {
+            return Ok(false);
+        }
+    }
+    Ok(true)
 }
 
 /// What the first of these addresses gives whose part matches some key.
@@ -78,57 +76,81 @@ pub(crate) fn find_in_part(
     }
 }
 
-/// What a value gives: all of it, or that part of the addresses in it.
-fn find_in_value(
+/// What the value of field `i` gives, with its encoded words replaced (RFC 5228, section 2.7.2).
+fn find_in_decoded(
     alloc: Global,
-    part: Option<AddressPart>,
-    value: &[u8],
+    fields: &mut FieldReads<'_>,
+    i: usize,
     comparison: &Comparison<'_>,
 ) -> Result<Option<MatchValues>, AllocError>
-    ensures { IfOk result (λ found. found ≡ value_found (found_with comparison.now) part value.now) }
+    requires { i < length (fields_of fields.old) }
+    ensures message { fields.new ≡ fields.old }
+    ensures found { IfOk result (λ found. slice_get (map (λ field. value_found (found_with comparison.now) None field.value) (fields_of fields.old)) i ≡ Some found) }
 {
-    match part {
-        None => comparison.first_match(alloc, value),
-        Some(part) => {
-            let listed = addresses(alloc, value)?;
-            find_in_addresses(alloc, part, &listed, comparison)
-        }
-    }
+    let value = fields.take_decoded(alloc, i)?;
+    let found = comparison.first_match(alloc, value.as_slice())?;
+    fields.keep_decoded(i, value)?;
+    Ok(found)
 }
 
-/// What the value of field `i` gives, where it has that name.
-fn find_in_field(
+/// What that part of the addresses in the value of field `i` gives.
+fn find_in_listed(
     alloc: Global,
-    message: &Message,
+    fields: &mut FieldReads<'_>,
     i: usize,
-    part: Option<AddressPart>,
-    name: &[u8],
+    part: AddressPart,
     comparison: &Comparison<'_>,
 ) -> Result<Option<MatchValues>, AllocError>
-    requires { i < length (fields_of message.now) }
-    ensures { IfOk result (λ found. slice_get (map (field_found (found_with comparison.now) part name.now) (fields_of message.now)) i ≡ Some found) }
+    requires { i < length (fields_of fields.old) }
+    ensures message { fields.new ≡ fields.old }
+    ensures found { IfOk result (λ found. slice_get (map (λ field. value_found (found_with comparison.now) (Some part) field.value) (fields_of fields.old)) i ≡ Some found) }
 {
-    if !is_named(message, i, name) {
-        return Ok(None);
+    let listed = fields.take_addresses(alloc, i)?;
+    let found = find_in_addresses(alloc, part, &listed, comparison)?;
+    fields.keep_addresses(i, listed)?;
+    Ok(found)
+}
+
+/// What the value of field `i` gives, or that part of the addresses in it.
+fn find_in_value(
+    alloc: Global,
+    fields: &mut FieldReads<'_>,
+    i: usize,
+    part: Option<AddressPart>,
+    comparison: &Comparison<'_>,
+) -> Result<Option<MatchValues>, AllocError>
+    requires { i < length (fields_of fields.old) }
+    ensures message { fields.new ≡ fields.old }
+    ensures found { IfOk result (λ found. slice_get (map (λ field. value_found (found_with comparison.now) part field.value) (fields_of fields.old)) i ≡ Some found) }
+{
+    match part {
+        None => find_in_decoded(alloc, fields, i, comparison),
+        Some(part) => find_in_listed(alloc, fields, i, part, comparison),
     }
-    let value = message.value(alloc, i)?;
-    find_in_value(alloc, part, value.as_slice(), comparison)
 }
 
 /// What the first field of that name gives whose value matches some key.
 fn find_in_fields(
     alloc: Global,
-    message: &Message,
+    fields: &mut FieldReads<'_>,
     part: Option<AddressPart>,
     name: &[u8],
     comparison: &Comparison<'_>,
 ) -> Result<Option<MatchValues>, AllocError>
-    ensures { IfOk result (λ found. found ≡ first_some (field_found (found_with comparison.now) part name.now) (fields_of message.now)) }
+    ensures message { fields.new ≡ fields.old }
+    ensures found { IfOk result (λ found. found ≡ first_some (field_found (found_with comparison.now) part name.now) (fields_of fields.old)) }
 {
-    for i in 0..message.fields() {
-        if let Some(values) = find_in_field(alloc, message, i, part, name, comparison)? {
+    let message = fields.message();
+    let name = FieldName::new(name);
+    let mut start = 0;
+    while start < message.fields() {
+        let Some(i) = message.next_named(&name, start) else {
+            return Ok(None);
+        };
+        if let Some(values) = find_in_value(alloc, &mut *fields, i, part, comparison)? {
             return Ok(Some(values));
         }
+        start = i + 1;
     }
     Ok(None)
 }
@@ -146,15 +168,16 @@ fn is_looked_at(part: Option<AddressPart>, name: &[u8]) -> bool
 /// What fields of that name give, where they are looked at.
 fn find_by_name(
     alloc: Global,
-    message: &Message,
+    fields: &mut FieldReads<'_>,
     part: Option<AddressPart>,
     name: &[u8],
     comparison: &Comparison<'_>,
 ) -> Result<Option<MatchValues>, AllocError>
-    ensures { IfOk result (λ found. found ≡ name_found (found_with comparison.now) part (fields_of message.now) name.now) }
+    ensures message { fields.new ≡ fields.old }
+    ensures found { IfOk result (λ found. found ≡ name_found (found_with comparison.now) part (fields_of fields.old) name.now) }
 {
     if is_looked_at(part, name) {
-        find_in_fields(alloc, message, part, name, comparison)
+        find_in_fields(alloc, fields, part, name, comparison)
     } else {
         Ok(None)
     }
@@ -163,31 +186,44 @@ fn find_by_name(
 /// What fields of the first name give of which one matches.
 fn find_by_names(
     alloc: Global,
-    message: &Message,
+    fields: &mut FieldReads<'_>,
     part: Option<AddressPart>,
-    names: &[CowSlice<'_, u8>],
+    values: &Values,
+    names: &[Parts],
     comparison: &Comparison<'_>,
 ) -> Result<Option<MatchValues>, AllocError>
-    ensures { IfOk result (λ found. found ≡ first_some (name_found (found_with comparison.now) part (fields_of message.now)) (octets_of_each names.now)) }
+    ensures message { fields.new ≡ fields.old }
+    ensures found { IfOk result (λ found. found ≡ first_some (name_found (found_with comparison.now) part (fields_of fields.old)) (map (text_value values.now) (strings_of names.now))) }
 {
-    for name in names {
-        if let Some(values) = find_by_name(alloc, message, part, name.as_slice(), comparison)? {
-            return Ok(Some(values));
+    let mut buffer = Vec::new(alloc);
+    for parts in names {
+        let name = values.expanded_in(parts, &mut buffer)?;
+        if let Some(found) = find_by_name(alloc, &mut *fields, part, name, comparison)? {
+            return Ok(Some(found));
         }
     }
     Ok(None)
 }
 
-/// What the values of some named fields give, or that part of the addresses in them. The names are expanded first.
+/// What the values of some named fields give, or that part of the addresses in them.
 pub(crate) fn find_in_named(
     delivery: &Delivery<'_>,
+    fields: &mut FieldReads<'_>,
     state: &State,
     part: Option<AddressPart>,
     names: &[Parts],
     comparison: &Comparison<'_>,
 ) -> Result<Option<MatchValues>, AllocError>
-    ensures { IfOk result (λ found. found ≡ first_some (found_with comparison.now) (values_of (delivery_as delivery.now) (state_of state.now) (field_source part (strings_of names.now)))) }
+    requires { fields.old ≡ (delivery_as delivery.now).message }
+    ensures message { fields.new ≡ fields.old }
+    ensures found { IfOk result (λ found. found ≡ first_some (found_with comparison.now) (values_of (delivery_as delivery.now) (state_of state.now) (field_source part (strings_of names.now)))) }
 {
-    let named = state.values.expanded(delivery.alloc, names)?;
-    find_by_names(delivery.alloc, delivery.message, part, &named, comparison)
+    find_by_names(
+        delivery.alloc,
+        fields,
+        part,
+        &state.values,
+        names,
+        comparison,
+    )
 }

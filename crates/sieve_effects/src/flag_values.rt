@@ -1,7 +1,9 @@
 //! What a test finds in flags (RFC 5232, section 4).
 ghost use Rattle.std.specs.Prelude.{◌≡◌, IfOk, Some};
 ghost use Rattle.sieve_effects.specs.view.Ops.{given_strings};
-ghost use Rattle.match_text.specs.Flags.{flag_list};
+ghost use Rattle.std.specs.List.{list_any};
+ghost use Rattle.match_text.specs.Comparator.{fold_of};
+ghost use Rattle.match_text.specs.Flags.{flag_list, has_key};
 ghost use Rattle.sieve_reading.specs.Reading.{flag_values};
 ghost use Rattle.sieve_effects.specs.Matching.{first_some, values_of};
 ghost use Rattle.sieve_effects.specs.view.Delivery.{delivery_as};
@@ -10,16 +12,46 @@ ghost use Rattle.sieve_effects.specs.view.State.{state_of};
 ghost use Rattle.sieve_variables.specs.view.Part.{strings_of};
 ghost use Rattle.sieve_base.specs.view.Texts.{octets_of_each};
 
-use crate::comparison::{Comparison, MatchValues};
+use crate::comparison::{Comparison, Keys, MatchValues, plain_match};
 use crate::delivery::Delivery;
 use crate::state::State;
-use match_text::{FlagList, flags_of};
+use match_text::{Collation, FlagList, flags_of};
+use sieve_reading::MatchType;
 use sieve_variables::Parts;
 use std::alloc::{AllocError, Global};
 use std::borrow::CowSlice;
 
-/// What the first flag gives that matches some key.
+/// Whether one of these keys is among flags.
+fn has_some(flags: &FlagList, collation: Collation, keys: &[CowSlice<'_, u8>]) -> bool
+    ensures { result ≡ list_any (has_key (fold_of collation) flags.now) (octets_of_each keys.now) }
+{
+    for key in keys {
+        if flags.has(collation, key.as_slice()) {
+            return true;
+        }
+    }
+    false
+}
+
+/// What the first flag gives that matches some key. Under `:is` each key is looked for among the flags, and not each flag compared with each.
 fn find_in_flags(
+    alloc: Global,
+    flags: &FlagList,
+    comparison: &Comparison<'_>,
+) -> Result<Option<MatchValues>, AllocError>
+    ensures { IfOk result (λ found. found ≡ first_some (found_with comparison.now) flags.now) }
+{
+    match (comparison.match_type, comparison.keys) {
+        (MatchType::Is, Keys::Texts(keys)) => {
+            let is_match = has_some(flags, comparison.collation, keys);
+            Ok(plain_match(alloc, is_match))
+        }
+        _ => find_in_each(alloc, flags, comparison),
+    }
+}
+
+/// The same, by comparing each flag with each key.
+fn find_in_each(
     alloc: Global,
     flags: &FlagList,
     comparison: &Comparison<'_>,
@@ -86,6 +118,6 @@ pub(crate) fn find_in_held(
 {
     match variables {
         Some(variables) => find_in_variables(delivery, state, variables, comparison),
-        None => find_in_flags(delivery.alloc, &state.flags, comparison),
+        None => find_in_flags(delivery.alloc, state.actions.flags(), comparison),
     }
 }

@@ -2,7 +2,7 @@
 ghost use Rattle.std.specs.Prelude.{◌≡◌, IfOk, Some, None};
 ghost use Rattle.std.specs.Option.{option_map};
 ghost use Rattle.match_text.specs.Flags.{flag_list};
-ghost use Rattle.sieve_effects.specs.Act.{changed_flags, changes, flags_named, held_flags, stored_flags};
+ghost use Rattle.sieve_effects.specs.Act.{changed_flags, changes, flags_named, held_flags};
 ghost use Rattle.sieve_effects.specs.view.Delivery.{delivery_as};
 ghost use Rattle.sieve_effects.specs.view.Flow.{ending_by};
 ghost use Rattle.sieve_effects.specs.view.State.{state_of};
@@ -20,7 +20,7 @@ use sieve_variables::{Parts, Variable};
 use std::alloc::{AllocError, Global};
 
 /// The flags that strings name (RFC 5232, section 2).
-fn flags_named(
+pub(crate) fn flags_named(
     delivery: &Delivery<'_>,
     state: &State,
     texts: &[Parts],
@@ -29,20 +29,6 @@ fn flags_named(
 {
     let texts = state.values.expanded(delivery.alloc, texts)?;
     flags_of_texts(delivery.alloc, &texts)
-}
-
-/// The flags of what is stored: those that are named, or the internal ones (RFC 5232, section 5).
-pub(crate) fn stored_flags(
-    delivery: &Delivery<'_>,
-    state: &State,
-    texts: &Option<Vec<Parts>>,
-) -> Result<FlagList, AllocError>
-    ensures { IfOk result (λ list. list ≡ stored_flags (state_of state.now) (option_map (λ given. strings_of given.items) texts.now)) }
-{
-    match texts {
-        Some(texts) => flags_named(delivery, state, texts),
-        None => state.flags.copied(delivery.alloc),
-    }
 }
 
 /// Flags after a command that names some.
@@ -129,7 +115,7 @@ fn change_internal(
     ensures { IfOk result (λ flow. ending_by flow (state_of state.new) ≡ changes (delivery_as delivery.now) line change None (strings_of texts.now) (state_of state.old)) }
 {
     let named = flags_named(delivery, &*state, texts)?;
-    state.flags = changed_flags(delivery.alloc, change, &state.flags, named)?;
+    state.actions.change_flags(delivery.alloc, change, named)?;
     Ok(Flow::GoesOn)
 }
 

@@ -4,11 +4,13 @@
 
 mod acting;
 mod action;
+mod actions;
 mod asking;
 mod comparison;
 mod delivery;
 mod envelope;
 mod error;
+mod field_reads;
 mod field_values;
 mod flag_values;
 mod flagging;
@@ -16,16 +18,17 @@ mod flow;
 pub mod laws;
 mod ops;
 mod path_values;
-mod performed;
 mod state;
 mod string_values;
 
 pub use acting::{discard, file_into, keep, redirect, set};
 pub use action::Action;
+pub use actions::Actions;
 pub use asking::holds;
 pub use delivery::Delivery;
 pub use envelope::Envelope;
 pub use error::{ErrorKind, RunError};
+pub use field_reads::FieldReads;
 pub use flagging::change;
 pub use flow::{Flow, fail};
 pub use ops::{CommandOp, SettingsOp, SourceOp, TestOp};

@@ -1,5 +1,5 @@
 //! What a test finds in an envelope (RFC 5228, section 5.4).
-ghost use Rattle.std.specs.Prelude.{◌≡◌, None, IfOk};
+ghost use Rattle.std.specs.Prelude.{◌≡◌, None, map, IfOk};
 ghost use Rattle.std.specs.Option.{option_map};
 ghost use Rattle.message_text.specs.Addresses.{envelope_address_of, is_null_path, part_of};
 ghost use Rattle.sieve_reading.specs.Reading.{envelope_values};
@@ -8,7 +8,7 @@ ghost use Rattle.sieve_effects.specs.view.Delivery.{delivery_as};
 ghost use Rattle.sieve_effects.specs.view.FieldTests.{found_with, path_found, path_name_found};
 ghost use Rattle.sieve_effects.specs.view.State.{state_of};
 ghost use Rattle.sieve_variables.specs.view.Part.{strings_of};
-ghost use Rattle.sieve_base.specs.view.Texts.{octets_of_each};
+ghost use Rattle.sieve_variables.specs.Value.{text_value};
 
 use crate::comparison::{Comparison, MatchValues};
 use crate::delivery::Delivery;
@@ -16,9 +16,8 @@ use crate::envelope::Envelope;
 use crate::field_values::find_in_part;
 use crate::state::State;
 use message_text::{AddressPart, addresses};
-use sieve_variables::Parts;
+use sieve_variables::{Parts, Values};
 use std::alloc::{AllocError, Global};
-use std::borrow::CowSlice;
 
 /// The address of the envelope's part of that name.
 fn envelope_text<'a>(envelope: &'a Envelope, name: &[u8]) -> Option<&'a [u8]>
@@ -92,26 +91,23 @@ fn find_by_path_names(
     alloc: Global,
     envelope: &Envelope,
     part: AddressPart,
-    names: &[CowSlice<'_, u8>],
+    values: &Values,
+    names: &[Parts],
     comparison: &Comparison<'_>,
 ) -> Result<Option<MatchValues>, AllocError>
-    ensures { IfOk result (λ found. found ≡ first_some (path_name_found (found_with comparison.now) part envelope.now) (octets_of_each names.now)) }
+    ensures { IfOk result (λ found. found ≡ first_some (path_name_found (found_with comparison.now) part envelope.now) (map (text_value values.now) (strings_of names.now))) }
 {
-    for name in names {
-        if let Some(values) = find_by_path_name(
-            alloc,
-            envelope,
-            part,
-            name.as_slice(),
-            comparison,
-        )? {
-            return Ok(Some(values));
+    let mut buffer = Vec::new(alloc);
+    for parts in names {
+        let name = values.expanded_in(parts, &mut buffer)?;
+        if let Some(found) = find_by_path_name(alloc, envelope, part, name, comparison)? {
+            return Ok(Some(found));
         }
     }
     Ok(None)
 }
 
-/// What that part of the addresses in some named parts of the envelope gives. The names are expanded first.
+/// What that part of the addresses in some named parts of the envelope gives.
 pub(crate) fn find_in_paths(
     delivery: &Delivery<'_>,
     state: &State,
@@ -121,6 +117,12 @@ pub(crate) fn find_in_paths(
 ) -> Result<Option<MatchValues>, AllocError>
     ensures { IfOk result (λ found. found ≡ first_some (found_with comparison.now) (values_of (delivery_as delivery.now) (state_of state.now) (envelope_values part (strings_of names.now)))) }
 {
-    let named = state.values.expanded(delivery.alloc, names)?;
-    find_by_path_names(delivery.alloc, delivery.envelope, part, &named, comparison)
+    find_by_path_names(
+        delivery.alloc,
+        delivery.envelope,
+        part,
+        &state.values,
+        names,
+        comparison,
+    )
 }

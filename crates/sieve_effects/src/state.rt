@@ -1,16 +1,15 @@
 //! The state of a run (RFC 5228, section 2.10; RFC 5229; RFC 5232, section 2; RFC 6609).
 
-use crate::action::Action;
+use crate::actions::Actions;
 use indexmap::IndexMap;
-use match_text::FlagList;
 use sieve_base::ScriptName;
 use sieve_variables::Values;
 
 /// The state of a run. Where a call that may change it fails, it is of no further use.
 #[derive(Drop)]
 pub struct State {
-    /// The actions in their order (RFC 5228, section 2.10).
-    pub actions: Vec<Action>,
+    /// The actions in their order (RFC 5228, section 2.10), and the internal flags (RFC 5232, section 2).
+    pub actions: Actions,
     /// Whether an action took the place of the implicit keep (RFC 5228, section 2.10.2).
     pub cancelled: bool,
     /// The names looked up so far, and whether each was there.
@@ -19,6 +18,4 @@ pub struct State {
     pub entered: Vec<ScriptName>,
     /// The variables of the script that runs (RFC 5229, section 3), and those that scripts share (RFC 6609, section 3.4).
     pub values: Values,
-    /// The internal flags (RFC 5232, section 2).
-    pub flags: FlagList,
 }

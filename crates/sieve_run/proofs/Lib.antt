@@ -1,11 +1,14 @@
+mod AgreeRows
 mod Bounds
 mod Depth
 mod Distinct
 mod Rows
+mod RunRows
 pub mod Unchanged
 pub mod Frame
 pub mod Includes
 pub mod Performing
 mod Pieces
+pub mod Left
 pub mod LookedUp
 pub mod Stepping

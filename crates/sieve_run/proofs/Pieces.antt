@@ -13,7 +13,7 @@ unfolding error_line
 error_pieces error word is = rw (is, append-nil (error_word error.kind)) (simp append_assoc)
 
 -- a flag at a place, and those up to it
-flag_at : (flags : List (List ℕ)) (i : ℕ) (flag : List ℕ) → slice_get flags i ≡ Some flag → flag ≡ get_or flags i flag
+pub flag_at : (flags : List (List ℕ)) (i : ℕ) (flag : List ℕ) → slice_get flags i ≡ Some flag → flag ≡ get_or flags i flag
 flag_at [] i flag at = cc
 flag_at (x ∷ xs) zero flag at = cc
 flag_at (x ∷ xs) (suc i) flag at = flag_at xs i flag at

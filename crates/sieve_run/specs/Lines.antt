@@ -1,6 +1,8 @@
 -- The lines of a verdict, each without what stands before and behind it in a report.
-use Rattle.std.specs.Prelude.{ℕ, Bool, true, false, List, [], ◌∷◌, ◌++◌, map, Option, None, Some, codes, decimal}
+use Rattle.std.specs.Prelude.{ℕ, Bool, true, false, List, [], ◌∷◌, ◌++◌, map, nat_eq, Option, None, Some, codes, decimal}
 use Rattle.std.specs.List.{flat_map}
+use Rattle.std.specs.Str.Lines.{lines}
+use lib.Pointwise.{pointwise}
 use Rattle.sieve_base.specs.Writers.{name_text, quoted}
 use Rattle.sieve_base.specs.declared.name.ScriptName.{ScriptName}
 use Rattle.sieve_effects.specs.ErrorKind.{error_word}
@@ -58,3 +60,13 @@ verdict_lines mailbox verdict = map action_line verdict.actions ++ (implicit_lin
 -- the lines of the names that were looked up
 abbrev pub read_lines : Verdict → List (List ℕ)
 read_lines verdict = map read_line verdict.reads
+
+-- Whether a text has these lines and no others. A line of a text ends before an LF and a CR directly before that; nothing behind the last LF is
+-- no line.
+abbrev pub says : List ℕ → List (List ℕ) → Bool
+says text wanted = pointwise (pointwise nat_eq) (lines text) wanted
+
+-- whether a text says what becomes of a message, line by line, whatever names were looked up; the empty text says nothing
+unfoldable pub agrees : (mailbox : List ℕ) → Verdict → (text : List ℕ) → Bool
+agrees mailbox verdict [] = false
+agrees mailbox verdict (octet ∷ text) = says (octet ∷ text) (verdict_lines mailbox verdict)

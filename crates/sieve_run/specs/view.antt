@@ -3,4 +3,5 @@ pub mod Compiled
 pub mod Entry
 pub mod Found
 pub mod Include
+pub mod Left
 pub mod Step

@@ -22,7 +22,7 @@ use message_text::Message;
 use sieve_base::ScriptName;
 use sieve_base::limits::MAX_INCLUDE_DEPTH;
 use sieve_code::Code;
-use sieve_effects::{Delivery, Envelope, ErrorKind, Flow, RunError, State};
+use sieve_effects::{Actions, Delivery, Envelope, ErrorKind, FieldReads, Flow, RunError, State};
 use sieve_variables::Values;
 use std::alloc::{AllocError, Global};
 
@@ -62,7 +62,7 @@ fn first_read(
 ) -> Result<IndexMap<ScriptName, bool>, AllocError>
     ensures { IfOk result (λ reads. reads.entries ≡ (main.now, is_present) ∷ []) }
 {
-    let mut reads = IndexMap::with_capacity(alloc, 1)?;
+    let mut reads = IndexMap::new(alloc);
     reads.insert(main.copy(alloc)?, is_present)?;
     Ok(reads)
 }
@@ -76,7 +76,7 @@ fn kept(cancelled: bool, flags: FlagList) -> Option<FlagList>
 
 /// The outcome of a run of the main script that ended so.
 fn ended(alloc: Global, flow: Flow, state: State) -> Outcome
-    requires { length state.actions.items ≤ action_limit }
+    requires { length state.actions.actions ≤ action_limit }
     ensures { result ≡ verdict_of (ending_by flow (state_of state)) }
 {
     let State {
@@ -85,10 +85,10 @@ fn ended(alloc: Global, flow: Flow, state: State) -> Outcome
         reads,
         entered,
         values,
-        flags,
     } = state;
     drop(entered);
     drop(values);
+    let (actions, flags) = actions.into_parts();
     match flow {
         Flow::Failed(error) => Outcome {
             actions: Vec::new(alloc),
@@ -112,12 +112,11 @@ fn begun(alloc: Global, main: &ScriptName) -> Result<State, AllocError>
     let mut entered = Vec::new(alloc);
     entered.push(main.copy(alloc)?)?;
     Ok(State {
-        actions: Vec::new(alloc),
+        actions: Actions::new(alloc),
         cancelled: false,
         reads: first_read(alloc, main, true)?,
         entered,
         values: Values::new(alloc),
-        flags: FlagList::new(alloc),
     })
 }
 
@@ -129,8 +128,10 @@ fn execute_main<L: Library>(
     code: &Code,
     envelope: &Envelope,
     message: &Message,
+    fields: &mut FieldReads<'_>,
     state: &mut State,
 ) -> Result<Flow, AllocError>
+    requires { fields.old ≡ message.now }
     ensures { IfOk result (λ flow.
         doing (act_of (λ name. lookup_of (L.texts lib.now name)) include_depth (delivery_to envelope.now message.now main.now)) (delivery_to envelope.now message.now main.now) (code_walk (ops_of code.now) (length (ops_of code.now))) (state_of state.old)
         ≡ ending_by flow (state_of state.new)) }
@@ -142,7 +143,7 @@ fn execute_main<L: Library>(
         script: main,
         including: &[],
     };
-    execute(lib, MAX_INCLUDE_DEPTH, &delivery, code, state)
+    execute(lib, MAX_INCLUDE_DEPTH, &delivery, code, fields, state)
 }
 
 /// Runs the main script's code from the start.
@@ -157,7 +158,17 @@ fn run_main<L: Library>(
     ensures { IfOk result (λ outcome. outcome ≡ verdict_of (doing (act_of (λ name. lookup_of (L.texts lib.now name)) include_depth (delivery_to envelope.now message.now main.now)) (delivery_to envelope.now message.now main.now) (code_walk (ops_of code.now) (length (ops_of code.now))) (begun main.now))) }
 {
     let mut state = begun(alloc, main)?;
-    let flow = execute_main(alloc, lib, main, code, envelope, message, &mut state)?;
+    let mut fields = FieldReads::new(alloc, message);
+    let flow = execute_main(
+        alloc,
+        lib,
+        main,
+        code,
+        envelope,
+        message,
+        &mut fields,
+        &mut state,
+    )?;
     Ok(ended(alloc, flow, state))
 }
 

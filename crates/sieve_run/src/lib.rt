@@ -2,6 +2,7 @@
 //! verdict looked at.
 #![tactic(auto)]
 
+mod agreement;
 mod including;
 mod interpreter;
 pub mod laws;

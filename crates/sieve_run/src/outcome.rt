@@ -1,8 +1,11 @@
 //! The verdict on a message.
-ghost use Rattle.std.specs.Prelude.{◌≡◌, ◌≤◌, length};
+ghost use Rattle.std.specs.Prelude.{◌≡◌, ◌<◌, ◌≤◌, ◌↔◌, IsTrue, length};
 ghost use Rattle.sieve_base.specs.Limits.{action_limit};
 ghost use Rattle.std.specs.Option.{option_copied};
+ghost use Rattle.std.specs.Str.Lines.{lines};
+ghost use Rattle.sieve_run.specs.Lines.{agrees, verdict_lines};
 
+use crate::agreement::says;
 use indexmap::IndexMap;
 use match_text::FlagList;
 use sieve_base::ScriptName;
@@ -59,5 +62,16 @@ impl Outcome {
         ensures { result.now.entries ≡ self.now.reads }
     {
         &self.reads
+    }
+
+    /// Whether a text says what becomes of the message where mail is kept in `mailbox`: whether its lines are those of the verdict, each without the
+    /// spaces before it in a report, and without the names that were looked up. A line of the text ends at an LF, and a CR directly before that is no
+    /// part of it; the end of the text ends its last line. The empty text says nothing. The time is linear in the text. Takes no memory.
+    pub fn agrees(&self, mailbox: &[u8], text: &[u8]) -> bool
+        ensures value { result ≡ agrees mailbox.now self.now text.now }
+        ensures lines { IsTrue result ↔ ((0 < length text.now) × (lines text.now ≡ verdict_lines mailbox.now self.now)) }
+    {
+        let has_lines = says(text, mailbox, self.actions(), self.implicit(), self.error());
+        !text.is_empty() && has_lines
     }
 }

@@ -14,7 +14,7 @@ use std::marker::Model;
 
 /// What stands at a name.
 #[derive(Drop)]
-enum Entry {
+enum Shelved {
     Script(Script),
     /// A text that is too long for a script.
     TooLong(Octets),
@@ -23,7 +23,7 @@ enum Entry {
 /// A text of any length, with its judgement where it isn't too long. Contracts see the text.
 #[derive(Drop)]
 struct Kept {
-    entry: Entry,
+    entry: Shelved,
 }
 
 impl Model for Kept {
@@ -44,9 +44,9 @@ impl Kept {
     {
         let octets = Octets::copied(alloc, text)?;
         let entry = if text.len() > MAX_TEXT {
-            Entry::TooLong(octets)
+            Shelved::TooLong(octets)
         } else {
-            Entry::Script(Script::new(alloc, octets)?)
+            Shelved::Script(Script::new(alloc, octets)?)
         };
         Ok(Kept { entry })
     }
@@ -56,8 +56,8 @@ impl Kept {
         ensures { FoundAs result (lookup_of (Some self.now)) }
     {
         match &self.entry {
-            Entry::Script(script) => script.found(),
-            Entry::TooLong(_) => Found::Invalid,
+            Shelved::Script(script) => script.found(),
+            Shelved::TooLong(_) => Found::Invalid,
         }
     }
 }

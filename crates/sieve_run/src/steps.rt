@@ -23,8 +23,8 @@ use sieve_base::limits::MAX_INCLUDES;
 use sieve_base::{Octets, ScriptName};
 use sieve_code::{Code, Op};
 use sieve_effects::{
-    CommandOp, Delivery, ErrorKind, Flow, State, change, discard, fail, file_into, holds, keep,
-    redirect, set,
+    CommandOp, Delivery, ErrorKind, FieldReads, Flow, State, change, discard, fail, file_into,
+    holds, keep, redirect, set,
 };
 use std::alloc::AllocError;
 
@@ -45,9 +45,12 @@ pub(crate) fn execute<L: Library>(
     depth: usize,
     delivery: &Delivery<'_>,
     code: &Code,
+    fields: &mut FieldReads<'_>,
     state: &mut State,
 ) -> Result<Flow, AllocError>
-    ensures { IfOk result (λ flow.
+    requires { fields.old ≡ (delivery_as delivery.now).message }
+    ensures message { fields.new ≡ fields.old }
+    ensures ending { IfOk result (λ flow.
         doing (act_of (λ name. lookup_of (L.texts lib.now name)) depth (delivery_as delivery.now)) (delivery_as delivery.now) (code_walk (ops_of code.now) (length (ops_of code.now))) (state_of state.old)
         ≡ ending_by flow (state_of state.new)) }
 {
@@ -64,6 +67,7 @@ pub(crate) fn execute<L: Library>(
             code.op(place),
             place + 1,
             register,
+            &mut *fields,
             &mut *state,
         )? {
             Step::Next {
@@ -89,9 +93,12 @@ fn carry_out<L: Library>(
     op: &Op,
     behind: usize,
     register: bool,
+    fields: &mut FieldReads<'_>,
     state: &mut State,
 ) -> Result<Step, AllocError>
-    ensures { IfOk result (λ step.
+    requires { fields.old ≡ (delivery_as delivery.now).message }
+    ensures message { fields.new ≡ fields.old }
+    ensures step { IfOk result (λ step.
         StepsTo (act_of (λ name. lookup_of (L.texts lib.now name)) depth (delivery_as delivery.now)) (delivery_as delivery.now) (op_as op.now) behind register (state_of state.old) step (state_of state.new)) }
 {
     match op {
@@ -99,14 +106,14 @@ fn carry_out<L: Library>(
         Op::False => Ok(proceed(false, behind)),
         Op::Not => Ok(proceed(!register, behind)),
         Op::Test(test) => {
-            let truth = holds(delivery, test, state);
+            let truth = holds(delivery, test, fields, state);
             tested(truth, behind)
         }
         Op::Jump(target) => Ok(proceed(register, *target)),
         Op::JumpIfFalse(target) => Ok(proceed(register, chosen(register, behind, *target))),
         Op::JumpIfTrue(target) => Ok(proceed(register, chosen(register, *target, behind))),
         Op::Command { command, line } => {
-            let flow = act(lib, depth, delivery, command, *line, state);
+            let flow = act(lib, depth, delivery, command, *line, fields, state);
             acted(flow, behind, register)
         }
         Op::Stop => Ok(Step::Ended(Flow::Stopped)),
@@ -122,9 +129,12 @@ fn act<L: Library>(
     delivery: &Delivery<'_>,
     command: &CommandOp,
     line: u64,
+    fields: &mut FieldReads<'_>,
     state: &mut State,
 ) -> Result<Flow, AllocError>
-    ensures { IfOk result (λ flow. ending_by flow (state_of state.new) ≡ act_of (λ name. lookup_of (L.texts lib.now name)) depth (delivery_as delivery.now) (command_op_as command.now) line (state_of state.old)) }
+    requires { fields.old ≡ (delivery_as delivery.now).message }
+    ensures message { fields.new ≡ fields.old }
+    ensures ending { IfOk result (λ flow. ending_by flow (state_of state.new) ≡ act_of (λ name. lookup_of (L.texts lib.now name)) depth (delivery_as delivery.now) (command_op_as command.now) line (state_of state.old)) }
 {
     match command {
         CommandOp::Keep { settings } => keep(delivery, settings, line, state),
@@ -156,7 +166,9 @@ fn act<L: Library>(
                 place: *place,
                 name: octets,
             };
-            include(lib, depth, delivery, &name, *once, *optional, line, state)
+            include(
+                lib, depth, delivery, &name, *once, *optional, line, fields, state,
+            )
         }
     }
 }
@@ -169,9 +181,12 @@ fn execute_inside<L: Library>(
     delivery: &Delivery<'_>,
     name: &ScriptName,
     code: &Code,
+    fields: &mut FieldReads<'_>,
     state: &mut State,
 ) -> Result<Flow, AllocError>
-    ensures { IfOk result (λ flow.
+    requires { fields.old ≡ (delivery_as delivery.now).message }
+    ensures message { fields.new ≡ fields.old }
+    ensures ending { IfOk result (λ flow.
         doing (act_of (λ name. lookup_of (L.texts lib.now name)) depth (inside name.now (delivery_as delivery.now))) (inside name.now (delivery_as delivery.now)) (code_walk (ops_of code.now) (length (ops_of code.now))) (state_of state.old)
         ≡ ending_by flow (state_of state.new)) }
 {
@@ -183,7 +198,7 @@ fn execute_inside<L: Library>(
         script: name,
         including: including.as_slice(),
     };
-    execute(lib, depth, &inner, code, state)
+    execute(lib, depth, &inner, code, fields, state)
 }
 
 /// Runs the code of a script that is included.
@@ -194,12 +209,15 @@ fn enter<L: Library>(
     delivery: &Delivery<'_>,
     name: &ScriptName,
     code: &Code,
+    fields: &mut FieldReads<'_>,
     state: &mut State,
 ) -> Result<Flow, AllocError>
-    ensures { IfOk result (λ flow. ending_by flow (state_of state.new) ≡ enters (λ name. lookup_of (L.texts lib.now name)) depth (delivery_as delivery.now) name.now (ops_of code.now) (state_of state.old)) }
+    requires { fields.old ≡ (delivery_as delivery.now).message }
+    ensures message { fields.new ≡ fields.old }
+    ensures ending { IfOk result (λ flow. ending_by flow (state_of state.new) ≡ enters (λ name. lookup_of (L.texts lib.now name)) depth (delivery_as delivery.now) name.now (ops_of code.now) (state_of state.old)) }
 {
     let own = begin_included(delivery.alloc, name, state)?;
-    let flow = execute_inside(lib, depth, delivery, name, code, state)?;
+    let flow = execute_inside(lib, depth, delivery, name, code, fields, state)?;
     state.values.resume(own);
     Ok(resumed(flow))
 }
@@ -213,9 +231,12 @@ fn look_up<L: Library>(
     name: &ScriptName,
     optional: bool,
     line: u64,
+    fields: &mut FieldReads<'_>,
     state: &mut State,
 ) -> Result<Flow, AllocError>
-    ensures { IfOk result (λ flow. ending_by flow (state_of state.new) ≡ looks_up (λ name. lookup_of (L.texts lib.now name)) depth (delivery_as delivery.now) name.now optional line (state_of state.old)) }
+    requires { fields.old ≡ (delivery_as delivery.now).message }
+    ensures message { fields.new ≡ fields.old }
+    ensures ending { IfOk result (λ flow. ending_by flow (state_of state.new) ≡ looks_up (λ name. lookup_of (L.texts lib.now name)) depth (delivery_as delivery.now) name.now optional line (state_of state.old)) }
 {
     let found = find(lib, name);
     note_read(delivery.alloc, &mut state.reads, name, is_there(&found))?;
@@ -228,7 +249,7 @@ fn look_up<L: Library>(
             }
         }
         Found::Invalid => fail(delivery, line, ErrorKind::InvalidScript),
-        Found::Present(code) => enter(lib, depth, delivery, name, code, state),
+        Found::Present(code) => enter(lib, depth, delivery, name, code, fields, state),
     }
 }
 
@@ -242,9 +263,12 @@ fn include<L: Library>(
     once: bool,
     optional: bool,
     line: u64,
+    fields: &mut FieldReads<'_>,
     state: &mut State,
 ) -> Result<Flow, AllocError>
-    ensures { IfOk result (λ flow. ending_by flow (state_of state.new) ≡ included (λ name. lookup_of (L.texts lib.now name)) depth (delivery_as delivery.now) name.now once optional line (state_of state.old)) }
+    requires { fields.old ≡ (delivery_as delivery.now).message }
+    ensures message { fields.new ≡ fields.old }
+    ensures ending { IfOk result (λ flow. ending_by flow (state_of state.new) ≡ included (λ name. lookup_of (L.texts lib.now name)) depth (delivery_as delivery.now) name.now once optional line (state_of state.old)) }
 {
     if once && is_script(name, state.entered.as_slice()) {
         return Ok(Flow::GoesOn);
@@ -258,7 +282,16 @@ fn include<L: Library>(
     if state.entered.len() > MAX_INCLUDES {
         return fail(delivery, line, ErrorKind::IncludeCount);
     }
-    look_up(lib, depth - 1, delivery, name, optional, line, state)
+    look_up(
+        lib,
+        depth - 1,
+        delivery,
+        name,
+        optional,
+        line,
+        fields,
+        state,
+    )
 }
 
 /// One of two places.

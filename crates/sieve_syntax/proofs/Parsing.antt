@@ -5,24 +5,24 @@ use Rattle.sieve_syntax.specs.Tree.{Tests, no_tests, one_test, test_list, tests,
 use Rattle.sieve_syntax.specs.Token.{line_at}
 use Rattle.sieve_syntax.specs.Word.{Word, identifier, string_word, semicolon, close_brace, close_parenthesis, close_bracket, word_of, words_of}
 use Rattle.sieve_syntax.specs.Grammar.{written_nodes, NestsNodes, Writes, Begins}
-use Rattle.sieve_syntax.specs.Machine.{Head, Level, for_one, for_list, Open, Outer, State, between, in_arguments, before_string, after_string, before_test, after_tests, bare_head, test_with, node_with, close_block, step, start, whole, whole_outer, read}
+use Rattle.sieve_syntax.specs.Machine.{Head, Level, for_one, for_list, Open, Outer, ParserState, between, in_arguments, before_string, after_string, before_test, after_tests, bare_head, test_with, node_with, close_block, step, start, whole, whole_outer, read}
 use Rattle.sieve_syntax.specs.Syntax.{IsFaultAt, IsFaultAtEnd}
 use Rattle.sieve_syntax.specs.declared.token.Token.{Token}
 use Rattle.sieve_syntax.proofs.Cases.{by_option}
 use Rattle.sieve_syntax.proofs.Reading.{run, closed, EndsFirst, items-nodes, closed_one, after_list, end_list, end_node, read_no_tests, read_nodes}
 use Rattle.sieve_syntax.proofs.Writing.{state_words, IsReached, Takes, step_takes}
 
-abbrev pub ended : List Node → State
+abbrev pub ended : List Node → ParserState
 ended tree = between (record { blocks = []; done = tree })
 
 module _ (depth room : ℕ) where
-  run_takes : (ws : List Word) (s t : State) → IsReached depth room s → run depth room s ws ≡ Some t → IsReached depth room t × (state_words t ≡ state_words s ++ ws)
+  run_takes : (ws : List Word) (s t : ParserState) → IsReached depth room s → run depth room s ws ≡ Some t → IsReached depth room t × (state_words t ≡ state_words s ++ ws)
   unfolding run
   run_takes [] s t is e =
       let same : s ≡ t = cc in
       (subst (IsReached depth room) same is, ap state_words (sym same) ∙ sym (append-nil (state_words s)))
   run_takes (w ∷ ws) s t is e =
-      by_option (step depth room s w) (λ o. step depth room s w ≡ o → elim o as (λ x. Option State) [ Some next ↦ run depth room next ws | None ↦ None ] ≡ Some t → IsReached depth room t × (state_words t ≡ state_words s ++ w ∷ ws))
+      by_option (step depth room s w) (λ o. step depth room s w ≡ o → elim o as (λ x. Option ParserState) [ Some next ↦ run depth room next ws | None ↦ None ] ≡ Some t → IsReached depth room t × (state_words t ≡ state_words s ++ w ∷ ws))
       (λ next q p f.
       let one : Takes depth room (state_words s) w next = step_takes depth room s w next is p in
       let more = run_takes ws next t one.reached f in
@@ -31,7 +31,7 @@ module _ (depth room : ℕ) where
 
   -- EACH STATE CAN BE CLOSED
 
-  record Closes (s : State) : Type 0 where
+  record Closes (s : ParserState) : Type 0 where
     more : List Word
     tree : List Node
     runs : run depth room s more ≡ Some (ended tree)
@@ -71,7 +71,7 @@ module _ (depth room : ℕ) where
       let outer = closes_levels ls o h no_tests in
       record { more = outer.more; tree = outer.tree; runs = read_no_tests depth room o ls h outer.more outer.ends ∙ outer.runs }
 
-  closes : (s : State) → Closes s
+  closes : (s : ParserState) → Closes s
   unfolding run step
   closes (between o) = closes_blocks o.blocks o.done
   closes (in_arguments o ls h) = closes_arguments o ls h
@@ -100,18 +100,18 @@ module _ (depth room : ℕ) where
       let t = run_takes ws start (ended tree) start_reached e in
       (subst (NestsNodes depth (nodes tree)) t.0.blocks t.0.done, sym t.1)
 
-  run-append : (xs ys : List Word) (s t : State) → run depth room s xs ≡ Some t → run depth room s (xs ++ ys) ≡ run depth room t ys
+  run-append : (xs ys : List Word) (s t : ParserState) → run depth room s xs ≡ Some t → run depth room s (xs ++ ys) ≡ run depth room t ys
   unfolding run
   run-append [] ys s t e = let same : s ≡ t = cc in ap (λ x. run depth room x ys) same
   run-append (w ∷ xs) ys s t e =
-      by_option (step depth room s w) (λ o. elim o as (λ x. Option State) [ Some next ↦ run depth room next xs | None ↦ None ] ≡ Some t → elim o as (λ x. Option State) [ Some next ↦ run depth room next (xs ++ ys) | None ↦ None ] ≡ run depth room t ys)
+      by_option (step depth room s w) (λ o. elim o as (λ x. Option ParserState) [ Some next ↦ run depth room next xs | None ↦ None ] ≡ Some t → elim o as (λ x. Option ParserState) [ Some next ↦ run depth room next (xs ++ ys) | None ↦ None ] ≡ run depth room t ys)
       (λ next p f. run-append xs ys next t f) (λ p f. cc) e
 
-  run-none : (xs ys : List Word) (s : State) → run depth room s xs ≡ None → run depth room s (xs ++ ys) ≡ None
+  run-none : (xs ys : List Word) (s : ParserState) → run depth room s xs ≡ None → run depth room s (xs ++ ys) ≡ None
   unfolding run
   run-none [] ys s e = cc
   run-none (w ∷ xs) ys s e =
-      by_option (step depth room s w) (λ o. elim o as (λ x. Option State) [ Some next ↦ run depth room next xs | None ↦ None ] ≡ None → elim o as (λ x. Option State) [ Some next ↦ run depth room next (xs ++ ys) | None ↦ None ] ≡ None)
+      by_option (step depth room s w) (λ o. elim o as (λ x. Option ParserState) [ Some next ↦ run depth room next xs | None ↦ None ] ≡ None → elim o as (λ x. Option ParserState) [ Some next ↦ run depth room next (xs ++ ys) | None ↦ None ] ≡ None)
       (λ next p f. run-none xs ys next f) (λ p f. refl) e
 
   pub writes_runs : (tree : List Node) (ws : List Word) → Writes depth room tree ws → run depth room start ws ≡ Some (ended tree)
@@ -121,55 +121,55 @@ module _ (depth room : ℕ) where
       ∙ read_nodes depth room (nodes tree) (record { blocks = []; done = [] }) [] room h.0 (omega arith)
       ∙ ap (λ x. Some (ended x)) (items-nodes tree)
 
-  runs_begin : (ws : List Word) (s : State) → run depth room start ws ≡ Some s → Begins depth room ws
+  runs_begin : (ws : List Word) (s : ParserState) → run depth room start ws ≡ Some s → Begins depth room ws
   runs_begin ws s e =
       let c : Closes s = closes s in
       (c.more, c.tree, ended_writes c.tree (ws ++ c.more) (run-append ws c.more start s e ∙ c.runs))
 
-  begins_run : (ws : List Word) → Begins depth room ws → (s : State) × (run depth room start ws ≡ Some s)
+  begins_run : (ws : List Word) → Begins depth room ws → (s : ParserState) × (run depth room start ws ≡ Some s)
   begins_run ws h =
-      by_option (run depth room start ws) (λ o. (s : State) × (o ≡ Some s)) (λ s e. (s, refl))
+      by_option (run depth room start ws) (λ o. (s : ParserState) × (o ≡ Some s)) (λ s e. (s, refl))
       (λ e. absurd (let p = run-none ws h.0 start e in let q = writes_runs h.1 (ws ++ h.0) h.2 in cc))
 
   -- THE MACHINE AND THE TOKENS OF A TEXT
 
   module _ (text : List ℕ) where
     -- what is read from a state that the machine reaches
-    read-run : (xs ys : List Token) (s t : State) → run depth room s (words_of text xs) ≡ Some t → read depth room text s (xs ++ ys) ≡ read depth room text t ys
+    read-run : (xs ys : List Token) (s t : ParserState) → run depth room s (words_of text xs) ≡ Some t → read depth room text s (xs ++ ys) ≡ read depth room text t ys
     unfolding run read
     read-run [] ys s t e = let same : s ≡ t = cc in ap (λ x. read depth room text x ys) same
     read-run (x ∷ xs) ys s t e =
-        by_option (step depth room s (word_of text x)) (λ o. elim o as (λ z. Option State) [ Some next ↦ run depth room next (words_of text xs) | None ↦ None ] ≡ Some t → elim o as (λ z. Result (List Node) ℕ) [ Some next ↦ read depth room text next (xs ++ ys) | None ↦ Err x.line ] ≡ read depth room text t ys)
+        by_option (step depth room s (word_of text x)) (λ o. elim o as (λ z. Option ParserState) [ Some next ↦ run depth room next (words_of text xs) | None ↦ None ] ≡ Some t → elim o as (λ z. Result (List Node) ℕ) [ Some next ↦ read depth room text next (xs ++ ys) | None ↦ Err x.line ] ≡ read depth room text t ys)
         (λ next p f. read-run xs ys next t f) (λ p f. cc) e
 
-    read-end : (s : State) → read depth room text s [] ≡ elim (whole s) as (λ z. Result (List Node) ℕ) [ Some tree ↦ Ok tree | None ↦ Err (line_at text (length text)) ]
+    read-end : (s : ParserState) → read depth room text s [] ≡ elim (whole s) as (λ z. Result (List Node) ℕ) [ Some tree ↦ Ok tree | None ↦ Err (line_at text (length text)) ]
     unfolding read
     read-end s = refl
 
-    read-stuck : (s : State) (token : Token) (rest : List Token) → step depth room s (word_of text token) ≡ None → read depth room text s (token ∷ rest) ≡ Err token.line
+    read-stuck : (s : ParserState) (token : Token) (rest : List Token) → step depth room s (word_of text token) ≡ None → read depth room text s (token ∷ rest) ≡ Err token.line
     unfolding read
     read-stuck s token rest e = ap (λ o. elim o as (λ z. Result (List Node) ℕ) [ Some next ↦ read depth room text next rest | None ↦ Err token.line ]) e
 
-    run-stuck : (s : State) (w : Word) (ws : List Word) → step depth room s w ≡ None → run depth room s (w ∷ ws) ≡ None
+    run-stuck : (s : ParserState) (w : Word) (ws : List Word) → step depth room s w ≡ None → run depth room s (w ∷ ws) ≡ None
     unfolding run
-    run-stuck s w ws e = ap (λ o. elim o as (λ z. Option State) [ Some next ↦ run depth room next ws | None ↦ None ]) e
+    run-stuck s w ws e = ap (λ o. elim o as (λ z. Option ParserState) [ Some next ↦ run depth room next ws | None ↦ None ]) e
 
-    run-one : (s t : State) (w : Word) → step depth room s w ≡ Some t → run depth room s (w ∷ []) ≡ Some t
+    run-one : (s t : ParserState) (w : Word) → step depth room s w ≡ Some t → run depth room s (w ∷ []) ≡ Some t
     unfolding run
-    run-one s t w e = ap (λ o. elim o as (λ z. Option State) [ Some next ↦ Some next | None ↦ None ]) e
+    run-one s t w e = ap (λ o. elim o as (λ z. Option ParserState) [ Some next ↦ Some next | None ↦ None ]) e
 
     words-append : (xs ys : List Token) → words_of text (xs ++ ys) ≡ words_of text xs ++ words_of text ys
     words-append [] ys = refl
     words-append (x ∷ xs) ys = ap (λ z. word_of text x ∷ z) (words-append xs ys)
 
-    run-more : (front : List Token) (token : Token) (s t : State) → run depth room start (words_of text front) ≡ Some s → step depth room s (word_of text token) ≡ Some t → run depth room start (words_of text (front ++ token ∷ [])) ≡ Some t
+    run-more : (front : List Token) (token : Token) (s t : ParserState) → run depth room start (words_of text front) ≡ Some s → step depth room s (word_of text token) ≡ Some t → run depth room start (words_of text (front ++ token ∷ [])) ≡ Some t
     run-more front token s t e f =
         ap (run depth room start) (words-append front (token ∷ []))
         ∙ run-append (words_of text front) (word_of text token ∷ []) start s e
         ∙ run-one s t (word_of text token) f
 
     -- a token that the state does not take begins nothing
-    stuck_stops : (front : List Token) (token : Token) (s : State) → run depth room start (words_of text front) ≡ Some s → step depth room s (word_of text token) ≡ None → Begins depth room (words_of text (front ++ token ∷ [])) → ⊥
+    stuck_stops : (front : List Token) (token : Token) (s : ParserState) → run depth room start (words_of text front) ≡ Some s → step depth room s (word_of text token) ≡ None → Begins depth room (words_of text (front ++ token ∷ [])) → ⊥
     stuck_stops front token s e f h =
         let b = begins_run _ h in
         let none : run depth room start (words_of text (front ++ token ∷ [])) ≡ None =
@@ -181,7 +181,7 @@ module _ (depth room : ℕ) where
         cc
 
     -- what has no whole state is no tree
-    part_stops : (tokens : List Token) (s : State) → run depth room start (words_of text tokens) ≡ Some s → whole s ≡ None → (tree : List Node) → Writes depth room tree (words_of text tokens) → ⊥
+    part_stops : (tokens : List Token) (s : ParserState) → run depth room start (words_of text tokens) ≡ Some s → whole s ≡ None → (tree : List Node) → Writes depth room tree (words_of text tokens) → ⊥
     unfolding whole
     part_stops tokens s e f tree h =
         let p = writes_runs tree _ h in
@@ -189,7 +189,7 @@ module _ (depth room : ℕ) where
         let clash : Some tree ≡ None = sym (ap whole same) ∙ f in
         cc
 
-    whole_ended : (s : State) (tree : List Node) → whole s ≡ Some tree → s ≡ ended tree
+    whole_ended : (s : ParserState) (tree : List Node) → whole s ≡ Some tree → s ≡ ended tree
     unfolding whole
     whole_ended (between o) tree e = go o.blocks o.done e
       where
@@ -207,7 +207,7 @@ module _ (depth room : ℕ) where
     IsRead tokens (Ok tree) = Writes depth room tree (words_of text tokens)
     IsRead tokens (Err line) = IsFaultAt depth room text tokens line ⊎ IsFaultAtEnd depth room text tokens line
 
-    read_is_from : (rest front : List Token) (s : State) → run depth room start (words_of text front) ≡ Some s → IsRead (front ++ rest) (read depth room text s rest)
+    read_is_from : (rest front : List Token) (s : ParserState) → run depth room start (words_of text front) ≡ Some s → IsRead (front ++ rest) (read depth room text s rest)
     unfolding read
     read_is_from [] front s e =
         by_option (whole s) (λ o. whole s ≡ o → IsRead (front ++ []) (elim o as (λ z. Result (List Node) ℕ) [ Some tree ↦ Ok tree | None ↦ Err (line_at text (length text)) ]))

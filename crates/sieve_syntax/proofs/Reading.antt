@@ -4,15 +4,15 @@ use Rattle.std.proofs.lemmas.Bool.{lt-ltb}
 use Rattle.sieve_syntax.specs.Tree.{Text, Argument, strings, number, tag, Test, test, Tests, no_tests, one_test, test_list, TestList, end_tests, more_tests, tests, test_items, Node, node, Block, no_block, block, Nodes, end_nodes, more_nodes, nodes, items}
 use Rattle.sieve_syntax.specs.Word.{Word, identifier, semicolon, open_brace, close_brace, open_parenthesis, close_parenthesis, close_bracket, comma}
 use Rattle.sieve_syntax.specs.Grammar.{written_more, written_argument, written_arguments, written_test, written_tests, written_test_list, written_test_rest, written_node, written_block, written_nodes, IsArgument, AreArguments, NestsTest, NestsTests, NestsTestList, NestsNode, NestsBlock, NestsNodes}
-use Rattle.sieve_syntax.specs.Machine.{Head, Level, for_one, for_list, Outer, State, between, in_arguments, after_string, before_test, after_tests, bare_head, with_argument, test_with, node_with, after_node, inside_block, after_command, after_listed, close, close_block, step}
+use Rattle.sieve_syntax.specs.Machine.{Head, Level, for_one, for_list, Outer, ParserState, between, in_arguments, after_string, before_test, after_tests, bare_head, with_argument, test_with, node_with, after_node, inside_block, after_command, after_listed, close, close_block, step}
 
 -- the state after these words
-unfoldable pub run : ℕ → ℕ → State → List Word → Option State
+unfoldable pub run : ℕ → ℕ → ParserState → List Word → Option ParserState
 run depth room s [] = Some s
 run depth room s (w ∷ ws) = elim (step depth room s w) [ Some next ↦ run depth room next ws | None ↦ None ]
 
 -- the state after these words, the first of which ends a command or a test
-unfoldable pub closed : ℕ → ℕ → Outer → List Level → Head → Tests → List Word → Option State
+unfoldable pub closed : ℕ → ℕ → Outer → List Level → Head → Tests → List Word → Option ParserState
 closed depth room o ls h ts [] = None
 closed depth room o ls h ts (w ∷ ws) = elim (close room o ls h ts w) [ Some next ↦ run depth room next ws | None ↦ None ]
 
@@ -86,13 +86,13 @@ module _ (depth room : ℕ) where
   enter_one : (o : Outer) (ls : List Level) (h : Head) (name : List ℕ) (line : ℕ) (ws : List Word) → length ls < depth → run depth room (in_arguments o ls h) (identifier name line ∷ ws) ≡ run depth room (in_arguments o (for_one h ∷ ls) (bare_head name line)) ws
   unfolding run step
   enter_one o ls h name line ws fits =
-      ap (λ b. elim (if b then Some (in_arguments o (for_one h ∷ ls) (bare_head name line)) else None) as (λ x. Option State) [ Some next ↦ run depth room next ws | None ↦ None ]) (lt-ltb (length ls) depth fits)
+      ap (λ b. elim (if b then Some (in_arguments o (for_one h ∷ ls) (bare_head name line)) else None) as (λ x. Option ParserState) [ Some next ↦ run depth room next ws | None ↦ None ]) (lt-ltb (length ls) depth fits)
 
   -- into a list of tests
   enter_list : (o : Outer) (ls : List Level) (h : Head) (ws : List Word) → length ls < depth → run depth room (in_arguments o ls h) (open_parenthesis ∷ ws) ≡ run depth room (before_test o (for_list h [] ∷ ls)) ws
   unfolding run step
   enter_list o ls h ws fits =
-      ap (λ b. elim (if b then Some (before_test o (for_list h [] ∷ ls)) else None) as (λ x. Option State) [ Some next ↦ run depth room next ws | None ↦ None ]) (lt-ltb (length ls) depth fits)
+      ap (λ b. elim (if b then Some (before_test o (for_list h [] ∷ ls)) else None) as (λ x. Option ParserState) [ Some next ↦ run depth room next ws | None ↦ None ]) (lt-ltb (length ls) depth fits)
 
   pub after_list : (o : Outer) (ls : List Level) (h g : Head) (before : List Test) (ts : Tests) (ws : List Word) →
       closed depth room o (for_list h before ∷ ls) g ts (close_parenthesis ∷ ws) ≡ run depth room (after_tests o ls h (test_list (tests (before ++ test_with g ts ∷ [])))) ws
@@ -170,7 +170,7 @@ module _ (depth room : ℕ) where
   enter_block : (o : Outer) (h : Head) (ts : Tests) (ws : List Word) → length o.blocks < room → closed depth room o [] h ts (open_brace ∷ ws) ≡ run depth room (between (inside_block o h ts)) ws
   unfolding closed close after_command after_listed
   enter_block o h ts ws fits =
-      ap (λ b. elim (if b then Some (between (inside_block o h ts)) else None) as (λ x. Option State) [ Some next ↦ run depth room next ws | None ↦ None ]) (lt-ltb (length o.blocks) room fits)
+      ap (λ b. elim (if b then Some (between (inside_block o h ts)) else None) as (λ x. Option ParserState) [ Some next ↦ run depth room next ws | None ↦ None ]) (lt-ltb (length o.blocks) room fits)
 
   leave_block : (o : Outer) (h : Head) (ts : Tests) (done : List Node) (ws : List Word) →
       run depth room (between (record { blocks = record { done = o.done; head = h; tests = ts } ∷ o.blocks; done = done })) (close_brace ∷ ws) ≡ run depth room (between (after_node o (node_with h ts (block (nodes done))))) ws

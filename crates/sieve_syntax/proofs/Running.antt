@@ -1,7 +1,7 @@
 -- The machine over the tokens of a text, one after another.
 use Rattle.std.proofs.Common.{◌≡◌, ℕ, List, [], ◌∷◌, length, Option, Some, None, Result, Ok, Err, sym, ap, ◌∙◌}
 use Rattle.sieve_syntax.specs.view.Cursor.{IsNext}
-use Rattle.sieve_syntax.specs.Machine.{State, step, start, whole, read}
+use Rattle.sieve_syntax.specs.Machine.{ParserState, step, start, whole, read}
 use Rattle.sieve_syntax.specs.view.Parsed.{Finishes, Goes, Parses}
 use Rattle.sieve_syntax.specs.Scan.{tokens_of}
 use Rattle.sieve_base.specs.Limits.{test_depth, block_room}
@@ -18,31 +18,31 @@ use Rattle.sieve_syntax.specs.declared.tree.Script as scripts
 use Rattle.sieve_syntax.proofs.Spelling.{tokens_of_spell, some_tokens, unique}
 
 -- whatever tokens spell the rest of the text, from this state they give what the text means
-abbrev pub Means : List ℕ → State → ℕ → Type 0
+abbrev pub Means : List ℕ → ParserState → ℕ → Type 0
 Means text s place = (more : List Token) → SpellsFrom text place more → read test_depth block_room text s more ≡ syntax_of text
 
 pub start_means : (text : List ℕ) → Means text start 0
 unfolding syntax_of
 start_means text more h = ap (read test_depth block_room text start) (unique text more (tokens_of text) h (tokens_of_spell text))
 
-read-next : (text : List ℕ) (s next : State) (token : Token) (more : List Token) → step test_depth block_room s (word_of text token) ≡ Some next → read test_depth block_room text s (token ∷ more) ≡ read test_depth block_room text next more
+read-next : (text : List ℕ) (s next : ParserState) (token : Token) (more : List Token) → step test_depth block_room s (word_of text token) ≡ Some next → read test_depth block_room text s (token ∷ more) ≡ read test_depth block_room text next more
 unfolding read
 read-next text s next token more e = ap (λ o. elim o as (λ z. Result (List Node) ℕ) [ Some n ↦ read test_depth block_room text n more | None ↦ Err token.line ]) e
 
-read-stop : (text : List ℕ) (s : State) (token : Token) (more : List Token) → step test_depth block_room s (word_of text token) ≡ None → read test_depth block_room text s (token ∷ more) ≡ Err token.line
+read-stop : (text : List ℕ) (s : ParserState) (token : Token) (more : List Token) → step test_depth block_room s (word_of text token) ≡ None → read test_depth block_room text s (token ∷ more) ≡ Err token.line
 unfolding read
 read-stop text s token more e = ap (λ o. elim o as (λ z. Result (List Node) ℕ) [ Some n ↦ read test_depth block_room text n more | None ↦ Err token.line ]) e
 
-read-end : (text : List ℕ) (s : State) (o : Option (List Node)) → whole s ≡ o → read test_depth block_room text s [] ≡ elim o as (λ z. Result (List Node) ℕ) [ Some tree ↦ Ok tree | None ↦ Err (line_at text (length text)) ]
+read-end : (text : List ℕ) (s : ParserState) (o : Option (List Node)) → whole s ≡ o → read test_depth block_room text s [] ≡ elim o as (λ z. Result (List Node) ℕ) [ Some tree ↦ Ok tree | None ↦ Err (line_at text (length text)) ]
 unfolding read
 read-end text s o e = ap (λ x. elim x as (λ z. Result (List Node) ℕ) [ Some tree ↦ Ok tree | None ↦ Err (line_at text (length text)) ]) e
 
 -- a token that is taken goes on
-pub next_means : (text : List ℕ) (s next : State) (place : ℕ) (token : Token) (behind : Cursor) → IsNext text place token behind → step test_depth block_room s (word_of text token) ≡ Some next → Means text s place → Means text next behind.place
+pub next_means : (text : List ℕ) (s next : ParserState) (place : ℕ) (token : Token) (behind : Cursor) → IsNext text place token behind → step test_depth block_room s (word_of text token) ≡ Some next → Means text s place → Means text next behind.place
 next_means text s next place token behind is e so more h = sym (read-next text s next token more e) ∙ so (token ∷ more) (is.goes more h)
 
 -- a token that isn't taken is the fault
-pub stop_means : (text : List ℕ) (s : State) (place : ℕ) (token : Token) (behind : Cursor) (fault : SyntaxFault) (o : outers.Outer) → IsNext text place token behind → Goes o (Err fault) (step test_depth block_room s (word_of text token)) token.line → Means text s place → Parses (Err fault) (syntax_of text)
+pub stop_means : (text : List ℕ) (s : ParserState) (place : ℕ) (token : Token) (behind : Cursor) (fault : SyntaxFault) (o : outers.Outer) → IsNext text place token behind → Goes o (Err fault) (step test_depth block_room s (word_of text token)) token.line → Means text s place → Parses (Err fault) (syntax_of text)
 stop_means text s place token behind (Syntax line) o is h so =
     let more = some_tokens text behind.place is.is.within in
     sym (so (token ∷ more.0) (is.goes more.0 more.1)) ∙ read-stop text s token more.0 h.0 ∙ ap (λ n. Err n) (sym h.1)
@@ -50,7 +50,7 @@ stop_means text s place token behind TooLarge o is h so = absurd h
 stop_means text s place token behind NoMemory o is h so = tt
 
 -- the end
-pub end_means : (text : List ℕ) (s : State) (place : ℕ) (r : Result scripts.Script SyntaxFault) → SpellsFrom text place [] → Means text s place → Finishes r (whole s) (line_at text (length text)) → Parses r (syntax_of text)
+pub end_means : (text : List ℕ) (s : ParserState) (place : ℕ) (r : Result scripts.Script SyntaxFault) → SpellsFrom text place [] → Means text s place → Finishes r (whole s) (line_at text (length text)) → Parses r (syntax_of text)
 end_means text s place (Ok script) h so e = sym (so [] h) ∙ read-end text s _ e
 end_means text s place (Err (Syntax line)) h so e = sym (so [] h) ∙ read-end text s None e.0 ∙ ap (λ n. Err n) (sym e.1)
 end_means text s place (Err TooLarge) h so e = absurd e

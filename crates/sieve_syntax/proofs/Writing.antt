@@ -5,7 +5,7 @@ use Rattle.std.proofs.lemmas.Bool.{ltb-true}
 use Rattle.sieve_syntax.specs.Tree.{Text, Argument, strings, number, tag, Test, Tests, no_tests, one_test, test_list, tests, Node, no_block, block, nodes}
 use Rattle.sieve_syntax.specs.Word.{Word, identifier, tag_word, number_word, string_word, semicolon, open_brace, close_brace, open_parenthesis, close_parenthesis, open_bracket, close_bracket, comma, bad}
 use Rattle.sieve_syntax.specs.Grammar.{written_more, written_texts, written_argument, written_arguments, written_test, written_tests, written_test_list, written_test_rest, written_node, written_block, written_nodes, IsArgument, AreArguments, NestsTest, NestsTests, NestsTestList, NestsNode, NestsBlock, NestsNodes}
-use Rattle.sieve_syntax.specs.Machine.{Head, Level, for_one, for_list, Open, Outer, State, between, in_arguments, before_string, after_string, before_test, after_tests, bare_head, with_argument, test_with, node_with, inside_block, after_command, after_listed, close, close_block, step}
+use Rattle.sieve_syntax.specs.Machine.{Head, Level, for_one, for_list, Open, Outer, ParserState, between, in_arguments, before_string, after_string, before_test, after_tests, bare_head, with_argument, test_with, node_with, inside_block, after_command, after_listed, close, close_block, step}
 use Rattle.sieve_syntax.proofs.Cases.{by_cases}
 
 -- THE WORDS READ SO FAR
@@ -33,7 +33,7 @@ abbrev texts_before : List Text → List Word
 texts_before [] = []
 texts_before (t ∷ ts) = string_word t.octets t.line ∷ comma ∷ texts_before ts
 
-abbrev pub state_words : State → List Word
+abbrev pub state_words : ParserState → List Word
 state_words (between o) = outer_words o
 state_words (in_arguments o ls h) = outer_words o ++ (level_words ls ++ head_words h)
 state_words (before_string o ls h before) = outer_words o ++ (level_words ls ++ (head_words h ++ open_bracket ∷ texts_before before))
@@ -73,7 +73,7 @@ pub record IsOpen (depth room : ℕ) (o : Outer) (ls : List Level) (h : Head) : 
   pub levels : IsLevels depth ls left
   pub args : AreArguments h.args
 
-abbrev pub IsReached : ℕ → ℕ → State → Type 0
+abbrev pub IsReached : ℕ → ℕ → ParserState → Type 0
 IsReached depth room (between o) = IsOuter depth room o
 IsReached depth room (in_arguments o ls h) = IsOpen depth room o ls h
 IsReached depth room (before_string o ls h before) = IsOpen depth room o ls h
@@ -157,7 +157,7 @@ strings_are (t ∷ s ∷ ts) h = tt
 -- ONE STEP
 
 -- the state is reached, and one more word is read
-pub record Takes (depth room : ℕ) (front : List Word) (w : Word) (s : State) : Type 0 where
+pub record Takes (depth room : ℕ) (front : List Word) (w : Word) (s : ParserState) : Type 0 where
   pub reached : IsReached depth room s
   pub words : state_words s ≡ front ++ w ∷ []
 
@@ -193,7 +193,7 @@ module _ (depth room : ℕ) where
   enter o h ts zero blocks done fits args nests = absurd (omega (arith, blocks_left o.blocks 0 blocks))
   enter o h ts (suc r) blocks done fits args nests = record { left = r; blocks = (done, args, nests, blocks); done = tt }
 
-  close_takes : (ls : List Level) (w : Word) (o : Outer) (h : Head) (ts : Tests) (s : State) (d : ℕ) → IsOuter depth room o → IsLevels depth ls d → AreArguments h.args → NestsTests ts d → close room o ls h ts w ≡ Some s →
+  close_takes : (ls : List Level) (w : Word) (o : Outer) (h : Head) (ts : Tests) (s : ParserState) (d : ℕ) → IsOuter depth room o → IsLevels depth ls d → AreArguments h.args → NestsTests ts d → close room o ls h ts w ≡ Some s →
       Takes depth room (outer_words o ++ (level_words ls ++ (head_words h ++ written_tests ts))) w s
   unfolding close after_command after_listed NestsTests NestsTest NestsNode NestsBlock written_tests written_test written_node written_block
   close_takes [] semicolon o h ts s d outer levels args nests e =
@@ -229,7 +229,7 @@ module _ (depth room : ℕ) where
       }
   close_takes (for_list g before ∷ ls) _ o h ts s d outer levels args nests e = cc
 
-  close_block_takes : (bs : List Open) (done : List Node) (s : State) (r : ℕ) → IsBlocks depth room bs r → NestsNodes depth (nodes done) r → close_block bs done ≡ Some s →
+  close_block_takes : (bs : List Open) (done : List Node) (s : ParserState) (r : ℕ) → IsBlocks depth room bs r → NestsNodes depth (nodes done) r → close_block bs done ≡ Some s →
       Takes depth room (block_words bs ++ written_nodes (nodes done)) close_brace s
   unfolding close_block written_node written_block NestsNode NestsBlock
   close_block_takes [] done s r blocks nest e = cc
@@ -284,14 +284,14 @@ module _ (depth room : ℕ) where
         words = one_end (outer_words o) (level_words ls) (head_words h) open_parenthesis;
       }
 
-  no_tests_takes : (o : Outer) (ls : List Level) (h : Head) (w : Word) (t : State) → IsOpen depth room o ls h → close room o ls h no_tests w ≡ Some t →
+  no_tests_takes : (o : Outer) (ls : List Level) (h : Head) (w : Word) (t : ParserState) → IsOpen depth room o ls h → close room o ls h no_tests w ≡ Some t →
       Takes depth room (outer_words o ++ (level_words ls ++ head_words h)) w t
   unfolding written_tests NestsTests
   no_tests_takes o ls h w t is e =
       subst (λ x. Takes depth room (outer_words o ++ (level_words ls ++ x)) w t) (append-nil (head_words h))
       (close_takes ls w o h no_tests t is.left is.outer is.levels is.args tt e)
 
-  pub step_takes : (s : State) (w : Word) (t : State) → IsReached depth room s → step depth room s w ≡ Some t → Takes depth room (state_words s) w t
+  pub step_takes : (s : ParserState) (w : Word) (t : ParserState) → IsReached depth room s → step depth room s w ≡ Some t → Takes depth room (state_words s) w t
   unfolding step
   step_takes (between o) (identifier name line) t is e =
       subst (Takes depth room (outer_words o) (identifier name line)) (same_Some _ t e) record {

@@ -27,19 +27,19 @@ pub record Outer : Type 0 where
   pub blocks : List Open
   pub done : List Node
 
-pub data State : Type 0 where
+pub data ParserState : Type 0 where
   -- between two commands
-  between : Outer → State
+  between : Outer → ParserState
   -- behind an identifier or an argument
-  in_arguments : Outer → List Level → Head → State
+  in_arguments : Outer → List Level → Head → ParserState
   -- in a list of strings, where a string has to come
-  before_string : Outer → List Level → Head → List Text → State
+  before_string : Outer → List Level → Head → List Text → ParserState
   -- in a list of strings, behind a string
-  after_string : Outer → List Level → Head → List Text → State
+  after_string : Outer → List Level → Head → List Text → ParserState
   -- in a list of tests, where a test has to come
-  before_test : Outer → List Level → State
+  before_test : Outer → List Level → ParserState
   -- behind a list of tests
-  after_tests : Outer → List Level → Head → Tests → State
+  after_tests : Outer → List Level → Head → Tests → ParserState
 
 abbrev pub bare_head : List ℕ → ℕ → Head
 bare_head name line = record { name = name; line = line; args = [] }
@@ -60,29 +60,29 @@ abbrev pub inside_block : Outer → Head → Tests → Outer
 inside_block o h ts = record { blocks = record { done = o.done; head = h; tests = ts } ∷ o.blocks; done = [] }
 
 -- a word behind a command with all its arguments and tests
-unfoldable pub after_command : ℕ → Outer → Head → Tests → Word → Option State
+unfoldable pub after_command : ℕ → Outer → Head → Tests → Word → Option ParserState
 after_command room o h ts semicolon = Some (between (after_node o (node_with h ts no_block)))
 after_command room o h ts open_brace = if nat_lt (length o.blocks) room then Some (between (inside_block o h ts)) else None
 after_command room o h ts _ = None
 
 -- a word behind a test in a list of tests
-unfoldable pub after_listed : Outer → List Level → Head → List Test → Word → Option State
+unfoldable pub after_listed : Outer → List Level → Head → List Test → Word → Option ParserState
 after_listed o ls h listed comma = Some (before_test o (for_list h listed ∷ ls))
 after_listed o ls h listed close_parenthesis = Some (after_tests o ls h (test_list (tests listed)))
 after_listed o ls h listed _ = None
 
 -- a word behind a command or a test with all its arguments and tests: a test that stands alone ends with what it is in
-unfoldable pub close : ℕ → Outer → List Level → Head → Tests → Word → Option State
+unfoldable pub close : ℕ → Outer → List Level → Head → Tests → Word → Option ParserState
 close room o [] h ts w = after_command room o h ts w
 close room o (for_one g ∷ ls) h ts w = close room o ls g (one_test (test_with h ts)) w
 close room o (for_list g before ∷ ls) h ts w = after_listed o ls g (before ++ test_with h ts ∷ []) w
 
 -- the end of the innermost block
-unfoldable pub close_block : List Open → List Node → Option State
+unfoldable pub close_block : List Open → List Node → Option ParserState
 close_block [] done = None
 close_block (b ∷ bs) done = Some (between (record { blocks = bs; done = b.done ++ node_with b.head b.tests (block (nodes done)) ∷ [] }))
 
-unfoldable pub step : ℕ → ℕ → State → Word → Option State
+unfoldable pub step : ℕ → ℕ → ParserState → Word → Option ParserState
 step depth room (between o) (identifier name line) = Some (in_arguments o [] (bare_head name line))
 step depth room (between o) close_brace = close_block o.blocks o.done
 step depth room (between o) _ = None
@@ -102,7 +102,7 @@ step depth room (before_test o ls) (identifier name line) = Some (in_arguments o
 step depth room (before_test o ls) _ = None
 step depth room (after_tests o ls h ts) w = close room o ls h ts w
 
-abbrev pub start : State
+abbrev pub start : ParserState
 start = between (record { blocks = []; done = [] })
 
 -- the commands, where all that was begun is ended
@@ -110,11 +110,11 @@ abbrev pub whole_outer : List Open → List Node → Option (List Node)
 whole_outer [] done = Some done
 whole_outer (b ∷ bs) done = None
 
-unfoldable pub whole : State → Option (List Node)
+unfoldable pub whole : ParserState → Option (List Node)
 whole (between o) = whole_outer o.blocks o.done
 whole _ = None
 
 -- the tree, or the line of the first token that no state takes, or of the end
-unfoldable pub read : ℕ → ℕ → List ℕ → State → List Token → Result (List Node) ℕ
+unfoldable pub read : ℕ → ℕ → List ℕ → ParserState → List Token → Result (List Node) ℕ
 read depth room text s [] = elim (whole s) [ Some tree ↦ Ok tree | None ↦ Err (line_at text (length text)) ]
 read depth room text s (token ∷ tokens) = elim (step depth room s (word_of text token)) [ Some next ↦ read depth room text next tokens | None ↦ Err token.line ]

@@ -14,7 +14,7 @@ ghost use Rattle.sieve_syntax.specs.Word.{word_of};
 ghost use Rattle.sieve_syntax.specs.declared.parser.SyntaxFault.TheVariants.{NoMemory};
 
 use crate::cursor::{Cursor, next_token};
-use crate::reader::{Outer, State};
+use crate::reader::{Outer, ParserState};
 use crate::step::{Stop, step};
 use crate::token::{Token, last_line};
 use crate::tree::Script;
@@ -78,7 +78,7 @@ fn read_script(alloc: Global, text: &[u8]) -> Result<Script, SyntaxFault>
         done: Vec::new(alloc),
         levels: Vec::new(alloc),
     };
-    let mut state = State::Between;
+    let mut state = ParserState::Between;
     let mut cursor = Cursor {
         place: 0,
         line_feeds: 0,
@@ -99,8 +99,8 @@ fn read_token(
     text: &[u8],
     token: Token,
     outer: &mut Outer,
-    state: State,
-) -> Result<State, SyntaxFault>
+    state: ParserState,
+) -> Result<ParserState, SyntaxFault>
     requires { IsInside text.now token }
     ensures { Goes outer.new result (Machine.step test_depth block_room (state_value outer.old state) (word_of text.now token)) token.line }
 {
@@ -114,11 +114,11 @@ fn read_token(
 
 /// The script, where all that was begun is ended.
 #[tactic(auto, unfolding(crate::specs::Machine::whole))]
-fn finish(text: &[u8], outer: Outer, state: State) -> Result<Script, SyntaxFault>
+fn finish(text: &[u8], outer: Outer, state: ParserState) -> Result<Script, SyntaxFault>
     requires { length text.now ≤ text_limit }
     ensures { Finishes result (whole (state_value outer state)) (line_at text.now (length text.now)) }
 {
-    if let State::Between = state {
+    if let ParserState::Between = state {
         if outer.blocks.is_empty() {
             return Ok(Script {
                 commands: outer.done,

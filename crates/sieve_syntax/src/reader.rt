@@ -44,7 +44,7 @@ pub(crate) struct Outer {
 
 /// Where the next token stands.
 #[derive(Drop)]
-pub(crate) enum State {
+pub(crate) enum ParserState {
     /// Between two commands.
     Between,
     /// Behind an identifier or an argument.

@@ -9,7 +9,7 @@ ghost use Rattle.sieve_syntax.specs.view.Tree.{argument_of, test_of, tests_of, t
 ghost use Rattle.sieve_syntax.specs.declared.reader.Outer.{Outer};
 ghost use Rattle.sieve_syntax.specs.declared.step.Stop.TheVariants.{NoMemory};
 
-use crate::reader::{Head, Level, Open, Outer, State, command_with, finished_test};
+use crate::reader::{Head, Level, Open, Outer, ParserState, command_with, finished_test};
 use crate::tree::{Argument, Test, Tests, Text};
 use crate::word::Word;
 use sieve_base::SmallOctets;
@@ -43,13 +43,13 @@ impl From<AllocError> for Stop {
 
 /// The state behind a word that stands between commands.
 #[tactic(auto, unfolding(crate::specs::Machine::step))]
-fn between(alloc: Global, outer: &mut Outer, word: Word) -> Result<State, Stop>
+fn between(alloc: Global, outer: &mut Outer, word: Word) -> Result<ParserState, Stop>
     ensures { Advances outer.new result (step test_depth block_room (Machine.between (outer_value outer.old)) (word_as word)) }
 {
     match word {
         Word::Identifier { name, line } => {
             outer.levels.clear();
-            Ok(State::Arguments(make_head(alloc, name, line)))
+            Ok(ParserState::Arguments(make_head(alloc, name, line)))
         }
         Word::CloseBrace => close_block(outer),
         _ => Err(Stop::Fault),
@@ -69,7 +69,7 @@ fn make_head(alloc: Global, name: SmallOctets, line: u64) -> Head
 
 /// The end of the innermost block.
 #[tactic(auto, unfolding(crate::specs::Machine::close_block))]
-fn close_block(outer: &mut Outer) -> Result<State, Stop>
+fn close_block(outer: &mut Outer) -> Result<ParserState, Stop>
     ensures { Advances outer.new result (close_block (outer_value outer.old).blocks (outer_value outer.old).done) }
 {
     match outer.blocks.pop() {
@@ -78,23 +78,28 @@ fn close_block(outer: &mut Outer) -> Result<State, Stop>
             let Open { done, head, tests } = open;
             let block = mem::replace(&mut outer.done, done);
             outer.done.push(command_with(head, tests, Some(block)))?;
-            Ok(State::Between)
+            Ok(ParserState::Between)
         }
     }
 }
 
 /// Behind one more argument of a head.
-fn behind_argument(head: Head, argument: Argument) -> Result<State, Stop>
+fn behind_argument(head: Head, argument: Argument) -> Result<ParserState, Stop>
     ensures { (outer : Outer) → Advances outer result (Some (Machine.in_arguments (outer_value outer) (levels_value outer.levels.items) (with_argument (head_value head) (argument_of argument)))) }
 {
     let mut head = head;
     head.args.push(argument)?;
-    Ok(State::Arguments(head))
+    Ok(ParserState::Arguments(head))
 }
 
 /// Behind an identifier or an argument: one more argument, a test, a list of tests, or the end.
 #[tactic(auto, unfolding(crate::specs::Machine::step))]
-fn in_arguments(alloc: Global, outer: &mut Outer, head: Head, word: Word) -> Result<State, Stop>
+fn in_arguments(
+    alloc: Global,
+    outer: &mut Outer,
+    head: Head,
+    word: Word,
+) -> Result<ParserState, Stop>
     ensures { Advances outer.new result (step test_depth block_room (Machine.in_arguments (outer_value outer.old) (levels_value outer.old.levels.items) (head_value head)) (word_as word)) }
 {
     match word {
@@ -115,7 +120,7 @@ fn in_arguments(alloc: Global, outer: &mut Outer, head: Head, word: Word) -> Res
             let argument = Argument::Tag { name, line };
             behind_argument(head, argument)
         }
-        Word::OpenBracket => Ok(State::BeforeString(head, Vec::new(alloc))),
+        Word::OpenBracket => Ok(ParserState::BeforeString(head, Vec::new(alloc))),
         Word::Identifier { name, line } => open_test(alloc, outer, head, name, line),
         Word::OpenParenthesis => open_list(alloc, outer, head),
         _ => close(alloc, outer, head, Tests::None, word),
@@ -129,37 +134,37 @@ fn open_test(
     head: Head,
     name: SmallOctets,
     line: u64,
-) -> Result<State, Stop>
+) -> Result<ParserState, Stop>
     ensures { Advances outer.new result (if nat_lt (length (levels_value outer.old.levels.items)) test_depth then Some (Machine.in_arguments (outer_value outer.old) (for_one (head_value head) ∷ levels_value outer.old.levels.items) (bare_head name.items line)) else None) }
 {
     if outer.levels.len() >= MAX_TEST_DEPTH {
         return Err(Stop::Fault);
     }
     outer.levels.push(Level::One(head))?;
-    Ok(State::Arguments(make_head(alloc, name, line)))
+    Ok(ParserState::Arguments(make_head(alloc, name, line)))
 }
 
 /// Into a list of tests, where there is depth for one.
-fn open_list(alloc: Global, outer: &mut Outer, head: Head) -> Result<State, Stop>
+fn open_list(alloc: Global, outer: &mut Outer, head: Head) -> Result<ParserState, Stop>
     ensures { Advances outer.new result (if nat_lt (length (levels_value outer.old.levels.items)) test_depth then Some (Machine.before_test (outer_value outer.old) (for_list (head_value head) [] ∷ levels_value outer.old.levels.items)) else None) }
 {
     if outer.levels.len() >= MAX_TEST_DEPTH {
         return Err(Stop::Fault);
     }
     outer.levels.push(Level::List(head, Vec::new(alloc)))?;
-    Ok(State::BeforeTest)
+    Ok(ParserState::BeforeTest)
 }
 
 /// In a list of strings, where a string has to come.
 #[tactic(auto, unfolding(crate::specs::Machine::step))]
-fn before_string(head: Head, items: Vec<Text>, word: Word) -> Result<State, Stop>
+fn before_string(head: Head, items: Vec<Text>, word: Word) -> Result<ParserState, Stop>
     ensures { (outer : Outer) → Advances outer result (step test_depth block_room (Machine.before_string (outer_value outer) (levels_value outer.levels.items) (head_value head) (map text_of items.items)) (word_as word)) }
 {
     match word {
         Word::String { octets, line } => {
             let mut items = items;
             items.push(Text { octets, line })?;
-            Ok(State::AfterString(head, items))
+            Ok(ParserState::AfterString(head, items))
         }
         _ => Err(Stop::Fault),
     }
@@ -167,11 +172,11 @@ fn before_string(head: Head, items: Vec<Text>, word: Word) -> Result<State, Stop
 
 /// In a list of strings, behind a string: a comma or the end of the list.
 #[tactic(auto, unfolding(crate::specs::Machine::step))]
-fn after_string(head: Head, items: Vec<Text>, word: Word) -> Result<State, Stop>
+fn after_string(head: Head, items: Vec<Text>, word: Word) -> Result<ParserState, Stop>
     ensures { (outer : Outer) → Advances outer result (step test_depth block_room (Machine.after_string (outer_value outer) (levels_value outer.levels.items) (head_value head) (map text_of items.items)) (word_as word)) }
 {
     match word {
-        Word::Comma => Ok(State::BeforeString(head, items)),
+        Word::Comma => Ok(ParserState::BeforeString(head, items)),
         Word::CloseBracket => {
             let argument = Argument::Strings {
                 items,
@@ -185,11 +190,11 @@ fn after_string(head: Head, items: Vec<Text>, word: Word) -> Result<State, Stop>
 
 /// In a list of tests, where a test has to come.
 #[tactic(auto, unfolding(crate::specs::Machine::step))]
-fn before_test(alloc: Global, word: Word) -> Result<State, Stop>
+fn before_test(alloc: Global, word: Word) -> Result<ParserState, Stop>
     ensures { (outer : Outer) → Advances outer result (step test_depth block_room (Machine.before_test (outer_value outer) (levels_value outer.levels.items)) (word_as word)) }
 {
     match word {
-        Word::Identifier { name, line } => Ok(State::Arguments(make_head(alloc, name, line))),
+        Word::Identifier { name, line } => Ok(ParserState::Arguments(make_head(alloc, name, line))),
         _ => Err(Stop::Fault),
     }
 }
@@ -202,7 +207,7 @@ fn close(
     head: Head,
     tests: Tests,
     word: Word,
-) -> Result<State, Stop>
+) -> Result<ParserState, Stop>
     ensures { Advances outer.new result (close block_room (outer_value outer.old) (levels_value outer.old.levels.items) (head_value head) (tests_of tests) (word_as word)) }
 {
     match outer.levels.pop() {
@@ -226,15 +231,15 @@ fn close_in_list(
     owner: Head,
     before: Vec<Test>,
     word: Word,
-) -> Result<State, Stop>
+) -> Result<ParserState, Stop>
     ensures { Advances outer.new result (after_listed (outer_value outer.old) (levels_value outer.old.levels.items) (head_value owner) (map test_of before.items) (word_as word)) }
 {
     match word {
         Word::Comma => {
             outer.levels.push(Level::List(owner, before))?;
-            Ok(State::BeforeTest)
+            Ok(ParserState::BeforeTest)
         }
-        Word::CloseParenthesis => Ok(State::AfterTests(owner, Tests::List(before))),
+        Word::CloseParenthesis => Ok(ParserState::AfterTests(owner, Tests::List(before))),
         _ => Err(Stop::Fault),
     }
 }
@@ -247,13 +252,13 @@ fn close_command(
     head: Head,
     tests: Tests,
     word: Word,
-) -> Result<State, Stop>
+) -> Result<ParserState, Stop>
     ensures { Advances outer.new result (after_command block_room (outer_value outer.old) (head_value head) (tests_of tests) (word_as word)) }
 {
     match word {
         Word::Semicolon => {
             outer.done.push(command_with(head, tests, None))?;
-            Ok(State::Between)
+            Ok(ParserState::Between)
         }
         Word::OpenBrace => {
             if outer.blocks.len() >= MAX_OPEN_BLOCKS {
@@ -263,7 +268,7 @@ fn close_command(
             let block = Vec::with_capacity(alloc, 1)?;
             let done = mem::replace(&mut outer.done, block);
             outer.blocks.push(Open { done, head, tests })?;
-            Ok(State::Between)
+            Ok(ParserState::Between)
         }
         _ => Err(Stop::Fault),
     }
@@ -274,17 +279,17 @@ fn close_command(
 pub(crate) fn step(
     alloc: Global,
     outer: &mut Outer,
-    state: State,
+    state: ParserState,
     word: Word,
-) -> Result<State, Stop>
+) -> Result<ParserState, Stop>
     ensures { Advances outer.new result (step test_depth block_room (state_value outer.old state) (word_as word)) }
 {
     match state {
-        State::Between => between(alloc, outer, word),
-        State::Arguments(head) => in_arguments(alloc, outer, head, word),
-        State::BeforeString(head, items) => before_string(head, items, word),
-        State::AfterString(head, items) => after_string(head, items, word),
-        State::BeforeTest => before_test(alloc, word),
-        State::AfterTests(head, tests) => close(alloc, outer, head, tests, word),
+        ParserState::Between => between(alloc, outer, word),
+        ParserState::Arguments(head) => in_arguments(alloc, outer, head, word),
+        ParserState::BeforeString(head, items) => before_string(head, items, word),
+        ParserState::AfterString(head, items) => after_string(head, items, word),
+        ParserState::BeforeTest => before_test(alloc, word),
+        ParserState::AfterTests(head, tests) => close(alloc, outer, head, tests, word),
     }
 }

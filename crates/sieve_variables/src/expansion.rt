@@ -1,5 +1,5 @@
 //! What strings stand for while a script runs (RFC 5229, section 3).
-ghost use Rattle.std.specs.Prelude.{◌≡◌, map, IfOk};
+ghost use Rattle.std.specs.Prelude.{◌≡◌, length, map, IfOk, OnOk};
 ghost use Rattle.std.specs.Cow.{cow_slice_items};
 ghost use Rattle.sieve_variables.specs.Value.{text_value};
 ghost use Rattle.sieve_variables.specs.view.Part.{part_of, strings_of};
@@ -11,15 +11,32 @@ use std::alloc::{AllocError, Global};
 use std::borrow::CowSlice;
 
 impl Values {
-    /// The octets that the parts of a string stand for, joined.
-    fn joined(&self, alloc: Global, parts: &[Part]) -> Result<Vec<u8>, AllocError>
-        ensures { IfOk result (λ octets. octets.items ≡ text_value self.now (map part_of parts.now)) }
+    /// How many octets the parts of a string stand for. More than a number holds are want of memory.
+    fn joined_len(&self, parts: &[Part]) -> Result<usize, AllocError>
+        ensures { IfOk result (λ len. len ≡ length (text_value self.now (map part_of parts.now))) }
     {
-        let mut octets = Vec::new(alloc);
+        let mut len: usize = 0;
         for part in parts {
-            octets.extend_from_slice(self.part(part))?;
+            match len.checked_add(self.part(part).len()) {
+                Some(sum) => len = sum,
+                None => return Err(AllocError),
+            }
         }
-        Ok(octets)
+        Ok(len)
+    }
+
+    /// Puts the octets that the parts of a string stand for into a buffer, in place of what it holds. Room for all of them is asked for
+    /// before the first.
+    fn join(&self, parts: &[Part], buffer: &mut Vec<u8>) -> Result<(), AllocError>
+        ensures { OnOk result (buffer.new.items ≡ text_value self.now (map part_of parts.now)) }
+    {
+        let len = self.joined_len(parts)?;
+        buffer.clear();
+        buffer.reserve_exact(len)?;
+        for part in parts {
+            buffer.extend_from_slice(self.part(part))?;
+        }
+        Ok(())
     }
 
     /// The octets that a string stands for. Those of one part are borrowed.
@@ -32,8 +49,28 @@ impl Values {
     {
         match parts {
             [part] => Ok(CowSlice::Borrowed(self.part(part))),
-            _ => Ok(CowSlice::Owned(self.joined(alloc, parts)?)),
+            _ => {
+                let mut octets = Vec::new(alloc);
+                self.join(parts, &mut octets)?;
+                Ok(CowSlice::Owned(octets))
+            }
         }
+    }
+
+    /// The octets that a string stands for, for one string after another. Those of one part are borrowed, and take no memory; those of
+    /// several are put into the buffer, in place of what it holds, which takes memory where it has too little room.
+    pub fn expanded_in<'a>(
+        &'a self,
+        parts: &'a [Part],
+        buffer: &'a mut Vec<u8>,
+    ) -> Result<&'a [u8], AllocError>
+        ensures { IfOk result (λ octets. octets.now ≡ text_value self.now (map part_of parts.now)) }
+    {
+        if let [part] = parts {
+            return Ok(self.part(part));
+        }
+        self.join(parts, buffer)?;
+        Ok(buffer.as_slice())
     }
 
     /// The octets that each string stands for.

@@ -7,7 +7,7 @@ use Rattle.sieve_run.specs.Meter.{runs_after}
 use Rattle.bench.specs.Content.{Content, Edit, after}
 use Rattle.bench.specs.Report.{report_text}
 use Rattle.bench.specs.Stale.{stale_after}
-use Rattle.sievebench.specs.Session.{Ask, asks_nothing, asks_put, asks_edit, asks_report, asks_dump, ask_at, BrokenSession, CutSession, Ends, IsFront, dump_of, Replies, Request, Served, SessionText, Step, Steps, none_yet, one_more, over, unreadable, truncated, idle, edits, reports, dumps, refusal_line, request_at, request_by, request_of, request_so_far, takes_memory, with_octets}
+use Rattle.sievebench.specs.Session.{Demand, asks_nothing, asks_put, asks_edit, asks_report, asks_dump, demand_at, BrokenSession, CutSession, Ends, IsFront, dump_of, Replies, Request, Served, SessionText, Step, Steps, none_yet, one_more, over, unreadable, truncated, idle, edits, reports, dumps, refusal_line, request_at, request_by, request_of, request_so_far, takes_memory, with_octets}
 use Rattle.bench.specs.declared.fault.EditFault.{EditFault}
 use Rattle.sievebench.proofs.Requests.{asked_with_more}
 use Rattle.sievebench.specs.declared.status.SessionEnd.{SessionEnd}
@@ -32,7 +32,7 @@ put_fewer n count rest edit less = by_room (nat_lt (length rest) count)
     by_room true = tt
     by_room false = omega (arith, length-drop count rest, less)
 
-ask_fewer : (n : ℕ) (ask : Option Ask) (rest : List ℕ) → length rest < n → LeavesFewer n (request_by ask rest)
+ask_fewer : (n : ℕ) (ask : Option Demand) (rest : List ℕ) → length rest < n → LeavesFewer n (request_by ask rest)
 ask_fewer n None rest less = tt
 ask_fewer n (Some asks_nothing) rest less = less
 ask_fewer n (Some (asks_put count edit)) rest less = put_fewer n count rest edit less
@@ -60,9 +60,9 @@ cut_fewer (b ∷ bs) = by_octet (cut_fewer bs) (eqb b 10)
 at_fewer : (n : ℕ) (front rest : List ℕ) → length rest < n → LeavesFewer n (request_at (front, rest))
 at_fewer n front rest less = by_limit (nat_lt line_limit (length front))
   where
-    by_limit : (v : Bool) → LeavesFewer n (cond v unreadable (request_by (ask_at front) rest))
+    by_limit : (v : Bool) → LeavesFewer n (cond v unreadable (request_by (demand_at front) rest))
     by_limit true = tt
-    by_limit false = ask_fewer n (ask_at front) rest less
+    by_limit false = ask_fewer n (demand_at front) rest less
 
 stream_fewer : (b : ℕ) (bs : List ℕ) → LeavesFewer (length (b ∷ bs)) (request_of (b ∷ bs))
 unfolding request_of first_line

@@ -11,7 +11,7 @@ use Rattle.sievebench.specs.declared.task.Task.{Task}
 use Rattle.sievebench.specs.declared.task.Task.TheVariants as tasks
 use Rattle.sievebench.specs.view.Progress.{Tries}
 use Rattle.sievebench.specs.view.Task.{Tasks}
-use Rattle.sievebench.specs.Session.{Ask, Served, served, Moved, unmoved, moved}
+use Rattle.sievebench.specs.Session.{Demand, Served, served, Moved, unmoved, moved}
 use Rattle.sievebench.proofs.Tried.{tried}
 
 same_moves : (old new : BenchState) (runs : ℕ) → new ≡ old → Moved (served old runs) (served new runs)
@@ -22,7 +22,7 @@ edit_moves edit (Ok done) old new runs made = moved (served old runs) (served ne
 edit_moves edit (Err fault) old new runs made = same_moves old new runs made.2
 
 -- what is done before a task is given
-pub tasks_move : (task : Task) (ask : Option Ask) (old new : BenchState) (runs : ℕ) → Tasks task ask old new → Moved (served old runs) (served new runs)
+pub tasks_move : (task : Task) (ask : Option Demand) (old new : BenchState) (runs : ℕ) → Tasks task ask old new → Moved (served old runs) (served new runs)
 tasks_move (tasks.Made outcome) ask old new runs is =
     let made = tried ask outcome old new is in
     edit_moves made.0 outcome old new runs made.2

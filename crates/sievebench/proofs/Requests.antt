@@ -9,7 +9,7 @@ use Rattle.std.specs.Option.{option_map}
 use Rattle.sieve_base.specs.Limits.{line_limit}
 use Rattle.bench.specs.Content.{Edit}
 use Rattle.session_text.specs.view.Line.{IsCutOff, IsEnded, IsLine, IsWithin}
-use Rattle.sievebench.specs.Session.{Ask, asks_nothing, asks_put, asks_edit, asks_report, asks_dump, ask_at, Request, Served, Step, request_behind, request_of, request_at, request_by, request_so_far, with_octets, edits, truncated, unreadable}
+use Rattle.sievebench.specs.Session.{Demand, asks_nothing, asks_put, asks_edit, asks_report, asks_dump, demand_at, Request, Served, Step, request_behind, request_of, request_at, request_by, request_so_far, with_octets, edits, truncated, unreadable}
 use Rattle.session_text.specs.SessionLine.{cut_line, ended_line, first_line, in_front, is_long_so_far, line_from, line_so_far, without_cr}
 use Rattle.sievebench.specs.view.Task.{IsFollowedBy}
 use Rattle.sievebench.specs.view.Progress.{AsksAlone, BreakFrom, CutFrom, StepFrom, EndFrom, MayBeRefused, ServesFrom}
@@ -19,7 +19,7 @@ use Rattle.sievebench.specs.declared.status.SessionEnd.{SessionEnd}
 use Rattle.sievebench.specs.declared.status.SessionEnd.TheVariants as ends
 
 -- memory may be refused to what is forgotten
-pub forgotten : (ask : Option Ask) (count : ℕ) → IsFollowedBy count ask → MayBeRefused count (request_by ask)
+pub forgotten : (ask : Option Demand) (count : ℕ) → IsFollowedBy count ask → MayBeRefused count (request_by ask)
 forgotten None count is = absurd is
 forgotten (Some asks_nothing) count is = absurd is
 forgotten (Some (asks_put n edit)) count is = rw is.0 (put_refused count edit is.1)
@@ -64,7 +64,7 @@ put_alone count edit old new xs ys reply step = by_room (cases_lt (length xs) co
           λ more. subst (λ n. Step old (with_octets n (take count xs ++ more) edit) reply new more) size (rw (put_of (take count xs) more edit) (step'.0, refl)),
         )
 
-step_alone : (ask : Option Ask) (old new : Served) (xs ys reply : List ℕ) → Step old (request_by ask xs) reply new ys → Alone (request_by ask) old xs reply new ys
+step_alone : (ask : Option Demand) (old new : Served) (xs ys reply : List ℕ) → Step old (request_by ask xs) reply new ys → Alone (request_by ask) old xs reply new ys
 step_alone None old new xs ys reply step = absurd step
 step_alone (Some asks_nothing) old new xs ys reply step = ([], sym step.2, λ more. (step.0, step.1, refl))
 step_alone (Some (asks_put count edit)) old new xs ys reply step = put_alone count edit old new xs ys reply step
@@ -75,12 +75,12 @@ step_alone (Some (asks_dump name)) old new xs ys reply step = ([], sym step.2, �
 -- THE NEXT LINE
 
 -- a line within the limit
-whole_request : (stream front rest : List ℕ) → 0 < length stream → first_line stream ≡ (front, rest) → length front ≤ line_limit → request_of stream ≡ request_by (ask_at front) rest
+whole_request : (stream front rest : List ℕ) → 0 < length stream → first_line stream ≡ (front, rest) → length front ≤ line_limit → request_of stream ≡ request_by (demand_at front) rest
 unfolding request_of
 whole_request [] front rest some is small = absurd (omega arith)
 whole_request (b ∷ bs) front rest some is small =
     let within : nat_lt line_limit (length front) ≡ false = grind (arith, nat_tests) in
-    ap request_at is ∙ ap (λ (v : Bool). cond v unreadable (request_by (ask_at front) rest)) within
+    ap request_at is ∙ ap (λ (v : Bool). cond v unreadable (request_by (demand_at front) rest)) within
 
 -- a line past it
 long_request : (stream : List ℕ) → 0 < length stream → line_limit < length (first_line stream).0 → request_of stream ≡ unreadable
@@ -88,7 +88,7 @@ unfolding request_of
 long_request [] some long = absurd (omega arith)
 long_request (b ∷ bs) some long =
     let past : nat_lt line_limit (length (first_line (b ∷ bs)).0) ≡ true = grind (arith, nat_tests) in
-    ap (λ (v : Bool). cond v unreadable (request_by (ask_at (first_line (b ∷ bs)).0) (first_line (b ∷ bs)).1)) past
+    ap (λ (v : Bool). cond v unreadable (request_by (demand_at (first_line (b ∷ bs)).0) (first_line (b ∷ bs)).1)) past
 
 -- the end
 pub over_end : (old : Served) (unused rest before : Option (List ℕ)) (pending : List ℕ) → Keeps unused (prepend_known pending rest) → IfSome rest (IsLine Over pending) → EndFrom request_of ends.Done old unused before old before
@@ -113,17 +113,17 @@ cut_line_break old (Some xs) None written pending same cut = absurd same
 cut_line_break old (Some xs) (Some ys) written pending same cut = (pending, sym same, rw cut.0 (rw cut.1 refl), Appends-nil written, refl)
 
 -- the octets begin with a line of a command, and ask for what that asks for behind it
-abbrev pub Begins : List ℕ → Option Ask → Option (List ℕ) → Option (List ℕ) → Type 0
+abbrev pub Begins : List ℕ → Option Demand → Option (List ℕ) → Option (List ℕ) → Type 0
 Begins front ask None behind = Unit {0}
 Begins front ask (Some xs) None = ⊥
 Begins front ask (Some xs) (Some ys) = (xs ≡ front ++ ys) × (request_of xs ≡ request_by ask ys)
 
 -- the same, whatever follows the line
-abbrev pub BeginsAlone : List ℕ → Option Ask → Type 0
+abbrev pub BeginsAlone : List ℕ → Option Demand → Type 0
 BeginsAlone front ask = (more : List ℕ) → request_so_far (front ++ more) ≡ request_by ask more
 
 pub line_begins : (unused rest : Option (List ℕ)) (pending : List ℕ) (len skip : ℕ) → Keeps unused (prepend_known pending rest) → IfSome rest (IsLine (Whole len skip) pending) → IsWithin (Whole len skip) pending
-    → Begins (take skip pending) (ask_at (take len pending)) unused (prepend_known (drop skip pending) rest)
+    → Begins (take skip pending) (demand_at (take len pending)) unused (prepend_known (drop skip pending) rest)
 line_begins None rest pending len skip same is within = tt
 line_begins (Some xs) None pending len skip same is within = absurd same
 line_begins (Some xs) (Some ys) pending len skip same is within =
@@ -131,13 +131,13 @@ line_begins (Some xs) (Some ys) pending len skip same is within =
     let cut : pending ++ ys ≡ take skip pending ++ (drop skip pending ++ ys) = ap (λ l. l ++ ys) (sym (take-append-drop skip pending)) ∙ append_assoc (take skip pending) (drop skip pending) ys in
     rw (← same) (cut, whole_request (pending ++ ys) (take len pending) (drop skip pending ++ ys) (omega (arith, within)) is (omega (arith, length-take len pending, within)))
 
-pub line_alone : (pending : List ℕ) (len skip : ℕ) → IsEnded (Whole len skip) pending → IsWithin (Whole len skip) pending → BeginsAlone (take skip pending) (ask_at (take len pending))
+pub line_alone : (pending : List ℕ) (len skip : ℕ) → IsEnded (Whole len skip) pending → IsWithin (Whole len skip) pending → BeginsAlone (take skip pending) (demand_at (take len pending))
 unfolding request_so_far
 line_alone pending len skip ended within = λ more.
     let few : nat_lt line_limit (length (take len pending)) ≡ false = grind (arith, nat_tests, length-take len pending, within) in
-    ap (request_behind (take skip pending ++ more)) (ended more) ∙ ap (λ (v : Bool). cond v unreadable (request_by (ask_at (take len pending)) more)) few
+    ap (request_behind (take skip pending ++ more)) (ended more) ∙ ap (λ (v : Bool). cond v unreadable (request_by (demand_at (take len pending)) more)) few
 
-pub step_served : (front : List ℕ) (ask : Option Ask) (ended : Bool) (old new : Served) (unused behind left before after' : Option (List ℕ)) → Begins front ask unused behind → (ended ≡ false → BeginsAlone front ask)
+pub step_served : (front : List ℕ) (ask : Option Demand) (ended : Bool) (old new : Served) (unused behind left before after' : Option (List ℕ)) → Begins front ask unused behind → (ended ≡ false → BeginsAlone front ask)
     → StepFrom (request_by ask) old behind before new left after' → ServesFrom ended old unused before new left after'
 step_served front ask ended old new None behind left before after' begins alone step = tt
 step_served front ask ended old new (Some xs) None left before after' begins alone step = absurd begins
@@ -152,13 +152,13 @@ step_served front ask ended old new (Some xs) (Some ys) (Some zs) before after' 
           λ more. rw (append_assoc front own.0 more) (rw (whole (own.0 ++ more)) (own.2 more)),
         )
 
-pub end_served : (front : List ℕ) (ask : Option Ask) (end : SessionEnd) (old new : Served) (unused behind before after' : Option (List ℕ)) → Begins front ask unused behind
+pub end_served : (front : List ℕ) (ask : Option Demand) (end : SessionEnd) (old new : Served) (unused behind before after' : Option (List ℕ)) → Begins front ask unused behind
     → EndFrom (request_by ask) end old behind before new after' → EndFrom request_of end old unused before new after'
 end_served front ask end old new None behind before after' begins ended = tt
 end_served front ask end old new (Some xs) None before after' begins ended = absurd begins
 end_served front ask end old new (Some xs) (Some ys) before after' begins ended = (ended.0, rw begins.1 ended.1, ended.2, ended.3)
 
-pub break_served : (front : List ℕ) (ask : Option Ask) (old new : Served) (unused behind rest before after' : Option (List ℕ)) → Begins front ask unused behind → BeginsAlone front ask
+pub break_served : (front : List ℕ) (ask : Option Demand) (old new : Served) (unused behind rest before after' : Option (List ℕ)) → Begins front ask unused behind → BeginsAlone front ask
     → BreakFrom (request_by ask) old behind before new rest after' → BreakFrom request_so_far old unused before new rest after'
 break_served front ask old new None behind rest before after' begins alone broken = tt
 break_served front ask old new (Some xs) None rest before after' begins alone broken = absurd begins
@@ -166,7 +166,7 @@ break_served front ask old new (Some xs) (Some ys) None before after' begins alo
 break_served front ask old new (Some xs) (Some ys) (Some zs) before after' begins alone broken =
     (front ++ broken.0, begins.0 ∙ ap (λ l. front ++ l) broken.1 ∙ sym (append_assoc front broken.0 zs), alone broken.0 ∙ broken.2, broken.3, broken.4)
 
-pub cut_served : (front : List ℕ) (ask : Option Ask) (old new : Served) (unused behind before after' : Option (List ℕ)) → Begins front ask unused behind
+pub cut_served : (front : List ℕ) (ask : Option Demand) (old new : Served) (unused behind before after' : Option (List ℕ)) → Begins front ask unused behind
     → CutFrom (request_by ask) old behind before new after' → CutFrom request_of old unused before new after'
 cut_served front ask old new None behind before after' begins cut = tt
 cut_served front ask old new (Some xs) None before after' begins cut = absurd begins
@@ -193,12 +193,12 @@ cut_kept (b ∷ bs) more = by_octet (eqb b 10) (cut_line bs) (cut_line (bs ++ mo
 line_and_more : (old new : Served) (front rest more reply left : List ℕ) → Step old (request_at (front, rest)) reply new left → Step old (request_at (front, rest ++ more)) reply new (left ++ more)
 line_and_more old new front rest more reply left = by_limit (nat_lt line_limit (length front))
   where
-    by_limit : (long : Bool) → Step old (cond long unreadable (request_by (ask_at front) rest)) reply new left → Step old (cond long unreadable (request_by (ask_at front) (rest ++ more))) reply new (left ++ more)
+    by_limit : (long : Bool) → Step old (cond long unreadable (request_by (demand_at front) rest)) reply new left → Step old (cond long unreadable (request_by (demand_at front) (rest ++ more))) reply new (left ++ more)
     by_limit true step = step
     by_limit false step =
-        let own : Alone (request_by (ask_at front)) old rest reply new left = step_alone (ask_at front) old new rest left reply step in
+        let own : Alone (request_by (demand_at front)) old rest reply new left = step_alone (demand_at front) old new rest left reply step in
         let cut : own.0 ++ (left ++ more) ≡ rest ++ more = sym (append_assoc own.0 left more) ∙ ap (λ l. l ++ more) (sym own.1) in
-        subst (λ l. Step old (request_by (ask_at front) l) reply new (left ++ more)) cut (own.2 (left ++ more))
+        subst (λ l. Step old (request_by (demand_at front) l) reply new (left ++ more)) cut (own.2 (left ++ more))
 
 -- what the octets ask for that are read, a stream asks for that begins with them
 pub asked_with_more : (old new : Served) (read more reply left : List ℕ) → Step old (request_so_far read) reply new left → Step old (request_of (read ++ more)) reply new (left ++ more)

@@ -4,10 +4,10 @@ use Rattle.std.proofs.lemmas.Bool.Decides.{nat_tests}
 use Rattle.std.proofs.KnownBytes.{Appends-nil}
 use Rattle.std.specs.Io.KnownBytes.{Appends}
 use Rattle.sieve_base.specs.Devices.{HasRisen}
-use Rattle.sieve_base.specs.Limits.{message_count_limit, message_limit, script_count_limit, text_limit}
+use Rattle.sieve_base.specs.Limits.{expected_limit, message_count_limit, message_limit, script_count_limit, text_limit}
 use Rattle.sieve_base.specs.Writers.{Wrote, WroteFront}
 use Rattle.bench.specs.Bench.{BenchState}
-use Rattle.bench.specs.Content.{Content, Edit, after, unless, is_long, is_long_id, text_at, message_at, with_script, with_message}
+use Rattle.bench.specs.Content.{Content, Edit, after, unless, is_long, is_long_id, text_at, message_at, with_script, with_message, with_expected}
 use Rattle.session_text.specs.view.Payload.{BreaksOff, Takes, FallsShort}
 use Rattle.sievebench.specs.Session.{dump_of, Ends, MatchFault, MatchSessionEnd, Reported, ReportRefused, Request, Served, served, Step, takes_memory, with_octets, dumps, edits, reports, truncated, Replies, refusal_line}
 use Rattle.sieve_base.specs.declared.name.ScriptName.{ScriptName}
@@ -19,7 +19,7 @@ use Rattle.sievebench.specs.declared.server.Progress.{Progress}
 use Rattle.sievebench.proofs.Moving.{edit_moves, report_moves, stays}
 use Rattle.sievebench.specs.declared.server.Progress.TheVariants as ways
 use Rattle.bench.specs.declared.fault.EditFault.{EditFault}
-use Rattle.bench.specs.declared.fault.EditFault.TheVariants.{TooLarge, Full, NoMemory}
+use Rattle.bench.specs.declared.fault.EditFault.TheVariants.{TooLarge, NoSuchMessage, Full, NoMemory}
 use Rattle.sievebench.specs.declared.task.Subject.{Subject}
 use Rattle.sievebench.specs.declared.task.Subject.TheVariants as subjects
 use Rattle.sievebench.specs.declared.status.SessionEnd.{SessionEnd}
@@ -150,6 +150,7 @@ no_memory_replies edit false meaning old is = absurd (search rules)
 pub put_takes : (subject : Subject) (octets : List ℕ) → takes_memory (edit_of subject octets) ≡ true
 put_takes (subjects.Script name) octets = refl
 put_takes (subjects.Message id) octets = refl
+put_takes (subjects.Expected id) octets = refl
 
 second_holds : (a b : Bool) → b ≡ true → (a || b) ≡ true
 second_holds true b holds = refl
@@ -165,6 +166,10 @@ too_large (subjects.Message id) old octets more =
     let past : nat_lt message_limit (length octets) ≡ true = grind (arith, nat_tests) in
     let first : (is_long_id id || nat_lt message_limit (length octets)) ≡ true = second_holds (is_long_id id) _ past in
     ap (λ (b : Bool). unless (cond b (Some TooLarge) (cond (is_none (message_at old.messages id) && nat_le message_count_limit (length old.messages)) (Some Full) None)) (record old { messages = with_message id octets old.messages })) first
+too_large (subjects.Expected id) old octets more =
+    let past : nat_lt expected_limit (length octets) ≡ true = grind (arith, nat_tests) in
+    let first : (is_long_id id || nat_lt expected_limit (length octets)) ≡ true = second_holds (is_long_id id) _ past in
+    ap (λ (b : Bool). unless (cond b (Some TooLarge) (cond (is_none (message_at old.messages id)) (Some NoSuchMessage) None)) (record old { messages = with_expected id (Some octets) old.messages })) first
 
 -- octets that weren't kept: too many of them, or memory was refused
 pub unkept_replies : (subject : Subject) (count : ℕ) (old : Served) (octets : List ℕ) → length octets ≡ count → Replies (edit_of subject octets) (takes_memory (edit_of subject octets)) (after old.bench.content (edit_of subject octets)) old (refusal_line (cond (nat_lt (limit_of subject) count) TooLarge NoMemory)) old

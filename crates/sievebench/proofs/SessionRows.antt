@@ -1,7 +1,7 @@
 -- Worked rows of what the octets of a session ask for, while more may come and at their end.
 use Rattle.std.proofs.Common.{◌≡◌, [], refl, codes}
 use Rattle.session_text.specs.SessionLine.{command_of_line, first_line, is_text, line_so_far, line_words, word_value}
-use Rattle.bench.specs.Content.{put_message}
+use Rattle.bench.specs.Content.{put_message, set_expected, clear_expected}
 use Rattle.sievebench.specs.Session.{edits, idle, over, reports, request_of, request_so_far, truncated, unreadable}
 
 -- nothing is no command yet, and at the end it is none
@@ -49,3 +49,21 @@ put_row = refl
 unknown_row : request_so_far (codes "frob\n") ≡ unreadable
 unfolding request_so_far line_so_far command_of_line line_words is_text
 unknown_row = refl
+
+-- what is expected of a message follows its line as a message does
+expect_row : request_so_far (codes "expect m 8\ndiscard\nreport") ≡ edits (set_expected (codes "m") (codes "discard\n")) (codes "report")
+unfolding request_so_far line_so_far command_of_line line_words is_text word_value
+expect_row = refl
+
+expect_cut_row : request_of (codes "expect m 8\ndiscard") ≡ truncated
+unfolding request_of first_line command_of_line line_words is_text word_value
+expect_cut_row = refl
+
+no_expect_row : request_of (codes "no-expect m") ≡ edits (clear_expected (codes "m")) []
+unfolding request_of first_line command_of_line line_words is_text word_value
+no_expect_row = refl
+
+-- a word more is none of its line
+no_expect_count_row : request_of (codes "no-expect m 0\n") ≡ unreadable
+unfolding request_of first_line command_of_line line_words is_text word_value
+no_expect_count_row = refl

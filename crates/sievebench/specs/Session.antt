@@ -6,12 +6,12 @@ use Rattle.sieve_base.specs.Limits.{line_limit}
 use Rattle.sieve_run.specs.Library.{Lookup, missing, invalid, present, found_at, lookup_of}
 use Rattle.sieve_run.specs.Meter.{runs_after}
 use Rattle.bench.specs.Bench.{BenchState, RefusedAmong}
-use Rattle.bench.specs.Content.{Content, Edit, put_script, put_message, set_main, rename_script, remove_script, remove_message, clear_main, set_envelope, set_mailbox, after, text_at}
+use Rattle.bench.specs.Content.{Content, Edit, put_script, put_message, set_main, rename_script, remove_script, remove_message, clear_main, set_envelope, set_mailbox, set_expected, clear_expected, after, text_at}
 use Rattle.bench.specs.Dump.{script_code}
 use Rattle.bench.specs.Report.{report_text}
 use Rattle.bench.specs.Stale.{stale_after}
 use Rattle.sieve_base.specs.declared.name.ScriptName.{ScriptName}
-use Rattle.session_text.specs.SessionLine.{Command, nothing, script, message, main, no_main, rename, drop_script, drop_message, envelope, mailbox, report, dump, first_line, command_of_line, is_long_so_far, line_so_far}
+use Rattle.session_text.specs.SessionLine.{SessionCommand, nothing, script, message, main, no_main, rename, drop_script, drop_message, envelope, mailbox, report, dump, expect, no_expect, first_line, command_of_line, is_long_so_far, line_so_far}
 use Rattle.bench.specs.declared.fault.EditFault.{EditFault}
 use Rattle.bench.specs.declared.fault.EditFault.TheVariants.{NoSuchScript, NameTaken, NoSuchMessage, Full, TooLarge, NoMemory}
 use Rattle.sievebench.specs.declared.status.SessionEnd.{SessionEnd}
@@ -33,29 +33,31 @@ abbrev pub with_octets : ℕ → List ℕ → (List ℕ → Edit) → Request
 with_octets count rest edit = if nat_lt (length rest) count then truncated else edits (edit (take count rest)) (drop count rest)
 
 -- what a command asks for, whatever follows its line: nothing; to put so many octets, which follow it directly; another edit; a report; a dump
-pub data Ask : Type 0 where
-  asks_nothing : Ask
-  asks_put : (count : ℕ) (edit : List ℕ → Edit) → Ask
-  asks_edit : (edit : Edit) → Ask
-  asks_report : Ask
-  asks_dump : (name : ScriptName) → Ask
+pub data Demand : Type 0 where
+  asks_nothing : Demand
+  asks_put : (count : ℕ) (edit : List ℕ → Edit) → Demand
+  asks_edit : (edit : Edit) → Demand
+  asks_report : Demand
+  asks_dump : (name : ScriptName) → Demand
 
-abbrev pub ask_of : Command → Ask
-ask_of nothing = asks_nothing
-ask_of (script place name count) = asks_put count (λ octets. put_script (record { place = place; name = name }) octets)
-ask_of (message id count) = asks_put count (λ octets. put_message id octets)
-ask_of (main place name) = asks_edit (set_main (record { place = place; name = name }))
-ask_of no_main = asks_edit clear_main
-ask_of (rename place name new_place new_name) = asks_edit (rename_script (record { place = place; name = name }) (record { place = new_place; name = new_name }))
-ask_of (drop_script place name) = asks_edit (remove_script (record { place = place; name = name }))
-ask_of (drop_message id) = asks_edit (remove_message id)
-ask_of (envelope from to) = asks_edit (set_envelope from to)
-ask_of (mailbox box) = asks_edit (set_mailbox box)
-ask_of report = asks_report
-ask_of (dump place name) = asks_dump (record { place = place; name = name })
+abbrev pub demand_of : SessionCommand → Demand
+demand_of nothing = asks_nothing
+demand_of (script place name count) = asks_put count (λ octets. put_script (record { place = place; name = name }) octets)
+demand_of (message id count) = asks_put count (λ octets. put_message id octets)
+demand_of (main place name) = asks_edit (set_main (record { place = place; name = name }))
+demand_of no_main = asks_edit clear_main
+demand_of (rename place name new_place new_name) = asks_edit (rename_script (record { place = place; name = name }) (record { place = new_place; name = new_name }))
+demand_of (drop_script place name) = asks_edit (remove_script (record { place = place; name = name }))
+demand_of (drop_message id) = asks_edit (remove_message id)
+demand_of (envelope from to) = asks_edit (set_envelope from to)
+demand_of (mailbox box) = asks_edit (set_mailbox box)
+demand_of report = asks_report
+demand_of (dump place name) = asks_dump (record { place = place; name = name })
+demand_of (expect id count) = asks_put count (λ octets. set_expected id octets)
+demand_of (no_expect id) = asks_edit (clear_expected id)
 
 -- what it asks for with the octets behind its line; a line of no command says nothing that there is
-abbrev pub request_by : Option Ask → List ℕ → Request
+abbrev pub request_by : Option Demand → List ℕ → Request
 request_by None rest = unreadable
 request_by (Some asks_nothing) rest = idle rest
 request_by (Some (asks_put count edit)) rest = with_octets count rest edit
@@ -64,12 +66,12 @@ request_by (Some asks_report) rest = reports rest
 request_by (Some (asks_dump name)) rest = dumps name rest
 
 -- what a line asks for
-abbrev pub ask_at : List ℕ → Option Ask
-ask_at line = option_map ask_of (command_of_line line)
+abbrev pub demand_at : List ℕ → Option Demand
+demand_at line = option_map demand_of (command_of_line line)
 
 -- a line that is too long says nothing that there is
 abbrev pub request_at : List ℕ × List ℕ → Request
-request_at (line, rest) = if nat_lt line_limit (length line) then unreadable else request_by (ask_at line) rest
+request_at (line, rest) = if nat_lt line_limit (length line) then unreadable else request_by (demand_at line) rest
 
 -- what a stream asks for
 unfoldable pub request_of : List ℕ → Request
@@ -108,7 +110,7 @@ dump_reply (present tree) = script_code tree ++ codes "ok\n"
 abbrev pub dump_of : Content → ScriptName → List ℕ
 dump_of content name = dump_reply (found_at (λ other. lookup_of (text_at content.scripts other)) name)
 
--- whether memory may be refused to an edit of a session; two take none
+-- whether memory may be refused to an edit of a session; three take none
 abbrev pub takes_memory : Edit → Bool
 takes_memory (put_script name text) = true
 takes_memory (put_message id bytes) = true
@@ -119,6 +121,8 @@ takes_memory (remove_message id) = false
 takes_memory clear_main = false
 takes_memory (set_envelope from to) = true
 takes_memory (set_mailbox box) = true
+takes_memory (set_expected id text) = true
+takes_memory (clear_expected id) = false
 
 -- a bench, and how many runs were made so far
 pub record Served : Type 0 where

@@ -6,7 +6,7 @@ ghost use Rattle.bench.specs.Bench.{BenchState};
 ghost use Rattle.sieve_run.specs.Library.{Lookup};
 ghost use Rattle.sieve_run.specs.view.Found.{FoundAs};
 ghost use Rattle.session_text.specs.view.Input.{unused, fuel, Knows, Reads};
-ghost use Rattle.sievebench.specs.Session.{Ask, dump_reply, Request, Served, served, Moved, SessionFrom, BrokenSessionFrom, CutSessionFrom, MatchSessionEnd, MatchFault, ReadsAreMade, TurnsAreSpent, AtLastEnd, with_octets, request_by, dumps, reports};
+ghost use Rattle.sievebench.specs.Session.{Demand, dump_reply, Request, Served, served, Moved, SessionFrom, BrokenSessionFrom, CutSessionFrom, MatchSessionEnd, MatchFault, ReadsAreMade, TurnsAreSpent, AtLastEnd, with_octets, request_by, dumps, reports};
 ghost use Rattle.std.specs.Io.KnownBytes.{IsAtEnd};
 ghost use Rattle.sievebench.specs.view.Task.{IsTried, Tasks, edit_of};
 ghost use Rattle.sievebench.specs.view.Progress.{GoesFrom, Serves, Continues, EndsBy, MatchProgress, OnContinues, TellsFaults, AtLast, MayBeRefused, Tries, reply_line};
@@ -82,6 +82,7 @@ fn keep(bench: &mut Bench, subject: Subject, octets: Vec<u8>) -> Result<(), Edit
     match subject {
         Subject::Script(name) => bench.keep_script(&name, octets),
         Subject::Message(id) => bench.keep_message(id, octets),
+        Subject::Expected(id) => bench.keep_expected(id.as_slice(), octets),
     }
 }
 
@@ -163,7 +164,7 @@ fn serve_forgotten<R: Source, W: Sink>(
 /// Replies to an edit that is made already.
 #[tactic(auto, using(crate::proofs::Serving::serving))]
 fn serve_made<W: Sink>(outcome: Result<(), EditFault>, writer: &mut W) -> Progress
-    ensures goes { (ask : Option Ask) (old new : BenchState) (runs : ℕ) (unused rest : Option (List ℕ)) → IsTried ask outcome old new → GoesFrom (request_by ask) result
+    ensures goes { (ask : Option Demand) (old new : BenchState) (runs : ℕ) (unused rest : Option (List ℕ)) → IsTried ask outcome old new → GoesFrom (request_by ask) result
         (served old runs) unused (W.contents writer.old) (served new runs) unused rest (W.contents writer.new) }
     ensures faults { MatchProgress result (W.fault_count writer.old ≤ W.fault_count writer.new) ⊥ (HasRisen (W.fault_count writer.old) (W.fault_count writer.new)) ⊥ }
     ensures end { AtLast result ⊥ }
@@ -229,7 +230,7 @@ fn perform<R: Source, W: Sink>(
 ) -> Progress
     requires known { Knows input.old (R.remaining reader.old) }
     ensures known { Knows input.new (R.remaining reader.new) }
-    ensures goes { (ask : Option Ask) (old : BenchState) → Tasks task ask old bench.old → GoesFrom (request_by ask) result
+    ensures goes { (ask : Option Demand) (old : BenchState) → Tasks task ask old bench.old → GoesFrom (request_by ask) result
         (served old meter.old) (unused input.old (R.remaining reader.old)) (W.contents writer.old)
         (served bench.new meter.new) (unused input.new (R.remaining reader.new)) (R.remaining reader.new) (W.contents writer.new) }
     ensures moves { Moved (served bench.old meter.old) (served bench.new meter.new) }

@@ -2,20 +2,21 @@
 ghost use Rattle.std.specs.Prelude.{◌≡◌, Some, IfOk};
 ghost use Rattle.bench.specs.Bench.{BenchState};
 ghost use Rattle.session_text.specs.SessionLine as line;
-ghost use Rattle.sievebench.specs.Session.{ask_at, ask_of};
+ghost use Rattle.sievebench.specs.Session.{demand_at, demand_of};
 ghost use Rattle.sievebench.specs.view.Task.{IsTried, Tasks, limit_of};
 
 use bench::{Bench, EditFault};
-use session_text::{Command, Word, command_of_line};
-use sieve_base::limits::{MAX_ID, MAX_MESSAGE, MAX_TEXT};
+use session_text::{SessionCommand, Word, command_of_line};
+use sieve_base::limits::{MAX_EXPECTED, MAX_ID, MAX_MESSAGE, MAX_TEXT};
 use sieve_base::{Octets, Place, ScriptName};
 use std::alloc::{AllocError, Global};
 
-/// What octets are put at: a script's name or a message's id.
+/// What octets are put at: a script's name or a message's id, or the id of a message of which they are expected.
 #[derive(Drop)]
 pub(crate) enum Subject {
     Script(ScriptName),
     Message(Octets),
+    Expected(Octets),
 }
 
 /// What a line asks for, with copies of its words.
@@ -46,7 +47,7 @@ fn copied_name(alloc: Global, place: Place, name: &Word<'_>) -> Result<ScriptNam
 
 /// To put a script.
 fn script_task(alloc: Global, place: Place, name: &Word<'_>, count: u64) -> Task
-    ensures { (state : BenchState) → Tasks result (Some (ask_of (line.script place name.now count))) state state }
+    ensures { (state : BenchState) → Tasks result (Some (demand_of (line.script place name.now count))) state state }
 {
     match copied_name(alloc, place, name) {
         Ok(name) => Task::Put {
@@ -59,7 +60,7 @@ fn script_task(alloc: Global, place: Place, name: &Word<'_>, count: u64) -> Task
 
 /// To put a message.
 fn message_task(alloc: Global, id: &Word<'_>, count: u64) -> Task
-    ensures { (state : BenchState) → Tasks result (Some (ask_of (line.message id.now count))) state state }
+    ensures { (state : BenchState) → Tasks result (Some (demand_of (line.message id.now count))) state state }
 {
     match id.copied(alloc) {
         Ok(id) => Task::Put {
@@ -70,9 +71,22 @@ fn message_task(alloc: Global, id: &Word<'_>, count: u64) -> Task
     }
 }
 
+/// To expect a text of a message's verdict.
+fn expect_task(alloc: Global, id: &Word<'_>, count: u64) -> Task
+    ensures { (state : BenchState) → Tasks result (Some (demand_of (line.expect id.now count))) state state }
+{
+    match id.copied(alloc) {
+        Ok(id) => Task::Put {
+            subject: Subject::Expected(id),
+            count,
+        },
+        Err(_) => Task::Forgotten { count },
+    }
+}
+
 /// To print the code of a script.
 fn dump_task(alloc: Global, place: Place, name: &Word<'_>) -> Task
-    ensures { (state : BenchState) → Tasks result (Some (ask_of (line.dump place name.now))) state state }
+    ensures { (state : BenchState) → Tasks result (Some (demand_of (line.dump place name.now))) state state }
 {
     match copied_name(alloc, place, name) {
         Ok(name) => Task::Dump { name },
@@ -83,7 +97,7 @@ fn dump_task(alloc: Global, place: Place, name: &Word<'_>) -> Task
 /// Makes a script main.
 #[tactic(auto, using(crate::proofs::Tried::trying))]
 fn set_main(bench: &mut Bench, place: Place, name: &Word<'_>) -> Result<(), EditFault>
-    ensures { IsTried (Some (ask_of (line.main place name.now))) result bench.old bench.new }
+    ensures { IsTried (Some (demand_of (line.main place name.now))) result bench.old bench.new }
 {
     let name = copied_name(bench.allocator(), place, name)?;
     bench.set_main(&name)
@@ -92,7 +106,7 @@ fn set_main(bench: &mut Bench, place: Place, name: &Word<'_>) -> Result<(), Edit
 /// Leaves no script main.
 #[tactic(auto, using(crate::proofs::Tried::trying))]
 fn clear_main(bench: &mut Bench) -> Result<(), EditFault>
-    ensures { IsTried (Some (ask_of line.no_main)) result bench.old bench.new }
+    ensures { IsTried (Some (demand_of line.no_main)) result bench.old bench.new }
 {
     bench.clear_main();
     Ok(())
@@ -107,7 +121,7 @@ fn rename_script(
     new_place: Place,
     new_name: &Word<'_>,
 ) -> Result<(), EditFault>
-    ensures { IsTried (Some (ask_of (line.rename place name.now new_place new_name.now))) result bench.old bench.new }
+    ensures { IsTried (Some (demand_of (line.rename place name.now new_place new_name.now))) result bench.old bench.new }
 {
     let from = copied_name(bench.allocator(), place, name)?;
     let to = copied_name(bench.allocator(), new_place, new_name)?;
@@ -117,7 +131,7 @@ fn rename_script(
 /// Removes a script.
 #[tactic(auto, using(crate::proofs::Tried::trying))]
 fn drop_script(bench: &mut Bench, place: Place, name: &Word<'_>) -> Result<(), EditFault>
-    ensures { IsTried (Some (ask_of (line.drop_script place name.now))) result bench.old bench.new }
+    ensures { IsTried (Some (demand_of (line.drop_script place name.now))) result bench.old bench.new }
 {
     let name = copied_name(bench.allocator(), place, name)?;
     bench.remove_script(&name)
@@ -126,7 +140,7 @@ fn drop_script(bench: &mut Bench, place: Place, name: &Word<'_>) -> Result<(), E
 /// Removes a message. Takes no memory: an id that is too long for an array isn't one of the bench.
 #[tactic(auto, using(crate::proofs::Tried::trying))]
 fn drop_message(bench: &mut Bench, id: &Word<'_>) -> Result<(), EditFault>
-    ensures { IsTried (Some (ask_of (line.drop_message id.now))) result bench.old bench.new }
+    ensures { IsTried (Some (demand_of (line.drop_message id.now))) result bench.old bench.new }
 {
     match id.short::<MAX_ID>() {
         Some(id) => bench.remove_message(id.as_slice()),
@@ -134,10 +148,21 @@ fn drop_message(bench: &mut Bench, id: &Word<'_>) -> Result<(), EditFault>
     }
 }
 
+/// Expects no text of a message's verdict. Takes no memory: an id that is too long for an array isn't one of the bench.
+#[tactic(auto, using(crate::proofs::Tried::trying))]
+fn clear_expected(bench: &mut Bench, id: &Word<'_>) -> Result<(), EditFault>
+    ensures { IsTried (Some (demand_of (line.no_expect id.now))) result bench.old bench.new }
+{
+    match id.short::<MAX_ID>() {
+        Some(id) => bench.clear_expected(id.as_slice()),
+        None => Err(EditFault::TooLarge),
+    }
+}
+
 /// Sets the envelope's addresses.
 #[tactic(auto, using(crate::proofs::Tried::trying))]
 fn set_envelope(bench: &mut Bench, from: &Word<'_>, to: &Word<'_>) -> Result<(), EditFault>
-    ensures { IsTried (Some (ask_of (line.envelope from.now to.now))) result bench.old bench.new }
+    ensures { IsTried (Some (demand_of (line.envelope from.now to.now))) result bench.old bench.new }
 {
     let from = from.copied(bench.allocator())?;
     let to = to.copied(bench.allocator())?;
@@ -147,7 +172,7 @@ fn set_envelope(bench: &mut Bench, from: &Word<'_>, to: &Word<'_>) -> Result<(),
 /// Sets the mailbox.
 #[tactic(auto, using(crate::proofs::Tried::trying))]
 fn set_mailbox(bench: &mut Bench, mailbox: &Word<'_>) -> Result<(), EditFault>
-    ensures { IsTried (Some (ask_of (line.mailbox mailbox.now))) result bench.old bench.new }
+    ensures { IsTried (Some (demand_of (line.mailbox mailbox.now))) result bench.old bench.new }
 {
     let mailbox = mailbox.copied(bench.allocator())?;
     bench.set_mailbox(mailbox.as_slice())
@@ -156,30 +181,34 @@ fn set_mailbox(bench: &mut Bench, mailbox: &Word<'_>) -> Result<(), EditFault>
 /// What to do for a line. An edit that no octets follow is made at once.
 #[tactic(auto, using(crate::proofs::Tried::trying))]
 pub(crate) fn task_of(bench: &mut Bench, line: &[u8]) -> Task
-    ensures { Tasks result (ask_at line.now) bench.old bench.new }
+    ensures { Tasks result (demand_at line.now) bench.old bench.new }
 {
     let alloc = bench.allocator();
     let Some(command) = command_of_line(line) else {
         return Task::Unreadable;
     };
     let outcome = match command {
-        Command::Nothing => return Task::Idle,
-        Command::Report => return Task::Report,
-        Command::Dump { place, name } => return dump_task(alloc, place, &name),
-        Command::Script { place, name, count } => return script_task(alloc, place, &name, count),
-        Command::Message { id, count } => return message_task(alloc, &id, count),
-        Command::Main { place, name } => set_main(bench, place, &name),
-        Command::NoMain => clear_main(bench),
-        Command::Rename {
+        SessionCommand::Nothing => return Task::Idle,
+        SessionCommand::Report => return Task::Report,
+        SessionCommand::Dump { place, name } => return dump_task(alloc, place, &name),
+        SessionCommand::Script { place, name, count } => return script_task(
+            alloc, place, &name, count,
+        ),
+        SessionCommand::Message { id, count } => return message_task(alloc, &id, count),
+        SessionCommand::Expect { id, count } => return expect_task(alloc, &id, count),
+        SessionCommand::Main { place, name } => set_main(bench, place, &name),
+        SessionCommand::NoMain => clear_main(bench),
+        SessionCommand::Rename {
             place,
             name,
             new_place,
             new_name,
         } => rename_script(bench, place, &name, new_place, &new_name),
-        Command::DropScript { place, name } => drop_script(bench, place, &name),
-        Command::DropMessage { id } => drop_message(bench, &id),
-        Command::Envelope { from, to } => set_envelope(bench, &from, &to),
-        Command::Mailbox { mailbox } => set_mailbox(bench, &mailbox),
+        SessionCommand::DropScript { place, name } => drop_script(bench, place, &name),
+        SessionCommand::DropMessage { id } => drop_message(bench, &id),
+        SessionCommand::NoExpect { id } => clear_expected(bench, &id),
+        SessionCommand::Envelope { from, to } => set_envelope(bench, &from, &to),
+        SessionCommand::Mailbox { mailbox } => set_mailbox(bench, &mailbox),
     };
     Task::Made { outcome }
 }
@@ -191,5 +220,6 @@ pub(crate) fn limit_of(subject: &Subject) -> u64
     match subject {
         Subject::Script(_) => MAX_TEXT as u64,
         Subject::Message(_) => MAX_MESSAGE as u64,
+        Subject::Expected(_) => MAX_EXPECTED as u64,
     }
 }

@@ -1,14 +1,24 @@
 -- What a message's entry in a bench stands for.
-use Rattle.std.specs.Prelude.{◌≡◌, ⊤, ℕ, Bool, false, List, [], ◌∷◌, map, Option, None, Some, is_none, is_some, cond, IfSome}
+use Rattle.std.specs.Prelude.{◌≡◌, ⊤, ℕ, Bool, false, List, [], ◌∷◌, map, nat_eq, Option, None, Some, is_none, is_some, cond, if◌then◌else◌, IfSome}
+use Rattle.std.specs.Map.{lookup}
+use Rattle.std.specs.Option.{option_and_then}
+use Rattle.indexmap.specs.IndexMap as ordered
+use lib.Pointwise.{pointwise}
 use Rattle.sieve_base.specs.declared.name.ScriptName.{ScriptName}
 use Rattle.sieve_run.specs.Meter.{next_run}
 use Rattle.sieve_run.specs.Run.{is_read}
 use Rattle.sieve_run.specs.Verdict.{Verdict}
+use Rattle.bench.specs.Content.{Sample}
+use Rattle.bench.specs.Report.{Judged, is_unlike}
 use Rattle.bench.specs.declared.entry.Entry.{Entry}
 
--- the messages of entries, in their order: each id with its message, without what is only the bench's
-unfoldable pub messages_of : List (List ℕ × Entry) → List (List ℕ × List ℕ)
-messages_of entries = map (λ e. (e.0, e.1.message)) entries
+-- the message of an entry, without what is only the bench's
+abbrev pub sample_of : Entry → Sample
+sample_of entry = record { octets = entry.message; expected = entry.expected }
+
+-- the messages of entries, in their order, by their ids
+unfoldable pub messages_of : List (List ℕ × Entry) → List (List ℕ × Sample)
+messages_of entries = map (λ e. (e.0, sample_of e.1)) entries
 
 -- whether an entry's message is stale: no verdict is kept
 abbrev pub is_stale : Entry → Bool
@@ -50,17 +60,47 @@ refreshed due entry = record entry { kept = kept_or (due entry.message) entry.ke
 abbrev pub runs_at : Entry → ℕ → ℕ
 runs_at entry runs = cond (is_stale entry) (next_run runs) runs
 
--- a message's id with the verdict, where it is kept, before others
-abbrev pub judged_before : List ℕ → Option Verdict → List (List ℕ × Verdict) → List (List ℕ × Verdict)
-judged_before id None judged = judged
-judged_before id (Some verdict) judged = (id, verdict) ∷ judged
+-- a message with the verdict, where it is kept, before others
+abbrev pub judged_before : List ℕ → Option (List ℕ) → Option Verdict → List Judged → List Judged
+judged_before id expected None judged = judged
+judged_before id expected (Some verdict) judged = record { id = id; verdict = verdict; expected = expected } ∷ judged
 
--- the ids of the messages with the verdicts that are kept, in their order
-unfoldable pub judged_of : List (List ℕ × Entry) → List (List ℕ × Verdict)
+-- the messages with the verdicts that are kept, in their order
+unfoldable pub judged_of : List (List ℕ × Entry) → List Judged
 judged_of [] = []
-judged_of (e ∷ es) = judged_before e.0 e.1.kept (judged_of es)
+judged_of (e ∷ es) = judged_before e.0 e.1.expected e.1.kept (judged_of es)
+
+-- the entries with the one of an id changed
+abbrev pub changed : List ℕ → (Entry → Entry) → List (List ℕ × Entry) → List (List ℕ × Entry)
+changed id change [] = []
+changed id change (e ∷ es) = if pointwise nat_eq id e.0 then (e.0, change e.1) ∷ es else e ∷ changed id change es
+
+-- the text that is expected of the message of an id, where it is there and there is one
+abbrev pub expected_in : List (List ℕ × Entry) → List ℕ → Option (List ℕ)
+expected_in entries id = option_and_then (λ entry. entry.expected) (lookup (pointwise nat_eq id) entries)
+
+-- a stale entry
+abbrev pub fresh_entry : List ℕ → Option (List ℕ) → Entry
+fresh_entry message expected = record { message = message; expected = expected; kept = None }
+
+-- the entries with a message put at an id, of which is expected what was
+abbrev pub put_entry : List ℕ → List ℕ → List (List ℕ × Entry) → List (List ℕ × Entry)
+put_entry id message entries = ordered.insert_entry (pointwise nat_eq) entries id (fresh_entry message (expected_in entries id))
+
+-- an entry with other octets, which is stale
+abbrev pub renewed : List ℕ → Entry → Entry
+renewed message entry = record entry { message = message; kept = None }
+
+-- an entry with another expected text, or none
+abbrev pub expecting : Option (List ℕ) → Entry → Entry
+expecting expected entry = record entry { expected = expected }
 
 -- whether the verdict that is kept has an error
 abbrev pub has_error : Option Verdict → Bool
 has_error None = false
 has_error (Some verdict) = is_some verdict.error
+
+-- whether a verdict is kept that is not as it is expected to be
+abbrev pub disagrees : (mailbox : List ℕ) → Option (List ℕ) → Option Verdict → Bool
+disagrees mailbox expected None = false
+disagrees mailbox expected (Some verdict) = is_unlike mailbox verdict expected

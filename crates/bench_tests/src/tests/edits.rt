@@ -22,6 +22,7 @@ fn edit_content(
         bench,
         b"main none\nenvelope \"\" \"\" mailbox \"INBOX\"\nscript personal \"main\" ok\nmessage \"m\"\n  implicit \"INBOX\"\ntotal 1 messages 0 errors\n",
     )?;
+    expect(rt, bench, id)?;
     bench.remove_message(id.as_slice())?;
     bench.rename_script(main, other)?;
     check_report(
@@ -32,6 +33,22 @@ fn edit_content(
     bench.remove_script(other)?;
     check_report(rt, bench, REPORT)?;
     edit_settings(rt, bench, main)
+}
+
+/// A text is expected of the message's verdict, and then none, with a report after each.
+fn expect(rt: &(impl AllocGlobal + Abort), bench: &mut Bench, id: &Octets) -> Result<(), Fail> {
+    bench.set_expected(id.as_slice(), b"implicit \"INBOX\"\r\n")?;
+    check_report(
+        rt,
+        bench,
+        b"main none\nenvelope \"\" \"\" mailbox \"INBOX\"\nscript personal \"main\" ok\nmessage \"m\"\n  implicit \"INBOX\"\n  expected\ntotal 1 messages 0 errors 0 unexpected\n",
+    )?;
+    bench.clear_expected(id.as_slice())?;
+    check_report(
+        rt,
+        bench,
+        b"main none\nenvelope \"\" \"\" mailbox \"INBOX\"\nscript personal \"main\" ok\nmessage \"m\"\n  implicit \"INBOX\"\ntotal 1 messages 0 errors\n",
+    )
 }
 
 /// All that can be set is set, and then no script is main, with a report after each.

@@ -167,6 +167,42 @@ fn each_edit_reruns_what_it_touches(rt: HostRuntime) -> Result<(), Fail> {
     check_removals(&rt, &mut bench)
 }
 
+#[test]
+fn what_is_expected_reruns_nothing(rt: HostRuntime) -> Result<(), Fail> {
+    let mut bench = Bench::new(rt.alloc())?;
+    check_steps(
+        &rt,
+        &mut bench,
+        &[
+            (
+                b"script personal main 9\ndiscard;\nmessage m1 0\nmain personal main\n",
+                1,
+                b"main personal \"main\"\nenvelope \"\" \"\" mailbox \"INBOX\"\nscript personal \"main\" ok\nmessage \"m1\"\n  discard\n  read personal \"main\"\ntotal 1 messages 0 errors\n",
+            ),
+            (
+                b"expect m1 8\ndiscard\n",
+                0,
+                b"main personal \"main\"\nenvelope \"\" \"\" mailbox \"INBOX\"\nscript personal \"main\" ok\nmessage \"m1\"\n  discard\n  read personal \"main\"\n  expected\ntotal 1 messages 0 errors 0 unexpected\n",
+            ),
+            (
+                b"expect m1 5\nkeep\n",
+                0,
+                b"main personal \"main\"\nenvelope \"\" \"\" mailbox \"INBOX\"\nscript personal \"main\" ok\nmessage \"m1\"\n  discard\n  read personal \"main\"\n  unexpected\ntotal 1 messages 0 errors 1 unexpected\n",
+            ),
+            (
+                b"no-expect m1\n",
+                0,
+                b"main personal \"main\"\nenvelope \"\" \"\" mailbox \"INBOX\"\nscript personal \"main\" ok\nmessage \"m1\"\n  discard\n  read personal \"main\"\ntotal 1 messages 0 errors\n",
+            ),
+            (
+                b"expect m1 8\ndiscard\nmessage m1 1\nx",
+                1,
+                b"main personal \"main\"\nenvelope \"\" \"\" mailbox \"INBOX\"\nscript personal \"main\" ok\nmessage \"m1\"\n  discard\n  read personal \"main\"\n  expected\ntotal 1 messages 0 errors 0 unexpected\n",
+            ),
+        ],
+    )
+}
+
 /// The two messages, with the script that the first includes, and a report.
 fn begin(rt: &(impl AllocGlobal + Abort), bench: &mut Bench) -> Result<(), Fail> {
     edit(rt, bench, TWO_MESSAGES);

@@ -49,6 +49,35 @@ fn check_message(
     Ok(())
 }
 
+/// Expects a text of so many octets of a message that is there, and compares what that answers.
+fn check_expected(
+    rt: &(impl AllocGlobal + Abort),
+    bench: &mut Bench,
+    count: usize,
+    wanted: &Result<(), EditFault>,
+) -> Result<(), AllocError> {
+    let text = many(rt.alloc(), count)?;
+    let mail = many(rt.alloc(), 1)?;
+    let put = bench.put_message(&mail, b"");
+    let answer = bench.set_expected(mail.as_slice(), text.as_slice());
+    let at = ("an expected text", count as u64, 0);
+    holds(rt, at, put == Ok(()));
+    holds(rt, at, answer == *wanted);
+    Ok(())
+}
+
+/// Expects texts at the limit and past it, on a new bench.
+fn check_expected_sizes(rt: &(impl AllocGlobal + Abort)) -> Result<(), AllocError> {
+    let mut bench = Bench::new(rt.alloc())?;
+    check_expected(rt, &mut bench, 65_536, &Ok(()))?;
+    check_expected(rt, &mut bench, 65_537, &Err(EditFault::TooLarge))
+}
+
+#[test]
+fn expected_texts_have_their_limit(rt: HostRuntime) -> Result<(), AllocError> {
+    check_expected_sizes(&rt)
+}
+
 /// Makes edits with a name, a text and a message of so many octets, and compares what each answers.
 fn check_edits(
     rt: &(impl AllocGlobal + Abort),

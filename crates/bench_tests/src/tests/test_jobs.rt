@@ -263,18 +263,19 @@ fn the_first_refusal_is_told(rt: HostRuntime) -> Result<(), AllocError> {
     check_rows(
         &rt,
         &[
-            // 1,024 scripts are as many as there may be.
-            (1_024, Part::Mailbox, 255, TestEnd::Clean, true),
-            (1_025, Part::Mailbox, 255, TestEnd::Full, false),
+            // 4,096 scripts are as many as there may be.
+            (1_025, Part::Mailbox, 255, TestEnd::Clean, true),
+            (4_096, Part::Mailbox, 255, TestEnd::Clean, true),
+            (4_097, Part::Mailbox, 255, TestEnd::Full, false),
             // The settings come before the scripts, and these before the main script's name and the message.
-            (1_025, Part::From, 1_025, TestEnd::TooLarge, false),
-            (1_025, Part::Mailbox, 256, TestEnd::TooLarge, false),
-            (1_025, Part::Main, 1_025, TestEnd::Full, false),
-            (1_025, Part::Id, 1_025, TestEnd::Full, false),
-            (1_025, Part::Text, 1_048_577, TestEnd::Full, false),
+            (4_097, Part::From, 1_025, TestEnd::TooLarge, false),
+            (4_097, Part::Mailbox, 256, TestEnd::TooLarge, false),
+            (4_097, Part::Main, 1_025, TestEnd::Full, false),
+            (4_097, Part::Id, 1_025, TestEnd::Full, false),
+            (4_097, Part::Text, 1_048_577, TestEnd::Full, false),
             // A text that is too large is refused before there is room for it.
-            (1_024, Part::Text, 1_048_577, TestEnd::TooLarge, false),
-            (1_024, Part::Text, 0, TestEnd::Full, false),
+            (4_096, Part::Text, 1_048_577, TestEnd::TooLarge, false),
+            (4_096, Part::Text, 0, TestEnd::Full, false),
         ],
     )
 }

@@ -49,7 +49,7 @@ fn outcome_on(
 }
 
 /// The outcome of a main script on a message of no octets.
-fn outcome_of(
+pub(super) fn outcome_of(
     alloc: Global,
     shelf: &Shelf,
     main: Option<&ScriptName>,

@@ -1,11 +1,11 @@
 -- What the program's commands stand for.
 use Rattle.session_text.specs.SessionLine as line
-use Rattle.session_text.specs.declared.session_line.Command.{Command}
-use Rattle.session_text.specs.declared.session_line.Command.TheVariants.{Nothing, Script, Message, Main, NoMain, Rename, DropScript, DropMessage, Envelope, Mailbox, Report, Dump}
-use Rattle.session_text.specs.declared.cutting.Spot.{Spot}
-use Rattle.session_text.specs.declared.cutting.Spot.TheVariants as spots
+use Rattle.session_text.specs.declared.session_line.SessionCommand.{SessionCommand}
+use Rattle.session_text.specs.declared.session_line.SessionCommand.TheVariants.{Nothing, Script, Message, Main, NoMain, Rename, DropScript, DropMessage, Envelope, Mailbox, Report, Dump, Expect, NoExpect}
+use Rattle.session_text.specs.declared.cutting.Quoting.{Quoting}
+use Rattle.session_text.specs.declared.cutting.Quoting.TheVariants as spots
 
-abbrev pub command_as : Command → line.Command
+abbrev pub command_as : SessionCommand → line.SessionCommand
 command_as Nothing = line.nothing
 command_as (Script place name count) = line.script place name count
 command_as (Message id count) = line.message id count
@@ -18,8 +18,10 @@ command_as (Envelope from to) = line.envelope from to
 command_as (Mailbox mailbox) = line.mailbox mailbox
 command_as Report = line.report
 command_as (Dump place name) = line.dump place name
+command_as (Expect id count) = line.expect id count
+command_as (NoExpect id) = line.no_expect id
 
-abbrev pub spot_as : Spot → line.Spot
-spot_as spots.Outside = line.outside
-spot_as spots.Inside = line.inside
-spot_as spots.Escaped = line.escaped
+abbrev pub quoting_as : Quoting → line.Quoting
+quoting_as spots.Outside = line.outside
+quoting_as spots.Inside = line.inside
+quoting_as spots.Escaped = line.escaped

@@ -2,13 +2,13 @@
 use Rattle.std.specs.Prelude.{ℕ, ◌-◌, length, drop}
 use Rattle.sieve_reading.specs.Tree.{Node, node}
 use Rattle.sieve_code.specs.Choice.{Tail, Branches, block_before, branch_before, first_before}
-use Rattle.sieve_code.specs.declared.command_code.Front.{Front}
+use Rattle.sieve_code.specs.declared.command_code.TailFront.{TailFront}
 
 -- so many operations of a tail, from the end
 abbrev pub last : ℕ → Tail → Tail
 last count tail = drop (length tail - count) tail
 
-abbrev pub branches_as : Front → Tail → Branches
+abbrev pub branches_as : TailFront → Tail → Branches
 branches_as front tail = record { has_branch = front.has_branch; with_branch = tail; behind_branches = last front.behind tail }
 
 -- the block, the first test, and a branch, of a command

@@ -1,23 +1,33 @@
 -- What tests find in one value, one field and one name.
-use Rattle.std.specs.Prelude.{ℕ, Bool, true, false, List, Option, None, Some, if◌then◌else◌}
+use Rattle.std.specs.Prelude.{ℕ, Bool, true, false, List, map, Option, None, Some, if◌then◌else◌}
 use Rattle.std.specs.Option.{option_and_then}
+use Rattle.encoded_words.specs.Scan.{decoded_of}
 use Rattle.message_text.specs.Addresses.{AddrSpec, addresses_of, envelope_address_of, part_of}
-use Rattle.message_text.specs.Fields.{Field}
+use Rattle.message_text.specs.Fields.{Field, is_field_named}
 use Rattle.message_text.specs.declared.addressing.AddressPart.{AddressPart}
 use Rattle.sieve_reading.specs.Reading.{ValueSource, address_values, envelope_values, flag_values, header_values, string_values}
 use Rattle.sieve_variables.specs.Part.{Part}
+use Rattle.sieve_variables.specs.Value.{text_value}
+use Rattle.sieve_variables.specs.view.Part.{strings_of}
 use Rattle.sieve_base.specs.view.Texts.{octets_of_each}
 use Rattle.sieve_table.specs.Address.{is_address_field}
-use Rattle.sieve_effects.specs.Matching.{envelope_text, first_match, first_some, is_field_named, pairs_with}
+use Rattle.sieve_effects.specs.Matching.{envelope_text, first_match, first_some, pairs_with}
 use Rattle.match_text.specs.Comparator.{fold_of}
 use Rattle.sieve_effects.specs.declared.comparison.Comparison.{Comparison}
+use Rattle.sieve_effects.specs.declared.comparison.Keys.{Keys}
+use Rattle.sieve_effects.specs.declared.comparison.Keys.TheVariants.{Strings, Texts}
 use Rattle.sieve_effects.specs.declared.envelope.Envelope.{Envelope}
+
+-- the keys that a value is compared with
+abbrev pub key_texts : Keys → List (List ℕ)
+key_texts (Strings values strings) = map (text_value values.now) (strings_of strings.now)
+key_texts (Texts texts) = octets_of_each texts.now
 
 -- what the first key gives that a value matches
 abbrev pub found_with : Comparison → List ℕ → Option (List (List ℕ))
-found_with comparison value = first_match comparison.match_type (fold_of comparison.collation) (pairs_with (octets_of_each comparison.keys.now) value)
+found_with comparison value = first_match comparison.match_type (fold_of comparison.collation) (pairs_with (key_texts comparison.keys) value)
 
--- from where values are taken: all of the values of fields, or a part of the addresses in them
+-- from where values are taken: the values of fields, or a part of the addresses in them
 abbrev pub field_source : Option AddressPart → List (List Part) → ValueSource
 field_source None names = header_values names
 field_source (Some part) names = address_values part names
@@ -48,9 +58,9 @@ module _ (find : List ℕ → Option (List (List ℕ))) where
   abbrev pub path_name_found : AddressPart → Envelope → List ℕ → Option (List (List ℕ))
   path_name_found part envelope name = option_and_then (path_found part) (envelope_text envelope name)
 
-  -- all of a value, or that part of the addresses in it
+  -- all of a value with its encoded words replaced, or that part of the addresses in it as it is written
   abbrev pub value_found : Option AddressPart → List ℕ → Option (List (List ℕ))
-  value_found None value = find value
+  value_found None value = find (decoded_of value)
   value_found (Some part) value = first_some (part_found part) (addresses_of value)
 
   -- the value of a field, where it has that name

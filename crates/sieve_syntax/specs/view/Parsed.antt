@@ -1,6 +1,6 @@
 -- What the parser returned, against what the text means.
 use Rattle.std.specs.Prelude.{◌≡◌, ℕ, List, Option, Some, None, Result, Ok, Err}
-use Rattle.sieve_syntax.specs.Machine.{State}
+use Rattle.sieve_syntax.specs.Machine.{ParserState}
 use Rattle.sieve_syntax.specs.view.Reader.{state_value}
 use Rattle.sieve_syntax.specs.Tree.{Node}
 use Rattle.sieve_syntax.specs.view.Tree.{nodes_of}
@@ -8,7 +8,7 @@ use Rattle.sieve_syntax.specs.declared.parser.SyntaxFault.{SyntaxFault}
 use Rattle.sieve_syntax.specs.declared.parser.SyntaxFault.TheVariants.{Syntax, TooLarge, NoMemory}
 use Rattle.sieve_syntax.specs.declared.tree.Script as scripts
 use Rattle.sieve_syntax.specs.declared.reader.Outer as outers
-use Rattle.sieve_syntax.specs.declared.reader.State as states
+use Rattle.sieve_syntax.specs.declared.reader.ParserState as states
 
 -- the tree is what the text means, or the line of the fault is
 abbrev pub Parses : Result scripts.Script SyntaxFault → Result (List Node) ℕ → Type 0
@@ -18,7 +18,7 @@ Parses (Err TooLarge) meaning = Unit {0}
 Parses (Err NoMemory) meaning = Unit {0}
 
 -- the state is the next one, or there is none and the line is the token's
-abbrev pub Goes : outers.Outer → Result states.State SyntaxFault → Option State → ℕ → Type 0
+abbrev pub Goes : outers.Outer → Result states.ParserState SyntaxFault → Option ParserState → ℕ → Type 0
 Goes o (Ok s) next line = next ≡ Some (state_value o s)
 Goes o (Err (Syntax at)) next line = (next ≡ None) × (at ≡ line)
 Goes o (Err TooLarge) next line = ⊥

@@ -5,7 +5,7 @@ use Rattle.std.specs.declared.alloc.Global.{Global}
 use Rattle.sieve_syntax.specs.Tree.{Block, no_block, block, nodes}
 use Rattle.sieve_syntax.specs.view.Tree.{node_of, test_of, tests_of, text_of, argument_of}
 use Rattle.sieve_syntax.specs.Word.{Word, identifier, tag_word, number_word, string_word, semicolon, open_brace, close_brace, open_parenthesis, close_parenthesis, open_bracket, close_bracket, comma, bad}
-use Rattle.sieve_syntax.specs.Machine.{Head, Level, for_one, for_list, Open, Outer, State, between, in_arguments, before_string, after_string, before_test, after_tests}
+use Rattle.sieve_syntax.specs.Machine.{Head, Level, for_one, for_list, Open, Outer, ParserState, between, in_arguments, before_string, after_string, before_test, after_tests}
 use Rattle.sieve_syntax.specs.declared.tree.Command as commands
 use Rattle.sieve_syntax.specs.declared.word.Word as words
 use Rattle.sieve_syntax.specs.declared.word.Word.TheVariants as word_variants
@@ -14,8 +14,8 @@ use Rattle.sieve_syntax.specs.declared.reader.Level as levels
 use Rattle.sieve_syntax.specs.declared.reader.Level.TheVariants as level_variants
 use Rattle.sieve_syntax.specs.declared.reader.Open as opens
 use Rattle.sieve_syntax.specs.declared.reader.Outer as outers
-use Rattle.sieve_syntax.specs.declared.reader.State as states
-use Rattle.sieve_syntax.specs.declared.reader.State.TheVariants as state_variants
+use Rattle.sieve_syntax.specs.declared.reader.ParserState as states
+use Rattle.sieve_syntax.specs.declared.reader.ParserState.TheVariants as state_variants
 use Rattle.sieve_syntax.specs.declared.step.Stop as stops
 use Rattle.sieve_syntax.specs.declared.step.Stop.TheVariants as stop_variants
 
@@ -58,7 +58,7 @@ opens_value bs = map open_value (reverse bs)
 abbrev pub outer_value : outers.Outer → Outer
 outer_value o = record { blocks = opens_value o.blocks.items; done = map node_of o.done.items }
 
-abbrev pub state_value : outers.Outer → states.State → State
+abbrev pub state_value : outers.Outer → states.ParserState → ParserState
 state_value o state_variants.Between = between (outer_value o)
 state_value o (state_variants.Arguments h) = in_arguments (outer_value o) (levels_value o.levels.items) (head_value h)
 state_value o (state_variants.BeforeString h items) = before_string (outer_value o) (levels_value o.levels.items) (head_value h) (map text_of items.items)
@@ -67,7 +67,7 @@ state_value o state_variants.BeforeTest = before_test (outer_value o) (levels_va
 state_value o (state_variants.AfterTests h ts) = after_tests (outer_value o) (levels_value o.levels.items) (head_value h) (tests_of ts)
 
 -- what a step returned is the machine's next state, or a fault where there is none, unless memory ran out
-abbrev pub Advances : outers.Outer → Result states.State stops.Stop → Option State → Type 0
+abbrev pub Advances : outers.Outer → Result states.ParserState stops.Stop → Option ParserState → Type 0
 Advances o (Ok s) next = next ≡ Some (state_value o s)
 Advances o (Err stop_variants.Fault) next = next ≡ None
 Advances o (Err stop_variants.NoMemory) next = Unit {0}

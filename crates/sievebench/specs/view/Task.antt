@@ -1,10 +1,10 @@
 -- What the program's tasks stand for.
 use Rattle.std.specs.Prelude.{◌≡◌, ℕ, List, Option, Some, None, Result, true}
-use Rattle.sieve_base.specs.Limits.{text_limit, message_limit}
+use Rattle.sieve_base.specs.Limits.{expected_limit, text_limit, message_limit}
 use Rattle.bench.specs.Bench.{BenchState}
-use Rattle.bench.specs.Content.{Edit, put_script, put_message}
+use Rattle.bench.specs.Content.{Edit, put_script, put_message, set_expected}
 use Rattle.bench.specs.declared.fault.EditFault.{EditFault}
-use Rattle.sievebench.specs.Session.{Ask, asks_nothing, asks_put, asks_edit, asks_report, asks_dump, takes_memory}
+use Rattle.sievebench.specs.Session.{Demand, asks_nothing, asks_put, asks_edit, asks_report, asks_dump, takes_memory}
 use Rattle.sievebench.specs.view.Progress.{Tries}
 use Rattle.sievebench.specs.declared.task.Subject.{Subject}
 use Rattle.sievebench.specs.declared.task.Subject.TheVariants as subjects
@@ -15,14 +15,16 @@ use Rattle.sievebench.specs.declared.task.Task.TheVariants as tasks
 abbrev pub edit_of : Subject → List ℕ → Edit
 edit_of (subjects.Script name) octets = put_script name octets
 edit_of (subjects.Message id) octets = put_message id octets
+edit_of (subjects.Expected id) octets = set_expected id octets
 
 -- the most octets that may be put there
 abbrev pub limit_of : Subject → ℕ
 limit_of (subjects.Script name) = text_limit
 limit_of (subjects.Message id) = message_limit
+limit_of (subjects.Expected id) = expected_limit
 
 -- so many octets follow what is asked for, and memory may be refused to it
-abbrev pub IsFollowedBy : ℕ → Option Ask → Type 0
+abbrev pub IsFollowedBy : ℕ → Option Demand → Type 0
 IsFollowedBy count None = ⊥
 IsFollowedBy count (Some asks_nothing) = ⊥
 IsFollowedBy count (Some (asks_put n edit)) = (n ≡ count) × ((octets : List ℕ) → takes_memory (edit octets) ≡ true)
@@ -31,7 +33,7 @@ IsFollowedBy count (Some asks_report) = ⊥
 IsFollowedBy count (Some (asks_dump name)) = count ≡ 0
 
 -- the edit that is asked for was tried
-abbrev pub IsTried : Option Ask → Result Unit EditFault → BenchState → BenchState → Type 0
+abbrev pub IsTried : Option Demand → Result Unit EditFault → BenchState → BenchState → Type 0
 IsTried None outcome old new = ⊥
 IsTried (Some asks_nothing) outcome old new = ⊥
 IsTried (Some (asks_put count edit)) outcome old new = ⊥
@@ -40,7 +42,7 @@ IsTried (Some asks_report) outcome old new = ⊥
 IsTried (Some (asks_dump name)) outcome old new = ⊥
 
 -- the task is to do what a line asks for, and nothing is done of it yet; or it is the edit that was tried
-abbrev pub Tasks : Task → Option Ask → BenchState → BenchState → Type 0
+abbrev pub Tasks : Task → Option Demand → BenchState → BenchState → Type 0
 Tasks tasks.Idle ask old new = (ask ≡ Some asks_nothing) × (new ≡ old)
 Tasks (tasks.Put subject count) ask old new = (ask ≡ Some (asks_put count (λ octets. edit_of subject octets))) × (new ≡ old)
 Tasks (tasks.Made outcome) ask old new = IsTried ask outcome old new

@@ -1,7 +1,8 @@
 //! Rows of lists of flags, by RFC 5232.
 use super::{Row, holds, push_ended, same};
 use match_text::{
-    FlagList, flag_keys, flag_keys_of_texts, flag_text, flags_of, flags_of_texts, union, without,
+    Collation, FlagList, flag_keys, flag_keys_of_texts, flag_text, flags_of, flags_of_texts, union,
+    without,
 };
 use std::alloc::{AllocError, Global};
 use std::borrow::CowSlice;
@@ -97,6 +98,42 @@ fn lists_are_joined_and_taken_from(rt: HostRuntime) -> Result<(), AllocError> {
     check_pair(&rt, (b"", b"x X y", b"x y", b""))?;
     check_pair(&rt, (b"a b", b"", b"a b", b"a b"))?;
     check_pair(&rt, (b"a", b"b c B", b"a b c", b"a"))
+}
+
+/// Compares the text of a list.
+fn check_list(
+    rt: &(impl AllocGlobal + Abort),
+    list: &FlagList,
+    wanted: &[u8],
+) -> Result<(), AllocError> {
+    same(rt, wanted, &flag_text(rt.alloc(), list)?, wanted);
+    Ok(())
+}
+
+/// Flags are added where they aren't there yet, in any case of letters, and taken out with the place where they stood; the others stay
+/// in their order.
+fn check_changes(
+    rt: &(impl AllocGlobal + Abort),
+    list: &mut FlagList,
+    more: &FlagList,
+) -> Result<(), AllocError> {
+    list.add(rt.alloc(), more, 0)?;
+    check_list(rt, &*list, b"a b c")?;
+    holds(rt, b"case", list.has(Collation::Casemap, b"C"));
+    holds(rt, b"octets", !list.has(Collation::Octet, b"C"));
+    holds(rt, b"a flag", list.has(Collation::Octet, b"c"));
+    holds(rt, b"no flag", !list.has(Collation::Casemap, b"d"));
+    holds(rt, b"a place", list.take_out(b"B") == Some(1));
+    check_list(rt, &*list, b"a c")?;
+    holds(rt, b"no place", list.take_out(b"b").is_none());
+    check_list(rt, &*list, b"a c")
+}
+
+#[test]
+fn a_list_grows_and_shrinks(rt: HostRuntime) -> Result<(), AllocError> {
+    let mut list = flags_of(rt.alloc(), b"a b")?;
+    let more = flags_of(rt.alloc(), b"B c")?;
+    check_changes(&rt, &mut list, &more)
 }
 
 /// Compares keys, each in front of a bar.

@@ -1,12 +1,12 @@
 //! Messages and their fields, row by row.
 use super::{Row, holds, push_ended, same};
-use message_text::{Message, MessageFault};
+use message_text::{FieldName, Message, MessageFault};
 use std::alloc::{AllocError, Global};
 use std::borrow::CowSlice;
 use std::process::Abort;
 use std::test::Fail;
 
-fn read(alloc: Global, octets: &[u8]) -> Result<Message, Fail> {
+pub(super) fn read(alloc: Global, octets: &[u8]) -> Result<Message, Fail> {
     Ok(Message::new(alloc, Vec::from_slice(alloc, octets)?)?)
 }
 
@@ -122,7 +122,7 @@ fn messages_of_the_standard_have_their_fields(rt: HostRuntime) -> Result<(), Fai
 }
 
 /// Whether a value is borrowed: 1, or else 0.
-fn borrowed(value: &CowSlice<'_, u8>) -> u8 {
+pub(super) fn borrowed(value: &CowSlice<'_, u8>) -> u8 {
     match value {
         CowSlice::Borrowed(_) => 1,
         CowSlice::Owned(_) => 0,
@@ -147,7 +147,83 @@ fn check_borrowed(
 #[test]
 fn borrows_unfolded_values(rt: HostRuntime) -> Result<(), Fail> {
     let message = read(rt.alloc(), b"A: b\nC: d\n e\nF:\nG:\n \n\n f")?;
-    Ok(check_borrowed(&rt, &message, &[1, 0, 1, 0])?)
+    check_borrowed(&rt, &message, &[1, 0, 1, 0])?;
+    let one = read(rt.alloc(), b"Subject: one")?;
+    check_borrowed(&rt, &one, &[1])?;
+    let three = read(rt.alloc(), b"Subject: one\r\n two\r\n\tthree\r\n\r\n")?;
+    Ok(check_borrowed(&rt, &three, &[0])?)
+}
+
+/// Adds the place of each field of that name.
+fn push_places(places: &mut Vec<u8>, message: &Message, name: &[u8]) -> Result<(), AllocError> {
+    let name = FieldName::new(name);
+    let mut start = 0;
+    for _ in 0..message.fields() {
+        let Some(place) = message.next_named(&name, start) else {
+            break;
+        };
+        places.push(b'0' + (place % 10) as u8)?;
+        start = place.saturating_add(1);
+    }
+    Ok(())
+}
+
+/// Compares the places of the fields of each name.
+fn check_places(
+    rt: &(impl AllocGlobal + Abort),
+    message: &Message,
+    rows: &[Row<'_>],
+) -> Result<(), AllocError> {
+    for (name, wanted) in rows {
+        let mut places = Vec::new(rt.alloc());
+        push_places(&mut places, message, *name)?;
+        same(rt, *name, &places, *wanted);
+    }
+    Ok(())
+}
+
+// Names ignore the case of ASCII letters alone, and are compared whole. `A@` and `B!` have one hash.
+#[test]
+fn fields_are_found_by_name(rt: HostRuntime) -> Result<(), Fail> {
+    let message = read(
+        rt.alloc(),
+        b"To: a\nCC: b\nB!: c\nto: d\n e\na@ : f\ncc: g\n[a: h\n{A: i\n\nTo: j\n",
+    )?;
+    check_places(
+        &rt,
+        &message,
+        &[
+            (b"To", b"03"),
+            (b"TO", b"03"),
+            (b"cC", b"15"),
+            (b"A@", b"4"),
+            (b"b!", b"2"),
+            (b"[A", b"6"),
+            (b"{a", b"7"),
+            (b"Subject", b""),
+            (b"T", b""),
+            (b"To ", b""),
+            (b"To:", b""),
+            (b"", b""),
+        ],
+    )?;
+    let none = read(rt.alloc(), b"")?;
+    Ok(check_places(&rt, &none, &[(b"To", b""), (b"", b"")])?)
+}
+
+// A search that begins behind all fields finds none.
+#[test]
+fn no_field_is_behind_the_last(rt: HostRuntime) -> Result<(), Fail> {
+    let message = read(rt.alloc(), b"To: a\nTo: b\n")?;
+    let name = FieldName::new(b"to");
+    let places = [
+        message.next_named(&name, 0),
+        message.next_named(&name, 1),
+        message.next_named(&name, 2),
+        message.next_named(&name, 18_446_744_073_709_551_615),
+    ];
+    holds(&rt, b"to", places == [Some(0), Some(1), None, None]);
+    Ok(())
 }
 
 // Why `size` octets were refused, and how many came back.

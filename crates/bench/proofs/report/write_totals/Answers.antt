@@ -1,4 +1,5 @@
-use Rattle.std.proofs.Common.{◌≡◌, length, sym, ◌∙◌}
+use Rattle.std.proofs.Common.{◌≡◌, length, sym, ap, ◌∙◌}
+use Rattle.bench.specs.Report.{unexpected_count}
 use Rattle.bench.specs.view.Entry.{judged_of}
 use Rattle.bench.proofs.Judged.{judged-all}
 use Rattle.bench.proofs.report.write_totals.Goals as goal
@@ -6,9 +7,11 @@ use Rattle.bench.proofs.report.write_totals.Goals as goal
 pub returns-clause-ok : goal.returns-clause-ok
 returns-clause-ok g c =
     let all : c.len.result ≡ length (judged_of c.args.messages.now.entries) = c.len.ensures.len ∙ sym (judged-all c.args.messages.now.entries c.requires) in
-    rw (← all, ← c.error_count.ensures) c.write_total.ensures.ok
+    let unexpected : c.unexpected_count-unexpected.result ≡ unexpected_count c.args.envelope.now.mailbox (judged_of c.args.messages.now.entries) = c.unexpected_count-unexpected.ensures ∙ ap (λ m. unexpected_count m (judged_of c.args.messages.now.entries)) c.as_slice.ensures in
+    rw (← all, ← c.error_count.ensures, ← unexpected) c.write_total.ensures.ok
 
 pub returns-clause-err : goal.returns-clause-err
 returns-clause-err g c =
     let all : c.len.result ≡ length (judged_of c.args.messages.now.entries) = c.len.ensures.len ∙ sym (judged-all c.args.messages.now.entries c.requires) in
-    rw (← all, ← c.error_count.ensures) c.write_total.ensures.err
+    let unexpected : c.unexpected_count-unexpected.result ≡ unexpected_count c.args.envelope.now.mailbox (judged_of c.args.messages.now.entries) = c.unexpected_count-unexpected.ensures ∙ ap (λ m. unexpected_count m (judged_of c.args.messages.now.entries)) c.as_slice.ensures in
+    rw (← all, ← c.error_count.ensures, ← unexpected) c.write_total.ensures.err

@@ -5,11 +5,11 @@ use Rattle.match_text.proofs.flags.insert_each.Goals as goal
 pub loop-flag-preserved : goal.loop-flag-preserved
 loop-flag-preserved c =
     union_more (λ (l : List (List ℕ)). l) (λ x. x ∷ []) (λ x rest. refl)
-    c.as_slice-flag-items.result.now c.loop-flag.flag-index c.flag-item.result c.loop-flag.flags.keys c.insert.new.flags.keys _
+    c.args.list.now c.loop-flag.flag-index c.flag-item.result c.loop-flag.flags.keys c.insert.new.flags.keys _
     c.loop-flag-test.true (rw (← c.flag-item.is, ← c.as_slice.ensures) c.in_ok-insert.ensures) c.loop-flag.invariant
 
-pub returns-clause-keys : goal.returns-clause-keys
-returns-clause-keys c =
+pub returns : goal.returns
+returns c =
     union_end (λ (l : List (List ℕ)). l) refl
-    c.as_slice-flag-items.result.now c.loop-flag.flag-index c.loop-flag.flags.keys _
+    c.args.list.now c.loop-flag.flag-index c.loop-flag.flags.keys _
     c.loop-flag-test.false c.loop-flag.invariant

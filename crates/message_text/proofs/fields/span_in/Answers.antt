@@ -20,3 +20,9 @@ returns-clause-group c =
     let len = spans_len c.args.octets.now c.args.spans.now c.requires.all in
     let within = c.requires.within in
     span_group c.args.octets.now c.args.spans.now c.args.i _ c.requires.all (slice_get-get_or c.args.spans.now c.args.i _ (omega arith))
+
+pub returns-clause-span : goal.returns-clause-span
+returns-clause-span c =
+    let len = spans_len c.args.octets.now c.args.spans.now c.requires.all in
+    let within = c.requires.within in
+    c.requires.all.each c.args.i _ (omega arith)

@@ -1,11 +1,14 @@
-use Rattle.std.proofs.Common.{◌≡◌, drop}
+use Rattle.std.proofs.Common.{◌≡◌, ◌-◌, drop, length}
 use Rattle.message_text.specs.Fields.{fields_of}
 use Rattle.sieve_effects.specs.Matching.{first_some}
 use Rattle.sieve_effects.specs.view.FieldTests.{field_found, found_with}
 use Rattle.sieve_effects.proofs.field_values.find_in_fields.Given as goal
 
--- the fields that are left decide
-abbrev pub invariant-loop-i : goal.invariant-loop-i
-invariant-loop-i l =
+-- the message stays, and the fields that are left decide
+abbrev pub invariant-loop-start : goal.invariant-loop-start
+invariant-loop-start l =
     let find = field_found (found_with l.comparison) l.part l.name in
-    first_some find (drop l.i (fields_of l.message)) ≡ first_some find (fields_of l.message)
+    (l.fields ≡ l.initial.fields) × (first_some find (drop l.start (fields_of l.initial.fields)) ≡ first_some find (fields_of l.initial.fields))
+
+abbrev pub decreases-loop-start : goal.decreases-loop-start
+decreases-loop-start l = length (fields_of l.initial.fields) - l.start

@@ -28,138 +28,140 @@ use Rattle.sieve_run.proofs.Stepping.{acts_follow, asks_follow, does_so, past_en
 use Rattle.sieve_run.proofs.steps.+execute.Goals as goal
 use Rattle.sieve_run.proofs.steps.+execute.Goals.{include-else-once-via-then-once+else-is_script, include-else-once-via-else-once}
 
-pub carry_out-returns-in-Test : goal.carry_out-returns-in-Test
-carry_out-returns-in-Test g t c =
+pub carry_out-returns-in-Test-clause-step : goal.carry_out-returns-in-Test-clause-step
+carry_out-returns-in-Test-clause-step g t c =
     let find : ScriptName → Lookup = λ name. lookup_of (g.L.Library.texts c.args.lib.now name) in
     let d = delivery_as c.args.delivery.now in
     asks_follow (act_of find c.args.depth d) d (test_op_as c.in-Test.test) _ _ _ _ _ _ _ (ap op_as c.in-Test.is) c.holds-truth.ensures.truth c.holds-truth.ensures.behind c.tested.ensures
 
-pub carry_out-returns-in-Command : goal.carry_out-returns-in-Command
-carry_out-returns-in-Command g t c =
+pub carry_out-returns-in-Command-clause-step : goal.carry_out-returns-in-Command-clause-step
+carry_out-returns-in-Command-clause-step g t c =
     let find : ScriptName → Lookup = λ name. lookup_of (g.L.Library.texts c.args.lib.now name) in
     let d = delivery_as c.args.delivery.now in
     let i = c.in-Command in
-    acts_follow (act_of find c.args.depth d) d (command_op_as i.command) i.line _ _ _ _ _ _ _ (ap op_as i.is) c.act-flow.ensures c.acted.ensures
+    acts_follow (act_of find c.args.depth d) d (command_op_as i.command) i.line _ _ _ _ _ _ _ (ap op_as i.is) c.act-flow.ensures.ending c.acted.ensures
 
-pub act-returns-in-Keep : goal.act-returns-in-Keep
-act-returns-in-Keep g t c =
+pub act-returns-in-Keep-clause-ending : goal.act-returns-in-Keep-clause-ending
+act-returns-in-Keep-clause-ending g t c =
     let find : ScriptName → Lookup = λ name. lookup_of (g.L.Library.texts c.args.lib.now name) in
     let d = delivery_as c.args.delivery.now in
     does_so c.keep.result (state_of c.keep.new.state) (act_of find c.args.depth d) (keep_leaf (settings_op_as c.in-Keep.settings)) _ c.args.line (state_of c.args.state.now)
     (ap command_op_as (sym c.in-Keep.is))
     c.keep.ensures
 
-pub act-returns-in-Fileinto : goal.act-returns-in-Fileinto
-act-returns-in-Fileinto g t c =
+pub act-returns-in-Fileinto-clause-ending : goal.act-returns-in-Fileinto-clause-ending
+act-returns-in-Fileinto-clause-ending g t c =
     let find : ScriptName → Lookup = λ name. lookup_of (g.L.Library.texts c.args.lib.now name) in
     let d = delivery_as c.args.delivery.now in
     does_so c.file_into.result (state_of c.file_into.new.state) (act_of find c.args.depth d) (fileinto_leaf (map part_of c.deref.result.now) (settings_op_as c.in-Fileinto.settings)) _ c.args.line (state_of c.args.state.now)
     (ap (λ mailbox. fileinto_leaf (map part_of mailbox) (settings_op_as c.in-Fileinto.settings)) c.deref.ensures ∙ ap command_op_as (sym c.in-Fileinto.is))
     c.file_into.ensures
 
-pub act-returns-in-Redirect : goal.act-returns-in-Redirect
-act-returns-in-Redirect g t c =
+pub act-returns-in-Redirect-clause-ending : goal.act-returns-in-Redirect-clause-ending
+act-returns-in-Redirect-clause-ending g t c =
     let find : ScriptName → Lookup = λ name. lookup_of (g.L.Library.texts c.args.lib.now name) in
     let d = delivery_as c.args.delivery.now in
     does_so c.redirect.result (state_of c.redirect.new.state) (act_of find c.args.depth d) (redirect_leaf (map part_of c.deref-in-Redirect.result.now) (settings_op_as c.in-Redirect.settings)) _ c.args.line (state_of c.args.state.now)
     (ap (λ address. redirect_leaf (map part_of address) (settings_op_as c.in-Redirect.settings)) c.deref-in-Redirect.ensures ∙ ap command_op_as (sym c.in-Redirect.is))
     c.redirect.ensures
 
-pub act-returns-in-Discard : goal.act-returns-in-Discard
-act-returns-in-Discard g t c =
+pub act-returns-in-Discard-clause-ending : goal.act-returns-in-Discard-clause-ending
+act-returns-in-Discard-clause-ending g t c =
     let find : ScriptName → Lookup = λ name. lookup_of (g.L.Library.texts c.args.lib.now name) in
     let d = delivery_as c.args.delivery.now in
     does_so c.discard.result (state_of c.discard.new.state) (act_of find c.args.depth d) (discard_leaf) _ c.args.line (state_of c.args.state.now)
     (ap command_op_as (sym c.in-Discard.is))
     c.discard.ensures
 
-pub act-returns-in-Set : goal.act-returns-in-Set
-act-returns-in-Set g t c =
+pub act-returns-in-Set-clause-ending : goal.act-returns-in-Set-clause-ending
+act-returns-in-Set-clause-ending g t c =
     let find : ScriptName → Lookup = λ name. lookup_of (g.L.Library.texts c.args.lib.now name) in
     let d = delivery_as c.args.delivery.now in
     does_so c.set.result (state_of c.set.new.state) (act_of find c.args.depth d) (set_leaf (variable_of c.in-Set.variable) c.in-Set.modifiers (map part_of c.deref-in-Set.result.now)) _ c.args.line (state_of c.args.state.now)
     (ap (λ value. set_leaf (variable_of c.in-Set.variable) c.in-Set.modifiers (map part_of value)) c.deref-in-Set.ensures ∙ ap command_op_as (sym c.in-Set.is))
     c.set.ensures
 
-pub act-returns-in-Flags : goal.act-returns-in-Flags
-act-returns-in-Flags g t c =
+pub act-returns-in-Flags-clause-ending : goal.act-returns-in-Flags-clause-ending
+act-returns-in-Flags-clause-ending g t c =
     let find : ScriptName → Lookup = λ name. lookup_of (g.L.Library.texts c.args.lib.now name) in
     let d = delivery_as c.args.delivery.now in
     does_so c.change.result (state_of c.change.new.state) (act_of find c.args.depth d) (flag_leaf c.in-Flags.how (option_map variable_of c.in-Flags.variable) (strings_of c.deref-in-Flags.result.now)) _ c.args.line (state_of c.args.state.now)
     (ap (λ flags. flag_leaf c.in-Flags.how (option_map variable_of c.in-Flags.variable) (strings_of flags)) c.deref-in-Flags.ensures.value ∙ ap command_op_as (sym c.in-Flags.is))
     c.change.ensures
 
-pub act-returns-in_ok-octets-in-Include : goal.act-returns-in_ok-octets-in-Include
-act-returns-in_ok-octets-in-Include g t c =
+pub act-returns-in_ok-octets-in-Include-clause-ending : goal.act-returns-in_ok-octets-in-Include-clause-ending
+act-returns-in_ok-octets-in-Include-clause-ending g t c =
     let find : ScriptName → Lookup = λ name. lookup_of (g.L.Library.texts c.args.lib.now name) in
     let d = delivery_as c.args.delivery.now in
     let i = c.in-Include in
     does_so c.include.result (state_of c.include.new.state) (act_of find c.args.depth d) (include_leaf i.place i.once i.optional c.in_ok-octets-in-Include.octets) _ c.args.line (state_of c.args.state.now)
     (ap (include_leaf i.place i.once i.optional) (c.in_ok-octets-in-Include.ensures ∙ c.deref-in-Include.ensures) ∙ ap command_op_as (sym i.is))
-    c.include.ensures
+    c.include.ensures.ending
 
-pub execute_inside-returns : goal.execute_inside-returns
-execute_inside-returns g t c =
+pub execute_inside-returns-clause-ending : goal.execute_inside-returns-clause-ending
+execute_inside-returns-clause-ending g t c =
     let find : ScriptName → Lookup = λ name. lookup_of (g.L.Library.texts c.args.lib.now name) in
     let d = delivery_as c.args.delivery.now in
     let ops = ops_of c.args.code.now in
     subst (λ (inner : Delivery). IfOk c.execute.result (λ (flow : Flow). doing (act_of find c.args.depth inner) inner (code_walk ops (length ops)) (state_of c.args.state.now) ≡ ending_by flow (state_of c.execute.new.state)))
     (ap (λ (names : List ScriptName). record d { script = c.args.name.now; including = names }) (ap (map (λ (name : Bor ScriptName). name.now)) c.as_slice.ensures.value ∙ c.in_ok-including.ensures))
-    c.execute.ensures
+    c.execute.ensures.ending
 
-pub enter-returns : goal.enter-returns
-enter-returns g t c =
+pub enter-returns-clause-ending : goal.enter-returns-clause-ending
+enter-returns-clause-ending g t c =
     let find : ScriptName → Lookup = λ name. lookup_of (g.L.Library.texts c.args.lib.now name) in
     let d = delivery_as c.args.delivery.now in
     let s = state_of c.args.state.now in
     let ended = state_of c.execute_inside.new.state in
     enters_by find c.args.depth d c.args.name.now (ops_of c.args.code.now) s _ ended _ c.in_ok-flow.flow c.resumed.result
     c.in_ok-own.ensures.state
-    c.in_ok-flow.ensures
+    c.in_ok-flow.ensures.ending
     c.resumed.ensures
     (ap (λ values. record ended { values = values }) (c.resume.ensures ∙ ap (λ own. with_own own ended.values) c.in_ok-own.ensures.own))
 
-pub execute-returns-then-place-len : goal.execute-returns-then-place-len
-execute-returns-then-place-len g t c =
+pub execute-returns-then-place-len-clause-ending : goal.execute-returns-then-place-len-clause-ending
+execute-returns-then-place-len-clause-ending g t c =
     let d = delivery_as c.args.delivery.now in
     let act = act_of (λ name. lookup_of (g.L.Library.texts c.args.lib.now name)) c.args.depth d in
     let ops = ops_of c.args.code.now in
-    sym c.loop-turn.invariant
+    sym c.loop-turn.invariant.1
     ∙ past_end act d ops (length ops - c.loop-turn._turn) c.loop-turn.place c.loop-turn.register (state_of c.loop-turn.state) (subst (λ n. n ≤ c.loop-turn.place) c.len.ensures c.if-place-len.true)
 
-pub execute-returns-in-Ended : goal.execute-returns-in-Ended
-execute-returns-in-Ended g t c =
+pub execute-returns-in-Ended-clause-ending : goal.execute-returns-in-Ended-clause-ending
+execute-returns-in-Ended-clause-ending g t c =
     let d = delivery_as c.args.delivery.now in
     let act = act_of (λ name. lookup_of (g.L.Library.texts c.args.lib.now name)) c.args.depth d in
     let ops = ops_of c.args.code.now in
-    sym c.loop-turn.invariant
-    ∙ turns act d ops c.loop-turn._turn c.loop-turn.place c.loop-turn.register (op_as c.op.result.now) (state_of c.loop-turn.state) c.in_ok-next.field-0 (state_of c.carry_out.new.state) (subst (λ n. c.loop-turn._turn < n) c.len-turn-end.ensures c.loop-turn-test.true) c.op.ensures c.in_ok-next.ensures
+    sym c.loop-turn.invariant.1
+    ∙ turns act d ops c.loop-turn._turn c.loop-turn.place c.loop-turn.register (op_as c.op.result.now) (state_of c.loop-turn.state) c.in_ok-next.field-0 (state_of c.carry_out.new.state) (subst (λ n. c.loop-turn._turn < n) c.len-turn-end.ensures c.loop-turn-test.true) c.op.ensures c.in_ok-next.ensures.step
     ∙ ap (λ step. doing_after act d (walk_from ops (length ops - (c.loop-turn._turn + 1))) step (state_of c.carry_out.new.state)) c.in-Ended.is
 
 pub execute-loop-turn-preserved : goal.execute-loop-turn-preserved
 execute-loop-turn-preserved g t c =
     let d = delivery_as c.args.delivery.now in
     let act = act_of (λ name. lookup_of (g.L.Library.texts c.args.lib.now name)) c.args.depth d in
-    let ops = ops_of c.args.code.now in
-    sym (turns act d ops c.loop-turn._turn c.loop-turn.place c.loop-turn.register (op_as c.op.result.now) (state_of c.loop-turn.state) c.in_ok-next.field-0 (state_of c.carry_out.new.state) (subst (λ n. c.loop-turn._turn < n) c.len-turn-end.ensures c.loop-turn-test.true) c.op.ensures c.in_ok-next.ensures
-    ∙ ap (λ step. doing_after act d (walk_from ops (length ops - (c.loop-turn._turn + 1))) step (state_of c.carry_out.new.state)) c.in-Next.is)
-    ∙ c.loop-turn.invariant
+    let ops = ops_of c.args.code.now in (
+      c.carry_out.ensures.message ∙ c.loop-turn.invariant.0,
+      sym (turns act d ops c.loop-turn._turn c.loop-turn.place c.loop-turn.register (op_as c.op.result.now) (state_of c.loop-turn.state) c.in_ok-next.field-0 (state_of c.carry_out.new.state) (subst (λ n. c.loop-turn._turn < n) c.len-turn-end.ensures c.loop-turn-test.true) c.op.ensures c.in_ok-next.ensures.step
+          ∙ ap (λ step. doing_after act d (walk_from ops (length ops - (c.loop-turn._turn + 1))) step (state_of c.carry_out.new.state)) c.in-Next.is)
+          ∙ c.loop-turn.invariant.1,
+    )
 
-pub execute-returns : goal.execute-returns
-execute-returns g t c =
+pub execute-returns-clause-ending : goal.execute-returns-clause-ending
+execute-returns-clause-ending g t c =
     let d = delivery_as c.args.delivery.now in
     let act = act_of (λ name. lookup_of (g.L.Library.texts c.args.lib.now name)) c.args.depth d in
-    sym c.loop-turn.invariant
+    sym c.loop-turn.invariant.1
     ∙ runs_out act d (ops_of c.args.code.now) c.loop-turn._turn c.loop-turn.place c.loop-turn.register (state_of c.loop-turn.state) (subst (λ n. n ≤ c.loop-turn._turn) c.len-turn-end.ensures c.loop-turn-test.false)
 
-pub include-returns-then-is_script : goal.include-returns-then-is_script
-include-returns-then-is_script g t c =
+pub include-returns-then-is_script-clause-ending : goal.include-returns-then-is_script-clause-ending
+include-returns-then-is_script-clause-ending g t c =
     let find : ScriptName → Lookup = λ name. lookup_of (g.L.Library.texts c.args.lib.now name) in
     skips_included find (delivery_as c.args.delivery.now) c.args.name.now c.args.once c.args.optional c.args.line (state_of c.args.state.now) c.args.depth c.if-once.true
     (sym (c.is_script.ensures ∙ ap (is_script c.args.name.now) c.as_slice.ensures.value) ∙ c.if-is_script.true)
 
-pub include-returns-then-is_running : goal.include-returns-then-is_running
-include-returns-then-is_running g t c =
+pub include-returns-then-is_running-clause-ending : goal.include-returns-then-is_running-clause-ending
+include-returns-then-is_running-clause-ending g t c =
     let find : ScriptName → Lookup = λ name. lookup_of (g.L.Library.texts c.args.lib.now name) in
     let d = delivery_as c.args.delivery.now in
     let s = state_of c.args.state.now in
@@ -172,8 +174,8 @@ include-returns-then-is_running g t c =
     (λ flow is. ap (λ f. ending_by f s) is ∙ fails_running find d c.args.name.now c.args.once c.args.optional c.args.line s c.args.depth first (sym c.is_running.ensures ∙ c.if-is_running.true))
     c.fail.ensures
 
-pub include-returns-then-depth-eq0 : goal.include-returns-then-depth-eq0
-include-returns-then-depth-eq0 g t c =
+pub include-returns-then-depth-eq0-clause-ending : goal.include-returns-then-depth-eq0-clause-ending
+include-returns-then-depth-eq0-clause-ending g t c =
     let find : ScriptName → Lookup = λ name. lookup_of (g.L.Library.texts c.args.lib.now name) in
     let d = delivery_as c.args.delivery.now in
     let s = state_of c.args.state.now in
@@ -186,8 +188,8 @@ include-returns-then-depth-eq0 g t c =
     (λ flow is. ap (λ f. ending_by f s) is ∙ fails_deep find d c.args.name.now c.args.once c.args.optional c.args.line s c.args.depth first (sym c.is_running.ensures ∙ c.if-is_running.false) c.if-depth-eq0.true)
     c.fail-then-depth-eq0.ensures
 
-pub include-returns-then-len-gt-MAX_INCLUDES : goal.include-returns-then-len-gt-MAX_INCLUDES
-include-returns-then-len-gt-MAX_INCLUDES g t c =
+pub include-returns-then-len-gt-MAX_INCLUDES-clause-ending : goal.include-returns-then-len-gt-MAX_INCLUDES-clause-ending
+include-returns-then-len-gt-MAX_INCLUDES-clause-ending g t c =
     let find : ScriptName → Lookup = λ name. lookup_of (g.L.Library.texts c.args.lib.now name) in
     let d = delivery_as c.args.delivery.now in
     let s = state_of c.args.state.now in
@@ -201,8 +203,8 @@ include-returns-then-len-gt-MAX_INCLUDES g t c =
     (λ flow is. ap (λ f. ending_by f s) is ∙ fails_many find d c.args.name.now c.args.once c.args.optional c.args.line s c.args.depth first (sym c.is_running.ensures ∙ c.if-is_running.false) c.if-depth-eq0.false many)
     c.fail-then-len-gt-MAX_INCLUDES.ensures
 
-pub include-returns : goal.include-returns
-include-returns g t c =
+pub include-returns-clause-ending : goal.include-returns-clause-ending
+include-returns-clause-ending g t c =
     let find : ScriptName → Lookup = λ name. lookup_of (g.L.Library.texts c.args.lib.now name) in
     let d = delivery_as c.args.delivery.now in
     let s = state_of c.args.state.now in
@@ -214,10 +216,10 @@ include-returns g t c =
     IfOk-weaker c.look_up.result (λ (flow : Flow). ending_by flow (state_of c.look_up.new.state) ≡ looks_up find (c.args.depth - 1) d c.args.name.now c.args.optional c.args.line s)
     (λ (flow : Flow). ending_by flow (state_of c.look_up.new.state) ≡ included find c.args.depth d c.args.name.now c.args.once c.args.optional c.args.line s)
     (λ flow is. is ∙ looks_included find d c.args.name.now c.args.once c.args.optional c.args.line s c.args.depth first (sym c.is_running.ensures ∙ c.if-is_running.false) c.if-depth-eq0.false few)
-    c.look_up.ensures
+    c.look_up.ensures.ending
 
-pub look_up-returns-in-Present : goal.look_up-returns-in-Present
-look_up-returns-in-Present g t c =
+pub look_up-returns-in-Present-clause-ending : goal.look_up-returns-in-Present-clause-ending
+look_up-returns-in-Present-clause-ending g t c =
     let find : ScriptName → Lookup = λ name. lookup_of (g.L.Library.texts c.args.lib.now name) in
     let d = delivery_as c.args.delivery.now in
     let s = state_of c.args.state.now in
@@ -227,4 +229,4 @@ look_up-returns-in-Present g t c =
     IfOk-weaker c.enter.result _
     (λ (flow : Flow). ending_by flow (state_of c.enter.new.state) ≡ looks_up find c.args.depth d c.args.name.now c.args.optional c.args.line s)
     (λ flow is. is ∙ looks_present find c.args.depth d c.args.name.now c.args.optional c.args.line ops s _ c.is_there.result has there (ap (λ reads. record s { reads = reads }) c.in_ok-note_read.ensures))
-    c.enter.ensures
+    c.enter.ensures.ending

@@ -8,13 +8,13 @@ use Rattle.sieve_effects.specs.view.State.{state_of}
 use Rattle.sieve_run.specs.view.Step.{doing}
 use Rattle.sieve_run.proofs.steps.+execute.Given as goal
 
--- what is left to do from the place, in the turns that are left, gives what all of it gives
+-- the message stays, and what is left to do from the place, in the turns that are left, gives what all of it gives
 abbrev pub invariant-execute-loop-turn : goal.invariant-execute-loop-turn
 invariant-execute-loop-turn g l =
     let ops = ops_of l.code in
     let d = delivery_as l.delivery in
     let act = act_of (λ name. lookup_of (g.L.Library.texts l.lib name)) l.depth d in
-    doing act d (walk_from ops (length ops - l._turn) l.place l.register) (state_of l.state) ≡ doing act d (code_walk ops (length ops)) (state_of l.fn.state)
+    (l.fields ≡ l.initial.fields) × (doing act d (walk_from ops (length ops - l._turn) l.place l.register) (state_of l.state) ≡ doing act d (code_walk ops (length ops)) (state_of l.fn.state))
 
 -- how deep scripts may still be included, and within one depth the way from a script's code to the script that it includes
 abbrev pub decreases-execute : goal.decreases-execute

@@ -1,5 +1,5 @@
 use Rattle.std.proofs.Common.{◌≡◌, ◌∙◌, ap, sym, take}
-use Rattle.sievebench.specs.Session.{ask_at, request_of}
+use Rattle.sievebench.specs.Session.{demand_at, request_of}
 use Rattle.sievebench.specs.declared.status.SessionEnd.TheVariants.{Syntax}
 use Rattle.sievebench.proofs.Moving.{moved_both, tasks_move}
 use Rattle.sievebench.proofs.Requests.{break_served, cut_line_break, cut_served, end_served, line_alone, line_begins, long_end, over_end, step_served}
@@ -31,7 +31,7 @@ returns-in-Whole-clause-goes g c =
     let pending = c.next.new.input.pending in
     let line : c.split_at.result.0.now ≡ take c.in-Whole.len pending = c.split_at.ensures.front ∙ ap (take c.in-Whole.len) c.pending.ensures in
     let left = g.R.Source.remaining c.next.new.reader in
-    let ask = ask_at (take c.in-Whole.len pending) in
+    let ask = demand_at (take c.in-Whole.len pending) in
     let front = take c.in-Whole.skip pending in
     let begins = rw (← c.consume.ensures.pending) at (line_begins _ left pending c.in-Whole.len c.in-Whole.skip c.in-Whole.ensures.keeps c.in-Whole.ensures.line c.in-Whole.ensures.within) in
     follows_by c.perform.result _ _ _ _ _ _ _ _
@@ -43,4 +43,4 @@ returns-in-Whole-clause-goes g c =
 
 pub returns-in-Whole-clause-moves : goal.returns-in-Whole-clause-moves
 returns-in-Whole-clause-moves g c =
-    moved_both _ _ _ (tasks_move _ (ask_at c.split_at.result.0.now) c.args.bench.now c.task_of-task.new.bench c.args.meter.now c.task_of-task.ensures) c.perform.ensures.moves
+    moved_both _ _ _ (tasks_move _ (demand_at c.split_at.result.0.now) c.args.bench.now c.task_of-task.new.bench c.args.meter.now c.task_of-task.ensures) c.perform.ensures.moves

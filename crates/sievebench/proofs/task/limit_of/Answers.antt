@@ -6,3 +6,6 @@ returns-in-Script c = rw c.in-Script.is refl
 
 pub returns-in-Message : goal.returns-in-Message
 returns-in-Message c = rw c.in-Message.is refl
+
+pub returns-in-Expected : goal.returns-in-Expected
+returns-in-Expected c = rw c.in-Expected.is refl

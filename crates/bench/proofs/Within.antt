@@ -1,0 +1,239 @@
+-- Edits keep a content within its limits.
+use Rattle.std.proofs.Common.{◌≡◌, ℕ, suc, ◌<◌, ◌≤◌, Bool, true, false, ◌&&◌, ◌||◌, if◌then◌else◌, List, [], ◌∷◌, length, Option, None, Some, IfSome, is_none, is_some, Result, Ok, Err, nat_eq, nat_le, nat_lt, refl, sym, ap, subst, ◌∙◌, arith}
+use Rattle.std.proofs.lemmas.Bool.Decides.{nat_tests}
+use Rattle.std.proofs.lemmas.List.Elements.{All-from_recursion, All-nil, recursion_from_All}
+use Rattle.std.proofs.lemmas.Map.Views.{All-keys-insert_entry, All-values-insert_entry, All-map-remove_entry, IfSome-lookup_from_All}
+use Rattle.std.specs.BTreeMap as tree
+use Rattle.std.specs.List.{All}
+use Rattle.std.specs.Map.{keys_of, values_of}
+use Rattle.std.specs.Option.{option_and_then}
+use lib.Pointwise.{pointwise}
+use Rattle.sieve_base.specs.Limits.{address_limit, expected_limit, id_limit, mailbox_limit, message_count_limit, message_limit, name_limit, script_count_limit, text_limit}
+use Rattle.sieve_base.specs.Name.{name_cmp, name_eq}
+use Rattle.sieve_base.specs.declared.name.ScriptName.{ScriptName}
+use Rattle.bench.specs.Content.{Content, Edit, Sample, after, new_content, put_script, put_message, set_main, rename_script, remove_script, remove_message, clear_main, set_envelope, set_mailbox, set_expected, clear_expected, text_at, message_at, expected_at, with_script, with_message, with_expected, with_renamed, without_script, without_message, is_long, is_long_id, script_refusal, message_refusal, main_refusal, rename_refusal, remove_script_refusal, absent_refusal, expected_refusal, envelope_refusal, mailbox_refusal}
+use Rattle.bench.specs.Edits.{IsInOrder, IsWithinLimits, AreScriptsWithin, AreMessagesWithin, AreOrdered, behind, content_after}
+use Rattle.bench.specs.declared.fault.EditFault.{EditFault}
+use Rattle.bench.specs.declared.fault.EditFault.TheVariants.{TooLarge, Full, NoSuchScript, NameTaken, NoSuchMessage}
+use Rattle.bench.proofs.Names.{is_name, text-with_script}
+use Rattle.bench.proofs.Kept.{accepted, all_expected, all_put, all_values_put, keys_expected, length_expected, name_total, none_inserted, none_more, none_put, octets_expected, one_inserted, one_put, one_removed, order_behind}
+
+not_past : (limit n : ℕ) → nat_lt limit n ≡ false → n ≤ limit
+not_past limit n is = grind (arith, nat_tests)
+
+not_full : (limit n : ℕ) → nat_le limit n ≡ false → n < limit
+not_full limit n is = grind (arith, nat_tests)
+
+-- as many as there were, or one more where there was room
+counted : (limit old new : ℕ) (fresh : Bool) → (fresh ≡ true → nat_le limit old ≡ false) → new ≤ suc old → (fresh ≡ false → new ≡ old) → old ≤ limit → new ≤ limit
+counted limit old new true room more same within = let below : old < limit = not_full limit old (room refl) in omega arith
+counted limit old new false room more same within = let is : new ≡ old = same refl in omega arith
+
+-- what isn't refused for its size, nor for want of room where it is new
+put_passes : (long large fresh full : Bool) (fault other : EditFault) → (if long || large then Some fault else if fresh && full then Some other else None) ≡ None → (long ≡ false) × (large ≡ false) × (fresh ≡ true → full ≡ false)
+put_passes true large fresh full fault other is = absurd cc
+put_passes false true fresh full fault other is = absurd cc
+put_passes false false true true fault other is = absurd cc
+put_passes false false true false fault other is = (refl, refl, λ new. refl)
+put_passes false false false full fault other is = (refl, refl, λ new. absurd cc)
+
+rename_passes : (long other_long missing taken : Bool) → (if long || other_long then Some TooLarge else if missing then Some NoSuchScript else if taken then Some NameTaken else None) ≡ None → (other_long ≡ false) × (taken ≡ false)
+rename_passes true other_long missing taken is = absurd cc
+rename_passes false true missing taken is = absurd cc
+rename_passes false false true taken is = absurd cc
+rename_passes false false false true is = absurd cc
+rename_passes false false false false is = (refl, refl)
+
+expected_passes : (long large missing : Bool) → (if long || large then Some TooLarge else if missing then Some NoSuchMessage else None) ≡ None → large ≡ false
+expected_passes true large missing is = absurd cc
+expected_passes false true missing is = absurd cc
+expected_passes false false missing is = refl
+
+one_passes : (large : Bool) (fault : EditFault) → (if large then Some fault else None) ≡ None → large ≡ false
+one_passes true fault is = absurd cc
+one_passes false fault is = refl
+
+two_pass : (large other : Bool) (fault : EditFault) → (if large || other then Some fault else None) ≡ None → (large ≡ false) × (other ≡ false)
+two_pass true other fault is = absurd cc
+two_pass false true fault is = absurd cc
+two_pass false false fault is = (refl, refl)
+
+-- a script that is renamed is another than the one that it becomes
+other_name : (scripts : List (ScriptName × List ℕ)) (from to : ScriptName) (text : List ℕ) → text_at scripts from ≡ Some text → is_some (text_at scripts to) ≡ false → name_eq to from ≡ false
+other_name scripts from to text there free = by (name_eq to from) refl
+  where
+    by : (b : Bool) → name_eq to from ≡ b → b ≡ false
+    by true is = let e : is_some (text_at scripts to) ≡ true = ap (λ name. is_some (text_at scripts name)) (is_name to from is) ∙ ap is_some there in absurd cc
+    by false is = refl
+
+-- what scripts become that are put, renamed and removed is within the limits
+module _ (scripts : List (ScriptName × List ℕ)) (order : AreOrdered scripts) (limits : AreScriptsWithin scripts) where
+  scripts_put : (name : ScriptName) (text : List ℕ) → script_refusal scripts name text ≡ None → AreScriptsWithin (with_script name text scripts)
+  scripts_put name text none = record {
+    count =
+        counted script_count_limit (length scripts) (length (with_script name text scripts)) (is_none (text_at scripts name)) passed.2
+        (one_inserted name_total name text scripts) (none_inserted name_total name text scripts order) limits.count;
+    names = All-keys-insert_entry name_cmp name text (λ n. length n.name ≤ name_limit) scripts limits.names (not_past name_limit (length name.name) passed.0);
+    texts = All-values-insert_entry name_cmp name text (λ t. length t ≤ text_limit) scripts limits.texts (not_past text_limit (length text) passed.1);
+  }
+    where
+      passed : (is_long name.name ≡ false) × (nat_lt text_limit (length text) ≡ false) × (is_none (text_at scripts name) ≡ true → nat_le script_count_limit (length scripts) ≡ false)
+      passed = put_passes (is_long name.name) (nat_lt text_limit (length text)) (is_none (text_at scripts name)) (nat_le script_count_limit (length scripts)) TooLarge Full none
+
+  scripts_removed : (name : ScriptName) → AreScriptsWithin (without_script name scripts)
+  scripts_removed name = record {
+    count = let fewer = none_more (tree.is_at (name_cmp name)) scripts in let within : length scripts ≤ script_count_limit = limits.count in omega arith;
+    names = All-map-remove_entry (tree.is_at (name_cmp name)) (λ e. e.0) (λ n. length n.name ≤ name_limit) scripts limits.names;
+    texts = All-map-remove_entry (tree.is_at (name_cmp name)) (λ e. e.1) (λ t. length t ≤ text_limit) scripts limits.texts;
+  }
+
+  scripts_renamed : (from to : ScriptName) → rename_refusal scripts from to ≡ None → (found : Option (List ℕ)) → text_at scripts from ≡ found → AreScriptsWithin (with_renamed from found to scripts)
+  scripts_renamed from to none None there = limits
+  scripts_renamed from to none (Some text) there = record {
+    count =
+        let copied : is_none (text_at (with_script to text scripts) from) ≡ false = ap is_none (text-with_script to text from scripts (other_name scripts from to text there passed.1) ∙ there) in
+        let less = one_removed (tree.is_at (name_cmp from)) (with_script to text scripts) copied in
+        let more = one_inserted name_total to text scripts in
+        let within : length scripts ≤ script_count_limit = limits.count in
+        omega arith;
+    names =
+        All-map-remove_entry (tree.is_at (name_cmp from)) (λ e. e.0) (λ n. length n.name ≤ name_limit) (with_script to text scripts)
+        (All-keys-insert_entry name_cmp to text (λ n. length n.name ≤ name_limit) scripts limits.names (not_past name_limit (length to.name) passed.0));
+    texts =
+        All-map-remove_entry (tree.is_at (name_cmp from)) (λ e. e.1) (λ t. length t ≤ text_limit) (with_script to text scripts)
+        (All-values-insert_entry name_cmp to text (λ t. length t ≤ text_limit) scripts limits.texts
+        (subst (λ (one : Option (List ℕ)). IfSome one (λ t. length t ≤ text_limit)) there (IfSome-lookup_from_All (λ t. length t ≤ text_limit) (tree.is_at (name_cmp from)) scripts limits.texts)));
+  }
+    where
+      passed : (is_long to.name ≡ false) × (is_some (text_at scripts to) ≡ false)
+      passed = rename_passes (is_long from.name) (is_long to.name) (is_none (text_at scripts from)) (is_some (text_at scripts to)) none
+
+-- a text that is expected is within its limit
+abbrev IsTextWithin : Option (List ℕ) → Type 0
+IsTextWithin expected = IfSome expected (λ text. length text ≤ expected_limit)
+
+-- so with messages that are put and removed, and with what is expected of them
+module _ (messages : List (List ℕ × Sample)) (limits : AreMessagesWithin messages) where
+  text_within : (id : List ℕ) → IsTextWithin (expected_at messages id)
+  text_within id = by (message_at messages id) (IfSome-lookup_from_All (λ s. IsTextWithin s.expected) (pointwise nat_eq id) messages limits.expected)
+    where
+      by : (found : Option Sample) → IfSome found (λ s. IsTextWithin s.expected) → IsTextWithin (option_and_then (λ s. s.expected) found)
+      by None within = tt
+      by (Some sample) within = within
+
+  messages_put : (id bytes : List ℕ) → message_refusal messages id bytes ≡ None → AreMessagesWithin (with_message id bytes messages)
+  messages_put id bytes none = record {
+    count =
+        counted message_count_limit (length messages) (length (with_message id bytes messages)) (is_none (message_at messages id)) passed.2
+        (one_put id sample messages) (none_put id sample messages) limits.count;
+    ids =
+        All-from_recursion (λ i. length i ≤ id_limit) (keys_of (with_message id bytes messages))
+        (all_put id sample (λ i. length i ≤ id_limit) messages (recursion_from_All (λ i. length i ≤ id_limit) (keys_of messages) limits.ids) (not_past id_limit (length id) passed.0));
+    octets =
+        All-from_recursion (λ s. length s.octets ≤ message_limit) (values_of (with_message id bytes messages))
+        (all_values_put id sample (λ s. length s.octets ≤ message_limit) messages (recursion_from_All (λ s. length s.octets ≤ message_limit) (values_of messages) limits.octets) (not_past message_limit (length bytes) passed.1));
+    expected =
+        All-from_recursion (λ s. IsTextWithin s.expected) (values_of (with_message id bytes messages))
+        (all_values_put id sample (λ s. IsTextWithin s.expected) messages (recursion_from_All (λ s. IsTextWithin s.expected) (values_of messages) limits.expected) (text_within id));
+  }
+    where
+      sample : Sample
+      sample = record { octets = bytes; expected = expected_at messages id }
+
+      passed : (is_long_id id ≡ false) × (nat_lt message_limit (length bytes) ≡ false) × (is_none (message_at messages id) ≡ true → nat_le message_count_limit (length messages) ≡ false)
+      passed = put_passes (is_long_id id) (nat_lt message_limit (length bytes)) (is_none (message_at messages id)) (nat_le message_count_limit (length messages)) TooLarge Full none
+
+  messages_expected : (id : List ℕ) (expected : Option (List ℕ)) → IsTextWithin expected → AreMessagesWithin (with_expected id expected messages)
+  messages_expected id expected within = record {
+    count = subst (λ n. n ≤ message_count_limit) (sym (length_expected id expected messages)) limits.count;
+    ids = subst (All (λ i. length i ≤ id_limit)) (sym (keys_expected id expected messages)) limits.ids;
+    octets =
+        All-from_recursion (λ s. length s.octets ≤ message_limit) (values_of (with_expected id expected messages))
+        (octets_expected id expected (λ o. length o ≤ message_limit) messages (recursion_from_All (λ s. length s.octets ≤ message_limit) (values_of messages) limits.octets));
+    expected =
+        All-from_recursion (λ s. IsTextWithin s.expected) (values_of (with_expected id expected messages))
+        (all_expected id expected IsTextWithin messages (recursion_from_All (λ s. IsTextWithin s.expected) (values_of messages) limits.expected) within);
+  }
+
+  messages_removed : (id : List ℕ) → AreMessagesWithin (without_message id messages)
+  messages_removed id = record {
+    count = let fewer = none_more (pointwise nat_eq id) messages in let within : length messages ≤ message_count_limit = limits.count in omega arith;
+    ids = All-map-remove_entry (pointwise nat_eq id) (λ e. e.0) (λ i. length i ≤ id_limit) messages limits.ids;
+    octets = All-map-remove_entry (pointwise nat_eq id) (λ e. e.1) (λ s. length s.octets ≤ message_limit) messages limits.octets;
+    expected = All-map-remove_entry (pointwise nat_eq id) (λ e. e.1) (λ s. IsTextWithin s.expected) messages limits.expected;
+  }
+
+-- an edit that is made keeps a content within its limits
+limits_kept : (content : Content) (edit : Edit) (new : Content) → IsInOrder content → IsWithinLimits content → after content edit ≡ Ok new → IsWithinLimits new
+limits_kept content (put_script name text) new order limits made =
+    let is = accepted (script_refusal content.scripts name text) (record content { scripts = with_script name text content.scripts }) new made in
+    subst IsWithinLimits is.1 (record { main = limits.main; envelope = limits.envelope; scripts = scripts_put content.scripts order.scripts limits.scripts name text is.0; messages = limits.messages })
+limits_kept content (put_message id bytes) new order limits made =
+    let is = accepted (message_refusal content.messages id bytes) (record content { messages = with_message id bytes content.messages }) new made in
+    subst IsWithinLimits is.1 (record { main = limits.main; envelope = limits.envelope; scripts = limits.scripts; messages = messages_put content.messages limits.messages id bytes is.0 })
+limits_kept content (set_main name) new order limits made =
+    let is = accepted (main_refusal name) (record content { main = Some name }) new made in
+    subst IsWithinLimits is.1 (record { main = not_past name_limit (length name.name) (one_passes (is_long name.name) TooLarge is.0); envelope = limits.envelope; scripts = limits.scripts; messages = limits.messages })
+limits_kept content (rename_script from to) new order limits made =
+    let is = accepted (rename_refusal content.scripts from to) (record content { scripts = with_renamed from (text_at content.scripts from) to content.scripts }) new made in
+    subst IsWithinLimits is.1
+    (record { main = limits.main; envelope = limits.envelope; scripts = scripts_renamed content.scripts order.scripts limits.scripts from to is.0 (text_at content.scripts from) refl; messages = limits.messages })
+limits_kept content (remove_script name) new order limits made =
+    let is = accepted (remove_script_refusal content.scripts name) (record content { scripts = without_script name content.scripts }) new made in
+    subst IsWithinLimits is.1 (record { main = limits.main; envelope = limits.envelope; scripts = scripts_removed content.scripts order.scripts limits.scripts name; messages = limits.messages })
+limits_kept content (remove_message id) new order limits made =
+    let is = accepted (absent_refusal content.messages id) (record content { messages = without_message id content.messages }) new made in
+    subst IsWithinLimits is.1 (record { main = limits.main; envelope = limits.envelope; scripts = limits.scripts; messages = messages_removed content.messages limits.messages id })
+limits_kept content clear_main new order limits made =
+    let is = accepted None (record content { main = None }) new made in
+    subst IsWithinLimits is.1 (record { main = tt; envelope = limits.envelope; scripts = limits.scripts; messages = limits.messages })
+limits_kept content (set_envelope from to) new order limits made =
+    let is = accepted (envelope_refusal from to) (record content { envelope = record content.envelope { from = from; to = to } }) new made in
+    let passed = two_pass (nat_lt address_limit (length from)) (nat_lt address_limit (length to)) TooLarge is.0 in
+    subst IsWithinLimits is.1 (record {
+      main = limits.main;
+      envelope = record { from = not_past address_limit (length from) passed.0; to = not_past address_limit (length to) passed.1; mailbox = limits.envelope.mailbox };
+      scripts = limits.scripts;
+      messages = limits.messages;
+    })
+limits_kept content (set_mailbox mailbox) new order limits made =
+    let is = accepted (mailbox_refusal mailbox) (record content { envelope = record content.envelope { mailbox = mailbox } }) new made in
+    let passed = one_passes (nat_lt mailbox_limit (length mailbox)) TooLarge is.0 in
+    subst IsWithinLimits is.1 (record {
+      main = limits.main;
+      envelope = record { from = limits.envelope.from; to = limits.envelope.to; mailbox = not_past mailbox_limit (length mailbox) passed };
+      scripts = limits.scripts;
+      messages = limits.messages;
+    })
+limits_kept content (set_expected id text) new order limits made =
+    let is = accepted (expected_refusal content.messages id text) (record content { messages = with_expected id (Some text) content.messages }) new made in
+    let passed = expected_passes (is_long_id id) (nat_lt expected_limit (length text)) (is_none (message_at content.messages id)) is.0 in
+    subst IsWithinLimits is.1
+    (record { main = limits.main; envelope = limits.envelope; scripts = limits.scripts; messages = messages_expected content.messages limits.messages id (Some text) (not_past expected_limit (length text) passed) })
+limits_kept content (clear_expected id) new order limits made =
+    let is = accepted (absent_refusal content.messages id) (record content { messages = with_expected id None content.messages }) new made in
+    subst IsWithinLimits is.1 (record { main = limits.main; envelope = limits.envelope; scripts = limits.scripts; messages = messages_expected content.messages limits.messages id None tt })
+
+-- EDITS IN TURN
+
+limits_behind : (content : Content) (edit : Edit) → IsInOrder content → IsWithinLimits content → IsWithinLimits (behind content (after content edit))
+limits_behind content edit order limits = by (after content edit) refl
+  where
+    by : (made : Result Content EditFault) → after content edit ≡ made → IsWithinLimits (behind content made)
+    by (Ok new) is = limits_kept content edit new order limits is
+    by (Err fault) is = limits
+
+pub stays_within : (content : Content) (edits : List Edit) → IsInOrder content → IsWithinLimits content → IsWithinLimits (content_after content edits)
+unfolding content_after
+stays_within content [] order limits = limits
+stays_within content (edit ∷ edits) order limits = stays_within (behind content (after content edit)) edits (order_behind content edit order) (limits_behind content edit order limits)
+
+-- A NEW BENCH
+
+pub new_within : IsWithinLimits new_content
+new_within = record {
+  main = tt;
+  envelope = record { from = omega arith; to = omega arith; mailbox = omega arith };
+  scripts = record { count = omega arith; names = All-nil (λ n. length n.name ≤ name_limit); texts = All-nil (λ t. length t ≤ text_limit) };
+  messages = record { count = omega arith; ids = All-nil (λ i. length i ≤ id_limit); octets = All-nil (λ s. length s.octets ≤ message_limit); expected = All-nil (λ s. IsTextWithin s.expected) };
+}

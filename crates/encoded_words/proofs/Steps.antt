@@ -1,0 +1,225 @@
+-- Steps of decoding.
+use Rattle.std.proofs.Common.{◌≡◌, ℕ, suc, ◌+◌, ◌<◌, ◌≤◌, Bool, true, false, ◌&&◌, ◌||◌, cond, List, [], ◌∷◌, ◌++◌, length, map, take, drop, Option, None, Some, is_some, refl, sym, ◌∙◌, ap, append_assoc, append-nil, add-one, ◌-◌, get_or, zero, encode_utf8, encode_utf8_all, arith}
+use Rattle.std.specs.List.{list_all, list_any, prefix_len}
+use Rattle.std.specs.Option.{option_map}
+use Rattle.std.specs.Str.{IsUtf8, is_utf8}
+use Rattle.std.proofs.lemmas.List.Folds.{length-prefix_len}
+use Rattle.std.proofs.lemmas.List.{take_all, take_more}
+use Rattle.std.proofs.Math.ListN.{drop_of_length-le}
+use Rattle.std.proofs.lemmas.Str.{encodes-append, IsUtf8-from_is_utf8, is_utf8-from_IsUtf8}
+use Rattle.encoded_words.specs.Encoding.{octet_before}
+use Rattle.encoded_words.specs.Cut.{Cuts, Piece, joined, kept, leads_to_word, octet, replaced}
+use Rattle.sieve_base.specs.Octet.{is_blank}
+use Rattle.encoded_words.specs.Charset.{meaning}
+use Rattle.encoded_words.specs.Scan.{decoded_of, first_piece, has_word, replaced_of, has_written, further_octets, is_word, piece_by, pieces_from, pieces_of, run, word_at}
+use Rattle.encoded_words.specs.Word.{Word, is_word_octet}
+use Rattle.encoded_words.proofs.Cut.{cuts_from, pieces_from-drop}
+
+pub utf8_said : (octets : List ℕ) → IsUtf8 octets → is_utf8 octets ≡ true
+utf8_said octets is = is_utf8-from_IsUtf8 octets is
+
+denied_step : (octets : List ℕ) (b : Bool) → is_utf8 octets ≡ b → (IsUtf8 octets → ⊥) → b ≡ false
+denied_step octets true is never = absurd (never (IsUtf8-from_is_utf8 octets is))
+denied_step octets false is never = refl
+
+pub utf8_denied : (octets : List ℕ) → (IsUtf8 octets → ⊥) → is_utf8 octets ≡ false
+utf8_denied octets never = denied_step octets (is_utf8 octets) refl never
+
+pub run_len : (octets : List ℕ) → length (run octets) ≡ prefix_len is_word_octet octets
+run_len octets = length-prefix_len is_word_octet octets
+
+-- an octet more of a text in Q
+pub octet_step : (done next : List ℕ) (c : ℕ) (left whole : Option (List ℕ)) → next ≡ done ++ c ∷ [] → option_map (λ more. done ++ more) (octet_before c left) ≡ whole → option_map (λ more. next ++ more) left ≡ whole
+octet_step done next c None whole is so_far = so_far
+octet_step done next c (Some more) whole is so_far =
+    ap (λ one. Some (one ++ more)) is ∙ ap Some (append_assoc done (c ∷ []) more) ∙ so_far
+
+-- what stands in front and what stands behind it
+pub first_and_behind : (octets : List ℕ) → 1 ≤ length octets → get_or octets 0 0 ∷ take (length octets - 1) (drop 1 octets) ≡ octets
+first_and_behind [] some = absurd (omega arith)
+first_and_behind (c ∷ octets) some = ap (λ behind. c ∷ behind) (take_all (length (c ∷ octets) - 1) octets (omega arith))
+
+-- an octet more of ISO 8859-1
+pub latin_step : (octets text next : List ℕ) (i : ℕ) → i < length octets → text ≡ encode_utf8_all (take i octets) → next ≡ text ++ encode_utf8 (get_or octets i 0) → next ≡ encode_utf8_all (take (i + 1) octets)
+latin_step octets text next i within so_far is =
+    is
+    ∙ ap (λ one. one ++ encode_utf8 (get_or octets i 0)) so_far
+    ∙ ap (λ one. encode_utf8_all (take i octets) ++ one) (sym (append-nil (encode_utf8 (get_or octets i 0))))
+    ∙ sym (encodes-append (take i octets) (get_or octets i 0 ∷ []))
+    ∙ ap encode_utf8_all (sym (take_more octets i 0 within))
+
+-- the piece with which a value begins
+
+pub none_at : (value : List ℕ) → 0 < length value → None ≡ word_at value → pieces_of value ≡ octet (get_or value 0 0) ∷ pieces_of (drop 1 value)
+unfolding pieces_from
+none_at [] some is = absurd (omega arith)
+none_at (c ∷ rest) some is = ap (λ found. first_piece c found ∷ pieces_from (further_octets (first_piece c found)) rest) (sym is)
+
+pub meaningless_at : (value : List ℕ) (word : Word) → 0 < length value → Some word ≡ word_at value → None ≡ meaning word → pieces_of value ≡ octet (get_or value 0 0) ∷ pieces_of (drop 1 value)
+unfolding pieces_from
+meaningless_at [] word some is none = absurd (omega arith)
+meaningless_at (c ∷ rest) word some is none =
+    ap (λ found. first_piece c found ∷ pieces_from (further_octets (first_piece c found)) rest) (sym is)
+    ∙ ap (λ meant. piece_by c word meant ∷ pieces_from (further_octets (piece_by c word meant)) rest) (sym none)
+
+replaced_at : (value meant : List ℕ) (word : Word) (n : ℕ) → 0 < length value → Some word ≡ word_at value → Some meant ≡ meaning word → n ≡ length word.charset + length word.text + 7 → pieces_of value ≡ replaced word meant ∷ pieces_of (drop n value)
+unfolding pieces_from
+replaced_at [] meant word n some is means count = absurd (omega arith)
+replaced_at (c ∷ rest) meant word n some is means count =
+    let further = length word.charset + length word.text + 6 in
+    let same : suc further ≡ n = omega arith in
+    ap (λ found. first_piece c found ∷ pieces_from (further_octets (first_piece c found)) rest) (sym is)
+    ∙ ap (λ meant. piece_by c word meant ∷ pieces_from (further_octets (piece_by c word meant)) rest) (sym means)
+    ∙ ap (λ pieces. replaced word meant ∷ pieces) (pieces_from-drop further rest)
+    ∙ ap (λ n. replaced word meant ∷ pieces_of (drop n (c ∷ rest))) same
+
+-- octets that stand for themselves, and the pieces behind them
+abbrev pub in_front : List ℕ → List Piece → List Piece
+in_front octets pieces = map octet octets ++ pieces
+
+plain_next : (left : List ℕ) (plain : ℕ) → plain < length left → pieces_of (drop plain left) ≡ octet (get_or (drop plain left) 0 0) ∷ pieces_of (drop 1 (drop plain left)) → in_front (take (suc plain) left) (pieces_of (drop (suc plain) left)) ≡ in_front (take plain left) (pieces_of (drop plain left))
+plain_next [] plain within is = absurd (omega arith)
+plain_next (c ∷ rest) zero within is = sym is
+plain_next (c ∷ rest) (suc plain) within is = ap (λ pieces. octet c ∷ pieces) (plain_next rest plain (omega arith) is)
+
+pub plain_step : (left : List ℕ) (plain : ℕ) (whole : List Piece) → plain < length left → pieces_of (drop plain left) ≡ octet (get_or (drop plain left) 0 0) ∷ pieces_of (drop 1 (drop plain left)) → in_front (take plain left) (pieces_of (drop plain left)) ≡ whole → in_front (take (plain + 1) left) (pieces_of (drop (plain + 1) left)) ≡ whole
+plain_step left plain whole within is so_far = rw add-one (plain_next left plain within is ∙ so_far)
+
+pub word_step : (gap rest behind meant : List ℕ) (word : Word) (n : ℕ) (whole : List Piece) → 0 < length rest → Some word ≡ word_at rest → Some meant ≡ meaning word → n ≡ length word.charset + length word.text + 7 → behind ≡ drop n rest → in_front gap (pieces_of rest) ≡ whole → whole ≡ in_front gap (replaced word meant ∷ pieces_of behind)
+word_step gap rest behind meant word n whole some is means count behind_is so_far =
+    sym so_far
+    ∙ ap (in_front gap) (replaced_at rest meant word n some is means count)
+    ∙ ap (λ one. in_front gap (replaced word meant ∷ pieces_of one)) (sym behind_is)
+
+pub all_alone : (left : List ℕ) (plain : ℕ) → length left ≤ plain → in_front (take plain left) (pieces_of (drop plain left)) ≡ pieces_of left → pieces_of left ≡ map octet left
+unfolding pieces_from
+all_alone left plain ended is =
+    sym is
+    ∙ ap (λ one. in_front one (pieces_of (drop plain left))) (take_all plain left ended)
+    ∙ ap (λ one. in_front left (pieces_of one)) (drop_of_length-le left ended)
+    ∙ append-nil (map octet left)
+
+-- what pieces stand for
+
+leads_gap : (gap meant : List ℕ) (word : Word) (pieces : List Piece) → leads_to_word (in_front gap (replaced word meant ∷ pieces)) ≡ list_all is_blank gap
+leads_gap [] meant word pieces = refl
+leads_gap (c ∷ gap) meant word pieces = ap (λ b. is_blank c && b) (leads_gap gap meant word pieces)
+
+gap_step : (behind_word blank all : Bool) (c : ℕ) (gap : List ℕ) (rest true_rest false_rest : List ℕ) → true_rest ≡ cond all [] gap ++ rest → false_rest ≡ gap ++ rest → cond (behind_word && (blank && all)) true_rest (c ∷ false_rest) ≡ cond (behind_word && (blank && all)) [] (c ∷ gap) ++ rest
+gap_step true true true c gap rest true_rest false_rest dropped stays = dropped
+gap_step true true false c gap rest true_rest false_rest dropped stays = ap (λ octets. c ∷ octets) stays
+gap_step true false all c gap rest true_rest false_rest dropped stays = ap (λ octets. c ∷ octets) stays
+gap_step false blank all c gap rest true_rest false_rest dropped stays = ap (λ octets. c ∷ octets) stays
+
+pub joined_gap : (behind_word : Bool) (gap meant : List ℕ) (word : Word) (pieces : List Piece) → joined behind_word (in_front gap (replaced word meant ∷ pieces)) ≡ kept behind_word gap ++ (meant ++ joined true pieces)
+joined_gap true [] meant word pieces = refl
+joined_gap false [] meant word pieces = refl
+joined_gap behind_word (c ∷ gap) meant word pieces =
+    let further = in_front gap (replaced word meant ∷ pieces) in
+    ap (λ b. cond (behind_word && (is_blank c && b)) (joined true further) (c ∷ joined false further)) (leads_gap gap meant word pieces)
+    ∙ gap_step behind_word (is_blank c) (list_all is_blank gap) c gap (meant ++ joined true pieces) (joined true further) (joined false further)
+    (joined_gap true gap meant word pieces) (joined_gap false gap meant word pieces)
+
+pub word_decoded : (done next gap meant : List ℕ) (behind_word : Bool) (word : Word) (left pieces : List Piece) (whole : List ℕ) → next ≡ done ++ (kept behind_word gap ++ meant) → left ≡ in_front gap (replaced word meant ∷ pieces) → done ++ joined behind_word left ≡ whole → next ++ joined true pieces ≡ whole
+word_decoded done next gap meant behind_word word left pieces whole next_is left_is so_far =
+    ap (λ octets. octets ++ joined true pieces) next_is
+    ∙ append_assoc done (kept behind_word gap ++ meant) (joined true pieces)
+    ∙ ap (λ octets. done ++ octets) (append_assoc (kept behind_word gap) meant (joined true pieces))
+    ∙ ap (λ octets. done ++ octets) (sym (joined_gap behind_word gap meant word pieces))
+    ∙ ap (λ pieces. done ++ joined behind_word pieces) (sym left_is)
+    ∙ so_far
+
+no_further : (octets : List ℕ) → leads_to_word (map octet octets) ≡ false
+no_further [] = refl
+no_further (c ∷ octets) = ap (λ b. is_blank c && b) (no_further octets) ∙ never (is_blank c)
+  where
+    never : (b : Bool) → (b && false) ≡ false
+    never true = refl
+    never false = refl
+
+stays_step : (behind_word blank : Bool) (dropped stays : List ℕ) → cond (behind_word && (blank && false)) dropped stays ≡ stays
+stays_step true true dropped stays = refl
+stays_step true false dropped stays = refl
+stays_step false blank dropped stays = refl
+
+pub joined_octets : (behind_word : Bool) (octets : List ℕ) → joined behind_word (map octet octets) ≡ octets
+joined_octets behind_word [] = refl
+joined_octets behind_word (c ∷ octets) =
+    let further = map octet octets in
+    ap (λ b. cond (behind_word && (is_blank c && b)) (joined true further) (c ∷ joined false further)) (no_further octets)
+    ∙ stays_step behind_word (is_blank c) (joined true further) (c ∷ joined false further)
+    ∙ ap (λ octets. c ∷ octets) (joined_octets false octets)
+
+pub last_decoded : (done left whole : List ℕ) (behind_word : Bool) (pieces : List Piece) → pieces ≡ map octet left → done ++ joined behind_word pieces ≡ whole → done ++ left ≡ whole
+last_decoded done left whole behind_word pieces is so_far =
+    ap (λ octets. done ++ octets) (sym (joined_octets behind_word left))
+    ∙ ap (λ pieces. done ++ joined behind_word pieces) (sym is)
+    ∙ so_far
+
+-- whether a word was replaced
+
+any_in_front : (gap meant : List ℕ) (word : Word) (pieces : List Piece) → list_any is_word (in_front gap (replaced word meant ∷ pieces)) ≡ true
+any_in_front [] meant word pieces = refl
+any_in_front (c ∷ gap) meant word pieces = any_in_front gap meant word pieces
+
+or_true : (b : Bool) → (b || true) ≡ true
+or_true true = refl
+or_true false = refl
+
+pub word_found : (before whole : Bool) (gap meant : List ℕ) (word : Word) (left pieces : List Piece) → left ≡ in_front gap (replaced word meant ∷ pieces) → (before || list_any is_word left) ≡ whole → true ≡ whole
+word_found before whole gap meant word left pieces is so_far =
+    sym (or_true before)
+    ∙ ap (λ b. before || b) (sym (any_in_front gap meant word pieces))
+    ∙ ap (λ pieces. before || list_any is_word pieces) (sym is)
+    ∙ so_far
+
+pub none_found : (octets : List ℕ) → list_any is_word (map octet octets) ≡ false
+none_found [] = refl
+none_found (c ∷ octets) = none_found octets
+
+-- whether a word is written
+
+or_last : (a b : Bool) → (a || b) ≡ false → b ≡ false
+or_last true b is = absurd cc
+or_last false b is = is
+
+written_behind : (left : List ℕ) (plain : ℕ) → plain < length left → has_written (drop plain left) ≡ false → has_written (drop (suc plain) left) ≡ false
+unfolding has_written
+written_behind [] plain within none = absurd (omega arith)
+written_behind (c ∷ rest) zero within none = or_last (is_some (word_at (c ∷ rest))) (has_written rest) none
+written_behind (c ∷ rest) (suc plain) within none = written_behind rest plain (omega arith) none
+
+pub written_next : (left : List ℕ) (plain : ℕ) → plain < length left → has_written (drop plain left) ≡ false → has_written (drop (plain + 1) left) ≡ false
+written_next left plain within none = rw add-one (written_behind left plain within none)
+
+pub word_written : (rest : List ℕ) (word : Word) → Some word ≡ word_at rest → has_written rest ≡ false → ⊥
+unfolding has_written word_at
+word_written [] word is none = absurd cc
+word_written (c ∷ rest) word is none =
+    let found : true ≡ false = ap (λ one. is_some one || has_written rest) is ∙ none in
+    cc
+
+-- where no word is replaced
+
+unchanged_pieces : (pieces : List Piece) (value : List ℕ) → Cuts pieces value → list_any is_word pieces ≡ false → joined false pieces ≡ value
+unchanged_pieces [] value is none = sym is
+unchanged_pieces (replaced word octets ∷ pieces) value cut none = absurd cc
+unchanged_pieces (octet c ∷ pieces) value (nowhere, rest, is, cut) none =
+    ap (λ octets. c ∷ octets) (unchanged_pieces pieces rest cut none) ∙ sym is
+
+pub unchanged : (value : List ℕ) → has_word value ≡ false → decoded_of value ≡ value
+unchanged value none = unchanged_pieces (pieces_of value) value (cuts_from 0 value) none
+
+none_step : (value : List ℕ) (b : Bool) → None ≡ cond b (Some (decoded_of value)) None → b ≡ false
+none_step value true is = absurd cc
+none_step value false is = refl
+
+pub none_replaced : (value : List ℕ) → None ≡ replaced_of value → has_word value ≡ false
+none_replaced value is = none_step value (has_word value) is
+
+some_step : (value octets : List ℕ) (b : Bool) → Some octets ≡ cond b (Some (decoded_of value)) None → (b ≡ true) × (octets ≡ decoded_of value)
+some_step value octets true is = (refl, cc)
+some_step value octets false is = absurd cc
+
+pub some_replaced : (value octets : List ℕ) → Some octets ≡ replaced_of value → (has_word value ≡ true) × (octets ≡ decoded_of value)
+some_replaced value octets is = some_step value octets (has_word value) is

@@ -1,0 +1,89 @@
+use Rattle.std.proofs.Common.{if◌then◌else◌, ◌≡◌, ℕ, ◌+◌, ◌<◌, ◌++◌, ◌||◌, Some, None, List, true, false, length, drop, take, length-drop, refl, sym, ◌∙◌, ap, arith}
+use Rattle.std.specs.List.{list_any}
+use Rattle.encoded_words.specs.Charset.{meaning}
+use Rattle.encoded_words.specs.Cut.{kept}
+use Rattle.encoded_words.specs.Scan.{decoded_of, has_word, is_word, pieces_of, word_at}
+use Rattle.encoded_words.specs.view.Word.{octets_of, word_of}
+use Rattle.encoded_words.proofs.Steps.{all_alone, in_front, last_decoded, meaningless_at, none_at, none_found, plain_step, word_decoded, word_found, word_step, word_written, written_next}
+use Rattle.encoded_words.proofs.values.replaced.Goals as goal
+
+pub loop-plain-preserved-in_default : goal.loop-plain-preserved-in_default
+loop-plain-preserved-in_default c =
+    let left = c.loop-plain.left.now in
+    let plain = c.loop-plain.plain in
+    let some : 0 < length (drop plain left) = omega (arith, length-drop plain left) in
+    let none : None ≡ word_at (drop plain left) = c.in_default.ensures.is ∙ ap word_at c.split_at.ensures.back in
+    record {
+      within = omega arith;
+      alone = plain_step left plain (pieces_of left) (omega arith) (none_at (drop plain left) some none) c.loop-plain.invariant.alone;
+      decoded = c.loop-plain.invariant.decoded;
+      found = c.loop-plain.invariant.found;
+      unwritten = λ none. ((c.loop-plain.invariant.unwritten none).0, written_next left plain (omega arith) ((c.loop-plain.invariant.unwritten none).1));
+    }
+
+pub loop-plain-preserved-in_default-2 : goal.loop-plain-preserved-in_default-2
+loop-plain-preserved-in_default-2 c =
+    let left = c.loop-plain.left.now in
+    let plain = c.loop-plain.plain in
+    let some : 0 < length (drop plain left) = omega (arith, length-drop plain left) in
+    let word = c.in-Some.ensures.is ∙ ap word_at c.split_at.ensures.back in
+    let none : None ≡ meaning (word_of c.in-Some.word) = ap octets_of (sym c.in_default-2.is) ∙ c.in_ok-meant.ensures.is in
+    record {
+      within = omega arith;
+      alone = plain_step left plain (pieces_of left) (omega arith) (meaningless_at (drop plain left) (word_of c.in-Some.word) some word none) c.loop-plain.invariant.alone;
+      decoded = c.loop-plain.invariant.decoded;
+      found = c.loop-plain.invariant.found;
+      unwritten = λ none. ((c.loop-plain.invariant.unwritten none).0, written_next left plain (omega arith) ((c.loop-plain.invariant.unwritten none).1));
+    }
+
+pub loop-plain-preserved : goal.loop-plain-preserved
+loop-plain-preserved c =
+    let left = c.loop-plain.left.now in
+    let gap = c.split_at.result.0.now in
+    let rest = c.split_at.result.1.now in
+    let word = word_of c.in-Some.word in
+    let meant = c.in-Some-2.meant.items in
+    let behind = c.split_at-in-loop-plain.result.1.now in
+    let done = c.loop-plain.octets.items in
+    let some : 0 < length rest = omega arith in
+    let means : Some meant ≡ meaning word = ap octets_of (sym c.in-Some-2.is) ∙ c.in_ok-meant.ensures.is in
+    let alone : in_front gap (pieces_of rest) ≡ pieces_of left =
+    ap (λ one. in_front one (pieces_of rest)) c.split_at.ensures.front
+    ∙ ap (λ one. in_front (take c.loop-plain.plain left) (pieces_of one)) c.split_at.ensures.back
+    ∙ c.loop-plain.invariant.alone in
+    let cut =
+    word_step gap rest behind meant word (length c.in-Some.word.charset.now + length c.in-Some.word.text.now + 7) (pieces_of left) some c.in-Some.ensures.is means refl c.split_at-in-loop-plain.ensures.back alone in
+    let pushed = c.in_ok-push_word.ensures ∙ ap (λ (one : List ℕ). done ++ (kept c.loop-plain.behind_word gap ++ one)) c.deref.ensures.value in
+    record {
+      within = omega arith;
+      alone = refl;
+      decoded = word_decoded done c.push_word.new.octets.items gap meant c.loop-plain.behind_word word (pieces_of left) (pieces_of behind) _ pushed cut c.loop-plain.invariant.decoded;
+      found = word_found c.loop-plain.behind_word _ gap meant word (pieces_of left) (pieces_of behind) cut c.loop-plain.invariant.found;
+      unwritten = λ none. absurd (word_written (drop c.loop-plain.plain left) word (c.in-Some.ensures.is ∙ ap word_at c.split_at.ensures.back) (c.loop-plain.invariant.unwritten none).1);
+    }
+
+pub returns-then-not-behind_word-clause-is : goal.returns-then-not-behind_word-clause-is
+returns-then-not-behind_word-clause-is c =
+    let left = c.loop-plain.left.now in
+    let alone = all_alone left c.loop-plain.plain c.loop-plain-test.false c.loop-plain.invariant.alone in
+    let none : has_word left ≡ false = ap (list_any is_word) alone ∙ none_found left in
+    let whole : has_word c.args.value.now ≡ false = sym c.loop-plain.invariant.found ∙ ap (λ b. b || has_word left) c.if-not-behind_word.true ∙ none in
+    rw whole refl
+
+pub returns-clause-is : goal.returns-clause-is
+returns-clause-is c =
+    let left = c.loop-plain.left.now in
+    let alone = all_alone left c.loop-plain.plain c.loop-plain-test.false c.loop-plain.invariant.alone in
+    let whole : has_word c.args.value.now ≡ true = sym c.loop-plain.invariant.found ∙ ap (λ b. b || has_word left) c.if-not-behind_word.false in
+    let items =
+    c.in_ok-extend_from_slice.ensures.items
+    ∙ last_decoded c.loop-plain.octets.items left (decoded_of c.args.value.now) c.loop-plain.behind_word (pieces_of left) alone c.loop-plain.invariant.decoded in
+    ap Some items ∙ ap (λ b. if b then Some (decoded_of c.args.value.now) else None) (sym whole)
+
+pub returns-in_err-meant-clause-unwritten : goal.returns-in_err-meant-clause-unwritten
+returns-in_err-meant-clause-unwritten c = λ none.
+    absurd (word_written (drop c.loop-plain.plain c.loop-plain.left.now) (word_of c.in-Some.word) (c.in-Some.ensures.is ∙ ap word_at c.split_at.ensures.back) (c.loop-plain.invariant.unwritten none).1)
+
+pub returns-in_err-push_word-clause-unwritten : goal.returns-in_err-push_word-clause-unwritten
+returns-in_err-push_word-clause-unwritten c = λ none.
+    absurd (word_written (drop c.loop-plain.plain c.loop-plain.left.now) (word_of c.in-Some.word) (c.in-Some.ensures.is ∙ ap word_at c.split_at.ensures.back) (c.loop-plain.invariant.unwritten none).1)

@@ -1,0 +1,7 @@
+pub mod Charset
+pub mod Cut
+pub mod Encoding
+pub mod Reading
+pub mod Scan
+pub mod Word
+pub mod view

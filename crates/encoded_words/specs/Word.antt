@@ -1,0 +1,39 @@
+-- Encoded words (RFC 2047, section 2): `=?`, a charset, `?`, the letter of an encoding, `?`, a text, and `?=`. Charset and text
+-- have no limit of length, and may have each visible octet but `?`.
+use Rattle.std.specs.Prelude.{ℕ, Bool, not, ◌&&◌, ◌||◌, ◌==◌, nat_lt, List, ◌∷◌, ◌++◌, codes, length}
+use Rattle.std.specs.List.{list_all}
+use Rattle.sieve_base.specs.Octet.{octet_of, is_visible}
+
+-- an encoded word
+pub record Word : Type 0 where
+  pub charset : List ℕ
+  pub letter : ℕ
+  pub text : List ℕ
+
+-- an octet of a charset or of a text
+abbrev pub is_word_octet : ℕ → Bool
+is_word_octet octet = is_visible octet && not (octet == octet_of "?")
+
+-- the letter of the encoding B, in either case
+abbrev pub is_b : ℕ → Bool
+is_b letter = letter == octet_of "B" || letter == octet_of "b"
+
+-- the letter of the encoding Q, in either case
+abbrev pub is_q : ℕ → Bool
+is_q letter = letter == octet_of "Q" || letter == octet_of "q"
+
+-- the letter of an encoding
+abbrev pub is_letter : ℕ → Bool
+is_letter letter = is_b letter || is_q letter
+
+-- one or more octets
+abbrev pub is_filled : List ℕ → Bool
+is_filled octets = nat_lt 0 (length octets)
+
+-- whether parts are those of a word
+abbrev pub is_legal : Word → Bool
+is_legal word = (is_filled word.charset && list_all is_word_octet word.charset) && (is_letter word.letter && list_all is_word_octet word.text)
+
+-- a word as it is written
+abbrev pub written : Word → List ℕ
+written word = codes "=?" ++ word.charset ++ octet_of "?" ∷ word.letter ∷ octet_of "?" ∷ word.text ++ codes "?="

@@ -1,0 +1,10 @@
+//! Encoded words (RFC 2047) in the values of header fields: what they stand for in UTF-8, and values in which that stands in their place.
+#![tactic(auto)]
+
+mod charset;
+mod encoding;
+pub mod laws;
+mod values;
+mod word;
+
+pub use values::decoded_value;

@@ -1,0 +1,109 @@
+//! Values with their encoded words replaced.
+ghost use Rattle.std.specs.Prelude.{◌≡◌, ◌++◌, IfOk, IsOk, OnOk, true, false};
+ghost use Rattle.std.specs.Cow.{IsBorrowedSlice, IsOwnedSlice, cow_slice_items};
+ghost use Rattle.std.specs.List.{list_all};
+ghost use Rattle.sieve_base.specs.Octet.{is_blank};
+ghost use Rattle.encoded_words.specs.Scan.{decoded_of, has_word, has_written, replaced_of};
+ghost use Rattle.encoded_words.specs.Cut.{kept};
+ghost use Rattle.encoded_words.specs.view.Word.{octets_of};
+
+use crate::charset::meaning;
+use crate::word::{SIGN_COUNT, word_at};
+use sieve_base::octet::is_blank;
+use std::alloc::{AllocError, Global};
+use std::borrow::CowSlice;
+
+// Whether octets are spaces and tabs alone.
+fn are_blank(octets: &[u8]) -> bool
+    ensures { result ≡ list_all is_blank octets.now }
+{
+    octets.iter().all(|octet| is_blank(*octet))
+}
+
+// Adds what a word stands for, and the octets in front of it. Behind a word, spaces and tabs alone are dropped.
+fn push_word(
+    octets: &mut Vec<u8>,
+    behind_word: bool,
+    gap: &[u8],
+    meant: &[u8],
+) -> Result<(), AllocError>
+    ensures { OnOk result (octets.new.items ≡ octets.old.items ++ (kept behind_word gap.now ++ meant.now)) }
+{
+    if !(behind_word && are_blank(gap)) {
+        octets.extend_from_slice(gap)?;
+    }
+    octets.extend_from_slice(meant)
+}
+
+// A value with its encoded words replaced, if it has one that can be decoded.
+fn replaced(alloc: Global, value: &[u8]) -> Result<Option<Vec<u8>>, AllocError>
+    ensures is { IfOk result (λ found. octets_of found ≡ replaced_of value.now) }
+    // A value in which no word is written takes no memory, so want of it is never answered.
+    ensures unwritten { has_written value.now ≡ false → IsOk result }
+{
+    let mut octets = Vec::new(alloc);
+    let mut behind_word = false;
+    // What isn't yet in the octets, and how many of it are known to stand for themselves.
+    let mut left = value;
+    let mut plain = 0;
+    while plain < left.len() {
+        let (gap, rest) = left.split_at(plain);
+        let Some(word) = word_at(rest) else {
+            plain += 1;
+            continue;
+        };
+        let Some(meant) = meaning(alloc, &word)? else {
+            plain += 1;
+            continue;
+        };
+        push_word(&mut octets, behind_word, gap, &meant)?;
+        let (_, behind) = rest.split_at(word.charset.len() + word.text.len() + SIGN_COUNT);
+        left = behind;
+        plain = 0;
+        behind_word = true;
+    }
+    if !behind_word {
+        return Ok(None);
+    }
+    octets.extend_from_slice(left)?;
+    Ok(Some(octets))
+}
+
+// A value with its encoded words replaced. It is borrowed exactly where none was.
+#[tactic(auto, using(crate::proofs::Steps::unchanged, crate::proofs::Steps::none_replaced, crate::proofs::Steps::some_replaced))]
+fn decoded(alloc: Global, value: &[u8]) -> Result<CowSlice<'_, u8>, AllocError>
+    ensures octets { IfOk result (λ octets. cow_slice_items octets ≡ decoded_of value.now) }
+    ensures borrowed { has_word value.now ≡ false → IfOk result IsBorrowedSlice }
+    ensures owned { has_word value.now ≡ true → IfOk result IsOwnedSlice }
+    ensures unwritten { has_written value.now ≡ false → IsOk result }
+{
+    match replaced(alloc, value)? {
+        None => Ok(CowSlice::Borrowed(value)),
+        Some(octets) => Ok(CowSlice::Owned(octets)),
+    }
+}
+
+/// The value with its encoded words (RFC 2047, section 2) replaced by what they stand for, in UTF-8.
+///
+/// From the left each word that can be decoded is replaced, wherever it stands, and spaces and tabs alone between
+/// two such words are dropped (RFC 2047, section 6.2). A word whose charset isn't known, or whose text isn't of its
+/// encoding or charset, stays as it is written, and another may begin inside it. The value is one of unfolded lines.
+///
+/// The result is borrowed exactly where the value was and no word was replaced. No memory is taken where no word is
+/// written in the value.
+#[tactic(auto, using(crate::proofs::Steps::unchanged, crate::proofs::Steps::none_replaced, crate::proofs::Steps::some_replaced))]
+pub fn decoded_value(alloc: Global, value: CowSlice<'_, u8>) -> Result<CowSlice<'_, u8>, AllocError>
+    ensures octets { IfOk result (λ octets. cow_slice_items octets ≡ decoded_of (cow_slice_items value.entry)) }
+    ensures borrowed { has_word (cow_slice_items value.entry) ≡ false → IsBorrowedSlice value.entry → IfOk result IsBorrowedSlice }
+    ensures replaced { has_word (cow_slice_items value.entry) ≡ true → IfOk result IsOwnedSlice }
+    ensures owned { IsOwnedSlice value.entry → IfOk result IsOwnedSlice }
+    ensures unwritten { has_written (cow_slice_items value.entry) ≡ false → IsOk result }
+{
+    match value {
+        CowSlice::Borrowed(octets) => decoded(alloc, octets),
+        CowSlice::Owned(octets) => {
+            let found = replaced(alloc, &octets)?;
+            Ok(CowSlice::Owned(found.unwrap_or(octets)))
+        }
+    }
+}

@@ -1,0 +1,95 @@
+//! Encoded words as they are written (RFC 2047, section 2).
+ghost use Rattle.std.specs.Prelude.{◌≡◌, ◌+◌, ◌≤◌, IfSome, length, drop};
+ghost use Rattle.std.specs.List.{prefix_len, take_while};
+ghost use Rattle.std.specs.Option.{option_map};
+ghost use Rattle.encoded_words.specs.Scan.{behind_run, run, word_at, word_behind};
+ghost use Rattle.encoded_words.specs.Word.{is_b, is_letter, is_word_octet};
+ghost use Rattle.encoded_words.specs.view.Word.{word_of};
+
+use sieve_base::octet::is_visible;
+
+/// An encoded word.
+#[derive(Clone, Copy)]
+pub(crate) struct Word<'a> {
+    /// The name of its charset.
+    pub(crate) charset: &'a [u8],
+    /// The letter of its encoding.
+    pub(crate) letter: u8,
+    /// Its text.
+    pub(crate) text: &'a [u8],
+}
+
+// How many octets of a word aren't its charset or text: `=?`, `?`, a letter, `?` and `?=`.
+pub(crate) const SIGN_COUNT: usize = 7;
+
+// An octet of a charset or of a text.
+fn is_word_octet(octet: u8) -> bool
+    ensures { result ≡ is_word_octet octet }
+{
+    is_visible(octet) && octet != b'?'
+}
+
+// The letter of the encoding B.
+pub(crate) fn is_b(letter: u8) -> bool
+    ensures { result ≡ is_b letter }
+{
+    matches!(letter, b'B' | b'b')
+}
+
+// The letter of an encoding.
+fn is_letter(letter: u8) -> bool
+    ensures { result ≡ is_letter letter }
+{
+    is_b(letter) || matches!(letter, b'Q' | b'q')
+}
+
+// How many octets of a charset or a text stand in front.
+fn run_len(octets: &[u8]) -> usize
+    ensures { result ≡ length (run octets.now) }
+{
+    octets
+        .iter()
+        .take_while(|octet| is_word_octet(**octet))
+        .count()
+}
+
+// Cuts behind the octets of a charset or a text that stand in front.
+#[tactic(auto, using(crate::proofs::Steps::run_len))]
+fn cut_run(octets: &[u8]) -> (&[u8], &[u8])
+    ensures run { result.0.now ≡ run octets.now }
+    ensures behind { result.1.now ≡ behind_run octets.now }
+    ensures lengths { length result.0.now + length result.1.now ≡ length octets.now }
+{
+    octets.split_at(run_len(octets))
+}
+
+// The word with which the octets begin, whether or not it can be decoded.
+//
+// Trying each place of a value takes time linear in its length. A charset and a text are whole runs of octets of words: one ends
+// where such octets do, and one begins behind a `?`. A run behind `=?` is the charset of one word at most, and one behind `B?` or
+// `Q?` the text of one at most. So each octet is read twice at most, in all tries together.
+#[tactic(auto, unfolding(crate::specs::Scan::word_at))]
+pub(crate) fn word_at(octets: &[u8]) -> Option<Word<'_>>
+    ensures is { option_map word_of result ≡ word_at octets.now }
+    ensures within { IfSome result (λ word. length word.charset.now + length word.text.now + 7 ≤ length octets.now) }
+{
+    let [b'=', b'?', rest @ ..] = octets else {
+        return None;
+    };
+    let (charset, behind) = cut_run(rest);
+    let [b'?', letter, b'?', further @ ..] = behind else {
+        return None;
+    };
+    if charset.is_empty() || !is_letter(*letter) {
+        return None;
+    }
+    let (text, behind) = cut_run(further);
+    let [b'?', b'=', ..] = behind else {
+        return None;
+    };
+    Some(Word {
+        charset,
+        letter: *letter,
+        text,
+    })
+}

@@ -1,0 +1,20 @@
+use Rattle.std.proofs.Common.{◌≡◌, ◌∙◌, ◌-◌, ℕ, List, ap, drop, length, subst, sym, take, true}
+use Rattle.std.specs.List.{All}
+use Rattle.std.proofs.lemmas.Result.{on_ok_weaker}
+use Rattle.match_text.specs.Flags.{flag_union, has_flag}
+use Rattle.match_text.proofs.FlagLists.{union_has, union_slice}
+use Rattle.match_text.proofs.flags.FlagList.add.Goals as goal
+
+joined : (c : goal.After-len-count) → flag_union c.self.inside.flags.keys (take (length c.as_slice.result.now - c.args.known) (drop c.args.known c.as_slice.result.now)) ≡ flag_union c.args.self.now c.args.flags.now
+joined c =
+    ap (λ l. flag_union l (take (length c.as_slice.result.now - c.args.known) (drop c.args.known c.as_slice.result.now))) c.self.view_is
+    ∙ union_slice c.args.self.now c.args.flags.now c.as_slice.result.now c.args.known (c.as_slice.ensures.keys ∙ c.flags.view_is) c.requires.within c.requires.known
+
+pub returns-clause-union : goal.returns-clause-union
+returns-clause-union c = on_ok_weaker c.insert_each-added.result (λ keys. keys ∙ joined c) c.insert_each-added.ensures
+
+pub returns-clause-there : goal.returns-clause-there
+returns-clause-there c =
+    on_ok_weaker c.insert_each-added.result
+    (λ keys. subst (λ (l : List (List ℕ)). All (λ (flag : List ℕ). has_flag l flag ≡ true) c.args.flags.now) (sym (keys ∙ joined c)) (union_has c.args.self.now c.args.flags.now))
+    c.insert_each-added.ensures

@@ -1,0 +1,64 @@
+//! Flags to look for (RFC 5232, section 4).
+ghost use Rattle.std.specs.Prelude.{◌≡◌, ◌++◌, ◌∷◌, [], IfOk, OnOk, filter};
+ghost use Rattle.match_text.specs.Flags.{flag_keys, flag_keys_of_texts, is_filled};
+ghost use Rattle.sieve_base.specs.view.Texts.{octets_of_each};
+
+use crate::flag_spelling::pieces;
+use std::alloc::{AllocError, Global};
+use std::borrow::CowSlice;
+
+/// What a key of a test stands for: what stands between spaces, whether it is a flag or not. The empty key stands for itself,
+/// and spaces alone stand for nothing (RFC 5232, section 4).
+pub fn flag_keys(alloc: Global, key: &[u8]) -> Result<Vec<CowSlice<'_, u8>>, AllocError>
+    ensures { IfOk result (λ keys. octets_of_each keys.items ≡ flag_keys key.now) }
+{
+    let mut keys = Vec::new(alloc);
+    push_keys(alloc, &mut keys, key)?;
+    Ok(keys)
+}
+
+/// What each key of a test stands for, in order (RFC 5232, section 4).
+#[tactic(auto, unfolding(crate::specs::Flags::flag_keys_of_texts))]
+pub fn flag_keys_of_texts<'a>(
+    alloc: Global,
+    keys: &'a [CowSlice<'a, u8>],
+) -> Result<Vec<CowSlice<'a, u8>>, AllocError>
+    ensures { IfOk result (λ found. octets_of_each found.items ≡ flag_keys_of_texts (octets_of_each keys.now)) }
+{
+    let mut found = Vec::new(alloc);
+    for key in keys {
+        push_keys(alloc, &mut found, key.as_slice())?;
+    }
+    Ok(found)
+}
+
+// Adds what a key stands for.
+#[tactic(auto, unfolding(crate::specs::Flags::flag_keys))]
+fn push_keys<'a>(
+    alloc: Global,
+    found: &mut Vec<CowSlice<'a, u8>>,
+    key: &'a [u8],
+) -> Result<(), AllocError>
+    ensures { OnOk result (octets_of_each found.new.items ≡ octets_of_each found.old.items ++ flag_keys key.now) }
+{
+    if key.is_empty() {
+        found.push(CowSlice::Borrowed(key))?;
+        return Ok(());
+    }
+    let pieces = pieces(alloc, key)?;
+    for piece in &pieces {
+        push_filled(found, piece)?;
+    }
+    Ok(())
+}
+
+// Adds a piece that has octets.
+fn push_filled<'a>(found: &mut Vec<CowSlice<'a, u8>>, piece: &'a [u8]) -> Result<(), AllocError>
+    ensures { OnOk result (octets_of_each found.new.items
+        ≡ octets_of_each found.old.items ++ filter is_filled (piece.now ∷ [])) }
+{
+    if !piece.is_empty() {
+        found.push(CowSlice::Borrowed(piece))?;
+    }
+    Ok(())
+}

@@ -1,0 +1,57 @@
+-- Keys that are looked for among flags.
+use Rattle.std.proofs.Common.{◌≡◌, ℕ, Bool, true, false, ◌||◌, List, [], ◌∷◌, map, Option, None, Some, refl, sym, ap, ◌∙◌}
+use Rattle.std.specs.Prelude.{if◌then◌else◌}
+use Rattle.std.specs.List.{list_any}
+use Rattle.std.specs.Option.{option_or}
+use Rattle.match_text.specs.Comparator.{same}
+use Rattle.match_text.specs.Flags.{has_key}
+use Rattle.sieve_effects.specs.Matching.{Pair, first_match, first_some, match_of, pairs_with}
+use Rattle.sieve_reading.specs.declared.reading.MatchType.TheVariants.{Is}
+
+-- a match that sets nothing
+abbrev pub plain : Bool → Option (List (List ℕ))
+plain b = if b then Some [] else None
+
+or_plain : (s t : Bool) → option_or (plain s) (plain t) ≡ plain (s || t)
+or_plain true t = refl
+or_plain false t = refl
+
+-- the first of such matches is one where there is one
+first_plain : {X : Type 0} (f : X → Option (List (List ℕ))) (test : X → Bool) → ((x : X) → f x ≡ plain (test x)) → (xs : List X) → first_some f xs ≡ plain (list_any test xs)
+first_plain f test so [] = refl
+first_plain f test so (x ∷ xs) = (λ j. option_or (so x j) (first_plain f test so xs j)) ∙ or_plain (test x) (list_any test xs)
+
+any_map : {X Y : Type 0} (test : Y → Bool) (f : X → Y) (xs : List X) → list_any test (map f xs) ≡ list_any (λ x. test (f x)) xs
+any_map test f [] = refl
+any_map test f (x ∷ xs) = ap (λ b. test (f x) || b) (any_map test f xs)
+
+-- a value among keys
+of_one : (fold : ℕ → ℕ) (keys : List (List ℕ)) (value : List ℕ) → first_match Is fold (pairs_with keys value) ≡ plain (list_any (same fold value) keys)
+of_one fold keys value =
+    first_plain (λ (pair : Pair). match_of Is fold pair.value pair.key) (λ pair. same fold pair.value pair.key) (λ pair. refl) (pairs_with keys value)
+    ∙ ap plain (any_map (λ (pair : Pair). same fold pair.value pair.key) (λ key. record { value = value; key = key }) keys)
+
+-- one test or another of a list's members
+either : {X : Type 0} (p q : X → Bool) (xs : List X) → list_any (λ x. p x || q x) xs ≡ (list_any p xs || list_any q xs)
+either p q [] = refl
+either p q (x ∷ xs) = ap (λ b. (p x || q x) || b) (either p q xs) ∙ turned (p x) (q x) (list_any p xs) (list_any q xs)
+  where
+    turned : (a b c d : Bool) → ((a || b) || (c || d)) ≡ ((a || c) || (b || d))
+    turned true b c d = refl
+    turned false true true d = refl
+    turned false true false d = refl
+    turned false false c d = refl
+
+none_any : {X : Type 0} (xs : List X) → list_any (λ x. false) xs ≡ false
+none_any [] = refl
+none_any (x ∷ xs) = none_any xs
+
+-- whether a flag is some key, or a key some flag
+turned_over : (fold : ℕ → ℕ) (flags keys : List (List ℕ)) → list_any (λ flag. list_any (same fold flag) keys) flags ≡ list_any (has_key fold flags) keys
+turned_over fold [] keys = sym (none_any keys)
+turned_over fold (flag ∷ flags) keys = ap (λ b. list_any (same fold flag) keys || b) (turned_over fold flags keys) ∙ sym (either (same fold flag) (has_key fold flags) keys)
+
+-- under `:is` the flags give what one of the keys gives that is among them
+pub found_among : (fold : ℕ → ℕ) (flags keys : List (List ℕ)) → first_some (λ flag. first_match Is fold (pairs_with keys flag)) flags ≡ (if list_any (has_key fold flags) keys then Some [] else None)
+found_among fold flags keys =
+    first_plain (λ flag. first_match Is fold (pairs_with keys flag)) (λ flag. list_any (same fold flag) keys) (of_one fold keys) flags ∙ ap plain (turned_over fold flags keys)

@@ -1,0 +1,211 @@
+-- How many of the internal flags are known to be among an action's own, through what becomes of both.
+use Rattle.std.proofs.Common.{◌≡◌, ℕ, zero, suc, ◌+◌, ◌<◌, ◌≤◌, length, take, drop, get_or, remove, Bool, true, false, not, Some, slice_get, ◌||◌, List, [], ◌∷◌, ◌++◌, map, slice_set, refl, add-one, append-nil, append_assoc, sym, ap, subst, ◌∙◌, arith}
+use Rattle.std.specs.Prelude.{if◌then◌else◌}
+use Rattle.std.specs.List.{All, list_any}
+use Rattle.std.proofs.lemmas.List.{drop_all, length-append, take-append-le, take_all}
+use Rattle.std.proofs.lemmas.List.Edits.{length-remove}
+use Rattle.std.proofs.lemmas.List.Elements.{All-cons, All-head, All-nil, All-tail, All-weaker}
+use Rattle.std.proofs.lemmas.List.Folds.{list_any-append}
+use Rattle.std.proofs.lemmas.Bool.Decides.{nat_tests}
+use Rattle.match_text.specs.Comparator.{ascii_casemap, same}
+use Rattle.match_text.specs.Flags.{distinct, flag_union, flags_without, has_flag}
+use Rattle.sieve_effects.specs.Act.{ends_with, fails_at, goes_on, joined_with, performs, same_action, with_action, with_flags_of}
+use Rattle.sieve_effects.specs.Delivery.{Delivery}
+use Rattle.sieve_effects.specs.State.{RunState}
+use Rattle.sieve_effects.specs.declared.action.Deed.{Deed}
+use Rattle.sieve_effects.specs.declared.error.ErrorKind.TheVariants.{TooManyActions}
+use Rattle.sieve_effects.specs.declared.action.Action.{Action}
+use Rattle.sieve_effects.specs.declared.action.Action.TheVariants.{Store, Redirect, Discard}
+use Rattle.sieve_effects.specs.view.Actions.{ActionsAndFlags, AreAmong, AreKnown, IsKnown, lowered, performed_as, stores_into}
+
+-- STORES
+
+-- a store is the same as a store into its mailbox, whatever its flags
+same_store : (mailbox : List ℕ) (flags : List (List ℕ)) (action : Action) → same_action (Store mailbox flags) action ≡ stores_into mailbox action
+same_store mailbox flags (Store other there) = refl
+same_store mailbox flags (Redirect address) = refl
+same_store mailbox flags Discard = refl
+
+pub any_store : (mailbox : List ℕ) (flags : List (List ℕ)) (actions : List Action) → list_any (same_action (Store mailbox flags)) actions ≡ list_any (stores_into mailbox) actions
+any_store mailbox flags [] = refl
+any_store mailbox flags (action ∷ actions) = λ j. same_store mailbox flags action j || any_store mailbox flags actions j
+
+-- one that stores into no such mailbox stays as it is
+pub joined_other : (mailbox : List ℕ) (flags : List (List ℕ)) (there : Action) → stores_into mailbox there ≡ false → there ≡ joined_with (Store mailbox flags) there
+joined_other mailbox flags there other = sym (ap (λ b. if b then with_flags_of (Store mailbox flags) there else there) (same_store mailbox flags there ∙ other))
+
+-- and one into this has the flags of both
+pub joined_store : (mailbox : List ℕ) (flags : List (List ℕ)) (own : List ℕ) (held : List (List ℕ)) → stores_into mailbox (Store own held) ≡ true → Store own (flag_union held flags) ≡ joined_with (Store mailbox flags) (Store own held)
+joined_store mailbox flags own held is = sym (ap (λ b. if b then Store own (flag_union held flags) else Store own held) is)
+
+-- WHAT IS KNOWN
+
+-- flags that are among a store's own stay there
+own_grows : (own flags : List (List ℕ)) (x : List ℕ) → has_flag own x ≡ true → has_flag (flag_union own flags) x ≡ true
+unfolding flag_union
+own_grows own flags x there = list_any-append (same ascii_casemap x) own (flags_without (distinct flags) own) ∙ ap (λ b. b || has_flag (flags_without (distinct flags) own) x) there
+
+among_joined : (flags : List (List ℕ)) (n : ℕ) (action there : Action) → AreAmong flags n there → AreAmong flags n (with_flags_of action there)
+among_joined flags n (Store mailbox more) (Store other own) among = All-weaker (λ x. has_flag own x ≡ true) (λ x. has_flag (flag_union own more) x ≡ true) (own_grows own more) (take n flags) among
+among_joined flags n (Store mailbox more) (Redirect address) among = among
+among_joined flags n (Store mailbox more) Discard among = among
+among_joined flags n (Redirect address) there among = among
+among_joined flags n Discard there among = among
+
+known_joined : (flags : List (List ℕ)) (n : ℕ) (action there : Action) → IsKnown flags n there → IsKnown flags n (joined_with action there)
+known_joined flags n action there known = record { within = known.within; among = by (same_action action there) }
+  where
+    by : (b : Bool) → AreAmong flags n (if b then with_flags_of action there else there)
+    by true = among_joined flags n action there known.among
+    by false = known.among
+
+pub are_known_joined : (flags : List (List ℕ)) (action : Action) (numbers : List ℕ) (actions : List Action) → AreKnown flags numbers actions → AreKnown flags numbers (map (joined_with action) actions)
+are_known_joined flags action [] actions known = tt
+are_known_joined flags action (n ∷ numbers) [] known = known
+are_known_joined flags action (n ∷ numbers) (there ∷ actions) known = (known_joined flags n action there known.0, are_known_joined flags action numbers actions known.1)
+
+-- of a new action nothing is known
+pub are_known_pushed : (flags : List (List ℕ)) (numbers : List ℕ) (actions : List Action) (action : Action) → AreKnown flags numbers actions → AreKnown flags numbers (actions ++ action ∷ [])
+are_known_pushed flags [] actions action known = tt
+are_known_pushed flags (n ∷ numbers) [] action known = absurd known
+are_known_pushed flags (n ∷ numbers) (there ∷ actions) action known = (known.0, are_known_pushed flags numbers actions action known.1)
+
+-- FLAGS THAT ARE ADDED
+
+among_longer : (flags more : List (List ℕ)) (n : ℕ) (action : Action) → n ≤ length flags → AreAmong flags n action → AreAmong (flags ++ more) n action
+among_longer flags more n (Store mailbox own) within among = subst (λ (l : List (List ℕ)). All (λ (x : List ℕ). has_flag own x ≡ true) l) (sym (take-append-le n flags more within)) among
+among_longer flags more n (Redirect address) within among = among
+among_longer flags more n Discard within among = among
+
+known_longer : (flags more : List (List ℕ)) (n : ℕ) (action : Action) → IsKnown flags n action → IsKnown (flags ++ more) n action
+known_longer flags more n action known =
+    let long = length-append flags more in let within = known.within in
+    record { within = omega (arith, long, within); among = among_longer flags more n action known.within known.among }
+
+pub are_known_longer : (flags more : List (List ℕ)) (numbers : List ℕ) (actions : List Action) → AreKnown flags numbers actions → AreKnown (flags ++ more) numbers actions
+are_known_longer flags more [] actions known = tt
+are_known_longer flags more (n ∷ numbers) [] known = known
+are_known_longer flags more (n ∷ numbers) (action ∷ actions) known = (known_longer flags more n action known.0, are_known_longer flags more numbers actions known.1)
+
+pub are_known_union : (flags named : List (List ℕ)) (numbers : List ℕ) (actions : List Action) → AreKnown flags numbers actions → AreKnown (flag_union flags named) numbers actions
+unfolding flag_union
+are_known_union flags named numbers actions known = are_known_longer flags (flags_without (distinct named) flags) numbers actions known
+
+-- FLAGS THAT ARE TAKEN OUT
+
+all_lowered : (P : List ℕ → Type 0) (flags : List (List ℕ)) (i n : ℕ) → i < length flags → All P (take n flags) → All P (take (lowered i n) (remove flags i))
+all_lowered P [] i n below all = absurd (omega arith)
+all_lowered P (x ∷ flags) zero zero below all =
+    let less : lowered zero zero ≡ zero = grind (arith, nat_tests) in
+    subst (λ (m : ℕ). All P (take m flags)) (sym less) (All-nil P)
+all_lowered P (x ∷ flags) zero (suc n) below all =
+    let less : lowered zero (suc n) ≡ n = grind (arith, nat_tests) in
+    subst (λ (m : ℕ). All P (take m flags)) (sym less) (All-tail P x (take n flags) all)
+all_lowered P (x ∷ flags) (suc i) zero below all =
+    let less : lowered (suc i) zero ≡ zero = grind (arith, nat_tests) in
+    subst (λ (m : ℕ). All P (take m (x ∷ remove flags i))) (sym less) (All-nil P)
+all_lowered P (x ∷ flags) (suc i) (suc n) below all =
+    let further : lowered (suc i) (suc n) ≡ suc (lowered i n) = grind (arith, nat_tests) in
+    subst (λ (m : ℕ). All P (take m (x ∷ remove flags i))) (sym further)
+    (All-cons P x (take (lowered i n) (remove flags i)) (All-head P x (take n flags) all) (all_lowered P flags i n (omega arith) (All-tail P x (take n flags) all)))
+
+among_lowered : (flags : List (List ℕ)) (i n : ℕ) (action : Action) → i < length flags → AreAmong flags n action → AreAmong (remove flags i) (lowered i n) action
+among_lowered flags i n (Store mailbox own) below among = all_lowered (λ x. has_flag own x ≡ true) flags i n below among
+among_lowered flags i n (Redirect address) below among = among
+among_lowered flags i n Discard below among = among
+
+known_lowered : (flags : List (List ℕ)) (i n : ℕ) (action : Action) → i < length flags → IsKnown flags n action → IsKnown (remove flags i) (lowered i n) action
+known_lowered flags i n action below known =
+    let long = length-remove flags i below in let within = known.within in
+    record { within = grind (arith, nat_tests, long, within, below); among = among_lowered flags i n action below known.among }
+
+pub are_known_lowered : (flags : List (List ℕ)) (i : ℕ) (numbers : List ℕ) (actions : List Action) → i < length flags → AreKnown flags numbers actions → AreKnown (remove flags i) (map (lowered i) numbers) actions
+are_known_lowered flags i [] actions below known = tt
+are_known_lowered flags i (n ∷ numbers) [] below known = known
+are_known_lowered flags i (n ∷ numbers) (action ∷ actions) below known = (known_lowered flags i n action below known.0, are_known_lowered flags i numbers actions below known.1)
+
+-- IN LOOPS
+
+-- one number more is lowered
+pub one_lowered : (place : ℕ) (numbers : List ℕ) (i d : ℕ) → i < length numbers
+    → slice_set (map (lowered place) (take i numbers) ++ drop i numbers) i (lowered place (get_or (map (lowered place) (take i numbers) ++ drop i numbers) i d)) ≡ map (lowered place) (take (suc i) numbers) ++ drop (suc i) numbers
+one_lowered place [] i d below = absurd (omega arith)
+one_lowered place (n ∷ numbers) zero d below = refl
+one_lowered place (n ∷ numbers) (suc i) d below = ap (λ l. lowered place n ∷ l) (one_lowered place numbers i d (omega arith))
+
+pub one_lowered_more : (place : ℕ) (numbers new : List ℕ) (i n : ℕ) → i < length numbers → new ≡ map (lowered place) (take i numbers) ++ drop i numbers → n ≡ lowered place (get_or new i 0)
+    → slice_set new i n ≡ map (lowered place) (take (i + 1) numbers) ++ drop (i + 1) numbers
+one_lowered_more place numbers new i n below is one =
+    ap (λ m. slice_set new i m) one ∙ ap (λ l. slice_set l i (lowered place (get_or l i 0))) is ∙ one_lowered place numbers i 0 below
+    ∙ ap (λ m. map (lowered place) (take m numbers) ++ drop m numbers) (sym (add-one i))
+
+-- behind the last one all are lowered
+pub all_lowered_so : (place : ℕ) (numbers : List ℕ) (i : ℕ) → length numbers ≤ i → map (lowered place) (take i numbers) ++ drop i numbers ≡ map (lowered place) numbers
+all_lowered_so place numbers i past =
+    ap (λ l. map (lowered place) (take i numbers) ++ l) (drop_all i numbers past) ∙ append-nil (map (lowered place) (take i numbers)) ∙ ap (map (lowered place)) (take_all i numbers past)
+
+-- and they are all that was there
+pub all_written : (len : ℕ) (new numbers wanted : List ℕ) → length new ≡ length numbers → length numbers ≡ len → new ≡ wanted → take len (new ++ drop (length new) numbers) ≡ wanted
+all_written len new numbers wanted long whole is =
+    ap (λ l. take len (new ++ l)) (drop_all (length new) numbers (omega (arith, long))) ∙ ap (take len) (append-nil new) ∙ take_all len new (omega (arith, long, whole)) ∙ is
+
+-- nothing is known of an action
+pub known_none : (flags : List (List ℕ)) (action : Action) → IsKnown flags 0 action
+known_none flags action = record { within = omega arith; among = by action }
+  where
+    by : (action : Action) → AreAmong flags 0 action
+    by (Store mailbox own) = All-nil (λ x. has_flag own x ≡ true)
+    by (Redirect address) = tt
+    by Discard = tt
+
+-- what is known of one action more
+pub known_push : (flags : List (List ℕ)) (numbers : List ℕ) (actions : List Action) (n : ℕ) (action : Action) → length numbers ≡ length actions → AreKnown flags numbers actions → IsKnown flags n action
+    → AreKnown flags (numbers ++ n ∷ []) (actions ++ action ∷ [])
+known_push flags [] [] n action long known one = (one, tt)
+known_push flags [] (there ∷ actions) n action long known one = absurd (omega (arith, long))
+known_push flags (m ∷ numbers) [] n action long known one = absurd (omega (arith, long))
+known_push flags (m ∷ numbers) (there ∷ actions) n action long known one = (known.0, known_push flags numbers actions n action (omega (arith, long)) known.1 one)
+
+-- the same of lists that are pushed to
+pub both_pushed : (flags : List (List ℕ)) (numbers numbers' : List ℕ) (actions actions' : List Action) (n : ℕ) (action : Action) → numbers' ≡ numbers ++ n ∷ [] → actions' ≡ actions ++ action ∷ []
+    → length numbers ≡ length actions → AreKnown flags numbers actions → IsKnown flags n action → (length numbers' ≡ length actions') × AreKnown flags numbers' actions'
+both_pushed flags numbers numbers' actions actions' n action more one long known is =
+    let a = ap length more ∙ length-append numbers (n ∷ []) in let b = ap length one ∙ length-append actions (action ∷ []) in (
+      omega (arith, a, b, long),
+      subst (λ (l : List ℕ). AreKnown flags l actions') (sym more) (subst (λ (l : List Action). AreKnown flags (numbers ++ n ∷ []) l) (sym one) (known_push flags numbers actions n action long known is)),
+    )
+
+-- one action more is made anew
+pub one_remade : (f : Action → Action) (done done' left left' whole : List Action) (there made : Action) → done' ≡ done ++ made ∷ [] → made ≡ f there → left ≡ there ∷ left' → done ++ map f left ≡ whole → done' ++ map f left' ≡ whole
+one_remade f done done' left left' whole there made one is split so =
+    ap (λ l. l ++ map f left') one ∙ append_assoc done (made ∷ []) (map f left') ∙ ap (λ x. done ++ x ∷ map f left') is ∙ ap (λ l. done ++ map f l) (sym split) ∙ so
+
+drop_at : (named : List (List ℕ)) (i : ℕ) (flag : List ℕ) → slice_get named i ≡ Some flag → drop i named ≡ flag ∷ drop (suc i) named
+drop_at [] i flag at = cc
+drop_at (x ∷ named) zero flag at = let it : x ≡ flag = cc in ap (λ y. y ∷ named) it
+drop_at (x ∷ named) (suc i) flag at = drop_at named i flag at
+
+module _ (none : (flags : List (List ℕ)) → flags_without flags [] ≡ flags)
+    (more : (flags others : List (List ℕ)) (flag : List ℕ) → flags_without flags (flag ∷ others) ≡ flags_without (flags_without flags (flag ∷ [])) others) where
+  -- one flag more is taken out
+  pub one_further_out : (old new wanted : ActionsAndFlags) (named : List (List ℕ)) (flag : List ℕ) (i : ℕ) → slice_get named i ≡ Some flag → new ≡ record old { flags = flags_without old.flags (flag ∷ []) }
+      → record old { flags = flags_without old.flags (drop i named) } ≡ wanted → record new { flags = flags_without new.flags (drop (i + 1) named) } ≡ wanted
+  one_further_out old new wanted named flag i at is so =
+      ap (λ (a : ActionsAndFlags). record a { flags = flags_without a.flags (drop (i + 1) named) }) is
+      ∙ ap (λ n. record old { flags = flags_without (flags_without old.flags (flag ∷ [])) (drop n named) }) (add-one i)
+      ∙ ap (λ (l : List (List ℕ)). record old { flags = l }) (sym (more old.flags (drop (suc i) named) flag) ∙ ap (flags_without old.flags) (sym (drop_at named i flag at))) ∙ so
+
+  -- and none is left
+  pub none_further : (old wanted : ActionsAndFlags) (named : List (List ℕ)) (i : ℕ) → length named ≤ i → record old { flags = flags_without old.flags (drop i named) } ≡ wanted → old ≡ wanted
+  none_further old wanted named i past so =
+      ap (λ (l : List (List ℕ)). record old { flags = l }) (sym (none old.flags) ∙ ap (flags_without old.flags) (sym (drop_all i named past))) ∙ so
+
+-- HOW A COMMAND ENDS THAT PERFORMS AN ACTION
+
+-- by what became of the actions: where there was no room, all is as it was
+pub ended_so : (delivery : Delivery) (line : ℕ) (deed : Deed) (old new : RunState) (has_room : Bool) → (has_room ≡ false → new.actions ≡ old.actions) → performed_as has_room new.actions ≡ with_action deed.action old.actions
+    → new ≡ record old { actions = new.actions } → ends_with delivery line deed (performed_as has_room new.actions) new ≡ performs delivery line deed old
+ended_so delivery line deed old new true kept value is =
+    ap (λ (s : RunState). goes_on (record s { actions = new.actions; cancelled = not deed.copy || s.cancelled })) is ∙ ap (λ p. ends_with delivery line deed p old) value
+ended_so delivery line deed old new false kept value is =
+    ap (λ (s : RunState). fails_at delivery line TooManyActions s) (is ∙ ap (λ (l : List Action). record old { actions = l }) (kept refl)) ∙ ap (λ p. ends_with delivery line deed p old) value

@@ -1,0 +1,22 @@
+use Rattle.std.proofs.Common.{◌≡◌, ◌∙◌, List, ℕ, ap, refl, subst, sym}
+use Rattle.std.specs.Prelude.{IfOk}
+use Rattle.sieve_effects.specs.Act.{Ending, performs, store_deed}
+use Rattle.sieve_effects.specs.declared.action.Action.TheVariants.{Store}
+use Rattle.sieve_effects.specs.declared.action.Deed.{Deed}
+use Rattle.sieve_effects.specs.declared.flow.Flow.{Flow}
+use Rattle.sieve_effects.specs.view.Delivery.{delivery_as}
+use Rattle.sieve_effects.specs.view.Flow.{ending_by}
+use Rattle.sieve_effects.specs.view.Ops.{given_strings}
+use Rattle.sieve_effects.specs.view.State.{state_of}
+use Rattle.sieve_effects.proofs.Known.{ended_so}
+use Rattle.sieve_effects.proofs.acting.store.Goals as goal
+
+pub returns-in_ok-has_room-in-None : goal.returns-in_ok-has_room-in-None
+returns-in_ok-has_room-in-None c =
+    let e = c.in_ok-has_room-in-None.ensures in let old = state_of c.args.state.now in let d = delivery_as c.args.delivery.now in
+    let deed : Deed = record { action = Store c.args.mailbox old.flags; copy = c.args.settings.now.copy } in
+    subst (λ (e : Ending). IfOk c.end_with.result (λ (flow : Flow). ending_by flow (state_of c.end_with.new.state) ≡ e))
+    (ended_so d c.args.line deed old _ c.in_ok-has_room-in-None.has_room e.kept e.value
+    (ap (λ (l : List (List ℕ)). record old { actions = c.store.new.self.actions; flags = l }) e.flags)
+    ∙ ap (λ o. performs d c.args.line (store_deed old c.args.mailbox (record { flags = given_strings o; copy = c.args.settings.now.copy })) old) (sym c.in-None.is))
+    (c.end_with.ensures _ deed refl refl)

@@ -1,0 +1,44 @@
+-- The actions of a run with the internal flags, and how the code tells what became of them.
+use Rattle.std.specs.Prelude.{◌≡◌, ⊤, ℕ, ◌-◌, ◌≤◌, Bool, true, false, List, [], ◌∷◌, length, take, nat_eq, nat_lt, if◌then◌else◌}
+use Rattle.std.specs.List.{All}
+use lib.Pointwise.{pointwise}
+use Rattle.match_text.specs.Flags.{has_flag}
+use Rattle.sieve_effects.specs.declared.action.Action.{Action}
+use Rattle.sieve_effects.specs.declared.action.Action.TheVariants.{Store, Redirect, Discard}
+use Rattle.sieve_effects.specs.Act.{Performed, performed, one_too_many}
+
+pub record ActionsAndFlags : Type 0 where
+  pub actions : List Action
+  pub flags : List (List ℕ)
+
+-- what became of the actions, by whether there was room
+abbrev pub performed_as : (has_room : Bool) → List Action → Performed
+performed_as true actions = performed actions
+performed_as false actions = one_too_many
+
+-- whether an action stores into a mailbox
+abbrev pub stores_into : List ℕ → Action → Bool
+stores_into mailbox (Store other flags) = pointwise nat_eq mailbox other
+stores_into mailbox (Redirect address) = false
+stores_into mailbox Discard = false
+
+-- the first flags, as many as `known`, are among those of a store
+abbrev pub AreAmong : (flags : List (List ℕ)) → (known : ℕ) → Action → Type 0
+AreAmong flags known (Store mailbox own) = All (λ flag. has_flag own flag ≡ true) (take known flags)
+AreAmong flags known (Redirect address) = ⊤
+AreAmong flags known Discard = ⊤
+
+-- what is known of an action: no more flags than there are, and they are among its own
+pub record IsKnown (flags : List (List ℕ)) (known : ℕ) (action : Action) : Type 0 where
+  pub within : known ≤ length flags
+  pub among : AreAmong flags known action
+
+-- what is known of actions in turn; of the last ones nothing may be
+abbrev pub AreKnown : (flags : List (List ℕ)) → List ℕ → List Action → Type 0
+AreKnown flags [] actions = ⊤
+AreKnown flags (known ∷ numbers) [] = ⊥
+AreKnown flags (known ∷ numbers) (action ∷ actions) = IsKnown flags known action × AreKnown flags numbers actions
+
+-- how many of the first flags are left where one at a place is taken out
+abbrev pub lowered : (place known : ℕ) → ℕ
+lowered place known = if nat_lt place known then known - 1 else known

@@ -1,0 +1,231 @@
+-- What is left of a text behind a front, and what its lines say.
+use Rattle.std.proofs.Common.{◌≡◌, ◌≢◌, ◌↔◌, ℕ, ◌+◌, ◌<◌, ◌≤◌, Bool, true, false, not, IsTrue, ◌==◌, ◌&&◌, if◌then◌else◌, nat_eq, List, [], ◌∷◌, ◌++◌, length, drop, take, get_or, map, Option, None, Some, MatchOption, refl, sym, ap, subst, ◌∙◌, arith}
+use Rattle.std.proofs.lemmas.Bool.{cond_both, cond-false, eq-eqb, eqb-true, false_from_ne_true, ne_eqb}
+use Rattle.std.proofs.lemmas.Bool.Decides.{Decides-eqb}
+use Rattle.std.proofs.lemmas.List.{drop_all, drop_more, get_or-take, get_or_default, length-take-le, take-append-drop, take_all}
+use Rattle.std.proofs.lemmas.List.Splits.{slice_split_at, slice_split_none}
+use Rattle.std.proofs.lemmas.Slice.Eq.{bytes_eq-Decides, slice_eq-Decides, strip_prefix_is}
+use Rattle.std.specs.Bool.{Decides}
+use Rattle.std.specs.List.{All, flat_map, onto_first, slice_split}
+use Rattle.std.specs.Option.{option_and_then, option_copied}
+use Rattle.std.specs.Str.Lines.{lines, lines_of_parts, strip_carriage_return}
+use Rattle.memchr.specs.Find.{Nowhere, Passes, is_byte}
+use denote.Ref.{Bor}
+use lib.Pointwise.{pointwise}
+use Rattle.sieve_run.specs.Lines.{agrees, says, verdict_lines}
+use Rattle.sieve_run.specs.Verdict.{Verdict}
+use Rattle.sieve_run.specs.view.Left.{behind_front, is_whole, left_says}
+
+-- FRONTS
+
+-- two fronts in turn
+joined : (a b text : List ℕ) → behind_front (a ++ b) text ≡ option_and_then (behind_front b) (behind_front a text)
+unfolding behind_front
+joined [] b text = refl
+joined (x ∷ a) b [] = refl
+joined (x ∷ a) b (y ∷ text) = by (y == x) (joined a b text)
+  where
+    by : (same : Bool) → behind_front (a ++ b) text ≡ option_and_then (behind_front b) (behind_front a text)
+        → (if same then behind_front (a ++ b) text else None) ≡ option_and_then (behind_front b) (if same then behind_front a text else None)
+    by true rest = rest
+    by false rest = refl
+
+pub skip_none : (a b text : List ℕ) → behind_front a text ≡ None → behind_front (a ++ b) text ≡ None
+skip_none a b text none = joined a b text ∙ ap (option_and_then (behind_front b)) none
+
+pub skip_some : (a b text left : List ℕ) → behind_front a text ≡ Some left → behind_front (a ++ b) text ≡ behind_front b left
+skip_some a b text left some = joined a b text ∙ ap (option_and_then (behind_front b)) some
+
+pub skip_second_none : (a b c text left : List ℕ) → behind_front a text ≡ Some left → behind_front b left ≡ None → behind_front ((a ++ b) ++ c) text ≡ None
+skip_second_none a b c text left first none = skip_none (a ++ b) c text (skip_some a b text left first ∙ none)
+
+pub skip_third : (a b c text left rest : List ℕ) → behind_front a text ≡ Some left → behind_front b left ≡ Some rest → behind_front ((a ++ b) ++ c) text ≡ behind_front c rest
+skip_third a b c text left rest first second = skip_some (a ++ b) c text rest (skip_some a b text left first ∙ second)
+
+pub skip_nothing : (text : List ℕ) → behind_front [] text ≡ Some text
+unfolding behind_front
+skip_nothing text = refl
+
+-- a text that begins with a front, and what it begins with
+found : (front left : List ℕ) → behind_front front (front ++ left) ≡ Some left
+unfolding behind_front
+found [] left = refl
+found (x ∷ front) left = ap (λ same. if same then behind_front front (front ++ left) else None) (eq-eqb x x refl) ∙ found front left
+
+begins : (front text left : List ℕ) → behind_front front text ≡ Some left → text ≡ front ++ left
+unfolding behind_front
+begins [] text left is = let e : text ≡ left = cc in e
+begins (x ∷ front) [] left is = absurd cc
+begins (x ∷ front) (y ∷ text) left is = by (y == x) refl is (λ h. begins front text left h)
+  where
+    by : (same : Bool) → (y == x) ≡ same → (if same then behind_front front text else None) ≡ Some left → (behind_front front text ≡ Some left → text ≡ front ++ left) → y ∷ text ≡ x ∷ (front ++ left)
+    by true same is rest = ap (λ first. first ∷ text) (eqb-true y x same) ∙ ap (λ l. x ∷ l) (rest is)
+    by false same is rest = absurd cc
+
+pub prefix_is : (front text : List ℕ) (answer : Option (Bor (List ℕ)))
+    → MatchOption answer (pointwise nat_eq (take (length front) text) front ≡ false) (λ x. (pointwise nat_eq (take (length front) text) front ≡ true) × (x.now ≡ drop (length front) text) × (length x.now + length front ≡ length text))
+    → option_copied answer ≡ behind_front front text
+prefix_is front text answer is = by answer (strip_prefix_is Decides-eqb text front answer is)
+  where
+    none : ((left : List ℕ) → text ≢ front ++ left) → (left : Option (List ℕ)) → behind_front front text ≡ left → None ≡ left
+    none other None is = refl
+    none other (Some left) is = absurd (other left (begins front text left is))
+
+    by : (answer : Option (Bor (List ℕ))) → MatchOption answer ((left : List ℕ) → text ≢ front ++ left) (λ x. text ≡ front ++ x.now) → option_copied answer ≡ behind_front front text
+    by None other = none other (behind_front front text) refl
+    by (Some x) is = sym (ap (behind_front front) is ∙ found front x.now)
+
+-- ITEMS IN TURN
+
+-- the next item's text, and those behind it
+cut : {X : Type 0} (f : X → List ℕ) (xs : List X) (i : ℕ) (x : X) → i < length xs → x ≡ get_or xs i x → flat_map f (drop i xs) ≡ f x ++ flat_map f (drop (i + 1) xs)
+cut f xs i x within is = ap (flat_map f) (drop_more xs i x within) ∙ ap (λ y. f y ++ flat_map f (drop (i + 1) xs)) (sym is)
+
+pub next_item : {X : Type 0} (f : X → List ℕ) (xs : List X) (i : ℕ) (x : X) (text left all : List ℕ) → i < length xs → x ≡ get_or xs i x
+    → behind_front (flat_map f (drop i xs)) text ≡ behind_front (flat_map f xs) all → behind_front (f x) text ≡ Some left → behind_front (flat_map f (drop (i + 1) xs)) left ≡ behind_front (flat_map f xs) all
+next_item f xs i x text left all within is so_far some =
+    sym (skip_some (f x) (flat_map f (drop (i + 1) xs)) text left some) ∙ ap (λ front. behind_front front text) (sym (cut f xs i x within is)) ∙ so_far
+
+pub no_item : {X : Type 0} (f : X → List ℕ) (xs : List X) (i : ℕ) (x : X) (text all : List ℕ) → i < length xs → x ≡ get_or xs i x
+    → behind_front (flat_map f (drop i xs)) text ≡ behind_front (flat_map f xs) all → behind_front (f x) text ≡ None → None ≡ behind_front (flat_map f xs) all
+no_item f xs i x text all within is so_far none =
+    sym (skip_none (f x) (flat_map f (drop (i + 1) xs)) text none) ∙ ap (λ front. behind_front front text) (sym (cut f xs i x within is)) ∙ so_far
+
+-- the same for an item that is looked up
+pub next_at : {X : Type 0} (f : X → List ℕ) (xs : List X) (i : ℕ) (d : X) (text left all : List ℕ) → i < length xs
+    → behind_front (flat_map f (drop i xs)) text ≡ behind_front (flat_map f xs) all → behind_front (f (get_or xs i d)) text ≡ Some left → behind_front (flat_map f (drop (i + 1) xs)) left ≡ behind_front (flat_map f xs) all
+next_at f xs i d text left all within so_far some =
+    sym (skip_some (f (get_or xs i d)) (flat_map f (drop (i + 1) xs)) text left some) ∙ ap (λ rest. behind_front (flat_map f rest) text) (sym (drop_more xs i d within)) ∙ so_far
+
+pub none_at : {X : Type 0} (f : X → List ℕ) (xs : List X) (i : ℕ) (d : X) (text all : List ℕ) → i < length xs
+    → behind_front (flat_map f (drop i xs)) text ≡ behind_front (flat_map f xs) all → behind_front (f (get_or xs i d)) text ≡ None → None ≡ behind_front (flat_map f xs) all
+none_at f xs i d text all within so_far none =
+    sym (skip_none (f (get_or xs i d)) (flat_map f (drop (i + 1) xs)) text none) ∙ ap (λ rest. behind_front (flat_map f rest) text) (sym (drop_more xs i d within)) ∙ so_far
+
+pub last_item : {X : Type 0} (f : X → List ℕ) (xs : List X) (i : ℕ) (text all : List ℕ) → length xs ≤ i
+    → behind_front (flat_map f (drop i xs)) text ≡ behind_front (flat_map f xs) all → Some text ≡ behind_front (flat_map f xs) all
+last_item f xs i text all over so_far = sym (skip_nothing text) ∙ ap (λ rest. behind_front (flat_map f rest) text) (sym (drop_all i xs over)) ∙ so_far
+
+-- LINES
+
+-- a front is the whole of a line where they are the same
+whole_is : (front line : List ℕ) → is_whole (behind_front front line) ≡ pointwise nat_eq line front
+unfolding behind_front
+whole_is [] [] = refl
+whole_is [] (y ∷ line) = refl
+whole_is (x ∷ front) [] = refl
+whole_is (x ∷ front) (y ∷ line) = by (y == x) (whole_is front line)
+  where
+    by : (same : Bool) → is_whole (behind_front front line) ≡ pointwise nat_eq line front → is_whole (if same then behind_front front line else None) ≡ (same && pointwise nat_eq line front)
+    by true rest = rest
+    by false rest = refl
+
+first_says : (text line left front : List ℕ) (wanted : List (List ℕ)) → lines text ≡ line ∷ lines left → says text (front ∷ wanted) ≡ (is_whole (behind_front front line) && says left wanted)
+first_says text line left front wanted is = ap (λ l. pointwise (pointwise nat_eq) l (front ∷ wanted)) is ∙ ap (λ same. same && says left wanted) (sym (whole_is front line))
+
+-- the line is there, or another one, or none
+pub line_there : (text line left front : List ℕ) (wanted : List (List ℕ)) → lines text ≡ line ∷ lines left → is_whole (behind_front front line) ≡ true → says left wanted ≡ says text (front ∷ wanted)
+line_there text line left front wanted is whole = sym (first_says text line left front wanted is ∙ ap (λ same. same && says left wanted) whole)
+
+pub line_other : (text line left front : List ℕ) (wanted : List (List ℕ)) → lines text ≡ line ∷ lines left → is_whole (behind_front front line) ≡ false → false ≡ says text (front ∷ wanted)
+line_other text line left front wanted is whole = sym (first_says text line left front wanted is ∙ ap (λ same. same && says left wanted) whole)
+
+pub no_line : (text front : List ℕ) (wanted : List (List ℕ)) → text ≡ [] → false ≡ says text (front ∷ wanted)
+no_line text front wanted none = sym (ap (λ t. says t (front ∷ wanted)) none)
+
+pub says_nothing : (text : List ℕ) → text ≡ [] → true ≡ says text []
+says_nothing text none = sym (ap (λ t. says t []) none)
+
+pub says_something : (text line left : List ℕ) → lines text ≡ line ∷ lines left → false ≡ says text []
+says_something text line left is = sym (ap (λ l. pointwise (pointwise nat_eq) l []) is)
+
+-- LINES OF ITEMS
+
+module _ {X : Type 0} (f : X → List ℕ) (xs : List X) (i : ℕ) (x : X) (within : i < length xs) (is : x ≡ get_or xs i x) where
+  lines_cut : (wanted : List (List ℕ)) → map f (drop i xs) ++ wanted ≡ f x ∷ (map f (drop (i + 1) xs) ++ wanted)
+  lines_cut wanted = ap (λ l. map f l ++ wanted) (drop_more xs i x within) ∙ ap (λ y. f y ∷ (map f (drop (i + 1) xs) ++ wanted)) (sym is)
+
+  pub next_says : (text all left : List ℕ) (answer : Option (List ℕ)) → ((wanted : List (List ℕ)) → says text (map f (drop i xs) ++ wanted) ≡ says all (map f xs ++ wanted))
+      → ((wanted : List (List ℕ)) → left_says answer wanted ≡ says text (f x ∷ wanted)) → answer ≡ Some left → (wanted : List (List ℕ)) → says left (map f (drop (i + 1) xs) ++ wanted) ≡ says all (map f xs ++ wanted)
+  next_says text all left answer so_far one some wanted =
+      ap (λ a. left_says a (map f (drop (i + 1) xs) ++ wanted)) (sym some) ∙ one (map f (drop (i + 1) xs) ++ wanted) ∙ ap (says text) (sym (lines_cut wanted)) ∙ so_far wanted
+
+  pub none_says : (text all : List ℕ) (answer : Option (List ℕ)) → ((wanted : List (List ℕ)) → says text (map f (drop i xs) ++ wanted) ≡ says all (map f xs ++ wanted))
+      → ((wanted : List (List ℕ)) → left_says answer wanted ≡ says text (f x ∷ wanted)) → answer ≡ None → (wanted : List (List ℕ)) → false ≡ says all (map f xs ++ wanted)
+  none_says text all answer so_far one none wanted =
+      ap (λ a. left_says a (map f (drop (i + 1) xs) ++ wanted)) (sym none) ∙ one (map f (drop (i + 1) xs) ++ wanted) ∙ ap (says text) (sym (lines_cut wanted)) ∙ so_far wanted
+
+pub last_says : {X : Type 0} (f : X → List ℕ) (xs : List X) (i : ℕ) (text all : List ℕ) → length xs ≤ i
+    → ((wanted : List (List ℕ)) → says text (map f (drop i xs) ++ wanted) ≡ says all (map f xs ++ wanted)) → (wanted : List (List ℕ)) → says text wanted ≡ says all (map f xs ++ wanted)
+last_says f xs i text all over so_far wanted = ap (λ rest. says text (map f rest ++ wanted)) (sym (drop_all i xs over)) ∙ so_far wanted
+
+-- parts of lines in turn
+pub part_some : (first rest : List (List ℕ)) (text left : List ℕ) (answer : Option (List ℕ)) → ((wanted : List (List ℕ)) → left_says answer wanted ≡ says text (first ++ wanted)) → answer ≡ Some left → says left rest ≡ says text (first ++ rest)
+part_some first rest text left answer one some = ap (λ a. left_says a rest) (sym some) ∙ one rest
+
+pub part_none : (first rest : List (List ℕ)) (text : List ℕ) (answer : Option (List ℕ)) → ((wanted : List (List ℕ)) → left_says answer wanted ≡ says text (first ++ wanted)) → answer ≡ None → false ≡ says text (first ++ rest)
+part_none first rest text answer one none = ap (λ a. left_says a rest) (sym none) ∙ one rest
+
+-- A TEXT AS A WHOLE
+
+says_is : (text : List ℕ) (wanted : List (List ℕ)) → Decides (says text wanted) (lines text ≡ wanted)
+says_is text wanted = slice_eq-Decides bytes_eq-Decides (lines text) wanted (says text wanted) refl
+
+pub agrees_is : (mailbox : List ℕ) (verdict : Verdict) (text : List ℕ) → agrees mailbox verdict text ≡ (not (length text == 0) && says text (verdict_lines mailbox verdict))
+unfolding agrees
+agrees_is mailbox verdict [] = refl
+agrees_is mailbox verdict (octet ∷ text) = ap (λ none. not none && says (octet ∷ text) (verdict_lines mailbox verdict)) (sym (ne_eqb (length (octet ∷ text)) 0 (omega arith)))
+
+pub agrees_where : (mailbox : List ℕ) (verdict : Verdict) (text : List ℕ) → IsTrue (agrees mailbox verdict text) ↔ ((0 < length text) × (lines text ≡ verdict_lines mailbox verdict))
+unfolding agrees
+agrees_where mailbox verdict [] = (λ (is : IsTrue false). absurd (let e : false ≡ true = is in cc), λ both. absurd (omega (arith, both.0)))
+agrees_where mailbox verdict (octet ∷ text) = let decides = says_is (octet ∷ text) (verdict_lines mailbox verdict) in (λ is. (omega arith, decides.0 is), λ both. decides.1 both.1)
+
+-- THE FIRST LINE
+
+-- a part before another one is a line, without the carriage return at its end
+line_onto : (part : List ℕ) (b : ℕ) (parts : List (List ℕ)) → lines_of_parts (part ∷ onto_first b parts) ≡ strip_carriage_return part ∷ lines_of_parts (onto_first b parts)
+line_onto part b [] = refl
+line_onto part b (next ∷ parts) = refl
+
+line_before : (part text : List ℕ) → lines_of_parts (part ∷ slice_split (λ b. b == 10) text) ≡ strip_carriage_return part ∷ lines text
+line_before part [] = refl
+line_before part (b ∷ text) =
+    cond_both (b == 10) ([] ∷ slice_split (λ b. b == 10) text) (onto_first b (slice_split (λ b. b == 10) text))
+    (λ parts. lines_of_parts (part ∷ parts) ≡ strip_carriage_return part ∷ lines_of_parts parts)
+    (λ _. refl) (λ _. line_onto part b (slice_split (λ b. b == 10) text))
+
+-- up to the first line feed
+lines-feed : (line rest : List ℕ) → All (λ b. (b == 10) ≡ false) line → lines (line ++ 10 ∷ rest) ≡ strip_carriage_return line ∷ lines rest
+lines-feed line rest plain = ap lines_of_parts (slice_split_at (λ b. b == 10) line 10 rest plain refl) ∙ line_before line rest
+
+-- with no line feed
+lines-last : (line : List ℕ) → 0 < length line → All (λ b. (b == 10) ≡ false) line → lines line ≡ line ∷ []
+lines-last line some plain =
+    ap lines_of_parts (slice_split_none (λ b. b == 10) line plain)
+    ∙ cond-false (length line == 0) [] (line ∷ []) (ne_eqb (length line) 0 (omega arith))
+
+-- no feed stands where a search found none
+plain_before : (hay : List ℕ) (len : ℕ) → len ≤ length hay → Nowhere (Passes (is_byte 10) hay) 0 len → All (λ b. (b == 10) ≡ false) (take len hay)
+plain_before hay len within nowhere k d below =
+    let short : k < len = omega (arith, length-take-le len hay within) in
+    let P : ℕ → Type 0 = λ b. (b == 10) ≡ true in
+    rw get_or-take
+    (false_from_ne_true (get_or hay k d == 10) (λ is. nowhere k (omega arith) short (subst P (get_or_default hay k d 0 (omega arith)) is)))
+
+pub line_to_end : (text : List ℕ) → 0 < length text → Nowhere (Passes (is_byte 10) text) 0 (length text) → lines text ≡ text ∷ lines (drop (length text) text)
+line_to_end text some nowhere =
+    let plain : All (λ b. (b == 10) ≡ false) text = subst (All (λ b. (b == 10) ≡ false)) (take_all (length text) text (omega arith)) (plain_before text (length text) (omega arith) nowhere) in
+    lines-last text some plain ∙ ap (λ (end : List ℕ). text ∷ lines end) (sym (drop_all (length text) text (omega arith)))
+
+pub line_to_feed : (text : List ℕ) (len : ℕ) (line : List ℕ) → Nowhere (Passes (is_byte 10) text) 0 len → len < length text → Passes (is_byte 10) text len → line ≡ strip_carriage_return (take len text)
+    → lines text ≡ line ∷ lines (drop (len + 1) text)
+line_to_feed text len line nowhere short feed is =
+    let at_feed : get_or text len 0 ≡ 10 = eqb-true (get_or text len 0) 10 feed in
+    let cut : text ≡ take len text ++ 10 ∷ drop (len + 1) text =
+    sym (take-append-drop len text) ∙ ap (λ (end : List ℕ). take len text ++ end) (drop_more text len 0 short) ∙ ap (λ b. take len text ++ b ∷ drop (len + 1) text) at_feed in
+    ap lines cut ∙ lines-feed (take len text) (drop (len + 1) text) (plain_before text len (omega arith) nowhere) ∙ ap (λ (l : List ℕ). l ∷ lines (drop (len + 1) text)) (sym is)
+
+pub ruleset left = (skip_none, skip_some, skip_second_none, skip_third, skip_nothing, next_item, no_item, last_item)
+
+pub ruleset saying = (line_there, line_other, no_line, says_nothing, says_something)

@@ -1,0 +1,18 @@
+use Rattle.std.proofs.Common.{◌≡◌, ◌++◌, [], ℕ, List, None, Some, map, rules, ap, append-nil, ◌∙◌}
+use Rattle.std.specs.Option.{option_copied}
+use Rattle.sieve_run.specs.Lines.{action_line, error_lines, implicit_lines, says}
+use Rattle.sieve_run.proofs.Left.{part_none, part_some}
+use Rattle.sieve_run.proofs.agreement.says.Goals as goal
+
+pub returns-in-None : goal.returns-in-None
+returns-in-None c =
+    let acted : List (List ℕ) = map action_line c.args.actions.now in
+    let kept : List (List ℕ) = implicit_lines c.args.mailbox.now (option_copied c.args.kept) in
+    let failed : List (List ℕ) = error_lines (option_copied c.args.failed) in
+    let first : option_copied c.behind_actions.result ≡ Some c.in-Some.left.now = search rules in
+    let second : option_copied c.behind_kept.result ≡ Some c.in-Some-behind_kept.left.now = search rules in
+    let none : option_copied c.behind_failed.result ≡ None = search rules in
+    part_none failed [] c.in-Some-behind_kept.left.now _ c.behind_failed.ensures none
+    ∙ ap (says c.in-Some-behind_kept.left.now) (append-nil failed)
+    ∙ part_some kept failed c.in-Some.left.now c.in-Some-behind_kept.left.now _ c.behind_kept.ensures second
+    ∙ part_some acted (kept ++ failed) c.args.text.now c.in-Some.left.now _ c.behind_actions.ensures first

@@ -1,0 +1,321 @@
+//! Whether a text says what becomes of a message: it is read from its front, and none of it is copied.
+ghost use Rattle.std.specs.Prelude.{◌≡◌, ◌<◌, ℕ, List, ◌∷◌, ◌++◌, MatchOption, [], map};
+ghost use Rattle.std.specs.List.{flat_map};
+ghost use Rattle.std.specs.Option.{option_copied};
+ghost use Rattle.std.specs.Str.Lines.{lines, strip_carriage_return};
+ghost use Rattle.sieve_base.specs.Writers.{hex_digit, octet_spelling, quoted, name_text, piece_text, pieces_text};
+ghost use Rattle.sieve_run.specs.Lines.{action_line, error_line, error_lines, flag_word, flag_words, implicit_line, implicit_lines, mailbox_line, mailbox_words, says};
+ghost use Rattle.sieve_run.specs.view.Left.{behind_front, is_whole, left_says};
+
+use itoa::Buffer;
+use match_text::FlagList;
+use memchr::memchr;
+use sieve_base::{Piece, ScriptName};
+use sieve_effects::{Action, RunError};
+
+/// What follows these octets, where the text begins with them.
+fn skip_octets<'a>(text: &'a [u8], octets: &[u8]) -> Option<&'a [u8]>
+    ensures { option_copied result ≡ behind_front octets.now text.now }
+{
+    text.strip_prefix(octets)
+}
+
+/// The digit of base 16, in lower case.
+fn hex_digit_of(n: u8) -> u8
+    requires { n < 16 }
+    ensures { result ≡ hex_digit n }
+{
+    if n < 10 { b'0' + n } else { b'a' + (n - 10) }
+}
+
+/// What follows an octet as it stands between quotes.
+fn skip_spelling(text: &[u8], octet: u8) -> Option<&[u8]>
+    ensures { option_copied result ≡ behind_front (octet_spelling octet) text.now }
+{
+    match octet {
+        b'"' | b'\\' => skip_octets(text, &[b'\\', octet]),
+        b' '..=b'~' => skip_octets(text, &[octet]),
+        _ => skip_octets(
+            text,
+            &[
+                b'\\',
+                b'x',
+                hex_digit_of(octet / 16),
+                hex_digit_of(octet % 16),
+            ],
+        ),
+    }
+}
+
+/// What follows octets as they stand between quotes.
+#[tactic(auto, using(crate::proofs::Left::left))]
+fn skip_spelled<'a>(text: &'a [u8], octets: &[u8]) -> Option<&'a [u8]>
+    ensures { option_copied result ≡ behind_front (flat_map octet_spelling octets.now) text.now }
+{
+    let mut left = text;
+    for octet in octets {
+        left = skip_spelling(left, *octet)?;
+    }
+    Some(left)
+}
+
+/// What follows octets in their quoted form.
+#[tactic(auto, using(crate::proofs::Left::left), unfolding(sieve_base::specs::Writers::quoted))]
+fn skip_quoted<'a>(text: &'a [u8], octets: &[u8]) -> Option<&'a [u8]>
+    ensures { option_copied result ≡ behind_front (quoted octets.now) text.now }
+{
+    let left = skip_octets(text, b"\"")?;
+    let left = skip_spelled(left, octets)?;
+    skip_octets(left, b"\"")
+}
+
+/// What follows the name of a script.
+#[tactic(auto, using(crate::proofs::Left::left), unfolding(sieve_base::specs::Writers::name_text))]
+fn skip_name<'a>(text: &'a [u8], name: &ScriptName) -> Option<&'a [u8]>
+    ensures { option_copied result ≡ behind_front (name_text name.now) text.now }
+{
+    let left = skip_octets(text, name.place.word())?;
+    let left = skip_octets(left, b" ")?;
+    skip_quoted(left, name.name.as_slice())
+}
+
+/// What follows a piece.
+fn skip_piece<'a>(text: &'a [u8], piece: &Piece<'_>) -> Option<&'a [u8]>
+    ensures { option_copied result ≡ behind_front (piece_text piece.now) text.now }
+{
+    match piece {
+        Piece::Raw(octets) => skip_octets(text, octets),
+        Piece::Quoted(octets) => skip_quoted(text, octets),
+        Piece::Name(name) => skip_name(text, name),
+        Piece::Number(n) => skip_octets(text, Buffer::new().format(*n).as_bytes()),
+    }
+}
+
+/// What follows pieces in turn.
+#[tactic(auto, using(crate::proofs::Left::left))]
+fn skip_pieces<'a>(text: &'a [u8], pieces: &[Piece<'_>]) -> Option<&'a [u8]>
+    ensures { option_copied result ≡ behind_front (pieces_text pieces.now) text.now }
+{
+    let mut left = text;
+    for piece in pieces {
+        left = skip_piece(left, piece)?;
+    }
+    Some(left)
+}
+
+/// What follows a flag behind a space.
+fn skip_flag<'a>(text: &'a [u8], flag: &[u8]) -> Option<&'a [u8]>
+    ensures { option_copied result ≡ behind_front (flag_word flag.now) text.now }
+{
+    skip_pieces(text, &[Piece::Raw(b" "), Piece::Quoted(flag)])
+}
+
+/// What follows flags, each behind a space.
+#[tactic(auto, using(crate::proofs::Left::left))]
+fn skip_flags<'a>(text: &'a [u8], flags: &FlagList) -> Option<&'a [u8]>
+    ensures { option_copied result ≡ behind_front (flag_words flags.now) text.now }
+{
+    let mut left = text;
+    for i in 0..flags.len() {
+        left = skip_flag(left, flags.get(i))?;
+    }
+    Some(left)
+}
+
+/// What follows a word and a mailbox.
+#[tactic(auto, unfolding(crate::specs::Lines::mailbox_words))]
+fn skip_mailbox<'a>(text: &'a [u8], word: &[u8], mailbox: &[u8]) -> Option<&'a [u8]>
+    ensures { option_copied result ≡ behind_front (mailbox_words word.now mailbox.now) text.now }
+{
+    skip_pieces(text, &[Piece::Raw(word), Piece::Quoted(mailbox)])
+}
+
+/// What follows a word and a mailbox with flags.
+#[tactic(auto, using(crate::proofs::Left::left), unfolding(crate::specs::Lines::mailbox_line))]
+fn skip_mailbox_line<'a>(
+    text: &'a [u8],
+    word: &[u8],
+    mailbox: &[u8],
+    flags: &FlagList,
+) -> Option<&'a [u8]>
+    ensures { option_copied result ≡ behind_front (mailbox_line word.now mailbox.now flags.now) text.now }
+{
+    let left = skip_mailbox(text, word, mailbox)?;
+    skip_flags(left, flags)
+}
+
+/// What follows the line of an action.
+#[tactic(auto, unfolding(crate::specs::Lines::action_line))]
+fn skip_action<'a>(text: &'a [u8], action: &Action) -> Option<&'a [u8]>
+    ensures { option_copied result ≡ behind_front (action_line action.now) text.now }
+{
+    match action {
+        Action::Store { mailbox, flags } => {
+            skip_mailbox_line(text, b"store ", mailbox.as_slice(), flags)
+        }
+        Action::Redirect { address } => skip_pieces(
+            text,
+            &[Piece::Raw(b"redirect "), Piece::Quoted(address.as_slice())],
+        ),
+        Action::Discard => skip_octets(text, b"discard"),
+    }
+}
+
+/// What follows the line of the implicit keep.
+#[tactic(auto, unfolding(crate::specs::Lines::implicit_line))]
+fn skip_implicit<'a>(text: &'a [u8], mailbox: &[u8], flags: &FlagList) -> Option<&'a [u8]>
+    ensures { option_copied result ≡ behind_front (implicit_line mailbox.now flags.now) text.now }
+{
+    skip_mailbox_line(text, b"implicit ", mailbox, flags)
+}
+
+/// What follows the line of an error.
+fn skip_error<'a>(text: &'a [u8], error: &RunError) -> Option<&'a [u8]>
+    ensures { option_copied result ≡ behind_front (error_line error.now) text.now }
+{
+    skip_pieces(
+        text,
+        &[
+            Piece::Raw(b"error "),
+            Piece::Name(&error.script),
+            Piece::Raw(b" line "),
+            Piece::Number(error.line),
+            Piece::Raw(b" "),
+            Piece::Raw(error.kind.word()),
+        ],
+    )
+}
+
+/// Whether nothing is left behind the octets of a line.
+fn is_whole(left: Option<&[u8]>) -> bool
+    ensures { result ≡ is_whole (option_copied left.entry) }
+{
+    match left {
+        Some(octets) => octets.is_empty(),
+        None => false,
+    }
+}
+
+/// A line without the CR at its end.
+fn without_return(line: &[u8]) -> &[u8]
+    ensures { result.now ≡ strip_carriage_return line.now }
+{
+    match line {
+        [front @ .., b'\r'] => front,
+        _ => line,
+    }
+}
+
+/// The first line of a text and what follows it, or none where the text is empty.
+fn next_line(text: &[u8]) -> Option<(&[u8], &[u8])>
+    ensures { MatchOption result (text.now ≡ []) (λ cut. lines text.now ≡ cut.0.now ∷ lines cut.1.now) }
+{
+    if text.is_empty() {
+        return None;
+    }
+    match memchr(b'\n', text) {
+        Some(len) => Some((without_return(&text[..len]), &text[len + 1..])),
+        None => Some((text, &text[text.len()..])),
+    }
+}
+
+/// What follows the line of an action.
+#[tactic(auto, using(crate::proofs::Left::saying))]
+fn behind_action<'a>(text: &'a [u8], action: &Action) -> Option<&'a [u8]>
+    ensures { (wanted : List (List ℕ)) → left_says (option_copied result) wanted ≡ says text.now (action_line action.now ∷ wanted) }
+{
+    let (line, left) = next_line(text)?;
+    if is_whole(skip_action(line, action)) {
+        Some(left)
+    } else {
+        None
+    }
+}
+
+/// What follows the line of the implicit keep.
+#[tactic(auto, using(crate::proofs::Left::saying))]
+fn behind_implicit<'a>(text: &'a [u8], mailbox: &[u8], flags: &FlagList) -> Option<&'a [u8]>
+    ensures { (wanted : List (List ℕ)) → left_says (option_copied result) wanted ≡ says text.now (implicit_line mailbox.now flags.now ∷ wanted) }
+{
+    let (line, left) = next_line(text)?;
+    if is_whole(skip_implicit(line, mailbox, flags)) {
+        Some(left)
+    } else {
+        None
+    }
+}
+
+/// What follows the line of an error.
+#[tactic(auto, using(crate::proofs::Left::saying))]
+fn behind_error<'a>(text: &'a [u8], error: &RunError) -> Option<&'a [u8]>
+    ensures { (wanted : List (List ℕ)) → left_says (option_copied result) wanted ≡ says text.now (error_line error.now ∷ wanted) }
+{
+    let (line, left) = next_line(text)?;
+    if is_whole(skip_error(line, error)) {
+        Some(left)
+    } else {
+        None
+    }
+}
+
+/// What follows the lines of actions.
+#[tactic(auto, using(crate::proofs::Left::saying))]
+fn behind_actions<'a>(text: &'a [u8], actions: &[Action]) -> Option<&'a [u8]>
+    ensures { (wanted : List (List ℕ)) → left_says (option_copied result) wanted ≡ says text.now (map action_line actions.now ++ wanted) }
+{
+    let mut left = text;
+    for action in actions {
+        left = behind_action(left, action)?;
+    }
+    Some(left)
+}
+
+/// What follows the line of the implicit keep, where it stands.
+fn behind_kept<'a>(text: &'a [u8], mailbox: &[u8], kept: Option<&FlagList>) -> Option<&'a [u8]>
+    ensures { (wanted : List (List ℕ)) → left_says (option_copied result) wanted ≡ says text.now (implicit_lines mailbox.now (option_copied kept.entry) ++ wanted) }
+{
+    match kept {
+        Some(flags) => behind_implicit(text, mailbox, flags),
+        None => Some(text),
+    }
+}
+
+/// What follows the line of the error, where there is one.
+fn behind_failed<'a>(text: &'a [u8], failed: Option<&RunError>) -> Option<&'a [u8]>
+    ensures { (wanted : List (List ℕ)) → left_says (option_copied result) wanted ≡ says text.now (error_lines (option_copied failed.entry) ++ wanted) }
+{
+    match failed {
+        Some(error) => behind_error(text, error),
+        None => Some(text),
+    }
+}
+
+/// Whether a text has no line.
+fn is_over(text: &[u8]) -> bool
+    ensures { result ≡ says text.now [] }
+{
+    next_line(text).is_none()
+}
+
+/// Whether a text has the lines of a verdict and no others.
+#[tactic(auto, using(crate::proofs::Left::saying))]
+pub(crate) fn says(
+    text: &[u8],
+    mailbox: &[u8],
+    actions: &[Action],
+    kept: Option<&FlagList>,
+    failed: Option<&RunError>,
+) -> bool
+    ensures { result ≡ says text.now (map action_line actions.now ++ (implicit_lines mailbox.now (option_copied kept.entry) ++ error_lines (option_copied failed.entry))) }
+{
+    let Some(left) = behind_actions(text, actions) else {
+        return false;
+    };
+    let Some(left) = behind_kept(left, mailbox, kept) else {
+        return false;
+    };
+    match behind_failed(left, failed) {
+        Some(left) => is_over(left),
+        None => false,
+    }
+}

@@ -1,0 +1,61 @@
+"""The pages of the manual, `docs/man`: each option that a program's help tells stands in its page and has an item there, and no other
+one does.
+
+In a page options stand behind the macro `Fl`, and nothing else does: options of other programs are literal text.
+"""
+import os
+import pathlib
+import re
+import shlex
+import subprocess
+
+from .runs import SECONDS
+
+TOP = pathlib.Path(__file__).resolve().parent.parent.parent
+PAGES = TOP / "docs/man"
+SITE = shlex.quote(str(TOP / "tools/sievebench-site"))
+# Each page, the commands whose help tells its options, what an option is in that help, and the options by which help is asked for.
+# The program's help has a line for each, which begins with blanks; that of the tool tells some within sentences.
+LISTED, NAMED = r"^ +(-[^\s,]+)(?:, (--\S+))?", r"(?<![\w-])(--?[a-z][a-z0-9-]*)()"
+HELP = [
+    ("sievebench.1", [f"sievebench {words}" for words in ("--help", "help session", "help dump", "help test")], LISTED, set()),
+    ("sievebench-site.1", [f"{SITE} --help", f"{SITE} -h"], NAMED, {"-h", "--help"}),
+    ("sievebench-session.5", [], LISTED, set()),
+]
+
+
+class Page:
+    """Whether a page has the options of the help, its own name, and no pages but those that are there in what it refers to."""
+
+    title = "the manual"
+
+    def __init__(self, name, commands, pattern, asked):
+        self.command, self.commands, self.pattern, self.asked = name, commands, pattern, asked
+
+    def differences(self, path):
+        """What the page has otherwise."""
+        wanted, found = set(self.asked), []
+        for command in self.commands:
+            env = {**os.environ, "PATH": path}
+            done = subprocess.run(["sh", "-c", command], cwd=TOP, env=env, stdin=subprocess.DEVNULL, capture_output=True, timeout=SECONDS)
+            names = {name for match in re.findall(self.pattern, done.stdout.decode(), re.M) for name in match if name}
+            found += [] if names and not done.returncode else [f"`{command}` tells {sorted(names)}, with status {done.returncode}"]
+            wanted |= names
+        text = (PAGES / self.command).read_text(encoding="utf-8")
+        for what, got in [("options", flags(text, r"^\..*")), ("items", flags(text, r"^\.It .*"))]:
+            found += [] if got == wanted else [f"its {what} are {sorted(got)}, those of the help {sorted(wanted)}"]
+        name, section = self.command.rsplit(".", 1)
+        found += [f"it lacks `{line}`" for line in (f".Dt {name.upper()} {section}", f".Nm {name}") if line not in text.splitlines()]
+        others = [f"{other}.{number}" for other, number in re.findall(r"^\.Xr (\S+) (\d)", text, re.M)]
+        return found + [f"it refers to {other}" for other in others if not (PAGES / other).is_file()]
+
+
+def flags(text, pattern):
+    """The options behind the macro `Fl` in these lines."""
+    behind = [line.partition("Fl ")[2].partition(" Ar ")[0].split() for line in re.findall(pattern, text, re.M)]
+    return {f"-{word}" for words in behind for word in words if word not in tuple(",|.:;")}
+
+
+def of_pages():
+    """A page for each that is there, and each that must be."""
+    yield from (Page(*row) for row in HELP)

@@ -1,0 +1,161 @@
+"""Sessions whose requests for memory are refused one by one, whose reads give an octet each, and that have no more memory than a limit. The
+program runs with `refuse.c` in front of its C library. What a session must answer behind a refusal is what it answers without the command that
+was refused: so both are compared, and what sessions answer is compared with the rules elsewhere."""
+import os
+import pathlib
+import re
+import subprocess
+
+from .runs import Run, SECONDS, lines, put
+
+SOURCE = pathlib.Path(__file__).with_name("refuse.c")
+REFUSED = b"no no-memory\n"
+# These take no memory.
+NEVER_REFUSED = (b"drop-message ", b"no-main", b"no-expect ")
+INCLUDES = b'require "include"; if header "Subject" "one" { include :optional "x"; }'
+SHARES = b'require ["variables", "include", "fileinto"]; global "box"; include "lib"; fileinto "${box}";'
+SESSIONS = {
+    "one script and one message": [put(b"script personal main", b"discard;\n"), b"message m1 0\n", b"main personal main\n", b"report\n"],
+    "an optional include, and the main script renamed": [
+        put(b"script personal main", INCLUDES),
+        put(b"message m1", b"Subject: one\n\n"),
+        put(b"message m2", b"Subject: two\n\n"),
+        b"main personal main\n",
+        b"report\n",
+        put(b"script personal x", b"discard;"),
+        b"report\n",
+        b"rename personal main personal old\n",
+        b"report\n",
+        b"rename personal old personal main\n",
+        b"report\n",
+    ],
+    "variables that scripts share": [
+        put(b"script personal main", SHARES),
+        put(b"script personal lib", b'require ["variables", "include"]; set "global.box" "Lists"; return;'),
+        b"main personal main\n",
+        b"message m 0\n",
+        b"report\n",
+    ],
+    "quoted words, and a line that says nothing": [b'drop-message "a\\x20b"\n', b"rename personal p personal q\n", b"frobnicate\n", b"report\n"],
+    "each command": [
+        put(b"script personal main", b'require ["fileinto", "imap4flags"]; addflag "\\\\Seen"; if header :matches "subject" "*a*" { fileinto :flags "x" "A"; }'),
+        put(b"script global other", b"keep;"),
+        put(b"message m1", b"Subject: =?utf-8?q?an=20a?=\n\n"),
+        put(b"message m2", b"To: a@b.example\n b\n\n"),
+        put(b"expect m1", b'store "A" "x"\n'),
+        b"main personal main\n",
+        b"envelope a@b.example c@d.example\n",
+        b"mailbox Box\n",
+        b"report\n",
+        b"dump personal main\n",
+        put(b"expect m2", b"discard\n"),
+        b"report\n",
+        b"no-expect m1\n",
+        b"drop-script global other\n",
+        b"rename personal main personal new\n",
+        b"drop-message m1\n",
+        b"report\n",
+        b"no-main\n",
+        b"report\n",
+    ],
+}
+
+
+def answered(octets, path, **settings):
+    """What the program answers to a session, and its status."""
+    env = {**os.environ, "PATH": path, **settings}
+    done = subprocess.run(["sievebench", "session"], input=octets, env=env, capture_output=True, timeout=SECONDS)
+    return done.stdout, done.returncode
+
+
+class Refusals:
+    """A session under each refusal in turn."""
+
+    def __init__(self, room, library, title, commands):
+        self.room, self.library, self.commands = room, library, commands
+        self.title, self.command = f"each request refused in turn: {title}", "sievebench session"
+
+    def allowed(self, path):
+        """What may be answered: all, or for each command that may be refused, what is answered without it and that it was."""
+        whole = answered(b"".join(self.commands), path)
+        told = {whole}
+        for at, command in enumerate(self.commands):
+            if command.startswith(NEVER_REFUSED):
+                continue
+            front, _ = answered(b"".join(self.commands[:at]), path)
+            others, status = answered(b"".join(self.commands[:at] + self.commands[at + 1 :]), path)
+            told.add((others[: len(front)] + REFUSED + others[len(front) :], status))
+        return whole, told
+
+    def differences(self, path):
+        whole, told = self.allowed(path)
+        counted, octets = self.room / "requests", b"".join(self.commands)
+        found = answered(octets, path, LD_PRELOAD=str(self.library), REQUESTS=str(counted))
+        if found != whole:
+            return [f"wanted {whole!r}, got {found!r}"]
+        count = int(counted.read_text())
+        if count < len(self.commands):
+            return [f"only {count} requests"]
+        wrong = []
+        for number in range(1, count + 1):
+            found = answered(octets, path, LD_PRELOAD=str(self.library), REFUSE=str(number))
+            if found not in told and found != (b"", 4):
+                wrong.append(f"request {number} of {count} refused: got {found!r:.2000}")
+        return wrong[:3]
+
+
+class Pieces:
+    """A session whose reads give an octet each."""
+
+    def __init__(self, library, title, octets, wanted=None):
+        self.library, self.octets, self.wanted = library, octets, wanted
+        self.title, self.command = f"an octet for each read: {title}", "sievebench session"
+
+    def differences(self, path):
+        wanted = self.wanted or answered(self.octets, path)
+        found = answered(self.octets, path, LD_PRELOAD=str(self.library), READ="1")
+        return [] if found == wanted else [f"wanted {wanted!r:.2000}, got {found!r:.2000}"]
+
+
+class Narrow:
+    """A session of more messages than there is memory for: each that is refused is as if it had never been sent, and what is dropped makes
+    room again."""
+
+    COUNT, SIZE, KILOBYTES = 60, 2_000_000, 65_536
+    title, command = "more messages than there is memory for", f"ulimit -v {KILOBYTES}; sievebench session"
+
+    def differences(self, path):
+        names = [b"m%d" % number for number in range(self.COUNT)]
+        mail = b"Subject: one\n\n" + b"x" * self.SIZE
+        octets = b"".join(put(b"message " + name, mail) for name in names)
+        octets += b"".join(b"drop-message " + name + b"\n" for name in names[::2]) + b"report\n" + b"".join(put(b"message " + name, b"") for name in names) + b"report\n"
+        env = {**os.environ, "PATH": path}
+        done = subprocess.run(["sh", "-c", self.command], input=octets, env=env, capture_output=True, timeout=SECONDS)
+        replies = re.split(rb"(?<=\n)", done.stdout)
+        puts, rest = replies[: self.COUNT], b"".join(replies[self.COUNT :])
+        if done.returncode != 0 or not set(puts) == {b"ok\n", REFUSED}:
+            return [f"status {done.returncode}, {set(puts)!r:.500}, {done.stderr!r:.500}"]
+        kept = [name for name, reply in zip(names, puts) if reply == b"ok\n"]
+        wanted = b"".join(b"ok\n" if name in kept else b"no no-such-message\n" for name in names[::2])
+        kept = [name for name in kept if name not in names[::2]]
+        wanted += self.report(kept) + b"ok\n" * self.COUNT + self.report(kept + [name for name in names if name not in kept])
+        return [] if rest == wanted else [f"wanted {wanted!r:.2000}, got {rest!r:.2000}"]
+
+    def report(self, names):
+        """The report of these messages, which no script judges."""
+        told = [line for name in names for line in (f'message "{name.decode()}"', '  implicit "INBOX"')]
+        return lines("main none", 'envelope "" "" mailbox "INBOX"', *told, f"total {len(names)} messages 0 errors")
+
+
+def of_sessions(room):
+    """All of them."""
+    library = room / "refuse.so"
+    build = f"cc -shared -fPIC -O2 -o {library} {SOURCE}"
+    yield Run("what refuses requests is built", room, build)
+    for title, commands in SESSIONS.items():
+        yield Refusals(room, library, title, commands)
+        yield Pieces(library, title, b"".join(commands))
+    # As many reads as this would end a session that lets a million be made.
+    long = 1_100_000
+    yield Pieces(library, "more than a million", put(b"message m", b"x" * long) + b"report\n", (lines("ok") + Narrow().report(["m".encode()]), 0))
+    yield Narrow()

@@ -1,0 +1,76 @@
+/* Refuses requests for memory, and lets reads give less than is asked, in a program that it is loaded into in front of the C library.
+
+   REFUSE=N        refuses the Nth request, once
+   REFUSE_FROM=N   refuses the Nth and all behind it
+   READ=N          lets a read give N octets at most
+   REQUESTS=PATH   writes how many requests there were */
+#define _GNU_SOURCE
+#include <errno.h>
+#include <fcntl.h>
+#include <stdio.h>
+#include <stdlib.h>
+#include <string.h>
+#include <sys/syscall.h>
+#include <unistd.h>
+
+extern void *__libc_malloc(size_t);
+extern void *__libc_calloc(size_t, size_t);
+extern void *__libc_realloc(void *, size_t);
+extern void *__libc_memalign(size_t, size_t);
+
+static unsigned long requests, once, from, most;
+static int counts;
+
+static unsigned long number(const char *name) {
+    const char *text = getenv(name);
+    return text ? strtoul(text, NULL, 10) : 0;
+}
+
+__attribute__((constructor)) static void begin(void) {
+    once = number("REFUSE");
+    from = number("REFUSE_FROM");
+    most = number("READ");
+    counts = 1;
+}
+
+__attribute__((destructor)) static void end(void) {
+    const char *path = getenv("REQUESTS");
+    char text[32];
+    counts = 0;
+    if (!path)
+        return;
+    int file = open(path, O_WRONLY | O_CREAT | O_TRUNC, 0600);
+    int length = snprintf(text, sizeof text, "%lu\n", requests);
+    if (file < 0 || write(file, text, length) != length || close(file))
+        abort();
+}
+
+static int is_refused(void) {
+    if (!counts)
+        return 0;
+    requests++;
+    if (requests != once && (!from || requests < from))
+        return 0;
+    errno = ENOMEM;
+    return 1;
+}
+
+void *malloc(size_t size) { return is_refused() ? NULL : __libc_malloc(size); }
+
+void *calloc(size_t count, size_t size) { return is_refused() ? NULL : __libc_calloc(count, size); }
+
+void *realloc(void *old, size_t size) { return is_refused() ? NULL : __libc_realloc(old, size); }
+
+void *aligned_alloc(size_t alignment, size_t size) { return is_refused() ? NULL : __libc_memalign(alignment, size); }
+
+int posix_memalign(void **found, size_t alignment, size_t size) {
+    void *memory = is_refused() ? NULL : __libc_memalign(alignment, size);
+    if (!memory)
+        return ENOMEM;
+    *found = memory;
+    return 0;
+}
+
+ssize_t read(int file, void *octets, size_t size) {
+    return syscall(SYS_read, file, octets, most && most < size ? most : size);
+}

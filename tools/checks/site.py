@@ -1,0 +1,165 @@
+"""Sites that are made, under `sievebench-site`: what is expected of their mails is written from the rules."""
+import pathlib
+import shlex
+
+from .runs import Run, lines
+
+TOOL = pathlib.Path(__file__).resolve().parent.parent / "sievebench-site"
+COUNTS = ("mails", "mains", "verdicts", "agree", "disagree", "without expectation", "stale expectations", "scripts with a fault")
+
+
+def write(folder, files):
+    """Makes a folder of these files."""
+    for name, octets in files.items():
+        path = folder / name
+        path.parent.mkdir(parents=True, exist_ok=True)
+        path.write_bytes(octets)
+
+
+def counted(*numbers):
+    """The last line of a check."""
+    return ", ".join(f"{number} {what}" for number, what in zip(numbers, COUNTS))
+
+
+def run(title, room, words, output=b"", error=b"", status=0):
+    """The tool with these words."""
+    return Run(f"sievebench-site: {title}", room, f"python3 {shlex.quote(str(TOOL))} {words}", output, error, status)
+
+
+def told(sentence):
+    """What is said on standard error."""
+    return f"sievebench-site: {sentence}\n".encode()
+
+
+def site(mails, **scripts):
+    """A site of these personal scripts, all of them main, and these mails."""
+    files = {f"personal/{name}.sieve": text for name, text in scripts.items()}
+    files["mains"] = lines(*scripts)
+    files.update({f"mails/{name}": octets for name, octets in mails.items()})
+    return files
+
+
+def of_checks(room):
+    """What agrees and what doesn't."""
+    write(room / "good", site({"1.eml": b"Subject: a\n\n", "1.eml.expect": b"[main]\ndiscard\n"}, main=b"discard;"))
+    yield run("all agree", room, "check good", lines(counted(1, 1, 1, 1, 0, 0, 0, 0)))
+    write(room / "wrong", site({"1.eml": b"", "1.eml.expect": b'[main]\nstore "A"\ndiscard\n'}, main=b"discard;"))
+    yield run("a verdict disagrees", room, "check wrong", lines("wrong/mails/1.eml under main", '  - store "A"', "    discard", counted(1, 1, 1, 0, 1, 0, 0, 0)), status=1)
+    write(room / "ends", site({"1.eml": b"", "1.eml.expect": b"[main]\r\ndiscard\r\n[other]\r\nimplicit \"INBOX\""}, main=b"discard;", other=b""))
+    yield run("CR LF, and no last line end", room, "check ends", lines(counted(1, 2, 2, 2, 0, 0, 0, 0)))
+    write(room / "none", site({"1.eml": b"", "2.eml": b"", "2.eml.expect": b"[main]\ndiscard\n[gone]\nkeep\n"}, main=b"discard;"))
+    yield run("nothing is expected", room, "check none", lines(counted(2, 1, 2, 1, 0, 1, 1, 0)))
+    write(room / "none", {"mails/3.eml.expect": b"", "mails/3.eml.envelope": b""})
+    strict = ["none/mails/1.eml under main: nothing is expected", "none/mails/2.eml.expect: no main script is called gone", *(f"none/mails/3.eml.{end}: its mail isn't there" for end in ("envelope", "expect"))]
+    yield run("nothing is expected, and that fails", room, "check --strict none", lines(*strict, counted(2, 1, 2, 1, 0, 1, 3, 0)), status=1)
+    yield run("one mail", room, "check --strict --only 2.eml --main main none", lines(counted(1, 1, 1, 1, 0, 0, 0, 0)))
+    write(room / "empty", site({"1.eml": b"", "1.eml.expect": b"[main]\n"}, main=b"discard;"))
+    yield run("the empty text agrees with no verdict", room, "check empty", lines("empty/mails/1.eml under main", "  + discard", counted(1, 1, 1, 0, 1, 0, 0, 0)), status=1)
+    envelope = b'require "envelope"; if envelope "from" "" { discard; }'
+    write(room / "null", site({"1.eml": b"", "1.eml.envelope": b'"" ada@home.example\n', "1.eml.expect": b"[main]\ndiscard\n", "2.eml": b"", "2.eml.envelope": b"a@b.example \"c d\"", "2.eml.expect": b'[main]\nimplicit "INBOX"\n'}, main=envelope))
+    yield run("each mail in its envelope", room, "check null", lines(counted(2, 1, 2, 2, 0, 0, 0, 0)))
+    write(room / "fault", site({"1.eml": b"", "1.eml.expect": b'[main]\nimplicit "INBOX"\nerror personal "main" line 0 invalid-script\n'}, main=b"kep;"))
+    fault = "fault/personal/main.sieve:1: unknown-command: There is no such command or test."
+    yield run("a script has a fault", room, "check fault", lines(fault, counted(1, 1, 1, 1, 0, 0, 0, 1)), status=1)
+    odd = '-\u00fc "x" \\ y'
+    write(room / "-odd", {f"mails/{odd}.eml": b"", f"mails/{odd}.eml.expect": f'["{odd}"]\n'.replace("\u00fc", "\\xc3\\xbc").replace(' "x" \\', ' \\"x\\" \\\\').encode() + b"discard\n", f"personal/{odd}.sieve": b"discard;", "mains": f"{odd}\n".encode()})
+    yield run("odd names", room, "check -- -odd", lines(counted(1, 1, 1, 1, 0, 0, 0, 0)))
+    shown = "-bare/mails/-\\xc3\\xbc \"x\" \\\\ y.eml under -\\xc3\\xbc \"x\" \\\\ y: nothing is expected"
+    write(room / "-bare", {f"mails/{odd}.eml": b"", f"personal/{odd}.sieve": b"discard;", "mains": f"{odd}\n".encode()})
+    yield run("odd names are told", room, "check --strict --no-utf8 -- -bare", lines(shown, counted(1, 1, 1, 0, 0, 1, 0, 0)), status=1)
+    yield run("an output that is closed early", room, "check --strict none | head -c 4", b"none")
+
+
+def of_refusals(room):
+    """Misuse, and a program that can't be run."""
+    write(room / "broken", site({"1.eml": b"", "1.eml.expect": b"discard\n"}, main=b""))
+    yield run("no name in front", room, "check broken", b"", told('"broken/mails/1.eml.expect", line 1: in front of it stands no name of a main script in brackets'), 2)
+    write(room / "twice", site({"1.eml": b"", "1.eml.expect": b"[main]\ndiscard\n[main]\n"}, main=b""))
+    yield run("a name again", room, "check twice", b"", told('"twice/mails/1.eml.expect", line 3: between the brackets stands no name of a main script, or one that stood there before'), 2)
+    write(room / "words", site({"1.eml": b"", "1.eml.envelope": b"a b c\n"}, main=b""))
+    yield run("an envelope of three words", room, "check words", b"", told('"words/mails/1.eml.envelope" isn\'t two words, as in a session'), 2)
+    write(room / "lone", {"personal/main.sieve": b"", "mains": b"main\n", "mails/x.txt": b""})
+    yield run("no mails", room, "check lone", b"", told('no mails in "lone/mails": they are files whose names end by .eml'), 2)
+    write(room / "unnamed", {"personal/main.sieve": b"", "mails/1.eml": b""})
+    yield run("no main scripts", room, "check unnamed", b"", told('no main script: "unnamed/mains" names them, one a line, or --main does'), 2)
+    yield run("an unknown main script", room, "check --main x unnamed", b"", told('no main script "x": there is no "unnamed/personal/x.sieve"'), 2)
+    yield run("an unknown mail", room, "check --main main --only 2.eml unnamed", b"", told('no mail "unnamed/mails/2.eml"'), 2)
+    write(room / "large", site({"1.eml": b""}, main=b"#" * 1_048_577))
+    yield run("a script that is refused", room, "check large", b"", told('the script "large/personal/main.sieve" is refused: no too-large'), 2)
+    yield run("a program that isn't there", room, "check --program ./none --main main unnamed", b"", told('cannot run "./none": No such file or directory'), 3)
+    yield run("a site that isn't there", room, "check nowhere", b"", told('cannot read "nowhere/personal": No such file or directory'), 2)
+    yield run("an unknown option", room, "check --no unnamed", b"", told('"--no" is no option here, or wants a value: --help tells the options'), 2)
+    yield run("an option of another command", room, "lint --strict unnamed", b"", told('"--strict" is no option here, or wants a value: --help tells the options'), 2)
+    yield run("an output that is full", room, "check good > /dev/full", b"", told("cannot write: No space left on device"), 2)
+
+
+def of_results(room):
+    """What servers read, and objects."""
+    write(room / "both", site({"1.eml": b"", "1.eml.expect": b"[main]\ndiscard\n[other]\ndiscard\n"}, main=b"discard;", other=b"keep;"))
+    junit = lines(
+        '<?xml version="1.0" encoding="UTF-8"?>',
+        '<testsuite name="sievebench-site" tests="2" failures="1">',
+        '  <testcase classname="main" name="1.eml"/>',
+        '  <testcase classname="other" name="1.eml"><failure>- discard',
+        '+ store "INBOX"</failure></testcase>',
+        "</testsuite>",
+    )
+    yield run("results of tests", room, "check --junit out.xml both > /dev/null; cat out.xml", junit)
+    counts = ", ".join(f'"{what}": {number}' for what, number in zip(COUNTS, (1, 2, 2, 1, 1, 0, 0, 0)))
+    cases = '{"mail": "1.eml", "main": "main", "agrees": true, "verdict": ["discard"]}, {"mail": "1.eml", "main": "other", "agrees": false, "verdict": ["store \\"INBOX\\""]}'
+    yield run("an object", room, "check --json both", lines(f'{{"passed": false, "counts": {{{counts}}}, "cases": [{cases}], "faults": [], "stale": []}}'), status=1)
+
+
+def of_records(room):
+    """Verdicts that are written as what is expected."""
+    write(room / "fresh", site({"1.eml": b"", "2.eml": b"", "2.eml.expect": b"[main]\nkeep\n", "3.eml": b"", "3.eml.expect": b"\n[main]\nkeep\n"}, main=b"discard;"))
+    wanted = lines("fresh/mails/1.eml.expect: new", "fresh/mails/2.eml.expect: changed", "fresh/mails/3.eml.expect: left, since it isn't as this tool writes it", "3 mails, 2 written, 1 left")
+    yield run("verdicts are written", room, "record fresh", wanted, status=1)
+    yield Run("sievebench-site: what was written", room, "cat fresh/mails/1.eml.expect fresh/mails/2.eml.expect fresh/mails/3.eml.expect", b"[main]\ndiscard\n" * 2 + b"\n[main]\nkeep\n")
+    yield run("nothing changes", room, "record --only 1.eml fresh", lines("1 mails, 0 written, 0 left"))
+    yield run("a script with a fault", room, "record fault", lines("fault/personal/main.sieve:1: unknown-command: There is no such command or test."), status=1)
+    write(room / "blocks", site({"1.eml": b"", "1.eml.expect": b'[old]\nstore "A"'}, main=b"discard;"))
+    yield run("a block more", room, "record blocks", lines("blocks/mails/1.eml.expect: left, since it isn't as this tool writes it", "1 mails, 0 written, 1 left"), status=1)
+
+
+def of_lints(room):
+    """Faults, includes and redirects."""
+    main = b'require "include";\ninclude "a";\ninclude :global "there";\ninclude :global "gone";\ninclude :optional "gone";\nredirect "x";\nredirect "a@b.example";\n'
+    write(room / "lint", {"personal/main.sieve": main, "personal/a.sieve": b'require "include"; include "main";', "personal/lost.sieve": b"kep;", "global/there.sieve": b'require "include"; include :once :personal "lost";', "mains": b"main\n", "personal/alone.sieve": b""})
+    faults = [
+        ("personal/a.sieve:1", "recursive-include", "The script of this name runs already."),
+        ("personal/lost.sieve:1", "unknown-command", "There is no such command or test."),
+        ("personal/main.sieve:2", "recursive-include", "The script of this name runs already."),
+        ("personal/main.sieve:4", "missing-script", "There is no script of this name."),
+        ("personal/main.sieve:6", "bad-address", "This isn't one address."),
+        ("global/there.sieve:1", "invalid-script", "The script of this name has a fault."),
+    ]
+    order = sorted(faults, key=lambda fault: (not fault[0].startswith("global"), fault[0]))
+    wanted = [f"lint/{place}: {word}: {sentence}" for place, word, sentence in order]
+    yield run("faults", room, "lint lint", lines(*wanted, "lint/personal/alone.sieve:0: unreached: No main script comes to it."), status=1)
+    write(room / "once", {"personal/main.sieve": b'require "include"; include "t";', "personal/t.sieve": b'require "include"; include :once "main";', "mains": b"main\n"})
+    yield run("a main script is entered already", room, "lint once")
+    write(room / "ring", {"personal/main.sieve": b'require "include"; include :once "t";', "personal/t.sieve": b'require "include"; include "main";', "mains": b"main\n"})
+    yield run("an include once enters", room, "lint ring", lines("ring/personal/t.sieve:1: recursive-include: The script of this name runs already."), status=1)
+    write(room / "clean", {"personal/main.sieve": b"keep;", "personal/.x.sieve": b"keep;"})
+    yield run("no faults", room, "lint clean")
+
+
+def of_many(room):
+    """Three thousand mails under five main scripts."""
+    files = {f"mails/{number:04}.eml": b"Subject: word%d\n\n" % number for number in range(3_000)}
+    names = [f"main{number}" for number in range(5)]
+    files.update({f"personal/{name}.sieve": b'if header "subject" "word7" { discard; }' for name in names})
+    files["mains"] = lines(*names)
+    files["mails/0007.eml.expect"] = b"".join(b"[%s]\ndiscard\n" % name.encode() for name in names)
+    write(room / "many", files)
+    yield run("three thousand mails", room, "check many", lines(counted(3_000, 5, 15_000, 5, 0, 14_995, 0, 0)))
+
+
+def of_sites(room):
+    """All of them."""
+    room = room / "sites"
+    room.mkdir()
+    yield Run("sievebench-site: it compiles", room, f"python3 -c 'import ast, sys; ast.parse(open(sys.argv[1]).read())' {shlex.quote(str(TOOL))}")
+    for part in (of_checks, of_refusals, of_results, of_records, of_lints, of_many):
+        yield from part(room)
