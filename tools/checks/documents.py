@@ -11,7 +11,7 @@ from .runs import Run, lines, put
 TOP = pathlib.Path(__file__).resolve().parent.parent.parent
 FORMATS, LANGUAGE, SCRIPT = TOP / "docs/FORMATS.md", TOP / "docs/LANGUAGE.md", TOP / "examples/office/main.sieve"
 CALLING, CALLER = TOP / "docs/CALLING.md", TOP / "crates/library_tests/src/tests/caller.rt"
-SITE, OFFICE, TOOL = TOP / "docs/SITE.md", TOP / "examples/office-site", TOP / "tools/sievebench-site"
+SITE, OFFICE, TOOL = TOP / "docs/SITE.md", TOP / "examples/site", TOP / "tools/sievebench-site"
 # What writes the session in the document's lines; here a file has it.
 MAKER = "tools/make-session --main main scripts mails"
 SECTION, BLOCK = r"\n### {}\n((?:(?!\n##).)*)", r"```sh\n(.*?)```"

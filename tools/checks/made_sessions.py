@@ -6,7 +6,7 @@ import os
 import pathlib
 import shlex
 
-from .amounts import KEPT, MAILBOX_LIMIT, MESSAGE_LIMIT, NAME_LIMIT, SCRIPT_LIMIT, TEXT_LIMIT
+from .amounts import MAILBOX_LIMIT, MESSAGE_LIMIT, NAME_LIMIT, SCRIPT_LIMIT, TEXT_LIMIT
 from .files import write
 from .runs import SETTINGS, Run, lines
 

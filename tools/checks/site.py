@@ -86,7 +86,7 @@ def of_refusals(room):
     yield run("an unknown mail", room, "check --main main --only 2.eml unnamed", b"", told('no mail "unnamed/mails/2.eml"'), 2)
     write(room / "large", site({"1.eml": b""}, main=b"#" * 1_048_577))
     yield run("a script that is refused", room, "check large", b"", told('the script "large/personal/main.sieve" is refused: no too-large'), 2)
-    yield run("a program that isn't there", room, "check --program ./none --main main unnamed", b"", told('cannot run "./none": No such file or directory'), 3)
+    yield run("a program that isn't there", room, "check --program ./absent --main main unnamed", b"", told('cannot run "./absent": No such file or directory'), 3)
     yield run("a site that isn't there", room, "check nowhere", b"", told('cannot read "nowhere/personal": No such file or directory'), 2)
     yield run("an unknown option", room, "check --no unnamed", b"", told('"--no" is no option here, or wants a value: --help tells the options'), 2)
     yield run("an option of another command", room, "lint --strict unnamed", b"", told('"--strict" is no option here, or wants a value: --help tells the options'), 2)
@@ -136,11 +136,19 @@ def of_lints(room):
     ]
     order = sorted(faults, key=lambda fault: (not fault[0].startswith("global"), fault[0]))
     wanted = [f"lint/{place}: {word}: {sentence}" for place, word, sentence in order]
-    yield run("faults", room, "lint lint", lines(*wanted, "lint/personal/alone.sieve:0: unreached: No main script comes to it."), status=1)
+    yield run("faults, and what may stand behind them", room, "lint lint", lines(*wanted), status=1)
+    write(room / "alone", {"personal/main.sieve": b'require "include"; include :global "a";', "global/a.sieve": b"", "personal/a.sieve": b"", "mains": b"main\n"})
+    yield run("a script that no main one comes to", room, "lint alone", lines("alone/personal/a.sieve:0: unreached: No main script comes to it."))
     write(room / "once", {"personal/main.sieve": b'require "include"; include "t";', "personal/t.sieve": b'require "include"; include :once "main";', "mains": b"main\n"})
     yield run("a main script is entered already", room, "lint once")
     write(room / "ring", {"personal/main.sieve": b'require "include"; include :once "t";', "personal/t.sieve": b'require "include"; include "main";', "mains": b"main\n"})
     yield run("an include once enters", room, "lint ring", lines("ring/personal/t.sieve:1: recursive-include: The script of this name runs already."), status=1)
+    # In place of sievec: it compiles what has no `reject`, and is told where the scripts are that those include.
+    fake = '#!/bin/sh\n[ "$2 $4" = "plugin/sieve=file:$PWD/peer/personal plugin/sieve_global=file:$PWD/peer/global" ] || exit 9\n! grep -n reject "$5" > /dev/null || { echo "x: line 2: error: no \\reject" >&2; exit 89; }\n'
+    write(room / "peer", {"bin/sievec": fake.encode(), "personal/main.sieve": b'require "include"; include "a";', "personal/a.sieve": b"\nkep;", "personal/b.sieve": b"# reject", "personal/c.sieve": b"reject;", "mains": b"main\n"})
+    (room / "peer/bin/sievec").chmod(0o755)
+    wanted = ["a.sieve:2: unknown-command: There is no such command or test.", "c.sieve:1: unknown-command: There is no such command or test.", "main.sieve:1: invalid-script: The script of this name has a fault.", "a.sieve:2: sievec: It compiles this.", "b.sieve:2: sievec: no \\reject", "main.sieve:1: sievec: It compiles this."]
+    yield Run("sievebench-site: where sievec says otherwise", room, f'PATH="$PWD/peer/bin:$PATH" python3 {shlex.quote(str(TOOL))} lint --sievec peer', lines(*(f"peer/personal/{line}" for line in wanted)), status=1)
     write(room / "clean", {"personal/main.sieve": b"keep;", "personal/.x.sieve": b"keep;"})
     yield run("no faults", room, "lint clean")
 

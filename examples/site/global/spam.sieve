@@ -1,5 +1,6 @@
-# The site's own rule against spam.
+# What the spam filter marks is filed, and that is all.
 require "fileinto";
 if header :contains "X-Spam-Flag" "YES" {
     fileinto "Junk";
+    stop;
 }

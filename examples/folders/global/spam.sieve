@@ -1,6 +1,5 @@
-# What the spam filter marks is filed, and that is all.
+# The site's own rule against spam.
 require "fileinto";
 if header :contains "X-Spam-Flag" "YES" {
     fileinto "Junk";
-    stop;
 }
