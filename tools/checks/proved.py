@@ -1,0 +1,61 @@
+"""Whether `docs/PROVED.md` names what there is: clauses, laws and definitions in parentheses, other names, and tests; and each law.
+
+Under a crate's heading, names in parentheses are those of clauses, laws, definitions or ghost fields of its sources; other names are
+words of its sources, or of another crate's. What isn't a name, as `i;ascii-casemap`, isn't looked for.
+"""
+import pathlib
+import re
+
+TOP = pathlib.Path(__file__).resolve().parent.parent.parent
+PROVED = TOP / "docs/PROVED.md"
+NAME = r"[A-Za-z_][A-Za-z0-9_]*"
+# What declares a name that stands for something proved: in code a clause, a function or what is ghost, and a definition.
+DECLARED = rf"\b(?:ensures|fn|ghost(?: fn)?) ({NAME})|^(?:unfoldable |abbrev |pub |record )+(?!fn )({NAME})"
+TESTS = ("text_tests", "library_tests", "bench_tests")
+
+
+def sources(crate):
+    """The octets of a crate's code and definitions."""
+    folder = TOP / "crates" / crate
+    return "\n".join(path.read_text(encoding="utf-8") for part, end in (("src", "rt"), ("specs", "antt")) for path in sorted((folder / part).rglob(f"*.{end}")))
+
+
+def names_in(text):
+    """The names between backquotes, each part of a path by itself."""
+    return [name for path in re.findall(rf"`({NAME}(?:::{NAME})*)`", text) for name in path.split("::")]
+
+
+class Named:
+    """Whether what a part of the document names is there."""
+
+    def __init__(self, title, wanted, there):
+        self.title, self.command, self.wanted, self.there = f"what is proved: {title}", PROVED.name, wanted, there
+
+    def differences(self, path):
+        """The names of nothing."""
+        return [f"nothing is called {name}" for name in dict.fromkeys(self.wanted) if name not in self.there]
+
+
+def of_claims():
+    """A part for each crate, one for the tests of calls, and one for the laws, each of which must be told."""
+    text = PROVED.read_text(encoding="utf-8")
+    claims, calls = text.split("\n## Each public call\n")[0], text.split("\n## ")[1]
+    crates = sorted(path.name for path in (TOP / "crates").iterdir() if path.is_dir())
+    texts = {crate: sources(crate) for crate in crates}
+    words = set(re.findall(NAME, "\n".join(texts.values())))
+    head, *parts = re.split(r"^\*\*`(.*)`\*\*$", claims, flags=re.M)
+    for crate, part in zip(parts[::2], parts[1::2]):
+        declared = {name for names in re.findall(DECLARED, texts.get(crate, ""), re.M) for name in names}
+        claimed = [name for inside in re.findall(r"\(((?:the law )?`[^()]*`)\)", part) for name in names_in(inside)]
+        yield Named(f"clauses of {crate}", claimed, declared)
+        yield Named(f"names of {crate}", names_in(part), words)
+        laws = TOP / "crates" / crate / "src/laws.rt"
+        told = re.findall(rf"^pub fn ({NAME})", laws.read_text(encoding="utf-8"), re.M) if laws.is_file() else []
+        yield Named(f"laws of {crate}", told, set(names_in(part)))
+    yield Named("the headline", names_in(head), words)
+    # The last cell of a row names tests and files of rows.
+    rows = [line.strip("| ").split(" | ")[-1] for line in calls.splitlines() if line.startswith("| `")]
+    tests = {name for crate in TESTS for name in re.findall(rf"fn ({NAME})", texts[crate])} | {path.name for path in (TOP / "examples/rows").iterdir()}
+    yield Named("tests of calls", [name for row in rows for name in re.findall(r"`([^`]*)`", row)], tests)
+    told = {name for row in calls.splitlines() if row.startswith("| `") for name in names_in(row.split(" | ")[0])}
+    yield Named("each call", told, words)
