@@ -1,13 +1,14 @@
-"""Whether `docs/PROVED.md` names what there is: clauses, laws and definitions in parentheses, other names, and tests; and each law.
+"""Whether `docs/PROVED.md` and `docs/RULES.md` name what there is, and the former each law.
 
-Under a crate's heading, names in parentheses are those of clauses, laws, definitions or ghost fields of its sources; other names are
-words of its sources, or of another crate's. What isn't a name, as `i;ascii-casemap`, isn't looked for.
+In what is proved, names in parentheses are those of clauses, laws, definitions or ghost fields of the crate's sources; other names are
+words of its sources, or of another crate's. Of a rule, `Module.name` is a definition of that file, and the other names stand somewhere. What
+isn't a name, as `i;ascii-casemap`, isn't looked for.
 """
 import pathlib
 import re
 
 TOP = pathlib.Path(__file__).resolve().parent.parent.parent
-PROVED = TOP / "docs/PROVED.md"
+PROVED, RULES = TOP / "docs/PROVED.md", TOP / "docs/RULES.md"
 NAME = r"[A-Za-z_][A-Za-z0-9_]*"
 # What declares a name that stands for something proved: in code a clause, a function or what is ghost, and a definition.
 DECLARED = rf"\b(?:ensures|fn|ghost(?: fn)?) ({NAME})|^(?:unfoldable |abbrev |pub |record )+(?!fn )({NAME})"
@@ -17,7 +18,12 @@ TESTS = ("text_tests", "library_tests", "bench_tests")
 def sources(crate):
     """The octets of a crate's code and definitions."""
     folder = TOP / "crates" / crate
-    return "\n".join(path.read_text(encoding="utf-8") for part, end in (("src", "rt"), ("specs", "antt")) for path in sorted((folder / part).rglob(f"*.{end}")))
+    return text_of(path for part, end in (("src", "rt"), ("specs", "antt")) for path in sorted((folder / part).rglob(f"*.{end}")))
+
+
+def text_of(paths):
+    """The octets of files."""
+    return "\n".join(path.read_text(encoding="utf-8") for path in paths)
 
 
 def names_in(text):
@@ -26,10 +32,10 @@ def names_in(text):
 
 
 class Named:
-    """Whether what a part of the document names is there."""
+    """Whether what a part of a document names is there."""
 
-    def __init__(self, title, wanted, there):
-        self.title, self.command, self.wanted, self.there = f"what is proved: {title}", PROVED.name, wanted, there
+    def __init__(self, title, wanted, there, document=PROVED):
+        self.title, self.command, self.wanted, self.there = f"what is said: {title}", document.name, wanted, there
 
     def differences(self, path):
         """The names of nothing."""
@@ -59,3 +65,23 @@ def of_claims():
     yield Named("tests of calls", [name for row in rows for name in re.findall(r"`([^`]*)`", row)], tests)
     told = {name for row in calls.splitlines() if row.startswith("| `") for name in names_in(row.split(" | ")[0])}
     yield Named("each call", told, words)
+
+
+def of_rules():
+    """The definitions that restate the rules, and all other names."""
+    text = RULES.read_text(encoding="utf-8")
+    files = [path for part in ("src", "specs", "proofs") for path in (TOP / "crates").glob(f"*/{part}/**/*") if path.suffix in (".rt", ".antt")]
+    words = set(re.findall(NAME, text_of(files + list((TOP / "tools/checks").glob("*.py"))))) | {path.name for path in (TOP / "examples/rows").iterdir()}
+    there = {}
+    for path in (path for path in files if "specs" in path.parts):
+        there.setdefault(path.stem, set()).update(re.findall(NAME, path.read_text(encoding="utf-8")))
+    definitions = re.findall(rf"`({NAME})\.({NAME})`", text)
+    yield Named("definitions", [f"{module}.{name}" for module, name in definitions if module[0].isupper()], {f"{module}.{name}" for module in there for name in there[module]}, RULES)
+    files = re.findall(r"`([a-z_]+\.(?:rows|faults|sessions))`", text)
+    yield Named("other names of rules", names_in(text) + files, words, RULES)
+
+
+def of_documents():
+    """Both."""
+    yield from of_claims()
+    yield from of_rules()
