@@ -36,12 +36,15 @@ def of_failing(room):
     text = put(b"script personal main", b'redirect "a";')
     assert script.count(MAKER) == 1, MAKER
     yield Run("the help has the same lines", room, "sievebench help session", [textwrap.indent(script.replace(MAKER, "INPUT"), "  ").encode()])
-    sound, report = put(b"script personal main", b"discard;"), b"message m 0\nmain personal main\nreport\n"
+    sound, mail = put(b"script personal main", b"discard;"), b"message m 0\nmain personal main\n"
+    report = mail + b"report\n"
     for number, (title, octets, end, output, status) in enumerate(
         [
             ("is sound", sound + report, "", lines("total 1 messages 0 errors"), 0),
             ("has an error", text + report, "", b"", 1),
             ("has an error and then none", text + report + sound + b"report\n", "", lines("total 1 messages 0 errors"), 0),
+            ("has a verdict as expected", sound + mail + put(b"expect m", b"discard\n") + b"report\n", "", lines("total 1 messages 0 errors 0 unexpected"), 0),
+            ("has another verdict than is expected", sound + mail + put(b"expect m", b"keep\n") + b"report\n", "", b"", 1),
             ("has a refused edit", sound + b"drop-message m\n" + report, "", lines("no no-such-message"), 1),
             ("ends by `no syntax`", sound + report + b"frobnicate\n", "", b"", 2),
             ("ends by `no truncated`", sound + report + b"message m 9\n", "", b"", 2),

@@ -41,7 +41,7 @@ SESSIONS = {
         put(b"script personal main", b'require ["fileinto", "imap4flags"]; addflag "\\\\Seen"; if header :matches "subject" "*a*" { fileinto :flags "x" "A"; }'),
         put(b"script global other", b"keep;"),
         put(b"message m1", b"Subject: =?utf-8?q?an=20a?=\n\n"),
-        put(b"message m2", b"To: a@b.example\n b\n\n"),
+        put(b"message m2", b"Subject: =?utf-8?b?Yg==?=\n =?iso-8859-1?q?=E9a?=\nTo: a@b.example\n b\n\n"),
         put(b"expect m1", b'store "A" "x"\n'),
         b"main personal main\n",
         b"envelope a@b.example c@d.example\n",

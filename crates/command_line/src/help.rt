@@ -46,7 +46,9 @@ A line of the input is a command; each is answered by a reply:
   envelope FROM TO                set the addresses of the sender and of the recipient
   mailbox BOX                     set the mailbox that mail is kept in
   report                          print the report, as 'sievebench help test' shows it, of all
-                                  messages; its first line is \"main none\" where no script is run
+                                  messages; its first line is \"main none\" where no script is run,
+                                  a message of which a verdict is expected ends by \"  expected\" or
+                                  \"  unexpected\", and the last line then by \" U unexpected\"
   dump PLACE NAME                 print a script's code, and then ok
 
 PLACE is personal or global. Words stand between spaces; a name, an id, an address or a mailbox
@@ -58,11 +60,11 @@ that ends inside N octets \"no truncated\": both end the session with status 2.
 
 Exit status: 0 done, 2 as above, 3 the input or the output failed or too many reads were made,
 4 out of memory. It tells of the session alone: with a verdict that is an error, a script's fault
-or a reply no it is 0 all the same. For a status of 1 on a verdict that is an error or a reply no,
-where INPUT writes a session that ends by a report:
+or a reply no it is 0 all the same. For a status of 1 on a verdict that is an error or isn't as
+expected, or on a reply no, where INPUT writes a session that ends by a report:
   set -o pipefail
   INPUT | sievebench session > replies || exit
-  ! grep '^no ' replies && tail -n 1 replies | grep -x 'total [0-9]* messages 0 errors'
+  ! grep '^no ' replies && tail -n 1 replies | grep -Ex 'total [0-9]+ messages 0 errors( 0 unexpected)?'
 
 docs/FORMATS.md of the project has all of this in full."
 }

@@ -191,7 +191,7 @@ fn is_under(delivery: &Delivery<'_>, limit: u64) -> bool
 
 /// Whether what a test asks is so (RFC 5228, section 5; RFC 5229, section 5; RFC 5232, section 4). A test that compares under `:matches`
 /// sets the match variables where some pair matches (RFC 5229, section 3.2). All strings of a test stand for what they do when it begins.
-/// What is read of the message's fields is kept, and read once. Fails where memory is refused.
+/// What is made of the message's fields is kept. Fails where memory is refused.
 #[tactic(auto, unfolding(crate::specs::Matching::truth_of, crate::specs::Matching::values_behind))]
 pub fn holds(
     delivery: &Delivery<'_>,

@@ -10,8 +10,8 @@ use std::alloc::{AllocError, Global};
 use std::borrow::CowSlice;
 use std::marker::Model;
 
-/// What a run has read of the fields of a message, so that each of its tests reads them once at most. Contracts see the message's
-/// octets. It grows with the fields that tests look at.
+/// What a run has made of the fields of a message, so that none of its tests makes it again. Contracts see the message's octets. It grows
+/// with the fields that tests look at.
 #[derive(Drop)]
 pub struct FieldReads<'a> {
     message: &'a Message,
@@ -32,14 +32,14 @@ impl<'a> Model for FieldReads<'a> {
     ghost invariant = { λ f. AreListed f.message.now f.listed.entries × AreDecoded f.message.now f.decoded.entries };
 }
 
-// In a part of the message that is no longer, words are looked for again sooner than it is kept.
+// In a part of the message that is no longer, it is seen again sooner than kept that it begins no word.
 const SHORT_VALUE: usize = 64;
 
-/// Whether a value is worth keeping: one that was made, or a part of the message in which it takes long to see that no word stands.
+/// Whether a value is kept: one that was made, and a part of the message that is long, or in which words may begin that stand for nothing.
 fn is_kept(value: &CowSlice<'_, u8>) -> bool {
     match value {
         CowSlice::Owned(_) => true,
-        CowSlice::Borrowed(octets) => octets.len() > SHORT_VALUE,
+        CowSlice::Borrowed(octets) => octets.len() > SHORT_VALUE || octets.contains(&b'?'),
     }
 }
 
@@ -110,7 +110,7 @@ impl<'a> FieldReads<'a> {
         }
     }
 
-    /// Keeps the value of field `i` with its encoded words replaced, but for a short one that is part of the message.
+    /// Keeps the value of field `i` with its encoded words replaced, but for a short one that is part of the message and begins no word.
     pub(crate) fn keep_decoded(
         &mut self,
         i: usize,
