@@ -1,5 +1,5 @@
 //! The counted octets of a session's input.
-ghost use Rattle.std.specs.Prelude.{◌≡◌, false, ◌≤◌, ◌++◌, [], IfSome};
+ghost use Rattle.std.specs.Prelude.{◌≡◌, ⊤, false, ◌≤◌, ◌++◌, [], None, IfSome};
 ghost use Rattle.std.specs.Option.{option_map};
 ghost use Rattle.sieve_base.specs.Devices.{HasRisen};
 ghost use Rattle.session_text.specs.view.Input.{unused, fuel, Knows, Reads};
@@ -24,7 +24,8 @@ pub enum Taken {
 
 /// What is kept, with more octets, if memory isn't refused.
 fn with_more(kept: Option<Vec<u8>>, octets: &[u8]) -> Option<Vec<u8>>
-    ensures { Grows (option_map octets_kept kept) (option_map octets_kept result) octets.now }
+    ensures more { Grows (option_map octets_kept kept) (option_map octets_kept result) octets.now }
+    ensures none { kept ≡ None → result ≡ None }
 {
     let mut kept = kept?;
     match kept.extend_from_slice(octets) {
@@ -35,7 +36,8 @@ fn with_more(kept: Option<Vec<u8>>, octets: &[u8]) -> Option<Vec<u8>>
 
 /// The vector that octets are kept in, where they are, if memory isn't refused.
 fn room_for(alloc: Global, count: usize, keep: bool) -> Option<Vec<u8>>
-    ensures { IfSome result (λ kept. kept.items ≡ []) }
+    ensures empty { IfSome result (λ kept. kept.items ≡ []) }
+    ensures none { keep ≡ false → result ≡ None }
 {
     if keep {
         Vec::with_capacity(alloc, count).ok()
@@ -45,7 +47,7 @@ fn room_for(alloc: Global, count: usize, keep: bool) -> Option<Vec<u8>>
 }
 
 /// Uses the next `count` octets of the input, and keeps a copy of them where `keep` is true. Where memory is refused for
-/// the copy, the octets are used all the same, and none are kept.
+/// the copy, the octets are used all the same, and none are kept; nor are they where it is false.
 #[tactic(auto, using(crate::proofs::Taking::taking, crate::proofs::Reading::reading))]
 pub fn take_octets<R: Source>(
     alloc: Global,
@@ -62,6 +64,7 @@ pub fn take_octets<R: Source>(
         (FallsShort count (unused input.old (R.remaining reader.old)) (R.remaining reader.new))
         (BreaksOff count (unused input.old (R.remaining reader.old)) (R.remaining reader.new) × (input.new.ended ≡ false) × HasRisen (R.fault_count reader.old) (R.fault_count reader.new))
         (BreaksOff count (unused input.old (R.remaining reader.old)) (R.remaining reader.new) × (input.new.ended ≡ false) × (input.new.turns ≡ 0)) }
+    ensures unkept { keep ≡ false → MatchTaken result (λ kept. kept ≡ None) ⊤ ⊤ ⊤ }
     ensures reads { Reads R.remaining R.fault_count R.call_count input.old input.new reader.old reader.new }
 {
     let mut kept = room_for(alloc, count, keep);

@@ -2,7 +2,7 @@
 
 use super::{REPLIES, REPORT, SESSION, TURNS, holds, same};
 use sievebench::{Bench, Counted, Meter, SessionEnd, Source, session};
-use std::alloc::AllocError;
+use std::alloc::{AllocError, Global};
 use std::io;
 use std::io::{ErrorKind, Read};
 use std::process::Abort;
@@ -151,4 +151,38 @@ fn reads_are_limited(rt: HostRuntime) -> Result<(), AllocError> {
     check_endless(&rt, b"report\n", 1, REPORT)?;
     check_endless(&rt, b"report\n", 2, TWO_REPORTS)?;
     check_endless(&rt, b"report\n", 0, b"")
+}
+
+/// Serves octets one at a time, of which the first so many are no line, and compares with how many reads that is answered.
+fn check_refused_line(
+    rt: &(impl AllocGlobal + Abort),
+    octets: &[u8],
+    calls: u64,
+) -> Result<(), AllocError> {
+    let mut reader = Counted::new(Dripping::new(octets, 0));
+    check_ended(rt, &mut reader, TURNS, b"no syntax\n", SessionEnd::Syntax)?;
+    check_calls(rt, &reader, calls);
+    Ok(())
+}
+
+/// So many spaces, and these octets behind them.
+fn behind_spaces(alloc: Global, count: usize, octets: &[u8]) -> Result<Vec<u8>, AllocError> {
+    let mut line = vec![in alloc; b' '; count]?;
+    line.extend_from_slice(octets)?;
+    Ok(line)
+}
+
+#[test]
+fn a_line_that_is_refused_is_read_no_further(rt: HostRuntime) -> Result<(), AllocError> {
+    check_refused_line(&rt, b"frob\nreport\n", 5)?;
+    check_refused_line(
+        &rt,
+        &behind_spaces(rt.alloc(), 16_385, b"\nreport\n")?,
+        16_385,
+    )?;
+    check_refused_line(
+        &rt,
+        &behind_spaces(rt.alloc(), 16_384, b"\rx\nreport\n")?,
+        16_386,
+    )
 }

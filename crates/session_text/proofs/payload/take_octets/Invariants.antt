@@ -1,4 +1,4 @@
-use Rattle.std.proofs.Common.{◌≤◌, ◌-◌}
+use Rattle.std.proofs.Common.{◌≡◌, ◌≤◌, ◌-◌, false, None}
 use Rattle.std.specs.Option.{option_map}
 use Rattle.session_text.specs.view.Input.{Reads, unused, fuel, Knows}
 use Rattle.session_text.specs.view.Payload.{Takes, octets_kept}
@@ -11,6 +11,7 @@ invariant-loop-left g l =
     × Takes (l.count - l.left) (unused l.fn.input (g.R.Source.remaining l.fn.reader)) (unused l.input (g.R.Source.remaining l.reader)) (option_map octets_kept l.kept)
     × (fuel l.input ≤ fuel l.fn.input)
     × Knows l.input (g.R.Source.remaining l.reader)
+    × (l.keep ≡ false → l.kept ≡ None)
     × Reads g.R.Source.remaining g.R.Faults.fault_count g.R.Source.call_count l.fn.input l.input l.fn.reader l.reader
 
 abbrev pub decreases-loop-left : goal.decreases-loop-left
