@@ -10,12 +10,12 @@ use Rattle.session_text.specs.SessionLine.{Quoting, inside, is_bare, line_words,
 use Rattle.session_text.proofs.Quoting.{quoted_stands}
 use Rattle.session_text.proofs.Words.{line_words-none, line_words-space, line_words-word}
 
--- no space that stands between words is among octets that stand from one spot to another
+-- no space that stands between words is among octets that lead from one quoting to another
 abbrev Passes : Quoting → List ℕ → Quoting → Type 0
-Passes spot octets spot' = (rest : List ℕ) → piece_length spot (octets ++ rest) ≡ length octets + piece_length spot' rest
+Passes quoting octets quoting' = (rest : List ℕ) → piece_length quoting (octets ++ rest) ≡ length octets + piece_length quoting' rest
 
-passes_nothing : (spot : Quoting) → Passes spot [] spot
-passes_nothing spot rest = omega arith
+passes_nothing : (quoting : Quoting) → Passes quoting [] quoting
+passes_nothing quoting rest = omega arith
 
 passes_both : (s t u : Quoting) (a b : List ℕ) → Passes s a t → Passes t b u → Passes s (a ++ b) u
 passes_both s t u a b first second rest =

@@ -20,37 +20,37 @@ behind_space [] = []
 behind_space (b ∷ bs) = pieces_from outside bs
 
 -- a piece lies in the line
-pub piece_length-within : (spot : Quoting) (line : List ℕ) → piece_length spot line ≤ length line
-piece_length-within spot [] = omega arith
-piece_length-within spot (b ∷ bs) = by_gap (is_gap spot b) refl (piece_length-within (quoting_behind spot b) bs)
+pub piece_length-within : (quoting : Quoting) (line : List ℕ) → piece_length quoting line ≤ length line
+piece_length-within quoting [] = omega arith
+piece_length-within quoting (b ∷ bs) = by_gap (is_gap quoting b) refl (piece_length-within (quoting_behind quoting b) bs)
   where
-    by_gap : (gap : Bool) → is_gap spot b ≡ gap → piece_length (quoting_behind spot b) bs ≤ length bs → piece_length spot (b ∷ bs) ≤ length (b ∷ bs)
+    by_gap : (gap : Bool) → is_gap quoting b ≡ gap → piece_length (quoting_behind quoting b) bs ≤ length bs → piece_length quoting (b ∷ bs) ≤ length (b ∷ bs)
     by_gap true is later = rw is (omega arith)
     by_gap false is later = rw is (omega (arith, later))
 
 -- the first piece, and those behind it
-pieces_from-first : (spot : Quoting) (line : List ℕ) → pieces_from spot line ≡ take (piece_length spot line) line ∷ behind_space (drop (piece_length spot line) line)
-pieces_from-first spot [] = refl
-pieces_from-first spot (b ∷ bs) = by_gap (is_gap spot b) refl (pieces_from-first (quoting_behind spot b) bs)
+pieces_from-first : (quoting : Quoting) (line : List ℕ) → pieces_from quoting line ≡ take (piece_length quoting line) line ∷ behind_space (drop (piece_length quoting line) line)
+pieces_from-first quoting [] = refl
+pieces_from-first quoting (b ∷ bs) = by_gap (is_gap quoting b) refl (pieces_from-first (quoting_behind quoting b) bs)
   where
-    by_gap : (gap : Bool) → is_gap spot b ≡ gap → pieces_from (quoting_behind spot b) bs ≡ take (piece_length (quoting_behind spot b) bs) bs ∷ behind_space (drop (piece_length (quoting_behind spot b) bs) bs) → pieces_from spot (b ∷ bs) ≡ take (piece_length spot (b ∷ bs)) (b ∷ bs) ∷ behind_space (drop (piece_length spot (b ∷ bs)) (b ∷ bs))
+    by_gap : (gap : Bool) → is_gap quoting b ≡ gap → pieces_from (quoting_behind quoting b) bs ≡ take (piece_length (quoting_behind quoting b) bs) bs ∷ behind_space (drop (piece_length (quoting_behind quoting b) bs) bs) → pieces_from quoting (b ∷ bs) ≡ take (piece_length quoting (b ∷ bs)) (b ∷ bs) ∷ behind_space (drop (piece_length quoting (b ∷ bs)) (b ∷ bs))
     by_gap true is later = rw is refl
     by_gap false is later = rw is (ap (grow_first b) later)
 
 -- what is behind a piece begins with a space, which changes no word
-behind_piece : (spot : Quoting) (line : List ℕ) → filter is_word (behind_space (drop (piece_length spot line) line)) ≡ line_words (drop (piece_length spot line) line)
+behind_piece : (quoting : Quoting) (line : List ℕ) → filter is_word (behind_space (drop (piece_length quoting line) line)) ≡ line_words (drop (piece_length quoting line) line)
 unfolding line_words
-behind_piece spot [] = refl
-behind_piece spot (b ∷ bs) = by_gap (is_gap spot b) refl (behind_piece (quoting_behind spot b) bs)
+behind_piece quoting [] = refl
+behind_piece quoting (b ∷ bs) = by_gap (is_gap quoting b) refl (behind_piece (quoting_behind quoting b) bs)
   where
-    at_gap : (spot : Quoting) → is_gap spot b ≡ true → filter is_word (pieces_from outside bs) ≡ filter is_word (pieces_from outside (b ∷ bs))
+    at_gap : (quoting : Quoting) → is_gap quoting b ≡ true → filter is_word (pieces_from outside bs) ≡ filter is_word (pieces_from outside (b ∷ bs))
     at_gap outside is = rw is refl
     at_gap inside is = absurd (search rules)
     at_gap escaped is = absurd (search rules)
 
-    by_gap : (gap : Bool) → is_gap spot b ≡ gap → filter is_word (behind_space (drop (piece_length (quoting_behind spot b) bs) bs)) ≡ filter is_word (pieces_from outside (drop (piece_length (quoting_behind spot b) bs) bs))
-        → filter is_word (behind_space (drop (piece_length spot (b ∷ bs)) (b ∷ bs))) ≡ filter is_word (pieces_from outside (drop (piece_length spot (b ∷ bs)) (b ∷ bs)))
-    by_gap true is later = rw is (at_gap spot is)
+    by_gap : (gap : Bool) → is_gap quoting b ≡ gap → filter is_word (behind_space (drop (piece_length (quoting_behind quoting b) bs) bs)) ≡ filter is_word (pieces_from outside (drop (piece_length (quoting_behind quoting b) bs) bs))
+        → filter is_word (behind_space (drop (piece_length quoting (b ∷ bs)) (b ∷ bs))) ≡ filter is_word (pieces_from outside (drop (piece_length quoting (b ∷ bs)) (b ∷ bs)))
+    by_gap true is later = rw is (at_gap quoting is)
     by_gap false is later = rw is later
 
 -- a piece of some octets is a word

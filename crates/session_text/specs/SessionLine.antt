@@ -67,13 +67,13 @@ grow_first b (piece ∷ pieces) = (b ∷ piece) ∷ pieces
 
 -- the pieces between the spaces that no quotes hold
 abbrev pub pieces_from : Quoting → List ℕ → List (List ℕ)
-pieces_from spot [] = [] ∷ []
-pieces_from spot (b ∷ bs) = if is_gap spot b then [] ∷ pieces_from outside bs else grow_first b (pieces_from (quoting_behind spot b) bs)
+pieces_from quoting [] = [] ∷ []
+pieces_from quoting (b ∷ bs) = if is_gap quoting b then [] ∷ pieces_from outside bs else grow_first b (pieces_from (quoting_behind quoting b) bs)
 
 -- how many octets stand before the first such space
 abbrev pub piece_length : Quoting → List ℕ → ℕ
-piece_length spot [] = 0
-piece_length spot (b ∷ bs) = if is_gap spot b then 0 else suc (piece_length (quoting_behind spot b) bs)
+piece_length quoting [] = 0
+piece_length quoting (b ∷ bs) = if is_gap quoting b then 0 else suc (piece_length (quoting_behind quoting b) bs)
 
 abbrev pub is_word : List ℕ → Bool
 is_word [] = false

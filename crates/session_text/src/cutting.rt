@@ -30,10 +30,10 @@ pub(crate) enum Quoting {
 }
 
 /// Where the octet behind an octet stands.
-fn quoting_behind(spot: Quoting, octet: u8) -> Quoting
-    ensures { quoting_as result ≡ quoting_behind (quoting_as spot) octet }
+fn quoting_behind(quoting: Quoting, octet: u8) -> Quoting
+    ensures { quoting_as result ≡ quoting_behind (quoting_as quoting) octet }
 {
-    match spot {
+    match quoting {
         Quoting::Outside => match octet {
             b'"' => Quoting::Inside,
             _ => Quoting::Outside,
@@ -48,10 +48,10 @@ fn quoting_behind(spot: Quoting, octet: u8) -> Quoting
 }
 
 /// Whether an octet there is a space between words.
-fn is_gap(spot: Quoting, octet: u8) -> bool
-    ensures { result ≡ is_gap (quoting_as spot) octet }
+fn is_gap(quoting: Quoting, octet: u8) -> bool
+    ensures { result ≡ is_gap (quoting_as quoting) octet }
 {
-    match spot {
+    match quoting {
         Quoting::Outside => octet == b' ',
         Quoting::Inside | Quoting::Escaped => false,
     }
@@ -62,12 +62,12 @@ fn word_len(line: &[u8]) -> usize
     ensures value { result ≡ piece_length outside line.now }
     ensures within { result ≤ length line.now }
 {
-    let mut spot = Quoting::Outside;
+    let mut quoting = Quoting::Outside;
     for (i, octet) in line.iter().enumerate() {
-        if is_gap(spot, *octet) {
+        if is_gap(quoting, *octet) {
             return i;
         }
-        spot = quoting_behind(spot, *octet);
+        quoting = quoting_behind(quoting, *octet);
     }
     line.len()
 }

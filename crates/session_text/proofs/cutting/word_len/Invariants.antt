@@ -5,4 +5,4 @@ use Rattle.session_text.proofs.cutting.word_len.Given as goal
 
 -- the octets so far, and those of what is left before the first such space
 abbrev pub invariant-loop-i : goal.invariant-loop-i
-invariant-loop-i l = piece_length outside l.line ≡ l.i + piece_length (quoting_as l.spot) (drop l.i l.line)
+invariant-loop-i l = piece_length outside l.line ≡ l.i + piece_length (quoting_as l.quoting) (drop l.i l.line)
