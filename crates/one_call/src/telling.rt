@@ -1,0 +1,109 @@
+//! What is told of a call: marks on standard error around it, and on standard output what it answered and left. Nothing here takes memory.
+
+use match_text::FlagList;
+use sieve_base::{Counted, Piece, Place, ScriptName, WriteFault, write_pieces};
+use sieve_run::{Outcome, write_action, write_error, write_implicit, write_read};
+use std::alloc::AllocError;
+use std::io;
+use std::io::ErrorKind;
+
+/// What a call is made on.
+pub(crate) trait Host: AllocGlobal + Print + Eprint {}
+
+impl<R: AllocGlobal + Print + Eprint> Host for R {}
+
+/// What a call answers, which is made between two marks: what is asked for between them is the call's. Each mark is one write, and nothing
+/// else is written to standard error.
+pub(crate) fn marked<R: Eprint, T, F: FnOnce() -> T>(rt: &R, call: F) -> T
+    requires { F.IsAlwaysCallable call }
+{
+    let _ = rt.eprint("-\n");
+    let answer = call();
+    let _ = rt.eprint("-\n");
+    answer
+}
+
+/// Makes a call that is refused for memory alone, and tells its answer.
+pub(crate) fn told<R, T, C, F>(rt: &R, call: C, tell: F) -> io::Result<()>
+where
+    R: Print + Eprint,
+    C: FnOnce() -> Result<T, AllocError>,
+    F: FnOnce(T) -> io::Result<()> + Drop,
+    requires call { C.IsAlwaysCallable call }
+    requires tell { F.IsAlwaysCallable tell }
+{
+    match marked(rt, call) {
+        Ok(answer) => tell(answer),
+        Err(_) => tell_refused(rt),
+    }
+}
+
+/// What is made in front of a call. All of it is sound, so it is refused for memory alone.
+pub(crate) fn prepared<T, E: Drop>(made: Result<T, E>) -> io::Result<T> {
+    match made {
+        Ok(value) => Ok(value),
+        Err(_) => Err(io::Error::from(ErrorKind::OutOfMemory)),
+    }
+}
+
+/// The name of a personal script.
+pub(crate) fn personal(rt: &impl Host, name: &[u8]) -> Result<ScriptName, AllocError> {
+    Ok(ScriptName::new(Place::Personal, Vec::from_slice(rt.alloc(), name)?))
+}
+
+/// Tells that memory was refused.
+pub(crate) fn tell_refused(rt: &impl Print) -> io::Result<()> {
+    println!(rt; "no memory")
+}
+
+/// Tells that something is done.
+pub(crate) fn tell_done(rt: &impl Print, done: Result<(), AllocError>) -> io::Result<()> {
+    match done {
+        Ok(()) => println!(rt; "ok"),
+        Err(_) => tell_refused(rt),
+    }
+}
+
+/// Ends a line that was written.
+pub(crate) fn end_line(rt: &impl Print, written: Result<(), WriteFault>) -> io::Result<()> {
+    match written {
+        Ok(()) => println!(rt),
+        Err(_) => Err(io::Error::from(ErrorKind::BrokenPipe)),
+    }
+}
+
+/// Tells a line of pieces.
+pub(crate) fn tell(rt: &impl Print, pieces: &[Piece<'_>]) -> io::Result<()> {
+    end_line(rt, write_pieces(pieces, &mut Counted::new(io::writer(rt))))
+}
+
+/// Tells octets, in quotes.
+pub(crate) fn tell_octets(rt: &impl Print, octets: &[u8]) -> io::Result<()> {
+    tell(rt, &[Piece::Quoted(octets)])
+}
+
+/// Tells flags, one on a line.
+pub(crate) fn tell_flags(rt: &impl Print, flags: &FlagList) -> io::Result<()> {
+    for i in 0..flags.len() {
+        tell_octets(rt, flags.get(i))?;
+    }
+    Ok(())
+}
+
+/// Tells a verdict as a report does, but for the spaces in front of its lines.
+pub(crate) fn tell_outcome(rt: &impl Print, outcome: &Outcome) -> io::Result<()> {
+    let mut writer = Counted::new(io::writer(rt));
+    for action in outcome.actions() {
+        end_line(rt, write_action(action, &mut writer))?;
+    }
+    if let Some(flags) = outcome.implicit() {
+        end_line(rt, write_implicit(b"INBOX", flags, &mut writer))?;
+    }
+    if let Some(error) = outcome.error() {
+        end_line(rt, write_error(error, &mut writer))?;
+    }
+    for (name, is_present) in outcome.reads() {
+        end_line(rt, write_read(name, *is_present, &mut writer))?;
+    }
+    Ok(())
+}
