@@ -24,7 +24,7 @@ pub(crate) const TEST: &[&str] = &[
     "mail.eml",
 ];
 
-pub(crate) const HELP: &[&str] = &["sievebench", "--help"];
+pub(crate) const MISTAKE: &[&str] = &["sievebench", "frobnicate"];
 
 // The reads that a session may make.
 const TURNS: u64 = 10;

@@ -1,6 +1,8 @@
 //! Scripts: their tokens, their trees, and their code.
 
-use crate::telling::{Host, end_line, marked, personal, prepared, tell, tell_refused, told};
+use crate::telling::{
+    Host, end_line, marked, personal, prepared, tell, tell_refused, told, written,
+};
 use bench::{TestEnd, dump_text, write_code};
 use sieve_base::{Counted, Piece, write_quoted};
 use sieve_check::{CheckFault, Checked, JudgeFault, Judged, check, judge};
@@ -134,7 +136,7 @@ pub(crate) fn compile_script(rt: &impl Host) -> io::Result<()> {
 }
 
 fn tell_code(rt: &impl Print, code: &Code) -> io::Result<()> {
-    end_line(rt, write_code(code, &mut Counted::new(io::writer(rt))))
+    written(write_code(code, &mut Counted::new(io::writer(rt))))
 }
 
 pub(crate) fn dump(rt: &impl Host) -> io::Result<()> {
@@ -174,6 +176,6 @@ pub(crate) fn ask_code(rt: &impl Host) -> io::Result<()> {
 
 pub(crate) fn quote(rt: &impl Host) -> io::Result<()> {
     let mut writer = Counted::new(io::writer(rt));
-    let written = marked(rt, || write_quoted(b"a \"\\\x00\xff", &mut writer));
-    end_line(rt, written)
+    let done = marked(rt, || write_quoted(b"a \"\\\x00\xff", &mut writer));
+    end_line(rt, done)
 }

@@ -64,12 +64,15 @@ pub(crate) fn tell_done(rt: &impl Print, done: Result<(), AllocError>) -> io::Re
     }
 }
 
+/// That something was written.
+pub(crate) fn written(done: Result<(), WriteFault>) -> io::Result<()> {
+    done.map_err(|_| io::Error::from(ErrorKind::BrokenPipe))
+}
+
 /// Ends a line that was written.
-pub(crate) fn end_line(rt: &impl Print, written: Result<(), WriteFault>) -> io::Result<()> {
-    match written {
-        Ok(()) => println!(rt),
-        Err(_) => Err(io::Error::from(ErrorKind::BrokenPipe)),
-    }
+pub(crate) fn end_line(rt: &impl Print, done: Result<(), WriteFault>) -> io::Result<()> {
+    written(done)?;
+    println!(rt)
 }
 
 /// Tells a line of pieces.

@@ -15,7 +15,7 @@ const WORDS: &str = "is contains contains_in matches Captures \
     put_script put_script/new keep_script put_message put_message/new keep_message rename_script \
     set_main set_envelope set_mailbox set_expected \
     keep_expected remove_script remove_message clear_main clear_expected \
-    Bench::new report test_bench session command_of command_of/help \
+    Bench::new report test_bench session command_of command_of/mistake \
     report/kept verdict code status_of";
 
 /// Tells each word.
@@ -122,7 +122,7 @@ fn call_reports(rt: &impl Host, word: &str) -> Option<io::Result<()>> {
         "test_bench" => reports::test(rt),
         "session" => reports::serve(rt),
         "command_of" => reports::read_words(rt, reports::TEST),
-        "command_of/help" => reports::read_words(rt, reports::HELP),
+        "command_of/mistake" => reports::read_words(rt, reports::MISTAKE),
         "report/kept" => reports::report_kept(rt),
         "verdict" => reports::ask_verdict(rt),
         "code" => reports::ask_code(rt),
