@@ -202,7 +202,7 @@ CALLS = {
     "report": report_of(),
     "test_bench": test_of(),
     "session": session_of(),
-    "command_of": Told(lines("main.sieve mail.eml", "a", "none", "Box")),
+    "command_of": Told(lines("main mail", "a", "none", "Box")),
     "command_of/mistake": Told(lines("error: unrecognized subcommand 'frobnicate'", "", "Usage: sievebench <COMMAND>", "", "For more information, try '--help'.")),
 }
 # These take no memory, and so are never refused.
@@ -220,7 +220,7 @@ UNREFUSED = {
     "write_quoted": Told(each(b'a "\\\0\xff')),
     "Values": Told(lines("true", '"its value"')),
     "Shelf": Told(lines("4 operations")),
-    "Outcome": Told(lines("0 0", "true false", "true")),
+    "Outcome": Told(lines("0", "0", "true", "false", "true")),
     "keep_expected": edited(reported([("m", DISCARDED + ["unexpected"])], total=DIFFERS), stale=False),
     "remove_script": edited(reported([("m", missing("main"))], scripts=[], errors=1, total=DIFFERS)),
     "remove_message": edited(reported([]), stale=False),

@@ -1,7 +1,8 @@
 //! Lists of flags.
 
-use crate::telling::{Host, marked, tell_done, tell_flags, told};
-use match_text::{Collation, flags_of, union, without};
+use crate::telling::{Host, marked, tell_done, tell_octets, tell_refused};
+use match_text::{Collation, FlagList, flags_of, union, without};
+use std::alloc::AllocError;
 use std::io;
 
 // Three flags, one of them twice, and what is none.
@@ -11,31 +12,34 @@ const FIRST: &[u8] = b"\\Seen a $Label A \\Recent";
 const SECOND: &[u8] = b"$label $Work \\SEEN other-flag-of-many-octets";
 
 pub(crate) fn read(rt: &impl Host) -> io::Result<()> {
-    told(
-        rt,
-        || flags_of(rt.alloc(), FIRST),
-        |list| tell_flags(rt, &list),
-    )
+    tell_list(rt, marked(rt, || flags_of(rt.alloc(), FIRST)))
+}
+
+/// Tells a list, or that it was refused.
+fn tell_list(rt: &impl Print, made: Result<FlagList, AllocError>) -> io::Result<()> {
+    match made {
+        Ok(flags) => tell_flags(rt, &flags),
+        Err(_) => tell_refused(rt),
+    }
+}
+
+fn tell_flags(rt: &impl Print, flags: &FlagList) -> io::Result<()> {
+    for i in 0..flags.len() {
+        tell_octets(rt, flags.get(i))?;
+    }
+    Ok(())
 }
 
 pub(crate) fn join(rt: &impl Host) -> io::Result<()> {
     let first = flags_of(rt.alloc(), FIRST)?;
     let second = flags_of(rt.alloc(), SECOND)?;
-    told(
-        rt,
-        || union(rt.alloc(), &first, &second),
-        |list| tell_flags(rt, &list),
-    )
+    tell_list(rt, marked(rt, || union(rt.alloc(), &first, &second)))
 }
 
 pub(crate) fn take_away(rt: &impl Host) -> io::Result<()> {
     let first = flags_of(rt.alloc(), FIRST)?;
     let second = flags_of(rt.alloc(), SECOND)?;
-    told(
-        rt,
-        || without(rt.alloc(), &first, &second),
-        |list| tell_flags(rt, &list),
-    )
+    tell_list(rt, marked(rt, || without(rt.alloc(), &first, &second)))
 }
 
 /// Behind the answer stands the list: where memory was refused, some flags may have been added.
@@ -49,13 +53,8 @@ pub(crate) fn add(rt: &impl Host) -> io::Result<()> {
 /// Whether a flag is there, where one stood that is taken out, and the list behind that.
 pub(crate) fn ask(rt: &impl Host) -> io::Result<()> {
     let mut flags = flags_of(rt.alloc(), FIRST)?;
-    let (has, place) = marked(
-        rt,
-        || (
-            flags.has(Collation::Casemap, b"$LABEL"),
-            flags.take_out(b"A"),
-        ),
-    );
+    let has = marked(rt, || flags.has(Collation::Casemap, b"$LABEL"));
+    let place = marked(rt, || flags.take_out(b"A"));
     println!(rt; "{has} {place:?}")?;
     tell_flags(rt, &flags)
 }

@@ -1,6 +1,6 @@
 //! Mails, their fields and the addresses of a value.
 
-use crate::telling::{Host, marked, prepared, tell_octets, tell_refused, told};
+use crate::telling::{Host, marked, prepared, tell_octets, tell_refused, tell_value};
 use encoded_words::decoded_value;
 use message_text::{Address, AddressPart, FieldName, Message, addresses};
 use std::borrow::CowSlice;
@@ -47,54 +47,39 @@ fn mail_of(rt: &impl Host) -> io::Result<Message> {
 
 pub(crate) fn ask_value(rt: &impl Host, place: usize) -> io::Result<()> {
     let mail = mail_of(rt)?;
-    if place >= mail.fields() {
-        return Ok(());
+    if place < mail.fields() {
+        tell_value(rt, marked(rt, || mail.value(rt.alloc(), place)))?;
     }
-    told(
-        rt,
-        || mail.value(rt.alloc(), place),
-        |value| tell_octets(rt, value.as_slice()),
-    )
+    Ok(())
 }
 
 pub(crate) fn ask_decoded(rt: &impl Host, place: usize) -> io::Result<()> {
     let mail = mail_of(rt)?;
-    if place >= mail.fields() {
-        return Ok(());
+    if place < mail.fields() {
+        tell_value(rt, marked(rt, || mail.decoded(rt.alloc(), place)))?;
     }
-    told(
-        rt,
-        || mail.decoded(rt.alloc(), place),
-        |value| tell_octets(rt, value.as_slice()),
-    )
+    Ok(())
 }
 
 /// The size, the number of fields, and where a field of a name stands.
 pub(crate) fn ask(rt: &impl Host) -> io::Result<()> {
     let mail = mail_of(rt)?;
     let name = FieldName::new(b"x-plain");
-    let (size, fields, place) = marked(
-        rt,
-        || (mail.size(), mail.fields(), mail.next_named(&name, 1)),
-    );
+    let (size, fields) = marked(rt, || (mail.size(), mail.fields()));
+    let place = marked(rt, || mail.next_named(&name, 1));
     println!(rt; "{size} {fields} {place:?}")
 }
 
 pub(crate) fn decode(rt: &impl Host) -> io::Result<()> {
     let value = CowSlice::Borrowed(b"=?us-ascii?Q?a_b?= c".as_slice());
-    told(
-        rt,
-        || decoded_value(rt.alloc(), value),
-        |value| tell_octets(rt, value.as_slice()),
-    )
+    tell_value(rt, marked(rt, || decoded_value(rt.alloc(), value)))
 }
 
 pub(crate) fn read_addresses(rt: &impl Host) -> io::Result<()> {
-    told(
-        rt,
-        || addresses(rt.alloc(), ADDRESSES),
-        |found| tell_addresses(rt, &found),
-    )
+    match marked(rt, || addresses(rt.alloc(), ADDRESSES)) {
+        Ok(found) => tell_addresses(rt, &found),
+        Err(_) => tell_refused(rt),
+    }
 }
 
 fn tell_addresses(rt: &impl Print, found: &[Address]) -> io::Result<()> {
@@ -114,16 +99,9 @@ fn tell_part(rt: &impl Print, part: Option<&[u8]>) -> io::Result<()> {
 /// The parts of the first address.
 pub(crate) fn ask_address(rt: &impl Host) -> io::Result<()> {
     let found = addresses(rt.alloc(), ADDRESSES)?;
-    let Some(first) = found.first() else {
-        return Ok(());
-    };
-    let (local, domain) = marked(
-        rt,
-        || (
-            first.part(AddressPart::Local),
-            first.part(AddressPart::Domain),
-        ),
-    );
-    tell_part(rt, local)?;
-    tell_part(rt, domain)
+    if let Some(first) = found.first() {
+        tell_part(rt, marked(rt, || first.part(AddressPart::Local)))?;
+        tell_part(rt, marked(rt, || first.part(AddressPart::Domain)))?;
+    }
+    Ok(())
 }

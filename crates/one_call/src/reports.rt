@@ -3,7 +3,7 @@
 use crate::benches::{ID, bench_of, make_verdicts, tell_report, tell_reported};
 use crate::runs::tell_found;
 use crate::scripts::tell_end;
-use crate::telling::{Host, marked, personal, prepared, tell_outcome, tell_refused, told};
+use crate::telling::{Host, marked, personal, prepared, tell_outcome, tell_refused};
 use bench::{Bench, TestJob, TestScript, test_bench};
 use sieve_base::{Counted, Octets};
 use sieve_run::Meter;
@@ -13,16 +13,7 @@ use sievebench::{
 use std::alloc::AllocError;
 use std::io;
 
-pub(crate) const TEST: &[&str] = &[
-    "sievebench",
-    "test",
-    "-f",
-    "a",
-    "-m",
-    "Box",
-    "main.sieve",
-    "mail.eml",
-];
+pub(crate) const TEST: &[&str] = &["sievebench", "test", "-fa", "-mBox", "main", "mail"];
 
 pub(crate) const MISTAKE: &[&str] = &["sievebench", "frobnicate"];
 
@@ -30,11 +21,10 @@ pub(crate) const MISTAKE: &[&str] = &["sievebench", "frobnicate"];
 const TURNS: u64 = 10;
 
 pub(crate) fn make_bench(rt: &impl Host) -> io::Result<()> {
-    told(
-        rt,
-        || Bench::new(rt.alloc()),
-        |mut bench| tell_report(rt, &mut bench, &mut Meter::new()),
-    )
+    match marked(rt, || Bench::new(rt.alloc())) {
+        Ok(mut bench) => tell_report(rt, &mut bench, &mut Meter::new()),
+        Err(_) => tell_refused(rt),
+    }
 }
 
 /// Reports on three messages, and then again.
@@ -49,10 +39,8 @@ pub(crate) fn report_stale(rt: &impl Host) -> io::Result<()> {
 
 /// Reports, and tells the answer.
 fn report(rt: &impl Host, bench: &mut Bench, meter: &mut Meter) -> io::Result<()> {
-    let answer = marked(
-        rt,
-        || bench.report(meter, &mut Counted::new(io::writer(rt))),
-    );
+    let mut writer = Counted::new(io::writer(rt));
+    let answer = marked(rt, || bench.report(meter, &mut writer));
     tell_reported(rt, answer, meter)
 }
 
@@ -83,15 +71,8 @@ pub(crate) fn ask_code(rt: &impl Host) -> io::Result<()> {
 pub(crate) fn test(rt: &impl Host) -> io::Result<()> {
     let job = job_of(rt)?;
     let mut meter = Meter::new();
-    let end = marked(
-        rt,
-        || test_bench(
-            rt.alloc(),
-            &job,
-            &mut meter,
-            &mut Counted::new(io::writer(rt)),
-        ),
-    );
+    let mut writer = Counted::new(io::writer(rt));
+    let end = marked(rt, || test_bench(rt.alloc(), &job, &mut meter, &mut writer));
     tell_end(rt, end)?;
     println!(rt; "runs {}", meter.runs())
 }
@@ -120,12 +101,13 @@ pub(crate) fn serve(rt: &impl Host) -> io::Result<()> {
     let mut meter = Meter::new();
     let mut reader = Counted::new(b"mailbox Box\nno-main\n".as_slice());
     let mut writer = Counted::new(io::writer(rt));
-    match marked(
+    let end = marked(
         rt,
         || session(&mut bench, &mut meter, &mut reader, &mut writer, TURNS),
-    ) {
+    );
+    match end {
         SessionEnd::NoMemory => tell_refused(rt)?,
-        end => println!(rt; "{end:?}")?,
+        _ => println!(rt; "{end:?}")?,
     }
     tell_report(rt, &mut bench, &mut meter)
 }
@@ -156,6 +138,8 @@ fn tell_argument(rt: &impl Print, value: &Option<Argument>) -> io::Result<()> {
 }
 
 pub(crate) fn ask_status(rt: &impl Host) -> io::Result<()> {
-    let status = marked(rt, || status_of(End::Session(SessionEnd::NoMemory)));
-    println!(rt; "{status}")
+    println!(rt;
+        "{}",
+        marked(rt, || status_of(End::Session(SessionEnd::NoMemory)))
+    )
 }

@@ -90,10 +90,11 @@ fn tell_run(
     (envelope, mail): (&Envelope, &Message),
 ) -> io::Result<()> {
     let mut meter = Meter::new();
-    match marked(
+    let made = marked(
         rt,
         || run(rt.alloc(), shelf, Some(main), envelope, mail, &mut meter),
-    ) {
+    );
+    match made {
         Ok(outcome) => tell_outcome(rt, &outcome)?,
         Err(_) => tell_refused(rt)?,
     }
@@ -112,26 +113,19 @@ fn outcome_of(rt: &impl Host) -> io::Result<Outcome> {
     let envelope = envelope_of(rt)?;
     let mail = prepared(Message::new(rt.alloc(), Vec::new(rt.alloc())))?;
     let shelf = Shelf::new(rt.alloc());
-    Ok(run(
-        rt.alloc(),
-        &shelf,
-        None,
-        &envelope,
-        &mail,
-        &mut Meter::new(),
-    )?)
+    let mut meter = Meter::new();
+    Ok(run(rt.alloc(), &shelf, None, &envelope, &mail, &mut meter)?)
 }
 
-/// How many actions and names there are, and whether the implicit keep stands, there is no error, and a text agrees.
+/// How many actions and names there are, and whether the implicit keep stands, there is an error, and a text agrees.
 pub(crate) fn ask_outcome(rt: &impl Host) -> io::Result<()> {
     let outcome = outcome_of(rt)?;
-    let (actions, names) = marked(rt, || (outcome.actions().len(), outcome.reads().len()));
-    println!(rt; "{actions} {names}")?;
-    let (keeps, fails) = marked(
-        rt,
-        || (outcome.implicit().is_some(), outcome.error().is_some()),
-    );
-    println!(rt; "{keeps} {fails}")?;
-    let agrees = marked(rt, || outcome.agrees(b"Box", b"implicit \"Box\"\n"));
-    println!(rt; "{agrees}")
+    println!(rt; "{}", marked(rt, || outcome.actions().len()))?;
+    println!(rt; "{}", marked(rt, || outcome.reads().len()))?;
+    println!(rt; "{}", marked(rt, || outcome.implicit().is_some()))?;
+    println!(rt; "{}", marked(rt, || outcome.error().is_some()))?;
+    println!(rt;
+        "{}",
+        marked(rt, || outcome.agrees(b"Box", b"implicit \"Box\"\n"))
+    )
 }

@@ -1,8 +1,6 @@
 //! Scripts: their tokens, their trees, and their code.
 
-use crate::telling::{
-    Host, end_line, marked, personal, prepared, tell, tell_refused, told, written,
-};
+use crate::telling::{Host, end_line, marked, personal, prepared, tell, tell_refused, written};
 use bench::{TestEnd, dump_text, write_code};
 use sieve_base::{Counted, Piece, write_quoted};
 use sieve_check::{CheckFault, Checked, JudgeFault, Judged, check, judge};
@@ -36,19 +34,21 @@ pub(crate) const BREACH: &[u8] = b"require \"variables\";\nset \"a\" \"${b}\";\n
 pub(crate) const NO_SCRIPT: &[u8] = b"if true {\n keep }";
 
 pub(crate) fn cut(rt: &impl Host) -> io::Result<()> {
-    told(
-        rt,
-        || tokens(rt.alloc(), TOKENS),
-        |found| tell_tokens(rt, &found),
-    )
+    match marked(rt, || tokens(rt.alloc(), TOKENS)) {
+        Ok(found) => tell_tokens(rt, &found),
+        Err(_) => tell_refused(rt),
+    }
 }
 
 fn tell_tokens(rt: &impl Print, found: &[Token]) -> io::Result<()> {
     for token in found {
-        println!(rt;
-            "{:?} {} {} {}",
-            token.kind, token.start, token.end, token.line
-        )?;
+        let Token {
+            kind,
+            start,
+            end,
+            line,
+        } = token;
+        println!(rt; "{kind:?} {start} {end} {line}")?;
     }
     Ok(())
 }
@@ -128,11 +128,10 @@ fn checked_of(rt: &impl Host) -> io::Result<Checked> {
 
 pub(crate) fn compile_script(rt: &impl Host) -> io::Result<()> {
     let checked = checked_of(rt)?;
-    told(
-        rt,
-        || compile(rt.alloc(), &checked),
-        |code| tell_code(rt, &code),
-    )
+    match marked(rt, || compile(rt.alloc(), &checked)) {
+        Ok(code) => tell_code(rt, &code),
+        Err(_) => tell_refused(rt),
+    }
 }
 
 fn tell_code(rt: &impl Print, code: &Code) -> io::Result<()> {
@@ -141,11 +140,11 @@ fn tell_code(rt: &impl Print, code: &Code) -> io::Result<()> {
 
 pub(crate) fn dump(rt: &impl Host) -> io::Result<()> {
     let name = personal(rt, b"main")?;
-    let end = marked(
+    let mut writer = Counted::new(io::writer(rt));
+    tell_end(
         rt,
-        || dump_text(rt.alloc(), &name, TEXT, &mut Counted::new(io::writer(rt))),
-    );
-    tell_end(rt, end)
+        marked(rt, || dump_text(rt.alloc(), &name, TEXT, &mut writer)),
+    )
 }
 
 /// Tells how a test or a dump ended.
@@ -158,8 +157,7 @@ pub(crate) fn tell_end(rt: &impl Print, end: TestEnd) -> io::Result<()> {
 
 pub(crate) fn ask_checked(rt: &impl Host) -> io::Result<()> {
     let checked = checked_of(rt)?;
-    let count = marked(rt, || checked.commands().len());
-    println!(rt; "{count}")
+    println!(rt; "{}", marked(rt, || checked.commands().len()))
 }
 
 fn code_of(rt: &impl Host) -> io::Result<Code> {
@@ -169,9 +167,8 @@ fn code_of(rt: &impl Host) -> io::Result<Code> {
 /// The lines of all operations, which are written in the call, and how many there are.
 pub(crate) fn ask_code(rt: &impl Host) -> io::Result<()> {
     let code = code_of(rt)?;
-    let (count, told) = marked(rt, || (code.len(), tell_code(rt, &code)));
-    told?;
-    println!(rt; "{count}")
+    marked(rt, || tell_code(rt, &code))?;
+    println!(rt; "{}", marked(rt, || code.len()))
 }
 
 pub(crate) fn quote(rt: &impl Host) -> io::Result<()> {

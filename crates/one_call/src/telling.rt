@@ -1,9 +1,9 @@
 //! What is told of a call: marks on standard error around it, and on standard output what it answered and left. Nothing here takes memory.
 
-use match_text::FlagList;
 use sieve_base::{Counted, Piece, Place, ScriptName, WriteFault, write_pieces};
 use sieve_run::{Outcome, write_action, write_error, write_implicit, write_read};
 use std::alloc::AllocError;
+use std::borrow::CowSlice;
 use std::io;
 use std::io::ErrorKind;
 
@@ -21,21 +21,6 @@ pub(crate) fn marked<R: Eprint, T, F: FnOnce() -> T>(rt: &R, call: F) -> T
     let answer = call();
     let _ = rt.eprint("-\n");
     answer
-}
-
-/// Makes a call that is refused for memory alone, and tells its answer.
-pub(crate) fn told<R, T, C, F>(rt: &R, call: C, tell: F) -> io::Result<()>
-where
-    R: Print + Eprint,
-    C: FnOnce() -> Result<T, AllocError>,
-    F: FnOnce(T) -> io::Result<()> + Drop,
-    requires call { C.IsAlwaysCallable call }
-    requires tell { F.IsAlwaysCallable tell }
-{
-    match marked(rt, call) {
-        Ok(answer) => tell(answer),
-        Err(_) => tell_refused(rt),
-    }
 }
 
 /// What is made in front of a call. All of it is sound, so it is refused for memory alone.
@@ -85,12 +70,15 @@ pub(crate) fn tell_octets(rt: &impl Print, octets: &[u8]) -> io::Result<()> {
     tell(rt, &[Piece::Quoted(octets)])
 }
 
-/// Tells flags, one on a line.
-pub(crate) fn tell_flags(rt: &impl Print, flags: &FlagList) -> io::Result<()> {
-    for i in 0..flags.len() {
-        tell_octets(rt, flags.get(i))?;
+/// Tells octets that may be borrowed, or that they were refused.
+pub(crate) fn tell_value(
+    rt: &impl Print,
+    value: Result<CowSlice<'_, u8>, AllocError>,
+) -> io::Result<()> {
+    match value {
+        Ok(octets) => tell_octets(rt, octets.as_slice()),
+        Err(_) => tell_refused(rt),
     }
-    Ok(())
 }
 
 /// Tells a verdict as a report does, but for the spaces in front of its lines.

@@ -1,6 +1,6 @@
 //! Texts that are compared, searched and matched.
 
-use crate::telling::{Host, marked, tell_octets, told};
+use crate::telling::{Host, marked, tell_octets, tell_refused};
 use match_text::{AsciiCasemap, Captures, contains, contains_in, is, matches};
 use std::io;
 
@@ -13,46 +13,40 @@ const KEY: &[u8] = b"QUICK BROWN FOX JUMPS OVER THE LAZY DOG, AND THEN OVER THE 
 const PATTERN: &[u8] = b"THE * fox JUMP? over*cat, \\t*";
 
 pub(crate) fn compare(rt: &impl Host) -> io::Result<()> {
-    let same = marked(rt, || is::<AsciiCasemap>(KEY, VALUE));
-    println!(rt; "{same}")
+    println!(rt; "{}", marked(rt, || is::<AsciiCasemap>(KEY, VALUE)))
 }
 
 pub(crate) fn search(rt: &impl Host) -> io::Result<()> {
-    let found = marked(rt, || contains::<AsciiCasemap>(VALUE, KEY));
-    println!(rt; "{found}")
+    println!(rt; "{}", marked(rt, || contains::<AsciiCasemap>(VALUE, KEY)))
 }
 
 pub(crate) fn search_in(rt: &impl Host) -> io::Result<()> {
-    told(
-        rt,
-        || contains_in::<AsciiCasemap>(rt.alloc(), VALUE, KEY),
-        |found| println!(rt; "{found}"),
-    )
+    match marked(rt, || contains_in::<AsciiCasemap>(rt.alloc(), VALUE, KEY)) {
+        Ok(found) => println!(rt; "{found}"),
+        Err(_) => tell_refused(rt),
+    }
 }
 
 pub(crate) fn match_pattern(rt: &impl Host) -> io::Result<()> {
-    told(
-        rt,
-        || matches::<AsciiCasemap>(rt.alloc(), VALUE, PATTERN),
-        |found| tell_captures(rt, &found),
-    )
+    match marked(rt, || matches::<AsciiCasemap>(rt.alloc(), VALUE, PATTERN)) {
+        Ok(Some(captures)) => tell_captures(rt, &captures),
+        Ok(None) => println!(rt; "no match"),
+        Err(_) => tell_refused(rt),
+    }
 }
 
 /// Tells what each wildcard took, the whole in front.
-fn tell_captures(rt: &impl Print, found: &Option<Captures<'_>>) -> io::Result<()> {
-    if let Some(captures) = found {
-        for k in 0..=captures.count() {
-            tell_octets(rt, captures.get(k))?;
-        }
+fn tell_captures(rt: &impl Print, captures: &Captures<'_>) -> io::Result<()> {
+    for k in 0..=captures.count() {
+        tell_octets(rt, captures.get(k))?;
     }
     Ok(())
 }
 
 pub(crate) fn ask_captures(rt: &impl Host) -> io::Result<()> {
     if let Some(captures) = matches::<AsciiCasemap>(rt.alloc(), VALUE, PATTERN)? {
-        let (count, first) = marked(rt, || (captures.count(), captures.get(1)));
-        println!(rt; "{count}")?;
-        tell_octets(rt, first)?;
+        println!(rt; "{}", marked(rt, || captures.count()))?;
+        tell_octets(rt, marked(rt, || captures.get(1)))?;
     }
     Ok(())
 }

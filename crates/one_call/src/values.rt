@@ -1,6 +1,6 @@
 //! Variables: strings as their parts, and what these stand for.
 
-use crate::telling::{Host, marked, tell, tell_done, tell_octets, told};
+use crate::telling::{Host, marked, tell, tell_done, tell_octets, tell_refused};
 use sieve_base::{Octets, Piece};
 use sieve_variables::{Part, Parts, Values, Variable, parts_of};
 use std::borrow::CowSlice;
@@ -13,11 +13,10 @@ const NAME: &[u8] = b"A_Name_Of_More_Octets_Than_Sixteen";
 const TEXT: &[u8] = b"to be put beside ${A_Name_Of_More_Octets_Than_Sixteen}, ${global.b}${1}";
 
 pub(crate) fn cut(rt: &impl Host) -> io::Result<()> {
-    told(
-        rt,
-        || parts_of(rt.alloc(), TEXT),
-        |parts| tell_parts(rt, &parts),
-    )
+    match marked(rt, || parts_of(rt.alloc(), TEXT)) {
+        Ok(parts) => tell_parts(rt, &parts),
+        Err(_) => tell_refused(rt),
+    }
 }
 
 fn tell_parts(rt: &impl Print, parts: &[Part]) -> io::Result<()> {
@@ -30,16 +29,14 @@ fn tell_parts(rt: &impl Print, parts: &[Part]) -> io::Result<()> {
 fn tell_part(rt: &impl Print, part: &Part) -> io::Result<()> {
     match part {
         Part::Literal(octets) => tell_octets(rt, octets),
-        Part::Variable(Variable::Local(name)) => tell(
-            rt,
-            &[Piece::Raw(b"local "), Piece::Raw(name)],
-        ),
-        Part::Variable(Variable::Global(name)) => tell(
-            rt,
-            &[Piece::Raw(b"global "), Piece::Raw(name)],
-        ),
+        Part::Variable(Variable::Local(name)) => tell_name(rt, b"local ", name),
+        Part::Variable(Variable::Global(name)) => tell_name(rt, b"global ", name),
         Part::Match(index) => println!(rt; "match {index}"),
     }
+}
+
+fn tell_name(rt: &impl Print, place: &[u8], name: &[u8]) -> io::Result<()> {
+    tell(rt, &[Piece::Raw(place), Piece::Raw(name)])
 }
 
 /// What the variable holds stands behind the answer.
@@ -65,11 +62,10 @@ pub(crate) fn expand(rt: &impl Host) -> io::Result<()> {
     let mut strings: Vec<Parts> = Vec::new(rt.alloc());
     strings.push(parts_of(rt.alloc(), TEXT)?)?;
     strings.push(parts_of(rt.alloc(), b"plain")?)?;
-    told(
-        rt,
-        || values.expanded(rt.alloc(), &strings),
-        |found| tell_values(rt, &found),
-    )
+    match marked(rt, || values.expanded(rt.alloc(), &strings)) {
+        Ok(found) => tell_values(rt, &found),
+        Err(_) => tell_refused(rt),
+    }
 }
 
 fn tell_values(rt: &impl Print, found: &[CowSlice<'_, u8>]) -> io::Result<()> {
@@ -83,10 +79,6 @@ fn tell_values(rt: &impl Print, found: &[CowSlice<'_, u8>]) -> io::Result<()> {
 pub(crate) fn ask(rt: &impl Host) -> io::Result<()> {
     let values = values_of(rt)?;
     let variable = Variable::named(rt.alloc(), NAME)?;
-    let (has_room, octets) = marked(
-        rt,
-        || (values.has_room_for(&variable), values.variable(&variable)),
-    );
-    println!(rt; "{has_room}")?;
-    tell_octets(rt, octets)
+    println!(rt; "{}", marked(rt, || values.has_room_for(&variable)))?;
+    tell_octets(rt, marked(rt, || values.variable(&variable)))
 }
