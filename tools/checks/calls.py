@@ -220,7 +220,7 @@ UNREFUSED = {
     "write_quoted": Told(each(b'a "\\\0\xff')),
     "Values": Told(lines("true", '"its value"')),
     "Shelf": Told(lines("4 operations")),
-    "Outcome": Told(lines("0", "0", "true", "false", "true")),
+    "Outcome": Told(lines("0 0 true false true")),
     "keep_expected": edited(reported([("m", DISCARDED + ["unexpected"])], total=DIFFERS), stale=False),
     "remove_script": edited(reported([("m", missing("main"))], scripts=[], errors=1, total=DIFFERS)),
     "remove_message": edited(reported([]), stale=False),
@@ -234,17 +234,25 @@ UNREFUSED = {
 
 
 class Call:
-    """A call under each refusal in turn. `requests` are how many it makes, once it was run."""
+    """A call under each refusal in turn, alone and with all behind it. `requests` are how many it makes, once it was made."""
 
     def __init__(self, room, library, program, word, told, takes):
         self.room, self.library, self.program, self.word, self.told, self.takes = room, library, program, word, told, takes
         self.title, self.command, self.requests = "each request of a call refused in turn", f"one_call {word}", None
 
     def answered(self, **settings):
-        """What the program tells, and its status where that isn't 0."""
+        """What the program tells, with its status where that isn't 0."""
         env = {"LD_PRELOAD": str(self.library), **settings}
         done = subprocess.run([self.program, self.word], env=env, capture_output=True, timeout=SECONDS)
-        return done.stdout if done.returncode == 0 else (done.returncode, done.stdout)
+        return done.stdout if done.returncode == 0 else (done.stdout, done.returncode)
+
+    def allowed(self, number, before, count):
+        """What may be told where the request of that number is refused, of so many in all, and so many before the call."""
+        if number <= before:
+            return {UNPREPARED}
+        if number <= before + self.requests:
+            return self.told.refused
+        return self.told.behind if number <= count else {self.told.whole}
 
     def differences(self, path):
         marks = self.room / "marks"
@@ -254,22 +262,17 @@ class Call:
         before, self.requests, count = map(int, marks.read_text().split())
         if bool(self.requests) != self.takes:
             return [f"{self.requests} requests"]
+        # One more than there are: then nothing is refused.
         refusals = [(mode, number) for mode in ("REFUSE", "REFUSE_FROM") for number in range(1, count + 2)]
         with concurrent.futures.ThreadPoolExecutor(os.cpu_count()) as pool:
             told = list(pool.map(lambda it: self.answered(**{it[0]: str(it[1])}), refusals))
-        wrong, seen = [], set()
-        for (mode, number), found in zip(refusals, told):
-            if number <= before:
-                allowed = {UNPREPARED}
-            elif number <= before + self.requests:
-                allowed = self.told.refused
-                seen.add(found)
-            else:
-                allowed = self.told.behind if number <= count else {self.told.whole}
-            if found not in allowed:
-                wrong.append(f"{mode}={number}, of {before} and {self.requests} and {count}: got {found!r:.2000}")
-        if self.takes and not seen - {self.told.whole}:
-            wrong.append("no refusal was told")
+        wrong = [
+            f"{mode}={number} of {count}, {before} before the call: got {found!r:.2000}"
+            for (mode, number), found in zip(refusals, told)
+            if found not in self.allowed(number, before, count)
+        ]
+        if self.takes and not set(told) & self.told.refused - {self.told.whole}:
+            wrong.append("no refusal is told")
         return wrong[:3]
 
 

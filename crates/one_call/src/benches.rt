@@ -1,7 +1,7 @@
 //! A bench on which calls are made, and what they leave of it.
 
-use crate::telling::{Host, marked, personal, prepared, tell_refused};
-use bench::{Bench, EditFault, ReportFault};
+use crate::telling::{Host, personal, prepared, tell_refused};
+use bench::{Bench, ReportFault};
 use sieve_base::{Counted, Octets};
 use sieve_run::Meter;
 use std::io;
@@ -27,28 +27,6 @@ fn fill(rt: &impl Host, bench: &mut Bench) -> io::Result<()> {
 /// Makes each verdict.
 pub(crate) fn make_verdicts(bench: &mut Bench, meter: &mut Meter) -> io::Result<()> {
     prepared(bench.report(meter, &mut Counted::new(io::sink())))
-}
-
-/// Makes an edit of the bench, on which no verdict is stale. The report stands behind the answer, and how many runs there were.
-pub(crate) fn edited<R, F>(rt: &R, edit: F) -> io::Result<()>
-where
-    R: Host,
-    F: FnOnce(&mut Bench) -> Result<(), EditFault> + Drop,
-    requires { F.IsAlwaysCallable edit }
-{
-    let mut bench = bench_of(rt)?;
-    let mut meter = Meter::new();
-    make_verdicts(&mut bench, &mut meter)?;
-    tell_edit(rt, marked(rt, || edit(&mut bench)))?;
-    tell_report(rt, &mut bench, &mut meter)
-}
-
-fn tell_edit(rt: &impl Print, answer: Result<(), EditFault>) -> io::Result<()> {
-    match answer {
-        Ok(()) => println!(rt; "ok"),
-        Err(EditFault::NoMemory) => tell_refused(rt),
-        Err(fault) => println!(rt; "{fault}"),
-    }
 }
 
 /// Tells the report, what it answers, and how many runs there were.

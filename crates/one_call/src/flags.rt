@@ -1,6 +1,6 @@
 //! Lists of flags.
 
-use crate::telling::{Host, marked, tell_done, tell_octets, tell_refused};
+use crate::telling::{Host, mark, tell_done, tell_octets, tell_refused};
 use match_text::{Collation, FlagList, flags_of, union, without};
 use std::alloc::AllocError;
 use std::io;
@@ -12,7 +12,10 @@ const FIRST: &[u8] = b"\\Seen a $Label A \\Recent";
 const SECOND: &[u8] = b"$label $Work \\SEEN other-flag-of-many-octets";
 
 pub(crate) fn read(rt: &impl Host) -> io::Result<()> {
-    tell_list(rt, marked(rt, || flags_of(rt.alloc(), FIRST)))
+    mark(rt);
+    let answer = flags_of(rt.alloc(), FIRST);
+    mark(rt);
+    tell_list(rt, answer)
 }
 
 /// Tells a list, or that it was refused.
@@ -33,28 +36,39 @@ fn tell_flags(rt: &impl Print, flags: &FlagList) -> io::Result<()> {
 pub(crate) fn join(rt: &impl Host) -> io::Result<()> {
     let first = flags_of(rt.alloc(), FIRST)?;
     let second = flags_of(rt.alloc(), SECOND)?;
-    tell_list(rt, marked(rt, || union(rt.alloc(), &first, &second)))
+    mark(rt);
+    let answer = union(rt.alloc(), &first, &second);
+    mark(rt);
+    tell_list(rt, answer)
 }
 
 pub(crate) fn take_away(rt: &impl Host) -> io::Result<()> {
     let first = flags_of(rt.alloc(), FIRST)?;
     let second = flags_of(rt.alloc(), SECOND)?;
-    tell_list(rt, marked(rt, || without(rt.alloc(), &first, &second)))
+    mark(rt);
+    let answer = without(rt.alloc(), &first, &second);
+    mark(rt);
+    tell_list(rt, answer)
 }
 
 /// Behind the answer stands the list: where memory was refused, some flags may have been added.
 pub(crate) fn add(rt: &impl Host) -> io::Result<()> {
     let mut first = flags_of(rt.alloc(), FIRST)?;
     let second = flags_of(rt.alloc(), SECOND)?;
-    tell_done(rt, marked(rt, || first.add(rt.alloc(), &second, 0)))?;
+    mark(rt);
+    let answer = first.add(rt.alloc(), &second, 0);
+    mark(rt);
+    tell_done(rt, answer)?;
     tell_flags(rt, &first)
 }
 
 /// Whether a flag is there, where one stood that is taken out, and the list behind that.
 pub(crate) fn ask(rt: &impl Host) -> io::Result<()> {
     let mut flags = flags_of(rt.alloc(), FIRST)?;
-    let has = marked(rt, || flags.has(Collation::Casemap, b"$LABEL"));
-    let place = marked(rt, || flags.take_out(b"A"));
+    mark(rt);
+    let has = flags.has(Collation::Casemap, b"$LABEL");
+    let place = flags.take_out(b"A");
+    mark(rt);
     println!(rt; "{has} {place:?}")?;
     tell_flags(rt, &flags)
 }

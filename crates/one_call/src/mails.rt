@@ -1,6 +1,6 @@
 //! Mails, their fields and the addresses of a value.
 
-use crate::telling::{Host, marked, prepared, tell_octets, tell_refused, tell_value};
+use crate::telling::{Host, mark, prepared, tell_octets, tell_refused, tell_value};
 use encoded_words::decoded_value;
 use message_text::{Address, AddressPart, FieldName, Message, addresses};
 use std::borrow::CowSlice;
@@ -24,7 +24,10 @@ const ADDRESSES: &[u8] =
 /// The names of the fields, or the octets that come back.
 pub(crate) fn read(rt: &impl Host) -> io::Result<()> {
     let octets = Vec::from_slice(rt.alloc(), MAIL)?;
-    match marked(rt, || Message::new(rt.alloc(), octets)) {
+    mark(rt);
+    let answer = Message::new(rt.alloc(), octets);
+    mark(rt);
+    match answer {
         Ok(mail) => tell_names(rt, &mail),
         Err((_, octets)) => {
             tell_refused(rt)?;
@@ -48,7 +51,10 @@ fn mail_of(rt: &impl Host) -> io::Result<Message> {
 pub(crate) fn ask_value(rt: &impl Host, place: usize) -> io::Result<()> {
     let mail = mail_of(rt)?;
     if place < mail.fields() {
-        tell_value(rt, marked(rt, || mail.value(rt.alloc(), place)))?;
+        mark(rt);
+        let value = mail.value(rt.alloc(), place);
+        mark(rt);
+        tell_value(rt, value)?;
     }
     Ok(())
 }
@@ -56,7 +62,10 @@ pub(crate) fn ask_value(rt: &impl Host, place: usize) -> io::Result<()> {
 pub(crate) fn ask_decoded(rt: &impl Host, place: usize) -> io::Result<()> {
     let mail = mail_of(rt)?;
     if place < mail.fields() {
-        tell_value(rt, marked(rt, || mail.decoded(rt.alloc(), place)))?;
+        mark(rt);
+        let value = mail.decoded(rt.alloc(), place);
+        mark(rt);
+        tell_value(rt, value)?;
     }
     Ok(())
 }
@@ -65,18 +74,26 @@ pub(crate) fn ask_decoded(rt: &impl Host, place: usize) -> io::Result<()> {
 pub(crate) fn ask(rt: &impl Host) -> io::Result<()> {
     let mail = mail_of(rt)?;
     let name = FieldName::new(b"x-plain");
-    let (size, fields) = marked(rt, || (mail.size(), mail.fields()));
-    let place = marked(rt, || mail.next_named(&name, 1));
+    mark(rt);
+    let (size, fields) = (mail.size(), mail.fields());
+    let place = mail.next_named(&name, 1);
+    mark(rt);
     println!(rt; "{size} {fields} {place:?}")
 }
 
 pub(crate) fn decode(rt: &impl Host) -> io::Result<()> {
     let value = CowSlice::Borrowed(b"=?us-ascii?Q?a_b?= c".as_slice());
-    tell_value(rt, marked(rt, || decoded_value(rt.alloc(), value)))
+    mark(rt);
+    let answer = decoded_value(rt.alloc(), value);
+    mark(rt);
+    tell_value(rt, answer)
 }
 
 pub(crate) fn read_addresses(rt: &impl Host) -> io::Result<()> {
-    match marked(rt, || addresses(rt.alloc(), ADDRESSES)) {
+    mark(rt);
+    let answer = addresses(rt.alloc(), ADDRESSES);
+    mark(rt);
+    match answer {
         Ok(found) => tell_addresses(rt, &found),
         Err(_) => tell_refused(rt),
     }
@@ -100,8 +117,12 @@ fn tell_part(rt: &impl Print, part: Option<&[u8]>) -> io::Result<()> {
 pub(crate) fn ask_address(rt: &impl Host) -> io::Result<()> {
     let found = addresses(rt.alloc(), ADDRESSES)?;
     if let Some(first) = found.first() {
-        tell_part(rt, marked(rt, || first.part(AddressPart::Local)))?;
-        tell_part(rt, marked(rt, || first.part(AddressPart::Domain)))?;
+        mark(rt);
+        let local = first.part(AddressPart::Local);
+        let domain = first.part(AddressPart::Domain);
+        mark(rt);
+        tell_part(rt, local)?;
+        tell_part(rt, domain)?;
     }
     Ok(())
 }

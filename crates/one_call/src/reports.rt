@@ -3,7 +3,7 @@
 use crate::benches::{ID, bench_of, make_verdicts, tell_report, tell_reported};
 use crate::runs::tell_found;
 use crate::scripts::tell_end;
-use crate::telling::{Host, marked, personal, prepared, tell_outcome, tell_refused};
+use crate::telling::{Host, mark, personal, prepared, tell_outcome, tell_refused};
 use bench::{Bench, TestJob, TestScript, test_bench};
 use sieve_base::{Counted, Octets};
 use sieve_run::Meter;
@@ -21,7 +21,10 @@ pub(crate) const MISTAKE: &[&str] = &["sievebench", "frobnicate"];
 const TURNS: u64 = 10;
 
 pub(crate) fn make_bench(rt: &impl Host) -> io::Result<()> {
-    match marked(rt, || Bench::new(rt.alloc())) {
+    mark(rt);
+    let answer = Bench::new(rt.alloc());
+    mark(rt);
+    match answer {
         Ok(mut bench) => tell_report(rt, &mut bench, &mut Meter::new()),
         Err(_) => tell_refused(rt),
     }
@@ -30,17 +33,27 @@ pub(crate) fn make_bench(rt: &impl Host) -> io::Result<()> {
 /// Reports on three messages, and then again.
 pub(crate) fn report_stale(rt: &impl Host) -> io::Result<()> {
     let mut bench = bench_of(rt)?;
+    put_two(rt, &mut bench)?;
+    report_twice(rt, &mut bench)
+}
+
+fn put_two(rt: &impl Host, bench: &mut Bench) -> io::Result<()> {
     prepared(bench.put_message(&Octets::copied(rt.alloc(), b"n")?, b""))?;
-    prepared(bench.put_message(&Octets::copied(rt.alloc(), b"o")?, b""))?;
+    prepared(bench.put_message(&Octets::copied(rt.alloc(), b"o")?, b""))
+}
+
+fn report_twice(rt: &impl Host, bench: &mut Bench) -> io::Result<()> {
     let mut meter = Meter::new();
-    report(rt, &mut bench, &mut meter)?;
-    tell_report(rt, &mut bench, &mut meter)
+    report(rt, bench, &mut meter)?;
+    tell_report(rt, bench, &mut meter)
 }
 
 /// Reports, and tells the answer.
 fn report(rt: &impl Host, bench: &mut Bench, meter: &mut Meter) -> io::Result<()> {
     let mut writer = Counted::new(io::writer(rt));
-    let answer = marked(rt, || bench.report(meter, &mut writer));
+    mark(rt);
+    let answer = bench.report(meter, &mut writer);
+    mark(rt);
     tell_reported(rt, answer, meter)
 }
 
@@ -56,7 +69,10 @@ pub(crate) fn ask_verdict(rt: &impl Host) -> io::Result<()> {
     let mut bench = bench_of(rt)?;
     make_verdicts(&mut bench, &mut Meter::new())?;
     let id = Octets::copied(rt.alloc(), ID)?;
-    match marked(rt, || bench.verdict(&id)) {
+    mark(rt);
+    let answer = bench.verdict(&id);
+    mark(rt);
+    match answer {
         Some(outcome) => tell_outcome(rt, outcome),
         None => println!(rt; "none"),
     }
@@ -65,14 +81,19 @@ pub(crate) fn ask_verdict(rt: &impl Host) -> io::Result<()> {
 pub(crate) fn ask_code(rt: &impl Host) -> io::Result<()> {
     let bench = bench_of(rt)?;
     let main = personal(rt, b"main")?;
-    tell_found(rt, &marked(rt, || bench.code(&main)))
+    mark(rt);
+    let answer = bench.code(&main);
+    mark(rt);
+    tell_found(rt, &answer)
 }
 
 pub(crate) fn test(rt: &impl Host) -> io::Result<()> {
     let job = job_of(rt)?;
     let mut meter = Meter::new();
     let mut writer = Counted::new(io::writer(rt));
-    let end = marked(rt, || test_bench(rt.alloc(), &job, &mut meter, &mut writer));
+    mark(rt);
+    let end = test_bench(rt.alloc(), &job, &mut meter, &mut writer);
+    mark(rt);
     tell_end(rt, end)?;
     println!(rt; "runs {}", meter.runs())
 }
@@ -98,22 +119,28 @@ fn job_of(rt: &impl Host) -> Result<TestJob, AllocError> {
 /// Serves a session of two edits. How it ended stands behind its replies, and then what it left.
 pub(crate) fn serve(rt: &impl Host) -> io::Result<()> {
     let mut bench = Bench::new(rt.alloc())?;
+    serve_on(rt, &mut bench)
+}
+
+fn serve_on(rt: &impl Host, bench: &mut Bench) -> io::Result<()> {
     let mut meter = Meter::new();
     let mut reader = Counted::new(b"mailbox Box\nno-main\n".as_slice());
     let mut writer = Counted::new(io::writer(rt));
-    let end = marked(
-        rt,
-        || session(&mut bench, &mut meter, &mut reader, &mut writer, TURNS),
-    );
+    mark(rt);
+    let end = session(bench, &mut meter, &mut reader, &mut writer, TURNS);
+    mark(rt);
     match end {
         SessionEnd::NoMemory => tell_refused(rt)?,
         _ => println!(rt; "{end:?}")?,
     }
-    tell_report(rt, &mut bench, &mut meter)
+    tell_report(rt, bench, &mut meter)
 }
 
 pub(crate) fn read_words(rt: &impl Host, words: &[&str]) -> io::Result<()> {
-    match marked(rt, || command_of(rt.alloc(), words)) {
+    mark(rt);
+    let answer = command_of(rt.alloc(), words);
+    mark(rt);
+    match answer {
         Ok(Job::Test(words)) => tell_test(rt, &words),
         Ok(_) => println!(rt; "another job"),
         Err(UsageFault::Usage { text, .. }) => rt.print(text.as_str()),
@@ -138,8 +165,8 @@ fn tell_argument(rt: &impl Print, value: &Option<Argument>) -> io::Result<()> {
 }
 
 pub(crate) fn ask_status(rt: &impl Host) -> io::Result<()> {
-    println!(rt;
-        "{}",
-        marked(rt, || status_of(End::Session(SessionEnd::NoMemory)))
-    )
+    mark(rt);
+    let status = status_of(End::Session(SessionEnd::NoMemory));
+    mark(rt);
+    println!(rt; "{status}")
 }

@@ -1,6 +1,6 @@
 //! Runs of scripts on a mail, without a bench.
 
-use crate::telling::{Host, marked, personal, prepared, tell_done, tell_outcome, tell_refused};
+use crate::telling::{Host, mark, personal, prepared, tell_done, tell_outcome, tell_refused};
 use sieve_run::{
     Envelope, Found, Library, Message, Meter, Octets, Outcome, ScriptName, Shelf, run,
 };
@@ -45,7 +45,10 @@ pub(crate) fn add(rt: &impl Host) -> io::Result<()> {
     let mut shelf = Shelf::new(rt.alloc());
     let main = personal(rt, b"main")?;
     shelf.add(&main, b"kep;")?;
-    tell_done(rt, marked(rt, || shelf.add(&main, LIB)))?;
+    mark(rt);
+    let done = shelf.add(&main, LIB);
+    mark(rt);
+    tell_done(rt, done)?;
     tell_found(rt, &shelf.find(&main))
 }
 
@@ -61,17 +64,23 @@ pub(crate) fn tell_found(rt: &impl Print, found: &Found<'_>) -> io::Result<()> {
 /// Runs a main script beside another.
 pub(crate) fn run_texts(rt: &impl Host, text: &[u8], lib: &[u8]) -> io::Result<()> {
     let mut shelf = Shelf::new(rt.alloc());
-    let main = personal(rt, b"main")?;
-    shelf.add(&main, text)?;
-    shelf.add(&personal(rt, b"lib")?, lib)?;
-    run_shelf(rt, &shelf, &main)
+    fill(rt, &mut shelf, text, lib)?;
+    run_shelf(rt, &shelf)
 }
 
-fn run_shelf(rt: &impl Host, shelf: &Shelf, main: &ScriptName) -> io::Result<()> {
+fn fill(rt: &impl Host, shelf: &mut Shelf, text: &[u8], lib: &[u8]) -> Result<(), AllocError> {
+    let main = personal(rt, b"main")?;
+    shelf.add(&main, text)?;
+    let other = personal(rt, b"lib")?;
+    shelf.add(&other, lib)
+}
+
+fn run_shelf(rt: &impl Host, shelf: &Shelf) -> io::Result<()> {
+    let main = personal(rt, b"main")?;
     let envelope = envelope_of(rt)?;
     let octets = Vec::from_slice(rt.alloc(), MAIL)?;
     let mail = prepared(Message::new(rt.alloc(), octets))?;
-    tell_run(rt, shelf, main, (&envelope, &mail))
+    tell_run(rt, shelf, &main, (&envelope, &mail))
 }
 
 fn envelope_of(rt: &impl Host) -> Result<Envelope, AllocError> {
@@ -90,10 +99,9 @@ fn tell_run(
     (envelope, mail): (&Envelope, &Message),
 ) -> io::Result<()> {
     let mut meter = Meter::new();
-    let made = marked(
-        rt,
-        || run(rt.alloc(), shelf, Some(main), envelope, mail, &mut meter),
-    );
+    mark(rt);
+    let made = run(rt.alloc(), shelf, Some(main), envelope, mail, &mut meter);
+    mark(rt);
     match made {
         Ok(outcome) => tell_outcome(rt, &outcome)?,
         Err(_) => tell_refused(rt)?,
@@ -105,7 +113,10 @@ pub(crate) fn ask_shelf(rt: &impl Host) -> io::Result<()> {
     let mut shelf = Shelf::new(rt.alloc());
     let main = personal(rt, b"main")?;
     shelf.add(&main, LIB)?;
-    tell_found(rt, &marked(rt, || shelf.find(&main)))
+    mark(rt);
+    let answer = shelf.find(&main);
+    mark(rt);
+    tell_found(rt, &answer)
 }
 
 /// The verdict where no script runs.
@@ -120,12 +131,10 @@ fn outcome_of(rt: &impl Host) -> io::Result<Outcome> {
 /// How many actions and names there are, and whether the implicit keep stands, there is an error, and a text agrees.
 pub(crate) fn ask_outcome(rt: &impl Host) -> io::Result<()> {
     let outcome = outcome_of(rt)?;
-    println!(rt; "{}", marked(rt, || outcome.actions().len()))?;
-    println!(rt; "{}", marked(rt, || outcome.reads().len()))?;
-    println!(rt; "{}", marked(rt, || outcome.implicit().is_some()))?;
-    println!(rt; "{}", marked(rt, || outcome.error().is_some()))?;
-    println!(rt;
-        "{}",
-        marked(rt, || outcome.agrees(b"Box", b"implicit \"Box\"\n"))
-    )
+    mark(rt);
+    let (actions, names) = (outcome.actions().len(), outcome.reads().len());
+    let (keeps, fails) = (outcome.implicit().is_some(), outcome.error().is_some());
+    let agrees = outcome.agrees(b"Box", b"implicit \"Box\"\n");
+    mark(rt);
+    println!(rt; "{actions} {names} {keeps} {fails} {agrees}")
 }

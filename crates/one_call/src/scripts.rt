@@ -1,6 +1,6 @@
 //! Scripts: their tokens, their trees, and their code.
 
-use crate::telling::{Host, end_line, marked, personal, prepared, tell, tell_refused, written};
+use crate::telling::{Host, end_line, mark, personal, prepared, tell, tell_refused, written};
 use bench::{TestEnd, dump_text, write_code};
 use sieve_base::{Counted, Piece, write_quoted};
 use sieve_check::{CheckFault, Checked, JudgeFault, Judged, check, judge};
@@ -34,7 +34,10 @@ pub(crate) const BREACH: &[u8] = b"require \"variables\";\nset \"a\" \"${b}\";\n
 pub(crate) const NO_SCRIPT: &[u8] = b"if true {\n keep }";
 
 pub(crate) fn cut(rt: &impl Host) -> io::Result<()> {
-    match marked(rt, || tokens(rt.alloc(), TOKENS)) {
+    mark(rt);
+    let answer = tokens(rt.alloc(), TOKENS);
+    mark(rt);
+    match answer {
         Ok(found) => tell_tokens(rt, &found),
         Err(_) => tell_refused(rt),
     }
@@ -54,7 +57,10 @@ fn tell_tokens(rt: &impl Print, found: &[Token]) -> io::Result<()> {
 }
 
 pub(crate) fn read(rt: &impl Host, text: &[u8]) -> io::Result<()> {
-    match marked(rt, || parse(rt.alloc(), text)) {
+    mark(rt);
+    let answer = parse(rt.alloc(), text);
+    mark(rt);
+    match answer {
         Ok(script) => tell_script(rt, &script),
         Err(SyntaxFault::NoMemory) => tell_refused(rt),
         Err(fault) => println!(rt; "{fault}"),
@@ -97,7 +103,10 @@ fn tell_command(rt: &impl Print, command: &Command) -> io::Result<()> {
 
 pub(crate) fn check_script(rt: &impl Host) -> io::Result<()> {
     let script = prepared(parse(rt.alloc(), TEXT))?;
-    match marked(rt, || check(rt.alloc(), &script)) {
+    mark(rt);
+    let answer = check(rt.alloc(), &script);
+    mark(rt);
+    match answer {
         Ok(checked) => println!(rt; "{}", checked.commands().len()),
         Err(CheckFault::NoMemory) => tell_refused(rt),
         Err(fault) => println!(rt; "{fault}"),
@@ -106,7 +115,10 @@ pub(crate) fn check_script(rt: &impl Host) -> io::Result<()> {
 
 /// How many commands the text has, or its fault.
 pub(crate) fn judge_text(rt: &impl Host, text: &[u8]) -> io::Result<()> {
-    match marked(rt, || judge(rt.alloc(), text)) {
+    mark(rt);
+    let answer = judge(rt.alloc(), text);
+    mark(rt);
+    match answer {
         Ok(Judged::Sound(checked)) => println!(rt; "{}", checked.commands().len()),
         Ok(Judged::Faulty { line, kind }) => tell(
             rt,
@@ -128,7 +140,10 @@ fn checked_of(rt: &impl Host) -> io::Result<Checked> {
 
 pub(crate) fn compile_script(rt: &impl Host) -> io::Result<()> {
     let checked = checked_of(rt)?;
-    match marked(rt, || compile(rt.alloc(), &checked)) {
+    mark(rt);
+    let answer = compile(rt.alloc(), &checked);
+    mark(rt);
+    match answer {
         Ok(code) => tell_code(rt, &code),
         Err(_) => tell_refused(rt),
     }
@@ -141,10 +156,10 @@ fn tell_code(rt: &impl Print, code: &Code) -> io::Result<()> {
 pub(crate) fn dump(rt: &impl Host) -> io::Result<()> {
     let name = personal(rt, b"main")?;
     let mut writer = Counted::new(io::writer(rt));
-    tell_end(
-        rt,
-        marked(rt, || dump_text(rt.alloc(), &name, TEXT, &mut writer)),
-    )
+    mark(rt);
+    let end = dump_text(rt.alloc(), &name, TEXT, &mut writer);
+    mark(rt);
+    tell_end(rt, end)
 }
 
 /// Tells how a test or a dump ended.
@@ -157,7 +172,10 @@ pub(crate) fn tell_end(rt: &impl Print, end: TestEnd) -> io::Result<()> {
 
 pub(crate) fn ask_checked(rt: &impl Host) -> io::Result<()> {
     let checked = checked_of(rt)?;
-    println!(rt; "{}", marked(rt, || checked.commands().len()))
+    mark(rt);
+    let count = checked.commands().len();
+    mark(rt);
+    println!(rt; "{count}")
 }
 
 fn code_of(rt: &impl Host) -> io::Result<Code> {
@@ -167,12 +185,18 @@ fn code_of(rt: &impl Host) -> io::Result<Code> {
 /// The lines of all operations, which are written in the call, and how many there are.
 pub(crate) fn ask_code(rt: &impl Host) -> io::Result<()> {
     let code = code_of(rt)?;
-    marked(rt, || tell_code(rt, &code))?;
-    println!(rt; "{}", marked(rt, || code.len()))
+    mark(rt);
+    let told = tell_code(rt, &code);
+    let count = code.len();
+    mark(rt);
+    told?;
+    println!(rt; "{count}")
 }
 
 pub(crate) fn quote(rt: &impl Host) -> io::Result<()> {
     let mut writer = Counted::new(io::writer(rt));
-    let done = marked(rt, || write_quoted(b"a \"\\\x00\xff", &mut writer));
+    mark(rt);
+    let done = write_quoted(b"a \"\\\x00\xff", &mut writer);
+    mark(rt);
     end_line(rt, done)
 }

@@ -1,5 +1,7 @@
 //! What is told of a call: marks on standard error around it, and on standard output what it answered and left. Nothing here takes memory.
 
+ghost use Rattle.std.specs.Prelude.{◌≤◌, IfOk, length};
+
 use sieve_base::{Counted, Piece, Place, ScriptName, WriteFault, write_pieces};
 use sieve_run::{Outcome, write_action, write_error, write_implicit, write_read};
 use std::alloc::AllocError;
@@ -12,15 +14,10 @@ pub(crate) trait Host: AllocGlobal + Print + Eprint {}
 
 impl<R: AllocGlobal + Print + Eprint> Host for R {}
 
-/// What a call answers, which is made between two marks: what is asked for between them is the call's. Each mark is one write, and nothing
-/// else is written to standard error.
-pub(crate) fn marked<R: Eprint, T, F: FnOnce() -> T>(rt: &R, call: F) -> T
-    requires { F.IsAlwaysCallable call }
-{
+/// A mark in front of a call or behind it: what is asked for between two is the call's. It is one write, and nothing else is written to
+/// standard error.
+pub(crate) fn mark(rt: &impl Eprint) {
     let _ = rt.eprint("-\n");
-    let answer = call();
-    let _ = rt.eprint("-\n");
-    answer
 }
 
 /// What is made in front of a call. All of it is sound, so it is refused for memory alone.
@@ -32,7 +29,10 @@ pub(crate) fn prepared<T, E: Drop>(made: Result<T, E>) -> io::Result<T> {
 }
 
 /// The name of a personal script.
-pub(crate) fn personal(rt: &impl Host, name: &[u8]) -> Result<ScriptName, AllocError> {
+pub(crate) fn personal(rt: &impl Host, name: &[u8]) -> Result<ScriptName, AllocError>
+    requires { length name.now ≤ 1024 }
+    ensures { IfOk result (λ made. length made.name ≤ 1024) }
+{
     Ok(ScriptName::new(Place::Personal, Vec::from_slice(rt.alloc(), name)?))
 }
 

@@ -1,6 +1,6 @@
 //! Variables: strings as their parts, and what these stand for.
 
-use crate::telling::{Host, marked, tell, tell_done, tell_octets, tell_refused};
+use crate::telling::{Host, mark, tell, tell_done, tell_octets, tell_refused};
 use sieve_base::{Octets, Piece};
 use sieve_variables::{Part, Parts, Values, Variable, parts_of};
 use std::borrow::CowSlice;
@@ -13,7 +13,10 @@ const NAME: &[u8] = b"A_Name_Of_More_Octets_Than_Sixteen";
 const TEXT: &[u8] = b"to be put beside ${A_Name_Of_More_Octets_Than_Sixteen}, ${global.b}${1}";
 
 pub(crate) fn cut(rt: &impl Host) -> io::Result<()> {
-    match marked(rt, || parts_of(rt.alloc(), TEXT)) {
+    mark(rt);
+    let answer = parts_of(rt.alloc(), TEXT);
+    mark(rt);
+    match answer {
         Ok(parts) => tell_parts(rt, &parts),
         Err(_) => tell_refused(rt),
     }
@@ -44,7 +47,10 @@ pub(crate) fn set(rt: &impl Host) -> io::Result<()> {
     let mut values = Values::new(rt.alloc());
     let variable = Variable::named(rt.alloc(), NAME)?;
     let value = Octets::copied(rt.alloc(), b"its value")?;
-    tell_done(rt, marked(rt, || values.set(rt.alloc(), &variable, value)))?;
+    mark(rt);
+    let answer = values.set(rt.alloc(), &variable, value);
+    mark(rt);
+    tell_done(rt, answer)?;
     tell_octets(rt, values.variable(&variable))
 }
 
@@ -62,7 +68,10 @@ pub(crate) fn expand(rt: &impl Host) -> io::Result<()> {
     let mut strings: Vec<Parts> = Vec::new(rt.alloc());
     strings.push(parts_of(rt.alloc(), TEXT)?)?;
     strings.push(parts_of(rt.alloc(), b"plain")?)?;
-    match marked(rt, || values.expanded(rt.alloc(), &strings)) {
+    mark(rt);
+    let answer = values.expanded(rt.alloc(), &strings);
+    mark(rt);
+    match answer {
         Ok(found) => tell_values(rt, &found),
         Err(_) => tell_refused(rt),
     }
@@ -79,6 +88,9 @@ fn tell_values(rt: &impl Print, found: &[CowSlice<'_, u8>]) -> io::Result<()> {
 pub(crate) fn ask(rt: &impl Host) -> io::Result<()> {
     let values = values_of(rt)?;
     let variable = Variable::named(rt.alloc(), NAME)?;
-    println!(rt; "{}", marked(rt, || values.has_room_for(&variable)))?;
-    tell_octets(rt, marked(rt, || values.variable(&variable)))
+    mark(rt);
+    let (has_room, value) = (values.has_room_for(&variable), values.variable(&variable));
+    mark(rt);
+    println!(rt; "{has_room}")?;
+    tell_octets(rt, value)
 }

@@ -3,7 +3,6 @@
 use crate::telling::Host;
 use crate::{edits, flags, mails, reports, runs, scripts, texts, values};
 use std::io;
-use std::io::ErrorKind;
 
 const WORDS: &str = "is contains contains_in matches Captures \
     flags_of union without FlagList::add FlagList \
@@ -26,13 +25,12 @@ pub(crate) fn tell(rt: &impl Print) -> io::Result<()> {
     Ok(())
 }
 
-/// Makes the call that a word names.
+/// Makes the call that a word names, which is an edit of a bench where it is none of these.
 pub(crate) fn call(rt: &impl Host, word: &str) -> io::Result<()> {
     call_texts(rt, word)
         .or_else(|| call_scripts(rt, word))
-        .or_else(|| call_edits(rt, word))
         .or_else(|| call_reports(rt, word))
-        .unwrap_or_else(|| Err(io::Error::from(ErrorKind::InvalidInput)))
+        .unwrap_or_else(|| edits::call(rt, word))
 }
 
 /// Texts, flags and mails.
@@ -87,29 +85,6 @@ fn call_scripts(rt: &impl Host, word: &str) -> Option<io::Result<()>> {
         "run/error" => runs::run_texts(rt, runs::FAILS, runs::BAD),
         "Shelf" => runs::ask_shelf(rt),
         "Outcome" => runs::ask_outcome(rt),
-        _ => return None,
-    })
-}
-
-/// Edits of a bench.
-fn call_edits(rt: &impl Host, word: &str) -> Option<io::Result<()>> {
-    Some(match word {
-        "put_script" => edits::put_script(rt, b"main", edits::KEEPS),
-        "put_script/new" => edits::put_script(rt, b"other", edits::FAULTY),
-        "keep_script" => edits::keep_script(rt),
-        "put_message" => edits::put_message(rt, edits::ID),
-        "put_message/new" => edits::put_message(rt, b"new"),
-        "keep_message" => edits::keep_message(rt),
-        "rename_script" => edits::rename_script(rt),
-        "set_main" => edits::set_main(rt),
-        "set_envelope" => edits::set_envelope(rt),
-        "set_mailbox" => edits::set_mailbox(rt),
-        "set_expected" => edits::set_expected(rt),
-        "keep_expected" => edits::keep_expected(rt),
-        "remove_script" => edits::remove_script(rt),
-        "remove_message" => edits::remove_message(rt),
-        "clear_main" => edits::clear_main(rt),
-        "clear_expected" => edits::clear_expected(rt),
         _ => return None,
     })
 }
