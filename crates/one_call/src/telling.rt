@@ -1,4 +1,4 @@
-//! What is told of a call: marks on standard error around it, and on standard output what it answered and left. Nothing here takes memory.
+//! What is told of a call: marks on standard error around it, and on standard output what it answered and left. Telling takes no memory.
 
 ghost use Rattle.std.specs.Prelude.{◌≤◌, IfOk, length};
 
