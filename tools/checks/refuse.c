@@ -3,7 +3,11 @@
    REFUSE=N        refuses the Nth request, once
    REFUSE_FROM=N   refuses the Nth and all behind it
    READ=N          lets a read give N octets at most
-   REQUESTS=PATH   writes how many requests there were */
+   REQUESTS=PATH   writes how many requests there were
+   MARKS=PATH      writes how many of them came before the first mark, how many between a mark and the next, and how many there were
+
+   A mark is a write to standard error, and each second one ends what the one before began. So a program that writes there for marks alone
+   tells which requests are a call's: a mark is a single write, takes no memory, and leaves standard output to what the call writes. */
 #define _GNU_SOURCE
 #include <errno.h>
 #include <fcntl.h>
@@ -18,8 +22,8 @@ extern void *__libc_calloc(size_t, size_t);
 extern void *__libc_realloc(void *, size_t);
 extern void *__libc_memalign(size_t, size_t);
 
-static unsigned long requests, once, from, most;
-static int counts;
+static unsigned long requests, once, from, most, before, between;
+static int counts, marks;
 
 static unsigned long number(const char *name) {
     const char *text = getenv(name);
@@ -33,22 +37,30 @@ __attribute__((constructor)) static void begin(void) {
     counts = 1;
 }
 
-__attribute__((destructor)) static void end(void) {
-    const char *path = getenv("REQUESTS");
-    char text[32];
-    counts = 0;
+static void put(const char *name, const char *text) {
+    const char *path = getenv(name);
+    ssize_t length = strlen(text);
     if (!path)
         return;
     int file = open(path, O_WRONLY | O_CREAT | O_TRUNC, 0600);
-    int length = snprintf(text, sizeof text, "%lu\n", requests);
     if (file < 0 || write(file, text, length) != length || close(file))
         abort();
+}
+
+__attribute__((destructor)) static void end(void) {
+    char text[96];
+    counts = 0;
+    snprintf(text, sizeof text, "%lu\n", requests);
+    put("REQUESTS", text);
+    snprintf(text, sizeof text, "%lu %lu %lu\n", before, between, requests);
+    put("MARKS", text);
 }
 
 static int is_refused(void) {
     if (!counts)
         return 0;
     requests++;
+    between += marks % 2;
     if (requests != once && (!from || requests < from))
         return 0;
     errno = ENOMEM;
@@ -73,4 +85,12 @@ int posix_memalign(void **found, size_t alignment, size_t size) {
 
 ssize_t read(int file, void *octets, size_t size) {
     return syscall(SYS_read, file, octets, most && most < size ? most : size);
+}
+
+ssize_t write(int file, const void *octets, size_t size) {
+    if (counts && file == STDERR_FILENO) {
+        before = marks ? before : requests;
+        marks++;
+    }
+    return syscall(SYS_write, file, octets, size);
 }

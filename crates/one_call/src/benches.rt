@@ -1,0 +1,50 @@
+//! A bench on which calls are made, and what they leave of it.
+
+use crate::telling::{Host, personal, prepared, tell_refused};
+use bench::{Bench, ReportFault};
+use sieve_base::{Counted, Octets};
+use sieve_run::Meter;
+use std::io;
+
+/// The id of its message.
+pub(crate) const ID: &[u8] = b"m";
+
+/// A bench with a main script, and a message of which that script's verdict is expected. It isn't made yet.
+pub(crate) fn bench_of(rt: &impl Host) -> io::Result<Bench> {
+    let mut bench = Bench::new(rt.alloc())?;
+    fill(rt, &mut bench)?;
+    Ok(bench)
+}
+
+fn fill(rt: &impl Host, bench: &mut Bench) -> io::Result<()> {
+    let main = personal(rt, b"main")?;
+    prepared(bench.put_script(&main, b"discard;"))?;
+    prepared(bench.set_main(&main))?;
+    prepared(bench.put_message(&Octets::copied(rt.alloc(), ID)?, b""))?;
+    prepared(bench.set_expected(ID, b"discard\n"))
+}
+
+/// Makes each verdict.
+pub(crate) fn make_verdicts(bench: &mut Bench, meter: &mut Meter) -> io::Result<()> {
+    prepared(bench.report(meter, &mut Counted::new(io::sink())))
+}
+
+/// Tells the report, what it answers, and how many runs there were.
+pub(crate) fn tell_report(rt: &impl Print, bench: &mut Bench, meter: &mut Meter) -> io::Result<()> {
+    let answer = bench.report(meter, &mut Counted::new(io::writer(rt)));
+    tell_reported(rt, answer, meter)
+}
+
+/// Tells what a report answered, and how many runs there were.
+pub(crate) fn tell_reported(
+    rt: &impl Print,
+    answer: Result<(), ReportFault>,
+    meter: &Meter,
+) -> io::Result<()> {
+    match answer {
+        Ok(()) => println!(rt; "ok")?,
+        Err(ReportFault::NoMemory) => tell_refused(rt)?,
+        Err(fault) => println!(rt; "{fault}")?,
+    }
+    println!(rt; "runs {}", meter.runs())
+}

@@ -1,0 +1,177 @@
+//! Edits of a bench.
+ghost use Rattle.std.specs.Prelude.{◌≤◌, length};
+
+use crate::benches::{ID, bench_of, make_verdicts, tell_report};
+use crate::telling::{Host, mark, personal, tell_refused};
+use bench::{Bench, EditFault};
+use sieve_base::Octets;
+use sieve_run::Meter;
+use std::io;
+use std::io::ErrorKind;
+
+/// What an edit answered, unless memory was refused in front of it.
+type Edited = io::Result<Result<(), EditFault>>;
+
+const KEEPS: &[u8] =
+    b"require \"fileinto\"; if header \"A\" \"b\" { fileinto \"a mailbox of many octets\"; }";
+
+const FAULTY: &[u8] = b"keep;\nkep;";
+
+const MAIL: &[u8] = b"A: b\n\n";
+
+const IMPLICIT: &[u8] = b"implicit \"INBOX\"\n";
+
+/// Makes the edit that a word names, on a bench of which no verdict is stale.
+pub(crate) fn call(rt: &impl Host, word: &str) -> io::Result<()> {
+    let mut bench = bench_of(rt)?;
+    call_on(rt, word, &mut bench)
+}
+
+/// Tells the answer, the report behind it, and how many runs there were.
+fn call_on(rt: &impl Host, word: &str, bench: &mut Bench) -> io::Result<()> {
+    let mut meter = Meter::new();
+    make_verdicts(bench, &mut meter)?;
+    tell_edited(rt, edit(rt, word, bench)?)?;
+    tell_report(rt, bench, &mut meter)
+}
+
+fn tell_edited(rt: &impl Print, answer: Result<(), EditFault>) -> io::Result<()> {
+    match answer {
+        Ok(()) => println!(rt; "ok"),
+        Err(EditFault::NoMemory) => tell_refused(rt),
+        Err(fault) => println!(rt; "{fault}"),
+    }
+}
+
+fn edit(rt: &impl Host, word: &str, bench: &mut Bench) -> Edited {
+    match word {
+        "put_script" => put_script(rt, bench, b"main", KEEPS),
+        "put_script/new" => put_script(rt, bench, b"other", FAULTY),
+        "keep_script" => keep_script(rt, bench),
+        "put_message" => put_message(rt, bench, ID),
+        "put_message/new" => put_message(rt, bench, b"new"),
+        "keep_message" => keep_message(rt, bench),
+        "rename_script" => rename_script(rt, bench),
+        "set_main" => set_main(rt, bench),
+        "set_envelope" => set_envelope(rt, bench),
+        "set_mailbox" => set_mailbox(rt, bench),
+        "set_expected" => set_expected(rt, bench),
+        "keep_expected" => keep_expected(rt, bench),
+        "remove_script" => remove_script(rt, bench),
+        "remove_message" => remove_message(rt, bench),
+        "clear_main" => clear_main(rt, bench),
+        "clear_expected" => clear_expected(rt, bench),
+        _ => Err(io::Error::from(ErrorKind::InvalidInput)),
+    }
+}
+
+fn put_script(rt: &impl Host, bench: &mut Bench, name: &[u8], text: &[u8]) -> Edited
+    requires { length name.now ≤ 1024 }
+{
+    let name = personal(rt, name)?;
+    mark(rt);
+    let answer = bench.put_script(&name, text);
+    mark(rt);
+    Ok(answer)
+}
+
+fn keep_script(rt: &impl Host, bench: &mut Bench) -> Edited {
+    let name = personal(rt, b"main")?;
+    let text = Octets::copied(rt.alloc(), KEEPS)?;
+    mark(rt);
+    let answer = bench.keep_script(&name, text);
+    mark(rt);
+    Ok(answer)
+}
+
+fn put_message(rt: &impl Host, bench: &mut Bench, id: &[u8]) -> Edited {
+    let id = Octets::copied(rt.alloc(), id)?;
+    mark(rt);
+    let answer = bench.put_message(&id, MAIL);
+    mark(rt);
+    Ok(answer)
+}
+
+fn keep_message(rt: &impl Host, bench: &mut Bench) -> Edited {
+    let id = Octets::copied(rt.alloc(), b"new")?;
+    let octets = Octets::copied(rt.alloc(), MAIL)?;
+    mark(rt);
+    let answer = bench.keep_message(id, octets);
+    mark(rt);
+    Ok(answer)
+}
+
+fn rename_script(rt: &impl Host, bench: &mut Bench) -> Edited {
+    let main = personal(rt, b"main")?;
+    let other = personal(rt, b"other")?;
+    mark(rt);
+    let answer = bench.rename_script(&main, &other);
+    mark(rt);
+    Ok(answer)
+}
+
+fn set_main(rt: &impl Host, bench: &mut Bench) -> Edited {
+    let other = personal(rt, b"other")?;
+    mark(rt);
+    let answer = bench.set_main(&other);
+    mark(rt);
+    Ok(answer)
+}
+
+fn set_envelope(rt: &impl Host, bench: &mut Bench) -> Edited {
+    mark(rt);
+    let answer = bench.set_envelope(b"a@b.example", b"c@d.example");
+    mark(rt);
+    Ok(answer)
+}
+
+fn set_mailbox(rt: &impl Host, bench: &mut Bench) -> Edited {
+    mark(rt);
+    let answer = bench.set_mailbox(b"Box");
+    mark(rt);
+    Ok(answer)
+}
+
+fn set_expected(rt: &impl Host, bench: &mut Bench) -> Edited {
+    mark(rt);
+    let answer = bench.set_expected(ID, IMPLICIT);
+    mark(rt);
+    Ok(answer)
+}
+
+fn keep_expected(rt: &impl Host, bench: &mut Bench) -> Edited {
+    let text = Octets::copied(rt.alloc(), IMPLICIT)?;
+    mark(rt);
+    let answer = bench.keep_expected(ID, text);
+    mark(rt);
+    Ok(answer)
+}
+
+fn remove_script(rt: &impl Host, bench: &mut Bench) -> Edited {
+    let main = personal(rt, b"main")?;
+    mark(rt);
+    let answer = bench.remove_script(&main);
+    mark(rt);
+    Ok(answer)
+}
+
+fn remove_message(rt: &impl Host, bench: &mut Bench) -> Edited {
+    mark(rt);
+    let answer = bench.remove_message(ID);
+    mark(rt);
+    Ok(answer)
+}
+
+fn clear_main(rt: &impl Host, bench: &mut Bench) -> Edited {
+    mark(rt);
+    bench.clear_main();
+    mark(rt);
+    Ok(Ok(()))
+}
+
+fn clear_expected(rt: &impl Host, bench: &mut Bench) -> Edited {
+    mark(rt);
+    let answer = bench.clear_expected(ID);
+    mark(rt);
+    Ok(answer)
+}

@@ -1,0 +1,74 @@
+//! Lists of flags.
+
+use crate::telling::{Host, mark, tell_done, tell_octets, tell_refused};
+use match_text::{Collation, FlagList, flags_of, union, without};
+use std::alloc::AllocError;
+use std::io;
+
+// Three flags, one of them twice, and what is none.
+const FIRST: &[u8] = b"\\Seen a $Label A \\Recent";
+
+// Four flags, two of them among the first three.
+const SECOND: &[u8] = b"$label $Work \\SEEN other-flag-of-many-octets";
+
+pub(crate) fn read(rt: &impl Host) -> io::Result<()> {
+    mark(rt);
+    let answer = flags_of(rt.alloc(), FIRST);
+    mark(rt);
+    tell_list(rt, answer)
+}
+
+/// Tells a list, or that it was refused.
+fn tell_list(rt: &impl Print, made: Result<FlagList, AllocError>) -> io::Result<()> {
+    match made {
+        Ok(flags) => tell_flags(rt, &flags),
+        Err(_) => tell_refused(rt),
+    }
+}
+
+fn tell_flags(rt: &impl Print, flags: &FlagList) -> io::Result<()> {
+    for i in 0..flags.len() {
+        tell_octets(rt, flags.get(i))?;
+    }
+    Ok(())
+}
+
+pub(crate) fn join(rt: &impl Host) -> io::Result<()> {
+    let first = flags_of(rt.alloc(), FIRST)?;
+    let second = flags_of(rt.alloc(), SECOND)?;
+    mark(rt);
+    let answer = union(rt.alloc(), &first, &second);
+    mark(rt);
+    tell_list(rt, answer)
+}
+
+pub(crate) fn take_away(rt: &impl Host) -> io::Result<()> {
+    let first = flags_of(rt.alloc(), FIRST)?;
+    let second = flags_of(rt.alloc(), SECOND)?;
+    mark(rt);
+    let answer = without(rt.alloc(), &first, &second);
+    mark(rt);
+    tell_list(rt, answer)
+}
+
+/// Behind the answer stands the list: where memory was refused, some flags may have been added.
+pub(crate) fn add(rt: &impl Host) -> io::Result<()> {
+    let mut first = flags_of(rt.alloc(), FIRST)?;
+    let second = flags_of(rt.alloc(), SECOND)?;
+    mark(rt);
+    let answer = first.add(rt.alloc(), &second, 0);
+    mark(rt);
+    tell_done(rt, answer)?;
+    tell_flags(rt, &first)
+}
+
+/// Whether a flag is there, where one stood that is taken out, and the list behind that.
+pub(crate) fn ask(rt: &impl Host) -> io::Result<()> {
+    let mut flags = flags_of(rt.alloc(), FIRST)?;
+    mark(rt);
+    let has = flags.has(Collation::Casemap, b"$LABEL");
+    let place = flags.take_out(b"A");
+    mark(rt);
+    println!(rt; "{has} {place:?}")?;
+    tell_flags(rt, &flags)
+}

@@ -1,0 +1,140 @@
+//! Runs of scripts on a mail, without a bench.
+
+use crate::telling::{Host, mark, personal, prepared, tell_done, tell_outcome, tell_refused};
+use sieve_run::{
+    Envelope, Found, Library, Message, Meter, Octets, Outcome, ScriptName, Shelf, run,
+};
+use std::alloc::AllocError;
+use std::io;
+
+const MAIL: &[u8] =
+    b"From: ann@a.example\nSubject: =?utf-8?q?caf=C3=A9?= at ten\nTo: b@c.example\nX-Folded: one\n two\n\n";
+
+pub(crate) const TESTS: &[u8] =
+    b"require [\"envelope\", \"fileinto\", \"variables\", \"imap4flags\"];
+if anyof (header :contains [\"X-Folded\", \"Subject\"] \"a key of more octets than are looked for without copies of it and of the value\", header :matches \"Subject\" \"NO*\", hasflag \"a b\", string \"${1}\" \"x\") { discard; }
+if allof (exists \"X-Folded\", address :domain :is \"From\" \"a.example\", address :localpart :matches \"To\" \"?\", envelope \"from\" \"s@x.example\", header \"x-folded\" \"one two\", header :matches \"Subject\" \"caf* *\") { fileinto \"${1}, ${2}\"; }
+";
+
+pub(crate) const VARIABLES: &[u8] = b"require [\"fileinto\", \"variables\"];
+set \"a\" \"first of all\"; set :upper :quotewildcard \"b\" \"${a}*\"; set :length \"c\" \"${b}\"; set \"a\" \"again\";
+if string :matches \"${a}-${b}\" \"*-*\" { fileinto \"${1}/${2}/${c}\"; }
+redirect \"${a}@b.example\";
+";
+
+pub(crate) const FLAGS: &[u8] = b"require [\"fileinto\", \"imap4flags\", \"variables\", \"copy\"];
+setflag [\"\\\\Seen a\", \"b\"]; addflag \"c D\"; removeflag \"A\"; addflag \"v\" \"x y\"; removeflag \"v\" \"X\";
+if hasflag :contains \"v\" [\"q\", \"Y\"] { fileinto :copy :flags \"${v} z\" \"Box\"; fileinto :copy \"Box\"; }
+";
+
+pub(crate) const INCLUDES: &[u8] =
+    b"require [\"include\", \"variables\", \"fileinto\"]; global \"box\"; set \"own\" \"kept\";
+include \"lib\"; include \"lib\"; include :once \"lib\"; include :optional :global \"gone\"; fileinto \"${box} ${own}\";
+";
+
+pub(crate) const LIB: &[u8] = b"require [\"include\", \"variables\"];
+set \"global.box\" \"${global.box}Lists\"; set \"own\" \"lost\"; return; stop;
+";
+
+pub(crate) const FAILS: &[u8] = b"require \"include\"; discard; include \"lib\";";
+
+pub(crate) const BAD: &[u8] = b"keep;\nredirect \"nobody\";";
+
+/// Puts a text in place of one with a fault. What is there stands behind the answer.
+pub(crate) fn add(rt: &impl Host) -> io::Result<()> {
+    let mut shelf = Shelf::new(rt.alloc());
+    let main = personal(rt, b"main")?;
+    shelf.add(&main, b"kep;")?;
+    mark(rt);
+    let done = shelf.add(&main, LIB);
+    mark(rt);
+    tell_done(rt, done)?;
+    tell_found(rt, &shelf.find(&main))
+}
+
+/// Tells what a name has.
+pub(crate) fn tell_found(rt: &impl Print, found: &Found<'_>) -> io::Result<()> {
+    match found {
+        Found::Missing => println!(rt; "missing"),
+        Found::Invalid => println!(rt; "invalid"),
+        Found::Present(code) => println!(rt; "{} operations", code.len()),
+    }
+}
+
+/// Runs a main script beside another.
+pub(crate) fn run_texts(rt: &impl Host, text: &[u8], lib: &[u8]) -> io::Result<()> {
+    let mut shelf = Shelf::new(rt.alloc());
+    fill(rt, &mut shelf, text, lib)?;
+    run_shelf(rt, &shelf)
+}
+
+fn fill(rt: &impl Host, shelf: &mut Shelf, text: &[u8], lib: &[u8]) -> Result<(), AllocError> {
+    let main = personal(rt, b"main")?;
+    shelf.add(&main, text)?;
+    let other = personal(rt, b"lib")?;
+    shelf.add(&other, lib)
+}
+
+fn run_shelf(rt: &impl Host, shelf: &Shelf) -> io::Result<()> {
+    let main = personal(rt, b"main")?;
+    let envelope = envelope_of(rt)?;
+    let octets = Vec::from_slice(rt.alloc(), MAIL)?;
+    let mail = prepared(Message::new(rt.alloc(), octets))?;
+    tell_run(rt, shelf, &main, (&envelope, &mail))
+}
+
+fn envelope_of(rt: &impl Host) -> Result<Envelope, AllocError> {
+    Ok(Envelope {
+        from: Octets::copied(rt.alloc(), b"s@x.example")?,
+        to: Octets::from_vec(Vec::new(rt.alloc())),
+        mailbox: Octets::from_vec(Vec::new(rt.alloc())),
+    })
+}
+
+/// Tells the verdict, and how many runs there were.
+fn tell_run(
+    rt: &impl Host,
+    shelf: &Shelf,
+    main: &ScriptName,
+    (envelope, mail): (&Envelope, &Message),
+) -> io::Result<()> {
+    let mut meter = Meter::new();
+    mark(rt);
+    let made = run(rt.alloc(), shelf, Some(main), envelope, mail, &mut meter);
+    mark(rt);
+    match made {
+        Ok(outcome) => tell_outcome(rt, &outcome)?,
+        Err(_) => tell_refused(rt)?,
+    }
+    println!(rt; "runs {}", meter.runs())
+}
+
+pub(crate) fn ask_shelf(rt: &impl Host) -> io::Result<()> {
+    let mut shelf = Shelf::new(rt.alloc());
+    let main = personal(rt, b"main")?;
+    shelf.add(&main, LIB)?;
+    mark(rt);
+    let answer = shelf.find(&main);
+    mark(rt);
+    tell_found(rt, &answer)
+}
+
+/// The verdict where no script runs.
+fn outcome_of(rt: &impl Host) -> io::Result<Outcome> {
+    let envelope = envelope_of(rt)?;
+    let mail = prepared(Message::new(rt.alloc(), Vec::new(rt.alloc())))?;
+    let shelf = Shelf::new(rt.alloc());
+    let mut meter = Meter::new();
+    Ok(run(rt.alloc(), &shelf, None, &envelope, &mail, &mut meter)?)
+}
+
+/// How many actions and names there are, and whether the implicit keep stands, there is an error, and a text agrees.
+pub(crate) fn ask_outcome(rt: &impl Host) -> io::Result<()> {
+    let outcome = outcome_of(rt)?;
+    mark(rt);
+    let (actions, names) = (outcome.actions().len(), outcome.reads().len());
+    let (keeps, fails) = (outcome.implicit().is_some(), outcome.error().is_some());
+    let agrees = outcome.agrees(b"Box", b"implicit \"Box\"\n");
+    mark(rt);
+    println!(rt; "{actions} {names} {keeps} {fails} {agrees}")
+}

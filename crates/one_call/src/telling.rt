@@ -1,0 +1,100 @@
+//! What is told of a call: marks on standard error around it, and on standard output what it answered and left. Telling takes no memory.
+
+ghost use Rattle.std.specs.Prelude.{◌≤◌, IfOk, length};
+
+use sieve_base::{Counted, Piece, Place, ScriptName, WriteFault, write_pieces};
+use sieve_run::{Outcome, write_action, write_error, write_implicit, write_read};
+use std::alloc::AllocError;
+use std::borrow::CowSlice;
+use std::io;
+use std::io::ErrorKind;
+
+/// What a call is made on.
+pub(crate) trait Host: AllocGlobal + Print + Eprint {}
+
+impl<R: AllocGlobal + Print + Eprint> Host for R {}
+
+/// A mark in front of a call or behind it: what is asked for between two is the call's. It is one write, and nothing else is written to
+/// standard error.
+pub(crate) fn mark(rt: &impl Eprint) {
+    let _ = rt.eprint("-\n");
+}
+
+/// What is made in front of a call. All of it is sound, so it is refused for memory alone.
+pub(crate) fn prepared<T, E: Drop>(made: Result<T, E>) -> io::Result<T> {
+    match made {
+        Ok(value) => Ok(value),
+        Err(_) => Err(io::Error::from(ErrorKind::OutOfMemory)),
+    }
+}
+
+/// The name of a personal script.
+pub(crate) fn personal(rt: &impl Host, name: &[u8]) -> Result<ScriptName, AllocError>
+    requires { length name.now ≤ 1024 }
+    ensures { IfOk result (λ made. length made.name ≤ 1024) }
+{
+    Ok(ScriptName::new(Place::Personal, Vec::from_slice(rt.alloc(), name)?))
+}
+
+/// Tells that memory was refused.
+pub(crate) fn tell_refused(rt: &impl Print) -> io::Result<()> {
+    println!(rt; "no memory")
+}
+
+/// Tells that something is done.
+pub(crate) fn tell_done(rt: &impl Print, done: Result<(), AllocError>) -> io::Result<()> {
+    match done {
+        Ok(()) => println!(rt; "ok"),
+        Err(_) => tell_refused(rt),
+    }
+}
+
+/// That something was written.
+pub(crate) fn written(done: Result<(), WriteFault>) -> io::Result<()> {
+    done.map_err(|_| io::Error::from(ErrorKind::BrokenPipe))
+}
+
+/// Ends a line that was written.
+pub(crate) fn end_line(rt: &impl Print, done: Result<(), WriteFault>) -> io::Result<()> {
+    written(done)?;
+    println!(rt)
+}
+
+/// Tells a line of pieces.
+pub(crate) fn tell(rt: &impl Print, pieces: &[Piece<'_>]) -> io::Result<()> {
+    end_line(rt, write_pieces(pieces, &mut Counted::new(io::writer(rt))))
+}
+
+/// Tells octets, in quotes.
+pub(crate) fn tell_octets(rt: &impl Print, octets: &[u8]) -> io::Result<()> {
+    tell(rt, &[Piece::Quoted(octets)])
+}
+
+/// Tells octets that may be borrowed, or that they were refused.
+pub(crate) fn tell_value(
+    rt: &impl Print,
+    value: Result<CowSlice<'_, u8>, AllocError>,
+) -> io::Result<()> {
+    match value {
+        Ok(octets) => tell_octets(rt, octets.as_slice()),
+        Err(_) => tell_refused(rt),
+    }
+}
+
+/// Tells a verdict as a report does, but for the spaces in front of its lines.
+pub(crate) fn tell_outcome(rt: &impl Print, outcome: &Outcome) -> io::Result<()> {
+    let mut writer = Counted::new(io::writer(rt));
+    for action in outcome.actions() {
+        end_line(rt, write_action(action, &mut writer))?;
+    }
+    if let Some(flags) = outcome.implicit() {
+        end_line(rt, write_implicit(b"INBOX", flags, &mut writer))?;
+    }
+    if let Some(error) = outcome.error() {
+        end_line(rt, write_error(error, &mut writer))?;
+    }
+    for (name, is_present) in outcome.reads() {
+        end_line(rt, write_read(name, *is_present, &mut writer))?;
+    }
+    Ok(())
+}

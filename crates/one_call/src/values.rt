@@ -1,0 +1,96 @@
+//! Variables: strings as their parts, and what these stand for.
+
+use crate::telling::{Host, mark, tell, tell_done, tell_octets, tell_refused};
+use sieve_base::{Octets, Piece};
+use sieve_variables::{Part, Parts, Values, Variable, parts_of};
+use std::borrow::CowSlice;
+use std::io;
+
+// A name of more octets than lie in a variable itself.
+const NAME: &[u8] = b"A_Name_Of_More_Octets_Than_Sixteen";
+
+// Octets, that variable, a shared one and a match variable.
+const TEXT: &[u8] = b"to be put beside ${A_Name_Of_More_Octets_Than_Sixteen}, ${global.b}${1}";
+
+pub(crate) fn cut(rt: &impl Host) -> io::Result<()> {
+    mark(rt);
+    let answer = parts_of(rt.alloc(), TEXT);
+    mark(rt);
+    match answer {
+        Ok(parts) => tell_parts(rt, &parts),
+        Err(_) => tell_refused(rt),
+    }
+}
+
+fn tell_parts(rt: &impl Print, parts: &[Part]) -> io::Result<()> {
+    for part in parts {
+        tell_part(rt, part)?;
+    }
+    Ok(())
+}
+
+fn tell_part(rt: &impl Print, part: &Part) -> io::Result<()> {
+    match part {
+        Part::Literal(octets) => tell_octets(rt, octets),
+        Part::Variable(Variable::Local(name)) => tell_name(rt, b"local ", name),
+        Part::Variable(Variable::Global(name)) => tell_name(rt, b"global ", name),
+        Part::Match(index) => println!(rt; "match {index}"),
+    }
+}
+
+fn tell_name(rt: &impl Print, place: &[u8], name: &[u8]) -> io::Result<()> {
+    tell(rt, &[Piece::Raw(place), Piece::Raw(name)])
+}
+
+/// What the variable holds stands behind the answer.
+pub(crate) fn set(rt: &impl Host) -> io::Result<()> {
+    let mut values = Values::new(rt.alloc());
+    let variable = Variable::named(rt.alloc(), NAME)?;
+    let value = Octets::copied(rt.alloc(), b"its value")?;
+    mark(rt);
+    let answer = values.set(rt.alloc(), &variable, value);
+    mark(rt);
+    tell_done(rt, answer)?;
+    tell_octets(rt, values.variable(&variable))
+}
+
+/// The values where the variable is set.
+fn values_of(rt: &impl Host) -> io::Result<Values> {
+    let mut values = Values::new(rt.alloc());
+    let variable = Variable::named(rt.alloc(), NAME)?;
+    let value = Octets::copied(rt.alloc(), b"its value")?;
+    values.set(rt.alloc(), &variable, value)?;
+    Ok(values)
+}
+
+pub(crate) fn expand(rt: &impl Host) -> io::Result<()> {
+    let values = values_of(rt)?;
+    let mut strings: Vec<Parts> = Vec::new(rt.alloc());
+    strings.push(parts_of(rt.alloc(), TEXT)?)?;
+    strings.push(parts_of(rt.alloc(), b"plain")?)?;
+    mark(rt);
+    let answer = values.expanded(rt.alloc(), &strings);
+    mark(rt);
+    match answer {
+        Ok(found) => tell_values(rt, &found),
+        Err(_) => tell_refused(rt),
+    }
+}
+
+fn tell_values(rt: &impl Print, found: &[CowSlice<'_, u8>]) -> io::Result<()> {
+    for value in found {
+        tell_octets(rt, value.as_slice())?;
+    }
+    Ok(())
+}
+
+/// Whether the variable can be set, and what it holds.
+pub(crate) fn ask(rt: &impl Host) -> io::Result<()> {
+    let values = values_of(rt)?;
+    let variable = Variable::named(rt.alloc(), NAME)?;
+    mark(rt);
+    let (has_room, value) = (values.has_room_for(&variable), values.variable(&variable));
+    mark(rt);
+    println!(rt; "{has_room}")?;
+    tell_octets(rt, value)
+}

@@ -1,0 +1,107 @@
+//! The words, each with its call.
+
+use crate::telling::Host;
+use crate::{edits, flags, mails, reports, runs, scripts, texts, values};
+use std::io;
+
+const WORDS: &str = "is contains contains_in matches Captures \
+    flags_of union without FlagList::add FlagList \
+    Message::new Message::value Message::decoded decoded_value addresses \
+    Message Message::value/unfolded Message::decoded/plain Address \
+    tokens parse parse/faulty check judge judge/faulty compile dump_text Checked Code write_quoted \
+    parts_of Values::set Values::expanded Values \
+    Shelf::add run/tests run/variables run/flags run/includes run/error Shelf Outcome \
+    put_script put_script/new keep_script put_message put_message/new keep_message rename_script \
+    set_main set_envelope set_mailbox set_expected \
+    keep_expected remove_script remove_message clear_main clear_expected \
+    Bench::new report test_bench session command_of command_of/mistake \
+    report/kept verdict code status_of";
+
+/// Tells each word.
+pub(crate) fn tell(rt: &impl Print) -> io::Result<()> {
+    for word in WORDS.split_whitespace() {
+        println!(rt; "{word}")?;
+    }
+    Ok(())
+}
+
+/// Makes the call that a word names, which is an edit of a bench where it is none of these.
+pub(crate) fn call(rt: &impl Host, word: &str) -> io::Result<()> {
+    call_texts(rt, word)
+        .or_else(|| call_scripts(rt, word))
+        .or_else(|| call_reports(rt, word))
+        .unwrap_or_else(|| edits::call(rt, word))
+}
+
+/// Texts, flags and mails.
+fn call_texts(rt: &impl Host, word: &str) -> Option<io::Result<()>> {
+    Some(match word {
+        "is" => texts::compare(rt),
+        "contains" => texts::search(rt),
+        "contains_in" => texts::search_in(rt),
+        "matches" => texts::match_pattern(rt),
+        "Captures" => texts::ask_captures(rt),
+        "flags_of" => flags::read(rt),
+        "union" => flags::join(rt),
+        "without" => flags::take_away(rt),
+        "FlagList::add" => flags::add(rt),
+        "FlagList" => flags::ask(rt),
+        "Message::new" => mails::read(rt),
+        "Message::value" => mails::ask_value(rt, mails::TO),
+        "Message::decoded" => mails::ask_decoded(rt, mails::SUBJECT),
+        "decoded_value" => mails::decode(rt),
+        "addresses" => mails::read_addresses(rt),
+        "Message" => mails::ask(rt),
+        "Message::value/unfolded" => mails::ask_value(rt, mails::PLAIN),
+        "Message::decoded/plain" => mails::ask_decoded(rt, mails::PLAIN),
+        "Address" => mails::ask_address(rt),
+        _ => return None,
+    })
+}
+
+/// Scripts and runs.
+fn call_scripts(rt: &impl Host, word: &str) -> Option<io::Result<()>> {
+    Some(match word {
+        "tokens" => scripts::cut(rt),
+        "parse" => scripts::read(rt, scripts::TEXT),
+        "parse/faulty" => scripts::read(rt, scripts::NO_SCRIPT),
+        "check" => scripts::check_script(rt),
+        "judge" => scripts::judge_text(rt, scripts::TEXT),
+        "judge/faulty" => scripts::judge_text(rt, scripts::BREACH),
+        "compile" => scripts::compile_script(rt),
+        "dump_text" => scripts::dump(rt),
+        "Checked" => scripts::ask_checked(rt),
+        "Code" => scripts::ask_code(rt),
+        "write_quoted" => scripts::quote(rt),
+        "parts_of" => values::cut(rt),
+        "Values::set" => values::set(rt),
+        "Values::expanded" => values::expand(rt),
+        "Values" => values::ask(rt),
+        "Shelf::add" => runs::add(rt),
+        "run/tests" => runs::run_texts(rt, runs::TESTS, runs::LIB),
+        "run/variables" => runs::run_texts(rt, runs::VARIABLES, runs::LIB),
+        "run/flags" => runs::run_texts(rt, runs::FLAGS, runs::LIB),
+        "run/includes" => runs::run_texts(rt, runs::INCLUDES, runs::LIB),
+        "run/error" => runs::run_texts(rt, runs::FAILS, runs::BAD),
+        "Shelf" => runs::ask_shelf(rt),
+        "Outcome" => runs::ask_outcome(rt),
+        _ => return None,
+    })
+}
+
+/// Reports, sessions, and the words of a command line.
+fn call_reports(rt: &impl Host, word: &str) -> Option<io::Result<()>> {
+    Some(match word {
+        "Bench::new" => reports::make_bench(rt),
+        "report" => reports::report_stale(rt),
+        "test_bench" => reports::test(rt),
+        "session" => reports::serve(rt),
+        "command_of" => reports::read_words(rt, reports::TEST),
+        "command_of/mistake" => reports::read_words(rt, reports::MISTAKE),
+        "report/kept" => reports::report_kept(rt),
+        "verdict" => reports::ask_verdict(rt),
+        "code" => reports::ask_code(rt),
+        "status_of" => reports::ask_status(rt),
+        _ => return None,
+    })
+}
