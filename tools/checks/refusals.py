@@ -1,6 +1,7 @@
-"""Sessions whose requests for memory are refused one by one, whose reads give an octet each, and that have no more memory than a limit. The
-program runs with `refuse.c` in front of its C library. What a session must answer behind a refusal is what it answers without the command that
-was refused: so both are compared, and what sessions answer is compared with the rules elsewhere."""
+"""Sessions whose requests for memory are refused one by one, whose reads give an octet each, whose reads and writes fail one by one, and that
+have no more memory than a limit. The program runs with `refuse.c` in front of its C library. What a session must answer behind a refusal is
+what it answers without the command that was refused: so both are compared, and what sessions answer is compared with the rules elsewhere."""
+import itertools
 import os
 import pathlib
 import re
@@ -107,14 +108,38 @@ class Refusals:
 class Pieces:
     """A session whose reads give an octet each."""
 
-    def __init__(self, library, title, octets, wanted=None):
-        self.library, self.octets, self.wanted = library, octets, wanted
+    def __init__(self, library, title, octets, wanted=None, **settings):
+        self.library, self.octets, self.wanted, self.settings = library, octets, wanted, settings
         self.title, self.command = f"an octet for each read: {title}", "sievebench session"
 
     def differences(self, path):
         wanted = self.wanted or answered(self.octets, path)
-        found = answered(self.octets, path, LD_PRELOAD=str(self.library), READ="1")
+        found = answered(self.octets, path, LD_PRELOAD=str(self.library), READ="1", **self.settings)
         return [] if found == wanted else [f"wanted {wanted!r:.2000}, got {found!r:.2000}"]
+
+
+class Failing:
+    """A session whose reads, an octet each, fail one by one, and then its writes. Of a read that fails there must come what the commands
+    that were whole before it answer, and of a write a front of what the session answers."""
+
+    def __init__(self, library, title, commands):
+        self.library, self.commands = library, commands
+        self.title, self.command = f"reads and writes that fail: {title}", "sievebench session"
+
+    def differences(self, path):
+        octets, ends = b"".join(self.commands), list(itertools.accumulate(map(len, self.commands)))
+        fronts = [answered(b"".join(self.commands[:count]), path)[0] for count in range(len(ends) + 1)]
+        wrong = []
+        for number in range(1, len(octets) + 2):
+            wanted = fronts[sum(end < number for end in ends)], 3
+            found = answered(octets, path, LD_PRELOAD=str(self.library), READ="1", FAIL_READ=str(number))
+            wrong += [] if found == wanted else [f"read {number} failed: wanted {wanted!r:.1000}, got {found!r:.1000}"]
+        whole, last, number = (fronts[-1], 0), b"", 1
+        while (found := answered(octets, path, LD_PRELOAD=str(self.library), READ="1", FAIL_WRITE=str(number))) != whole and number <= len(octets):
+            if found[1] != 3 or not (whole[0].startswith(found[0]) and found[0].startswith(last)):
+                wrong.append(f"write {number} failed: got {found!r:.1000}")
+            last, number = found[0], number + 1
+        return wrong[:3] + ([] if number > len(self.commands) // 2 else [f"only {number - 1} writes"])
 
 
 class Narrow:
@@ -155,6 +180,9 @@ def of_sessions(room):
     for title, commands in SESSIONS.items():
         yield Refusals(room, library, title, commands)
         yield Pieces(library, title, b"".join(commands))
+    title = "each command"
+    yield Failing(library, title, SESSIONS[title])
+    yield Pieces(library, f"{title}, with each other read and write interrupted", b"".join(SESSIONS[title]), None, INTERRUPT="1")
     # As many reads as this would end a session that lets a million be made.
     long = 1_100_000
     yield Pieces(library, "more than a million", put(b"message m", b"x" * long) + b"report\n", (lines("ok") + Narrow().report(["m".encode()]), 0))

@@ -1,8 +1,12 @@
-/* Refuses requests for memory, and lets reads give less than is asked, in a program that it is loaded into in front of the C library.
+/* Refuses requests for memory, lets reads give less than is asked, and lets reads and writes fail, in a program that it is loaded into in
+   front of the C library.
 
    REFUSE=N        refuses the Nth request, once
    REFUSE_FROM=N   refuses the Nth and all behind it
    READ=N          lets a read give N octets at most
+   FAIL_READ=N     lets the Nth read of standard input fail
+   FAIL_WRITE=N    lets the Nth write to standard output fail
+   INTERRUPT=1     interrupts each other read of standard input, and each other write to standard output
    REQUESTS=PATH   writes how many requests there were
    MARKS=PATH      writes how many of them came before the first mark, how many between a mark and the next, and how many there were
 
@@ -22,8 +26,11 @@ extern void *__libc_calloc(size_t, size_t);
 extern void *__libc_realloc(void *, size_t);
 extern void *__libc_memalign(size_t, size_t);
 
-static unsigned long requests, once, from, most, before, between;
+static unsigned long requests, once, from, most, before, between, interrupts;
 static int counts, marks;
+
+/* The calls of a device so far, and the one that fails. */
+static struct { unsigned long calls, failing; } in, out;
 
 static unsigned long number(const char *name) {
     const char *text = getenv(name);
@@ -34,6 +41,9 @@ __attribute__((constructor)) static void begin(void) {
     once = number("REFUSE");
     from = number("REFUSE_FROM");
     most = number("READ");
+    in.failing = number("FAIL_READ");
+    out.failing = number("FAIL_WRITE");
+    interrupts = number("INTERRUPT");
     counts = 1;
 }
 
@@ -83,7 +93,15 @@ int posix_memalign(void **found, size_t alignment, size_t size) {
     return 0;
 }
 
+/* Why the next call of a device fails, or 0. */
+static int fault_of(unsigned long *calls, unsigned long failing) {
+    ++*calls;
+    return *calls == failing ? EIO : interrupts && *calls % 2 ? EINTR : 0;
+}
+
 ssize_t read(int file, void *octets, size_t size) {
+    if (file == STDIN_FILENO && (errno = fault_of(&in.calls, in.failing)))
+        return -1;
     return syscall(SYS_read, file, octets, most && most < size ? most : size);
 }
 
@@ -92,5 +110,7 @@ ssize_t write(int file, const void *octets, size_t size) {
         before = marks ? before : requests;
         marks++;
     }
+    if (file == STDOUT_FILENO && (errno = fault_of(&out.calls, out.failing)))
+        return -1;
     return syscall(SYS_write, file, octets, size);
 }
