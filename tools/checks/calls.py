@@ -247,8 +247,8 @@ class Call:
         return done.stdout if done.returncode == 0 else (done.stdout, done.returncode)
 
     def allowed(self, number, before, count):
-        """What may be told where the request of that number is refused, of so many in all, and so many before the call. Where what was refused
-        is only to save memory, as the room that a list has left, the program goes on as if it had been granted."""
+        """What may be told where the request of that number is refused, of so many in all, and so many before the call. A refusal may go
+        unfelt: a list that is refused room ahead goes on with less."""
         if number <= before:
             return {UNPREPARED, self.told.whole}
         if number <= before + self.requests:
