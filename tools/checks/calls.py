@@ -247,9 +247,10 @@ class Call:
         return done.stdout if done.returncode == 0 else (done.stdout, done.returncode)
 
     def allowed(self, number, before, count):
-        """What may be told where the request of that number is refused, of so many in all, and so many before the call."""
+        """What may be told where the request of that number is refused, of so many in all, and so many before the call. A refusal may go
+        unfelt: a list that is refused room ahead goes on with less."""
         if number <= before:
-            return {UNPREPARED}
+            return {UNPREPARED, self.told.whole}
         if number <= before + self.requests:
             return self.told.refused
         return self.told.behind if number <= count else {self.told.whole}
