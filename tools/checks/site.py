@@ -52,7 +52,7 @@ def of_checks(room):
     write(room / "none", {"mails/3.eml.expect": b"", "mails/3.eml.envelope": b""})
     strict = ["none/mails/1.eml under main: nothing is expected", "none/mails/2.eml.expect: no main script is called gone", *(f"none/mails/3.eml.{end}: its mail isn't there" for end in ("envelope", "expect"))]
     yield run("nothing is expected, and that fails", room, "check --strict none", lines(*strict, counted(2, 1, 2, 1, 0, 1, 3, 0)), status=1)
-    yield run("one mail", room, "check --strict --only 2.eml --main main none", lines(counted(1, 1, 1, 1, 0, 0, 0, 0)))
+    yield run("one mail", room, "check --strict --only=2.eml --main=main none", lines(counted(1, 1, 1, 1, 0, 0, 0, 0)))
     write(room / "empty", site({"1.eml": b"", "1.eml.expect": b"[main]\n"}, main=b"discard;"))
     yield run("the empty text agrees with no verdict", room, "check empty", lines("empty/mails/1.eml under main", "  + discard", counted(1, 1, 1, 0, 1, 0, 0, 0)), status=1)
     envelope = b'require "envelope"; if envelope "from" "" { discard; }'
@@ -106,7 +106,7 @@ def of_results(room):
     )
     yield run("results of tests", room, "check --junit out.xml both > /dev/null; cat out.xml", junit)
     counts = ", ".join(f'"{what}": {number}' for what, number in zip(COUNTS, (1, 2, 2, 1, 1, 0, 0, 0)))
-    cases = '{"mail": "1.eml", "main": "main", "agrees": true, "verdict": ["discard"]}, {"mail": "1.eml", "main": "other", "agrees": false, "verdict": ["store \\"INBOX\\""]}'
+    cases = '{"mail": "1.eml", "main": "main", "agrees": true, "expected": ["discard"], "verdict": ["discard"]}, {"mail": "1.eml", "main": "other", "agrees": false, "expected": ["discard"], "verdict": ["store \\"INBOX\\""]}'
     yield run("an object", room, "check --json both", lines(f'{{"passed": false, "counts": {{{counts}}}, "cases": [{cases}], "faults": [], "stale": []}}'), status=1)
 
 
@@ -118,13 +118,15 @@ def of_records(room):
     yield Run("sievebench-site: what was written", room, "cat fresh/mails/1.eml.expect fresh/mails/2.eml.expect fresh/mails/3.eml.expect", b"[main]\ndiscard\n" * 2 + b"\n[main]\nkeep\n")
     yield run("nothing changes", room, "record --only 1.eml fresh", lines("1 mails, 0 written, 0 left"))
     yield run("a script with a fault", room, "record fault", lines("fault/personal/main.sieve:1: unknown-command: There is no such command or test."), status=1)
+    write(room / "errors", site({"1.eml": b""}, main=b'redirect "x";'))
+    yield run("an error is written", room, "record errors", lines("errors/mails/1.eml.expect: new, with an error", "1 mails, 1 written, 0 left"))
     write(room / "blocks", site({"1.eml": b"", "1.eml.expect": b'[old]\nstore "A"'}, main=b"discard;"))
     yield run("a block more", room, "record blocks", lines("blocks/mails/1.eml.expect: left, since it isn't as this tool writes it", "1 mails, 0 written, 1 left"), status=1)
 
 
 def of_lints(room):
     """Faults, includes and redirects."""
-    main = b'require "include";\ninclude "a";\ninclude :global "there";\ninclude :global "gone";\ninclude :optional "gone";\nredirect "x";\nredirect "a@b.example";\n'
+    main = b'require ["include", "fileinto", "imap4flags"];\ninclude "a";\ninclude :global "there";\ninclude :global "gone";\ninclude :optional "gone";\nredirect "x";\nredirect "a@b.example";\nfileinto ""; fileinto :flags "a" "A";\n'
     write(room / "lint", {"personal/main.sieve": main, "personal/a.sieve": b'require "include"; include "main";', "personal/lost.sieve": b"kep;", "global/there.sieve": b'require "include"; include :once :personal "lost";', "mains": b"main\n", "personal/alone.sieve": b""})
     faults = [
         ("personal/a.sieve:1", "recursive-include", "The script of this name runs already."),
@@ -132,6 +134,7 @@ def of_lints(room):
         ("personal/main.sieve:2", "recursive-include", "The script of this name runs already."),
         ("personal/main.sieve:4", "missing-script", "There is no script of this name."),
         ("personal/main.sieve:6", "bad-address", "This isn't one address."),
+        ("personal/main.sieve:8", "bad-mailbox", "No mailbox can have this name."),
         ("global/there.sieve:1", "invalid-script", "The script of this name has a fault."),
     ]
     order = sorted(faults, key=lambda fault: (not fault[0].startswith("global"), fault[0]))
