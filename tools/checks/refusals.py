@@ -172,6 +172,34 @@ class Narrow:
         return lines("main none", 'envelope "" "" mailbox "INBOX"', *told, f"total {len(names)} messages 0 errors")
 
 
+# Each refused at once: octets that aren't held, a line that doesn't end, and a string whose length is known before its first octet.
+LARGE = 100_000_000
+MATCHES = b'require "variables"; if header :matches "subject" "*" { if string "' + b"${0}" * 200_000 + b'" "y" {} }'
+BOUNDED = {
+    "octets of a put that is refused": (put(b"message m", b"x" * LARGE) + b"no-main\n", lines("no too-large", "ok"), 0),
+    "a line without an end": (b" " * LARGE, lines("no syntax"), 2),
+    "a string of 800 gigabytes": (
+        put(b"script personal main", MATCHES) + put(b"message m", b"Subject: " + b"a" * 4_000_000 + b"\n\n") + b"main personal main\nreport\nno-main\n",
+        lines("ok", "ok", "ok", "no no-memory", "ok"),
+        0,
+    ),
+}
+
+
+class Bounded:
+    """A session that would take more memory than there is, if it took what its octets say."""
+
+    command = Narrow.command
+
+    def __init__(self, title):
+        self.title, (self.octets, *self.wanted) = f"little memory: {title}", BOUNDED[title]
+
+    def differences(self, path):
+        done = subprocess.run(["sh", "-c", self.command], input=self.octets, env={**os.environ, "PATH": path}, capture_output=True, timeout=SECONDS)
+        found = [done.stdout, done.returncode]
+        return [] if found == self.wanted else [f"wanted {self.wanted!r}, got {found!r:.1000}"]
+
+
 def of_sessions(room):
     """All of them."""
     library = room / "refuse.so"
@@ -187,3 +215,4 @@ def of_sessions(room):
     long = 1_100_000
     yield Pieces(library, "more than a million", put(b"message m", b"x" * long) + b"report\n", (lines("ok") + Narrow().report(["m".encode()]), 0))
     yield Narrow()
+    yield from map(Bounded, BOUNDED)
