@@ -1,12 +1,14 @@
 """The pages of the manual, `docs/man`: each option that a program's help tells stands in its page and has an item there, and no other
 one does.
 
-In a page options stand behind the macro `Fl`, and nothing else does: options of other programs are literal text.
+In a page options stand behind the macro `Fl`, and nothing else does: options of other programs are literal text. Where mandoc is installed, it
+finds nothing in a page but names of pages that aren't.
 """
 import os
 import pathlib
 import re
 import shlex
+import shutil
 import subprocess
 
 from .runs import SECONDS
@@ -46,6 +48,9 @@ class Page:
             found += [] if got == wanted else [f"its {what} are {sorted(got)}, those of the help {sorted(wanted)}"]
         name, section = self.command.rsplit(".", 1)
         found += [f"it lacks `{line}`" for line in (f".Dt {name.upper()} {section}", f".Nm {name}") if line not in text.splitlines()]
+        if shutil.which("mandoc"):
+            told = subprocess.run(["mandoc", "-T", "lint", PAGES / self.command], capture_output=True, text=True).stdout
+            found += [line for line in told.splitlines() if "referenced manual not found" not in line]
         others = [f"{other}.{number}" for other, number in re.findall(r"^\.Xr (\S+) (\d)", text, re.M)]
         return found + [f"it refers to {other}" for other in others if not (PAGES / other).is_file()]
 
