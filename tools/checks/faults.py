@@ -1,5 +1,6 @@
 """The table of faults, `docs/faults.tsv`, whose columns `docs/LANGUAGE.md` tells: each of its lines is run, and it has a line for each
-word of a fault or an error that the sources have, in their order, and no other.
+word of a fault or an error that the sources have, in their order, and no other. What `tools/sievebench-site` says of a fault is what the table
+says.
 """
 import pathlib
 import re
@@ -7,11 +8,12 @@ import re
 from .runs import Run, lines
 
 TOP = pathlib.Path(__file__).resolve().parent.parent.parent
-TABLE = TOP / "docs/faults.tsv"
+TABLE, TOOL = TOP / "docs/faults.tsv", TOP / "tools/sievebench-site"
 COLUMNS = ["word", "sentence", "wrong", "right", "cause", "told", "front", "scripts"]
 # The functions that give the words, in the order in which the table has them.
 SOURCES = [TOP / "crates" / path for path in ("sieve_check/src/judged.rt", "sieve_table/src/rule.rt", "sieve_effects/src/error.rt")]
 WORD = re.compile(r'=> b"([a-z-]+)"')
+SENTENCE = re.compile(r'^    "([a-z-]+)": "(.*)",$', re.M)
 SERIES = re.compile(r"([^;]*?)(\d+)([^;]*;) \.\. \1(\d+)\3")
 
 
@@ -27,7 +29,10 @@ class Table:
         found += [f"a line of {len(row)} cells: {row}" for row in table if len(row) != len(COLUMNS)]
         found += [f"`{row[0]}` has an empty cell" for row in table if not all(row[: COLUMNS.index("front")])]
         wanted, got = [word for source in SOURCES for word in WORD.findall(source.read_text())], [row[0] for row in table]
-        return found + ([] if got == wanted else [f"its words are {got}, those of the sources {wanted}"])
+        found += [] if got == wanted else [f"its words are {got}, those of the sources {wanted}"]
+        sentences = {row[0]: row[1] for row in table}
+        said = SENTENCE.findall(re.search(r"^SENTENCES = {\n(.*?)^}", TOOL.read_text(encoding="utf-8"), re.M | re.S)[1])
+        return found + [f"{TOOL.name} says of {word}: {sentence}" for word, sentence in said if sentences.get(word) != sentence] + ([] if said else [f"{TOOL.name} says nothing"])
 
 
 def cells():

@@ -134,7 +134,7 @@ def of_lints(room):
         ("personal/main.sieve:2", "recursive-include", "The script of this name runs already."),
         ("personal/main.sieve:4", "missing-script", "There is no script of this name."),
         ("personal/main.sieve:6", "bad-address", "This isn't one address."),
-        ("personal/main.sieve:8", "bad-mailbox", "No mailbox can have this name."),
+        ("personal/main.sieve:8", "bad-mailbox", "A mailbox can't have this name."),
         ("global/there.sieve:1", "invalid-script", "The script of this name has a fault."),
     ]
     order = sorted(faults, key=lambda fault: (not fault[0].startswith("global"), fault[0]))
