@@ -1,9 +1,11 @@
 -- Steps of decoding.
-use Rattle.std.proofs.Common.{◌≡◌, ℕ, suc, ◌+◌, ◌<◌, ◌≤◌, Bool, true, false, ◌&&◌, ◌||◌, cond, List, [], ◌∷◌, ◌++◌, length, map, take, drop, Option, None, Some, is_some, refl, sym, ◌∙◌, ap, append_assoc, append-nil, add-one, ◌-◌, get_or, zero, encode_utf8, encode_utf8_all, arith}
+use Rattle.std.proofs.Common.{◌≡◌, ℕ, suc, ◌+◌, ◌<◌, ◌≤◌, Bool, true, false, ◌&&◌, ◌||◌, ◌==◌, cond, List, [], ◌∷◌, ◌++◌, length, map, take, drop, Option, None, Some, is_some, unwrap_or, refl, sym, ◌∙◌, ap, append_assoc, append-nil, add-one, ◌-◌, get_or, zero, encode_utf8, encode_utf8_all, arith}
 use Rattle.std.specs.List.{list_all, list_any, prefix_len}
 use Rattle.std.specs.Option.{option_map}
 use Rattle.std.specs.Str.{IsUtf8, is_utf8}
+use Rattle.std.proofs.lemmas.Bool.{false_from_ne_true}
 use Rattle.std.proofs.lemmas.List.Folds.{length-prefix_len}
+use Rattle.memchr.specs.Find.{IsFirstByte, Nowhere, Passes, is_byte}
 use Rattle.std.proofs.lemmas.List.{take_all, take_more}
 use Rattle.std.proofs.Math.ListN.{drop_of_length-le}
 use Rattle.std.proofs.lemmas.Str.{encodes-append, IsUtf8-from_is_utf8, is_utf8-from_IsUtf8}
@@ -99,6 +101,30 @@ all_alone left plain ended is =
     ∙ ap (λ one. in_front left (pieces_of one)) (drop_of_length-le left ended)
     ∙ append-nil (map octet left)
 
+-- in front of the first sign
+
+sign_here : (c : ℕ) (rest : List ℕ) → (c == 61) ≡ false → None ≡ word_at (c ∷ rest)
+unfolding word_at
+sign_here c [] other = refl
+sign_here c (d ∷ rest) other = rw other refl
+
+sign_behind : (c : ℕ) (rest : List ℕ) (n : ℕ) → Nowhere (Passes (is_byte 61) (c ∷ rest)) 0 (suc n) → Nowhere (Passes (is_byte 61) rest) 0 n
+sign_behind c rest n nowhere k low high passes = nowhere (suc k) (omega arith) (omega arith) passes
+
+pub signs_alone : (value : List ℕ) (n : ℕ) → n ≤ length value → Nowhere (Passes (is_byte 61) value) 0 n → in_front (take n value) (pieces_of (drop n value)) ≡ pieces_of value
+signs_alone [] zero within nowhere = refl
+signs_alone [] (suc n) within nowhere = absurd (omega arith)
+signs_alone (c ∷ rest) zero within nowhere = refl
+signs_alone (c ∷ rest) (suc n) within nowhere =
+    let other : (c == 61) ≡ false = false_from_ne_true (c == 61) (λ is. nowhere 0 (omega arith) (omega arith) is) in
+    ap (λ pieces. octet c ∷ pieces) (signs_alone rest n (omega arith) (sign_behind c rest n nowhere))
+    ∙ sym (none_at (c ∷ rest) (omega arith) (sign_here c rest other))
+
+-- how many octets stand in front of what a search found
+pub front_of : (value : List ℕ) (found : Option ℕ) → IsFirstByte (is_byte 61) value found → (unwrap_or found (length value) ≤ length value) × Nowhere (Passes (is_byte 61) value) 0 (unwrap_or found (length value))
+front_of value None nowhere = (omega arith, nowhere)
+front_of value (Some n) (first, here) = (omega (arith, first.high), first.before)
+
 -- what pieces stand for
 
 leads_gap : (gap meant : List ℕ) (word : Word) (pieces : List Piece) → leads_to_word (in_front gap (replaced word meant ∷ pieces)) ≡ list_all is_blank gap
@@ -191,6 +217,13 @@ written_behind (c ∷ rest) (suc plain) within none = written_behind rest plain 
 
 pub written_next : (left : List ℕ) (plain : ℕ) → plain < length left → has_written (drop plain left) ≡ false → has_written (drop (plain + 1) left) ≡ false
 written_next left plain within none = rw add-one (written_behind left plain within none)
+
+pub written_from : (left : List ℕ) (n : ℕ) → n ≤ length left → has_written left ≡ false → has_written (drop n left) ≡ false
+unfolding has_written
+written_from [] zero within none = none
+written_from [] (suc n) within none = absurd (omega arith)
+written_from (c ∷ rest) zero within none = none
+written_from (c ∷ rest) (suc n) within none = written_from rest n (omega arith) (or_last (is_some (word_at (c ∷ rest))) (has_written rest) none)
 
 pub word_written : (rest : List ℕ) (word : Word) → Some word ≡ word_at rest → has_written rest ≡ false → ⊥
 unfolding has_written word_at

@@ -1,14 +1,15 @@
 //! Values with their encoded words replaced.
-ghost use Rattle.std.specs.Prelude.{◌≡◌, ◌++◌, IfOk, IsOk, OnOk, true, false};
+ghost use Rattle.std.specs.Prelude.{◌≡◌, ◌++◌, ◌≤◌, IfOk, IsOk, OnOk, drop, length, map, take, true, false};
 ghost use Rattle.std.specs.Cow.{IsBorrowedSlice, IsOwnedSlice, cow_slice_items};
 ghost use Rattle.std.specs.List.{list_all};
 ghost use Rattle.sieve_base.specs.Octet.{is_blank};
-ghost use Rattle.encoded_words.specs.Scan.{decoded_of, has_word, has_written, replaced_of};
-ghost use Rattle.encoded_words.specs.Cut.{kept};
+ghost use Rattle.encoded_words.specs.Scan.{decoded_of, has_word, has_written, pieces_of, replaced_of};
+ghost use Rattle.encoded_words.specs.Cut.{kept, octet};
 ghost use Rattle.encoded_words.specs.view.Word.{octets_of};
 
 use crate::charset::meaning;
 use crate::word::{SIGN_COUNT, word_at};
+use memchr::memchr;
 use sieve_base::octet::is_blank;
 use std::alloc::{AllocError, Global};
 use std::borrow::CowSlice;
@@ -35,6 +36,15 @@ fn push_word(
     octets.extend_from_slice(meant)
 }
 
+// How many octets stand in front of the first `=`. No word begins among them.
+fn before_sign(value: &[u8]) -> usize
+    ensures within { result ≤ length value.now }
+    ensures alone { map octet (take result value.now) ++ pieces_of (drop result value.now) ≡ pieces_of value.now }
+    ensures unwritten { has_written value.now ≡ false → has_written (drop result value.now) ≡ false }
+{
+    memchr(b'=', value).unwrap_or(value.len())
+}
+
 // A value with its encoded words replaced, if it has one that can be decoded.
 fn replaced(alloc: Global, value: &[u8]) -> Result<Option<Vec<u8>>, AllocError>
     ensures is { IfOk result (λ found. octets_of found ≡ replaced_of value.now) }
@@ -45,7 +55,7 @@ fn replaced(alloc: Global, value: &[u8]) -> Result<Option<Vec<u8>>, AllocError>
     let mut behind_word = false;
     // What isn't yet in the octets, and how many of it are known to stand for themselves.
     let mut left = value;
-    let mut plain = 0;
+    let mut plain = before_sign(value);
     while plain < left.len() {
         let (gap, rest) = left.split_at(plain);
         let Some(word) = word_at(rest) else {
@@ -59,7 +69,7 @@ fn replaced(alloc: Global, value: &[u8]) -> Result<Option<Vec<u8>>, AllocError>
         push_word(&mut octets, behind_word, gap, &meant)?;
         let (_, behind) = rest.split_at(word.charset.len() + word.text.len() + SIGN_COUNT);
         left = behind;
-        plain = 0;
+        plain = before_sign(left);
         behind_word = true;
     }
     if !behind_word {

@@ -3,7 +3,7 @@ ghost use Rattle.std.specs.Prelude.{◌≡◌, ◌<◌, ◌≤◌, ◌↔◌, �
 ghost use Rattle.std.specs.List.{All};
 ghost use Rattle.match_text.specs.Comparator.{ascii_casemap, fold_of, same};
 ghost use Rattle.match_text.specs.Flags.{AreDistinct, has_flag, has_key, flag_list, flag_text, flag_union, flags_in};
-ghost use Rattle.match_text.specs.Flags.{flags_of_texts, flags_without, is_filled, is_flag, is_flag_octet, is_keyword, is_special, is_system_flag, pieces};
+ghost use Rattle.match_text.specs.Flags.{flags_of_texts, flags_without, is_flag, pieces};
 ghost use Rattle.match_text.specs.view.Hashing.{flag_hash, same_alike, same_equiv, same_per};
 ghost use Rattle.std.specs.Cmp.{on_equiv, partial_equiv_from_equiv};
 ghost use Rattle.sieve_base.specs.view.Texts.{octets_of_each};

@@ -21,17 +21,17 @@ line_before part (b ∷ text) =
     (λ _. refl) (λ _. line_onto part b (slice_split (λ b. b == 10) text))
 
 -- up to the first line feed
-lines-feed : (line rest : List ℕ) → All (λ b. (b == 10) ≡ false) line → lines (line ++ 10 ∷ rest) ≡ strip_carriage_return line ∷ lines rest
+pub lines-feed : (line rest : List ℕ) → All (λ b. (b == 10) ≡ false) line → lines (line ++ 10 ∷ rest) ≡ strip_carriage_return line ∷ lines rest
 lines-feed line rest plain = ap lines_of_parts (slice_split_at (λ b. b == 10) line 10 rest plain refl) ∙ line_before line rest
 
 -- with no line feed
-lines-last : (line : List ℕ) → 0 < length line → All (λ b. (b == 10) ≡ false) line → lines line ≡ line ∷ []
+pub lines-last : (line : List ℕ) → 0 < length line → All (λ b. (b == 10) ≡ false) line → lines line ≡ line ∷ []
 lines-last line some plain =
     ap lines_of_parts (slice_split_none (λ b. b == 10) line plain)
     ∙ cond-false (length line == 0) [] (line ∷ []) (ne_eqb (length line) 0 (omega arith))
 
 -- no feed stands where a search found none
-plain_before : (hay : List ℕ) (len : ℕ) → len ≤ length hay → Nowhere (Passes (is_byte 10) hay) 0 len → All (λ b. (b == 10) ≡ false) (take len hay)
+pub plain_before : (hay : List ℕ) (len : ℕ) → len ≤ length hay → Nowhere (Passes (is_byte 10) hay) 0 len → All (λ b. (b == 10) ≡ false) (take len hay)
 plain_before hay len within nowhere k d below =
     let short : k < len = omega (arith, length-take-le len hay within) in
     let P : ℕ → Type 0 = λ b. (b == 10) ≡ true in

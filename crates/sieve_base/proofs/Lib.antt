@@ -1,3 +1,4 @@
+pub mod Both
 pub mod Lists
 mod Rows
 pub mod Writing

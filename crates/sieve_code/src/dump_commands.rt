@@ -3,7 +3,7 @@ ghost use Rattle.std.specs.Prelude.{◌≡◌, ◌++◌, codes, map, OnOk, OnErr
 ghost use Rattle.std.specs.Option.{option_map};
 ghost use Rattle.sieve_base.specs.Writers.{Wrote, WroteFront};
 ghost use Rattle.sieve_code.specs.Dump.{case_word, change_word, changing_words, copy_word, first_word, given_word, include_words, leaf_text, list_text, modifier_words, set_words, stored_flags, stored_text, worded_settings, worded_text, worded_variable};
-ghost use Rattle.sieve_effects.specs.view.Ops.{command_op_as, given_strings, settings_op_as};
+ghost use Rattle.sieve_effects.specs.view.Ops.{command_op_as, settings_op_as};
 ghost use Rattle.sieve_variables.specs.view.Part.{part_of, strings_of, variable_of};
 
 use crate::dump_strings::{name_of, scope_word, write_list, write_string};
@@ -23,9 +23,9 @@ fn write_worded<W: Sink>(word: &[u8], string: &[Part], writer: &mut W) -> Result
 
 /// Writes the flags of what is stored: those that are named, or that these are the internal ones.
 #[tactic(auto, unfolding(crate::specs::Dump::stored_flags))]
-fn write_stored_flags<W: Sink>(flags: &Option<Vec<Parts>>, writer: &mut W) -> Result<(), WriteFault>
-    ensures ok { OnOk result (Wrote W.contents W.fault_count writer.old writer.new (stored_flags (given_strings flags.now))) }
-    ensures err { OnErr result (WroteFront W.contents W.fault_count writer.old writer.new (stored_flags (given_strings flags.now))) }
+fn write_stored_flags<W: Sink>(flags: Option<&[Parts]>, writer: &mut W) -> Result<(), WriteFault>
+    ensures ok { OnOk result (Wrote W.contents W.fault_count writer.old writer.new (stored_flags (option_map (λ texts. strings_of texts.now) flags.entry))) }
+    ensures err { OnErr result (WroteFront W.contents W.fault_count writer.old writer.new (stored_flags (option_map (λ texts. strings_of texts.now) flags.entry))) }
 {
     match flags {
         Some(flags) => write_list(b" flags ", flags, writer),
@@ -55,8 +55,8 @@ fn write_stored<W: Sink>(settings: &SettingsOp, writer: &mut W) -> Result<(), Wr
     ensures ok { OnOk result (Wrote W.contents W.fault_count writer.old writer.new (stored_text (settings_op_as settings.now))) }
     ensures err { OnErr result (WroteFront W.contents W.fault_count writer.old writer.new (stored_text (settings_op_as settings.now))) }
 {
-    write_stored_flags(&settings.flags, writer)?;
-    write_copy(settings.copy, writer)
+    write_stored_flags(settings.flags(), writer)?;
+    write_copy(settings.copy(), writer)
 }
 
 /// Writes a command's word and then what it says beside.
@@ -80,11 +80,11 @@ fn write_redirect<W: Sink>(
     settings: &SettingsOp,
     writer: &mut W,
 ) -> Result<(), WriteFault>
-    ensures ok { OnOk result (Wrote W.contents W.fault_count writer.old writer.new (worded_text (codes "redirect ") (map part_of address.now) ++ copy_word settings.now.copy)) }
-    ensures err { OnErr result (WroteFront W.contents W.fault_count writer.old writer.new (worded_text (codes "redirect ") (map part_of address.now) ++ copy_word settings.now.copy)) }
+    ensures ok { OnOk result (Wrote W.contents W.fault_count writer.old writer.new (worded_text (codes "redirect ") (map part_of address.now) ++ copy_word (settings_op_as settings.now).copy)) }
+    ensures err { OnErr result (WroteFront W.contents W.fault_count writer.old writer.new (worded_text (codes "redirect ") (map part_of address.now) ++ copy_word (settings_op_as settings.now).copy)) }
 {
     write_worded(b"redirect ", address, writer)?;
-    write_copy(settings.copy, writer)
+    write_copy(settings.copy(), writer)
 }
 
 /// Writes a `fileinto`.
@@ -275,25 +275,12 @@ pub(crate) fn write_command<W: Sink>(command: &CommandOp, writer: &mut W) -> Res
     ensures err { OnErr result (WroteFront W.contents W.fault_count writer.old writer.new (leaf_text (command_op_as command.now))) }
 {
     match command {
-        CommandOp::Keep { settings } => write_worded_settings(b"keep", settings, writer),
-        CommandOp::Fileinto { mailbox, settings } => write_fileinto(mailbox, settings, writer),
-        CommandOp::Redirect { address, settings } => write_redirect(address, settings, writer),
+        CommandOp::Keep(settings) => write_worded_settings(b"keep", settings, writer),
+        CommandOp::Fileinto(op) => write_fileinto(&op.mailbox, &op.settings, writer),
+        CommandOp::Redirect(op) => write_redirect(&op.address, &op.settings, writer),
         CommandOp::Discard => write_out(b"discard", writer),
-        CommandOp::Set {
-            variable,
-            modifiers,
-            value,
-        } => write_set(variable, *modifiers, value, writer),
-        CommandOp::Flags {
-            change,
-            variable,
-            flags,
-        } => write_flags(*change, variable, flags, writer),
-        CommandOp::Include {
-            place,
-            once,
-            optional,
-            name,
-        } => write_include(*place, *once, *optional, name, writer),
+        CommandOp::Set(op) => write_set(&op.variable, op.modifiers, &op.value, writer),
+        CommandOp::Flags(op) => write_flags(op.change, &op.variable, &op.flags, writer),
+        CommandOp::Include(op) => write_include(op.place, op.once, op.optional, &op.name, writer),
     }
 }

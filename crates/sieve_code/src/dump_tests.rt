@@ -11,7 +11,7 @@ use message_text::AddressPart;
 use sieve_base::{Piece, Sink, WriteFault, write_out, write_pieces};
 use sieve_effects::{SourceOp, TestOp};
 use sieve_reading::MatchType;
-use sieve_variables::Parts;
+use sieve_variables::{Parts, Strings};
 
 /// The word of a match type.
 fn match_word(match_type: MatchType) -> &'static [u8]
@@ -90,7 +90,7 @@ fn write_address_words<W: Sink>(
 /// Writes the variables whose flags a test looks at, or that these are the internal ones.
 #[tactic(auto, unfolding(crate::specs::Dump::internal_list))]
 fn write_internal_list<W: Sink>(
-    variables: &Option<Vec<Parts>>,
+    variables: &Option<Strings>,
     writer: &mut W,
 ) -> Result<(), WriteFault>
     ensures ok { OnOk result (Wrote W.contents W.fault_count writer.old writer.new (internal_list (given_strings variables.now))) }
@@ -140,7 +140,7 @@ fn write_address<W: Sink>(
 fn write_hasflag<W: Sink>(
     match_type: MatchType,
     collation: Collation,
-    variables: &Option<Vec<Parts>>,
+    variables: &Option<Strings>,
     writer: &mut W,
 ) -> Result<(), WriteFault>
     ensures ok { OnOk result (Wrote W.contents W.fault_count writer.old writer.new (comparing_words (codes "hasflag") match_type collation ++ internal_list (given_strings variables.now))) }

@@ -12,7 +12,7 @@ pub enum Op {
     /// Inverts it.
     Not,
     /// Sets it to what a test asks of the delivery (RFC 5228, section 5).
-    Test(TestOp),
+    Test(Box<TestOp>),
     /// Goes on at that place, or ends there where it is behind the last operation.
     Jump(usize),
     /// Goes on there where the register is false, and else behind this operation.

@@ -1,15 +1,18 @@
 //! What code keeps of tests and commands: copies of what is read, with strings of their own.
 ghost use Rattle.std.specs.Prelude.{◌≡◌, map, IfOk};
 ghost use Rattle.std.specs.Option.{option_map};
+ghost use Rattle.sieve_reading.specs.Reading.{fileinto_leaf, flag_leaf, include_leaf, redirect_leaf, set_leaf};
 ghost use Rattle.sieve_reading.specs.view.Reading.{ask_as, leaf_as, settings_as, source_as, texts_as};
 ghost use Rattle.sieve_reading.specs.view.Tree.{text_of};
 ghost use Rattle.sieve_effects.specs.view.Ops.{command_op_as, given_strings, held_parts, settings_op_as, source_op_as, test_op_as};
 ghost use Rattle.sieve_variables.specs.view.Part.{part_of, strings_of, variable_of};
 
-use sieve_base::SmallOctets;
-use sieve_effects::{CommandOp, SettingsOp, SourceOp, TestOp};
-use sieve_reading::{Ask, Leaf, Settings, Text, ValueSource};
-use sieve_variables::{Part, Parts, Variable};
+use sieve_base::{Place, SmallOctets};
+use sieve_effects::{
+    CommandOp, FileintoOp, FlagsOp, IncludeOp, RedirectOp, Said, SetOp, SettingsOp, SourceOp, TestOp,
+};
+use sieve_reading::{Ask, FlagChange, Leaf, Settings, Text, ValueSource};
+use sieve_variables::{Modifiers, Part, Parts, Strings, Variable};
 use std::alloc::{AllocError, Global};
 
 /// A copy of a part.
@@ -35,10 +38,10 @@ fn copied_parts(alloc: Global, parts: &[Part]) -> Result<Parts, AllocError>
 }
 
 /// Copies of the parts of strings.
-fn copied_strings(alloc: Global, texts: &[Text]) -> Result<Vec<Parts>, AllocError>
+fn copied_strings(alloc: Global, texts: &[Text]) -> Result<Strings, AllocError>
     ensures { IfOk result (λ copies. strings_of copies.items ≡ texts_as texts.now) }
 {
-    let mut copies = Vec::with_capacity(alloc, texts.len())?;
+    let mut copies = Strings::with_capacity(alloc, texts.len())?;
     for text in texts {
         copies.push(copied_parts(alloc, &text.parts)?)?;
     }
@@ -46,7 +49,7 @@ fn copied_strings(alloc: Global, texts: &[Text]) -> Result<Vec<Parts>, AllocErro
 }
 
 /// Copies of the parts of strings that may be left out.
-fn given_strings(alloc: Global, texts: Option<&[Text]>) -> Result<Option<Vec<Parts>>, AllocError>
+fn given_strings(alloc: Global, texts: Option<&[Text]>) -> Result<Option<Strings>, AllocError>
     ensures { IfOk result (λ copies. given_strings copies ≡ option_map (λ given. texts_as given.now) texts.entry) }
 {
     match texts {
@@ -121,10 +124,98 @@ pub(crate) fn test_op(alloc: Global, ask: &Ask<'_>) -> Result<TestOp, AllocError
 fn settings_op(alloc: Global, settings: Settings<'_>) -> Result<SettingsOp, AllocError>
     ensures { IfOk result (λ op. settings_op_as op ≡ settings_as settings.entry) }
 {
-    Ok(SettingsOp {
-        flags: given_strings(alloc, settings.flags)?,
-        copy: settings.copy,
-    })
+    match (settings.flags, settings.copy) {
+        (None, false) => Ok(SettingsOp { said: None }),
+        (flags, copy) => {
+            let flags = given_strings(alloc, flags)?;
+            let said = Box::new(alloc, Said { flags, copy })?;
+            Ok(SettingsOp { said: Some(said) })
+        }
+    }
+}
+
+/// A `fileinto` with strings of its own.
+fn fileinto_op(
+    alloc: Global,
+    mailbox: &[Part],
+    settings: Settings<'_>,
+) -> Result<CommandOp, AllocError>
+    ensures { IfOk result (λ op. command_op_as op ≡ fileinto_leaf (map part_of mailbox.now) (settings_as settings.entry)) }
+{
+    let mailbox = copied_parts(alloc, mailbox)?;
+    let settings = settings_op(alloc, settings)?;
+    Ok(CommandOp::Fileinto(Box::new(alloc, FileintoOp { mailbox, settings })?))
+}
+
+/// A `redirect` with strings of its own.
+fn redirect_op(
+    alloc: Global,
+    address: &[Part],
+    settings: Settings<'_>,
+) -> Result<CommandOp, AllocError>
+    ensures { IfOk result (λ op. command_op_as op ≡ redirect_leaf (map part_of address.now) (settings_as settings.entry)) }
+{
+    let address = copied_parts(alloc, address)?;
+    let settings = settings_op(alloc, settings)?;
+    Ok(CommandOp::Redirect(Box::new(alloc, RedirectOp { address, settings })?))
+}
+
+/// A `set` with strings of its own.
+fn set_op(
+    alloc: Global,
+    variable: &Variable,
+    modifiers: Modifiers,
+    value: &[Part],
+) -> Result<CommandOp, AllocError>
+    ensures { IfOk result (λ op. command_op_as op ≡ set_leaf (variable_of variable.now) modifiers (map part_of value.now)) }
+{
+    let variable = variable.copied(alloc)?;
+    let value = copied_parts(alloc, value)?;
+    let op = SetOp {
+        variable,
+        modifiers,
+        value,
+    };
+    Ok(CommandOp::Set(Box::new(alloc, op)?))
+}
+
+/// A command that changes flags, with strings of its own.
+fn flags_op(
+    alloc: Global,
+    change: FlagChange,
+    variable: Option<&Variable>,
+    flags: &[Text],
+) -> Result<CommandOp, AllocError>
+    ensures { IfOk result (λ op. command_op_as op ≡ flag_leaf change (option_map (λ one. variable_of one.now) variable.entry) (texts_as flags.now)) }
+{
+    let variable = given_variable(alloc, variable)?;
+    let flags = copied_strings(alloc, flags)?;
+    let op = FlagsOp {
+        change,
+        variable,
+        flags,
+    };
+    Ok(CommandOp::Flags(Box::new(alloc, op)?))
+}
+
+/// An `include` with a name of its own.
+fn include_op(
+    alloc: Global,
+    place: Place,
+    once: bool,
+    optional: bool,
+    name: &[u8],
+) -> Result<CommandOp, AllocError>
+    ensures { IfOk result (λ op. command_op_as op ≡ include_leaf place once optional name.now) }
+{
+    let name = SmallOctets::from_slice(alloc, name)?;
+    let op = IncludeOp {
+        place,
+        once,
+        optional,
+        name,
+    };
+    Ok(CommandOp::Include(Box::new(alloc, op)?))
 }
 
 /// What a command does, with strings of its own.
@@ -132,46 +223,25 @@ pub(crate) fn command_op(alloc: Global, leaf: Leaf<'_>) -> Result<CommandOp, All
     ensures { IfOk result (λ op. command_op_as op ≡ leaf_as leaf.entry) }
 {
     match leaf {
-        Leaf::Keep { settings } => Ok(CommandOp::Keep {
-            settings: settings_op(alloc, settings)?,
-        }),
-        Leaf::Fileinto { mailbox, settings } => Ok(CommandOp::Fileinto {
-            mailbox: copied_parts(alloc, mailbox)?,
-            settings: settings_op(alloc, settings)?,
-        }),
-        Leaf::Redirect { address, settings } => Ok(CommandOp::Redirect {
-            address: copied_parts(alloc, address)?,
-            settings: settings_op(alloc, settings)?,
-        }),
+        Leaf::Keep { settings } => Ok(CommandOp::Keep(settings_op(alloc, settings)?)),
+        Leaf::Fileinto { mailbox, settings } => fileinto_op(alloc, mailbox, settings),
+        Leaf::Redirect { address, settings } => redirect_op(alloc, address, settings),
         Leaf::Discard => Ok(CommandOp::Discard),
         Leaf::Set {
             variable,
             modifiers,
             value,
-        } => Ok(CommandOp::Set {
-            variable: variable.copied(alloc)?,
-            modifiers,
-            value: copied_parts(alloc, value)?,
-        }),
+        } => set_op(alloc, variable, modifiers, value),
         Leaf::Flags {
             change,
             variable,
             flags,
-        } => Ok(CommandOp::Flags {
-            change,
-            variable: given_variable(alloc, variable)?,
-            flags: copied_strings(alloc, flags)?,
-        }),
+        } => flags_op(alloc, change, variable, flags),
         Leaf::Include {
             place,
             once,
             optional,
             name,
-        } => Ok(CommandOp::Include {
-            place,
-            once,
-            optional,
-            name: SmallOctets::from_slice(alloc, name)?,
-        }),
+        } => include_op(alloc, place, once, optional, name),
     }
 }

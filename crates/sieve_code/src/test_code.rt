@@ -1,15 +1,16 @@
 //! The operations of tests (RFC 5228, section 5).
-ghost use Rattle.std.specs.Prelude.{◌≡◌, ◌∷◌, if◌then◌else◌, map, not, OnOk};
+ghost use Rattle.std.specs.Prelude.{◌≡◌, ◌∷◌, if◌then◌else◌, map, not, IfOk, OnOk};
 ghost use Rattle.sieve_reading.specs.Tree.{test_list, tests};
 ghost use Rattle.sieve_reading.specs.view.Tree.{test_of, tests_of};
 ghost use Rattle.sieve_code.specs.Choice.{first_before, test_before, tests_before};
-ghost use Rattle.sieve_code.specs.Operation.{jump_if_op, set_op};
+ghost use Rattle.sieve_code.specs.Operation.{jump_if_op, set_op, test_op};
+ghost use Rattle.sieve_reading.specs.view.Reading.{ask_as};
 ghost use Rattle.sieve_code.specs.view.Op.{op_as};
 
 use crate::op::Op;
 use crate::strings::test_op;
 use crate::tail::Tail;
-use sieve_reading::{Test, TestReading, Tests};
+use sieve_reading::{Ask, Test, TestReading, Tests};
 use std::alloc::{AllocError, Global};
 
 /// The operation that sets the register.
@@ -28,6 +29,13 @@ fn jump_if(truth: bool, target: usize) -> Op
     } else {
         Op::JumpIfFalse(target)
     }
+}
+
+/// The operation of a test that asks.
+fn ask_op(alloc: Global, ask: &Ask<'_>) -> Result<Op, AllocError>
+    ensures { IfOk result (λ op. op_as op ≡ test_op (ask_as ask.now)) }
+{
+    Ok(Op::Test(Box::new(alloc, test_op(alloc, ask)?)?))
 }
 
 /// Puts a jump in front of a tail where other tests follow there.
@@ -50,7 +58,7 @@ fn put_test(alloc: Global, test: &Test, tail: &mut Tail) -> Result<(), AllocErro
         Some(TestReading::Always) => tail.put(Op::True),
         Some(TestReading::Never) => tail.put(Op::False),
         None => tail.put(Op::False),
-        Some(TestReading::Asks(ask)) => tail.put(Op::Test(test_op(alloc, &ask)?)),
+        Some(TestReading::Asks(ask)) => tail.put(ask_op(alloc, &ask)?),
         Some(TestReading::AllOf) => put_tests(alloc, false, &test.tests, tail),
         Some(TestReading::AnyOf) => put_tests(alloc, true, &test.tests, tail),
         Some(TestReading::Not) => {

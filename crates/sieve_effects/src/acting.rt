@@ -69,8 +69,8 @@ fn store(
 ) -> Result<Flow, AllocError>
     ensures { IfOk result (λ flow. ending_by flow (state_of state.new) ≡ performs (delivery_as delivery.now) line (store_deed (state_of state.old) mailbox (settings_op_as settings.now)) (state_of state.old)) }
 {
-    let copy = settings.copy;
-    match &settings.flags {
+    let copy = settings.copy();
+    match settings.flags() {
         Some(texts) => {
             let flags = flags_named(delivery, &*state, texts)?;
             let action = Action::Store { mailbox, flags };
@@ -215,7 +215,7 @@ pub fn redirect(
     match address_named(delivery, &state.values, address)? {
         Some(address) => {
             let action = Action::Redirect { address };
-            let copy = settings.copy;
+            let copy = settings.copy();
             perform(delivery, Deed { action, copy }, line, state)
         }
         None => fail(delivery, line, ErrorKind::BadAddress),

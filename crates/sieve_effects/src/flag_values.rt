@@ -17,7 +17,7 @@ use crate::delivery::Delivery;
 use crate::state::State;
 use match_text::{Collation, FlagList, flags_of};
 use sieve_reading::MatchType;
-use sieve_variables::Parts;
+use sieve_variables::{Parts, Strings};
 use std::alloc::{AllocError, Global};
 use std::borrow::CowSlice;
 
@@ -111,7 +111,7 @@ fn find_in_variables(
 pub(crate) fn find_in_held(
     delivery: &Delivery<'_>,
     state: &State,
-    variables: &Option<Vec<Parts>>,
+    variables: &Option<Strings>,
     comparison: &Comparison<'_>,
 ) -> Result<Option<MatchValues>, AllocError>
     ensures { IfOk result (λ found. found ≡ first_some (found_with comparison.now) (values_of (delivery_as delivery.now) (state_of state.now) (flag_values (given_strings variables.now)))) }

@@ -31,5 +31,7 @@ pub use error::{ErrorKind, RunError};
 pub use field_reads::FieldReads;
 pub use flagging::change;
 pub use flow::{Flow, fail};
-pub use ops::{CommandOp, SettingsOp, SourceOp, TestOp};
+pub use ops::{
+    CommandOp, FileintoOp, FlagsOp, IncludeOp, RedirectOp, Said, SetOp, SettingsOp, SourceOp, TestOp,
+};
 pub use state::State;

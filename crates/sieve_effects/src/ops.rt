@@ -1,10 +1,15 @@
-//! What compiled code keeps of tests and commands. A string is its parts in order.
+//! What compiled code keeps of tests and commands. A string is its parts in order. What most commands don't have, or what is
+//! large, lies behind a pointer, so that each operation takes little room.
+ghost use Rattle.std.specs.Prelude.{◌≡◌};
+ghost use Rattle.std.specs.Option.{option_map};
+ghost use Rattle.sieve_effects.specs.view.Ops.{settings_op_as};
+ghost use Rattle.sieve_variables.specs.view.Part.{strings_of};
 
 use match_text::Collation;
 use message_text::AddressPart;
 use sieve_base::{Place, SmallOctets};
 use sieve_reading::{FlagChange, MatchType};
-use sieve_variables::{Modifiers, Parts, Variable};
+use sieve_variables::{Modifiers, Parts, Strings, Variable};
 
 /// Where a test takes values from.
 #[derive(Drop)]
@@ -12,31 +17,31 @@ pub enum SourceOp {
     /// From the fields of some names (RFC 5228, section 5.7).
     Header {
         /// The names of fields.
-        names: Vec<Parts>,
+        names: Strings,
     },
     /// From a part of the addresses in the fields of some names (RFC 5228, section 5.1).
     Address {
         /// Which part of an address.
         part: AddressPart,
         /// The names of fields.
-        names: Vec<Parts>,
+        names: Strings,
     },
     /// From a part of the envelope's addresses (RFC 5228, section 5.4).
     Envelope {
         /// Which part of an address.
         part: AddressPart,
         /// The names of the envelope's parts.
-        names: Vec<Parts>,
+        names: Strings,
     },
     /// Strings themselves (RFC 5229, section 5).
     String {
         /// The strings.
-        texts: Vec<Parts>,
+        texts: Strings,
     },
     /// Flags (RFC 5232, section 4).
     Flags {
         /// The variables that hold them, each by its name; the internal flags where none are named.
-        variables: Option<Vec<Parts>>,
+        variables: Option<Strings>,
     },
 }
 
@@ -52,12 +57,12 @@ pub enum TestOp {
         /// Which octets are equal.
         collation: Collation,
         /// The keys.
-        keys: Vec<Parts>,
+        keys: Strings,
     },
     /// Whether all named fields are there (RFC 5228, section 5.5).
     Exists {
         /// The names of fields.
-        names: Vec<Parts>,
+        names: Strings,
     },
     /// Whether the message has more octets (RFC 5228, section 5.9).
     Over {
@@ -71,66 +76,115 @@ pub enum TestOp {
     },
 }
 
+/// What a command says that says something beside its mailbox or its address.
+#[derive(Drop)]
+pub struct Said {
+    /// The flags of what it stores, where they are named (RFC 5232, section 5).
+    pub flags: Option<Strings>,
+    /// Whether its action leaves the implicit keep as it is (RFC 3894, section 3).
+    pub copy: bool,
+}
+
 /// What a command that stores or redirects says beside its mailbox or its address.
 #[derive(Drop)]
 pub struct SettingsOp {
-    /// The flags of what it stores, where they are named (RFC 5232, section 5).
-    pub flags: Option<Vec<Parts>>,
-    /// Whether its action leaves the implicit keep as it is (RFC 3894, section 3).
-    pub copy: bool,
+    /// What it says, where it says something.
+    pub said: Option<Box<Said>>,
+}
+
+impl SettingsOp {
+    /// The flags of what the command stores, where they are named (RFC 5232, section 5). Takes no memory.
+    pub fn flags(&self) -> Option<&[Parts]>
+        ensures { option_map (λ flags. strings_of flags.now) result ≡ (settings_op_as self.now).flags }
+    {
+        match &self.said {
+            Some(said) => match &said.flags {
+                Some(flags) => Some(flags.as_slice()),
+                None => None,
+            },
+            None => None,
+        }
+    }
+
+    /// Whether the command's action leaves the implicit keep as it is (RFC 3894, section 3). Takes no memory.
+    pub fn copy(&self) -> bool
+        ensures { result ≡ (settings_op_as self.now).copy }
+    {
+        match &self.said {
+            Some(said) => said.copy,
+            None => false,
+        }
+    }
+}
+
+/// A command that stores into a mailbox (RFC 5228, section 4.1).
+#[derive(Drop)]
+pub struct FileintoOp {
+    /// The mailbox's name.
+    pub mailbox: Parts,
+    /// What it says beside.
+    pub settings: SettingsOp,
+}
+
+/// A command that sends the message on (RFC 5228, section 4.2).
+#[derive(Drop)]
+pub struct RedirectOp {
+    /// The address.
+    pub address: Parts,
+    /// What it says beside.
+    pub settings: SettingsOp,
+}
+
+/// A command that gives a variable a value (RFC 5229, section 4).
+#[derive(Drop)]
+pub struct SetOp {
+    /// The variable.
+    pub variable: Variable,
+    /// What is done to the value.
+    pub modifiers: Modifiers,
+    /// The value.
+    pub value: Parts,
+}
+
+/// A command that changes flags (RFC 5232, section 3).
+#[derive(Drop)]
+pub struct FlagsOp {
+    /// How it changes them.
+    pub change: FlagChange,
+    /// The variable that holds them; the internal flags where none is named.
+    pub variable: Option<Variable>,
+    /// The flags that are named.
+    pub flags: Strings,
+}
+
+/// A command that runs another script (RFC 6609, section 3.2).
+#[derive(Drop)]
+pub struct IncludeOp {
+    /// Where the script is kept.
+    pub place: Place,
+    /// Whether it runs only where it hasn't run yet.
+    pub once: bool,
+    /// Whether it may be missing.
+    pub optional: bool,
+    /// The script's name.
+    pub name: SmallOctets,
 }
 
 /// What a command does that acts.
 #[derive(Drop)]
 pub enum CommandOp {
-    /// It stores into the mailbox of the delivery (RFC 5228, section 4.3).
-    Keep {
-        /// What it says beside.
-        settings: SettingsOp,
-    },
-    /// It stores into the mailbox of that name (RFC 5228, section 4.1).
-    Fileinto {
-        /// The name.
-        mailbox: Parts,
-        /// What it says beside.
-        settings: SettingsOp,
-    },
-    /// It sends the message on to that address (RFC 5228, section 4.2).
-    Redirect {
-        /// The address.
-        address: Parts,
-        /// What it says beside.
-        settings: SettingsOp,
-    },
+    /// It stores into the mailbox of the delivery (RFC 5228, section 4.3), and says this beside.
+    Keep(SettingsOp),
+    /// It stores into a mailbox.
+    Fileinto(Box<FileintoOp>),
+    /// It sends the message on.
+    Redirect(Box<RedirectOp>),
     /// It discards the message (RFC 5228, section 4.4).
     Discard,
-    /// It gives a variable a value (RFC 5229, section 4).
-    Set {
-        /// The variable.
-        variable: Variable,
-        /// What is done to the value.
-        modifiers: Modifiers,
-        /// The value.
-        value: Parts,
-    },
-    /// It changes flags (RFC 5232, section 3).
-    Flags {
-        /// How it changes them.
-        change: FlagChange,
-        /// The variable that holds them; the internal flags where none is named.
-        variable: Option<Variable>,
-        /// The flags that are named.
-        flags: Vec<Parts>,
-    },
-    /// It runs another script (RFC 6609, section 3.2).
-    Include {
-        /// Where the script is kept.
-        place: Place,
-        /// Whether it runs only where it hasn't run yet.
-        once: bool,
-        /// Whether it may be missing.
-        optional: bool,
-        /// The script's name.
-        name: SmallOctets,
-    },
+    /// It gives a variable a value.
+    Set(Box<SetOp>),
+    /// It changes flags.
+    Flags(Box<FlagsOp>),
+    /// It runs another script.
+    Include(Box<IncludeOp>),
 }

@@ -15,6 +15,7 @@ use lib.Pointwise.{pointwise}
 use Rattle.sieve_run.specs.Lines.{agrees, says, verdict_lines}
 use Rattle.sieve_run.specs.Verdict.{Verdict}
 use Rattle.sieve_run.specs.view.Left.{behind_front, is_whole, left_says}
+use Rattle.message_text.proofs.LineLemmas.{lines-feed, lines-last, plain_before}
 
 -- FRONTS
 
@@ -182,36 +183,6 @@ agrees_where mailbox verdict [] = (λ (is : IsTrue false). absurd (let e : false
 agrees_where mailbox verdict (octet ∷ text) = let decides = says_is (octet ∷ text) (verdict_lines mailbox verdict) in (λ is. (omega arith, decides.0 is), λ both. decides.1 both.1)
 
 -- THE FIRST LINE
-
--- a part before another one is a line, without the carriage return at its end
-line_onto : (part : List ℕ) (b : ℕ) (parts : List (List ℕ)) → lines_of_parts (part ∷ onto_first b parts) ≡ strip_carriage_return part ∷ lines_of_parts (onto_first b parts)
-line_onto part b [] = refl
-line_onto part b (next ∷ parts) = refl
-
-line_before : (part text : List ℕ) → lines_of_parts (part ∷ slice_split (λ b. b == 10) text) ≡ strip_carriage_return part ∷ lines text
-line_before part [] = refl
-line_before part (b ∷ text) =
-    cond_both (b == 10) ([] ∷ slice_split (λ b. b == 10) text) (onto_first b (slice_split (λ b. b == 10) text))
-    (λ parts. lines_of_parts (part ∷ parts) ≡ strip_carriage_return part ∷ lines_of_parts parts)
-    (λ _. refl) (λ _. line_onto part b (slice_split (λ b. b == 10) text))
-
--- up to the first line feed
-lines-feed : (line rest : List ℕ) → All (λ b. (b == 10) ≡ false) line → lines (line ++ 10 ∷ rest) ≡ strip_carriage_return line ∷ lines rest
-lines-feed line rest plain = ap lines_of_parts (slice_split_at (λ b. b == 10) line 10 rest plain refl) ∙ line_before line rest
-
--- with no line feed
-lines-last : (line : List ℕ) → 0 < length line → All (λ b. (b == 10) ≡ false) line → lines line ≡ line ∷ []
-lines-last line some plain =
-    ap lines_of_parts (slice_split_none (λ b. b == 10) line plain)
-    ∙ cond-false (length line == 0) [] (line ∷ []) (ne_eqb (length line) 0 (omega arith))
-
--- no feed stands where a search found none
-plain_before : (hay : List ℕ) (len : ℕ) → len ≤ length hay → Nowhere (Passes (is_byte 10) hay) 0 len → All (λ b. (b == 10) ≡ false) (take len hay)
-plain_before hay len within nowhere k d below =
-    let short : k < len = omega (arith, length-take-le len hay within) in
-    let P : ℕ → Type 0 = λ b. (b == 10) ≡ true in
-    rw get_or-take
-    (false_from_ne_true (get_or hay k d == 10) (λ is. nowhere k (omega arith) short (subst P (get_or_default hay k d 0 (omega arith)) is)))
 
 pub line_to_end : (text : List ℕ) → 0 < length text → Nowhere (Passes (is_byte 10) text) 0 (length text) → lines text ≡ text ∷ lines (drop (length text) text)
 line_to_end text some nowhere =

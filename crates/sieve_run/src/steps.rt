@@ -137,37 +137,23 @@ fn act<L: Library>(
     ensures ending { IfOk result (λ flow. ending_by flow (state_of state.new) ≡ act_of (λ name. lookup_of (L.texts lib.now name)) depth (delivery_as delivery.now) (command_op_as command.now) line (state_of state.old)) }
 {
     match command {
-        CommandOp::Keep { settings } => keep(delivery, settings, line, state),
-        CommandOp::Fileinto { mailbox, settings } => file_into(
-            delivery, mailbox, settings, line, state,
-        ),
-        CommandOp::Redirect { address, settings } => redirect(
-            delivery, address, settings, line, state,
-        ),
+        CommandOp::Keep(settings) => keep(delivery, settings, line, state),
+        CommandOp::Fileinto(op) => file_into(delivery, &op.mailbox, &op.settings, line, state),
+        CommandOp::Redirect(op) => redirect(delivery, &op.address, &op.settings, line, state),
         CommandOp::Discard => discard(delivery, line, state),
-        CommandOp::Set {
-            variable,
-            modifiers,
-            value,
-        } => set(delivery, variable, *modifiers, value, line, state),
-        CommandOp::Flags {
-            change: how,
-            variable,
-            flags,
-        } => change(delivery, *how, variable, flags, line, state),
-        CommandOp::Include {
-            place,
-            once,
-            optional,
-            name,
-        } => {
-            let octets = Octets::copied(delivery.alloc, name)?;
+        CommandOp::Set(op) => set(
+            delivery, &op.variable, op.modifiers, &op.value, line, state,
+        ),
+        CommandOp::Flags(op) => change(
+            delivery, op.change, &op.variable, &op.flags, line, state,
+        ),
+        CommandOp::Include(op) => {
             let name = ScriptName {
-                place: *place,
-                name: octets,
+                place: op.place,
+                name: Octets::copied(delivery.alloc, &op.name)?,
             };
             include(
-                lib, depth, delivery, &name, *once, *optional, line, fields, state,
+                lib, depth, delivery, &name, op.once, op.optional, line, fields, state,
             )
         }
     }

@@ -1,4 +1,4 @@
--- White space (RFC 5228, sections 2.1 and 2.3).
+-- White space (RFC 5228, sections 2.2 and 2.3).
 use Rattle.std.specs.Prelude.{ℕ, Bool, false, ◌==◌, ◌&&◌, if◌then◌else◌, List, [], ◌∷◌, Option, Some, None, option_map}
 use Rattle.std.proofs.Common.{suc}
 use Rattle.sieve_base.specs.Octet.{octet_of}
@@ -19,7 +19,7 @@ unfoldable pub bracket_comment : List ℕ → Option ℕ
 bracket_comment [] = None
 bracket_comment (c ∷ cs) = if c == octet_of "*" then option_map suc (comment_length cs) else None
 
--- How many octets of white space begin a text: one octet of it (RFC 5228, section 2.1); a hash comment, which takes the
+-- How many octets of white space begin a text: one octet of it (RFC 5228, section 2.2); a hash comment, which takes the
 -- rest of its line (section 2.3); or a bracket comment, from `/*` to the next `*/` after these two octets, which doesn't
 -- nest (section 2.3).
 unfoldable pub white_at : List ℕ → Option ℕ

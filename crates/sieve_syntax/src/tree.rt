@@ -21,7 +21,7 @@ pub struct Command {
     pub block: Option<Vec<Command>>,
 }
 
-/// A test, with its arguments and its own tests (RFC 5228, section 2.7).
+/// A test, with its arguments and its own tests (RFC 5228, section 2.5).
 #[derive(Drop)]
 #[cycle(tests)]
 pub struct Test {

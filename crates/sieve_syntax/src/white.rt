@@ -1,4 +1,4 @@
-//! White space and comments (RFC 5228, sections 2.1 and 2.3).
+//! White space and comments (RFC 5228, sections 2.2 and 2.3).
 
 ghost use Rattle.std.specs.Prelude.{◌≡◌, ◌<◌, ◌≤◌, length, IfSome};
 ghost use Rattle.sieve_syntax.specs.White.{begins_with, bracket_comment, comment_length, white_at};

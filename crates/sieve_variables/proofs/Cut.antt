@@ -5,7 +5,8 @@ use Rattle.std.specs.Option.{option_map}
 use Rattle.std.proofs.lemmas.Bool.{eqb-true}
 use Rattle.sieve_variables.specs.Reference.{Begins, Cuts, Piece, dotted, is_legal, octet, reference, written}
 use Rattle.sieve_variables.specs.Scan.{before_brace, first_piece, further_octets, if_legal, inside_at, is_inside, pieces_from, words_of}
-use Rattle.sieve_variables.proofs.Words.{dotted-words_of, dotted_inside, first_of_both, last_of_both, legal_octets, legal_some, not_brace, words_of-dotted}
+use Rattle.sieve_variables.proofs.Words.{dotted-words_of, dotted_inside, legal_octets, legal_some, not_brace, words_of-dotted}
+use Rattle.sieve_base.proofs.Both.{first_of_both, last_of_both}
 
 -- in front of a brace
 

@@ -11,19 +11,7 @@ use Rattle.sieve_variables.specs.Name.{folded_name, global_namespace, index_of, 
 use Rattle.sieve_variables.specs.Part.{global_part, is_shared, literal, part_of_words}
 use Rattle.sieve_variables.specs.Reference.{dotted, is_legal, is_name, reference, written}
 use Rattle.sieve_variables.specs.Scan.{is_dot, is_far, is_foreign, is_inside, words_of}
-
--- tests that hold together
-
-pub both : (a b : Bool) → a ≡ true → b ≡ true → (a && b) ≡ true
-both a b is_a is_b = rw (is_a, is_b) refl
-
-pub first_of_both : (a b : Bool) → (a && b) ≡ true → a ≡ true
-first_of_both true b is = refl
-first_of_both false b is = is
-
-pub last_of_both : (a b : Bool) → (a && b) ≡ true → b ≡ true
-last_of_both true b is = is
-last_of_both false b is = absurd (false≢true is)
+use Rattle.sieve_base.proofs.Both.{both, first_of_both, last_of_both}
 
 -- what stands between braces
 

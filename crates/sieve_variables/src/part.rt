@@ -38,6 +38,9 @@ impl MadeWith<Global> for Part {
 /// The parts of a string. One, as nearly all strings have, lies in the value itself.
 pub type Parts = SmallVec<Part, 1>;
 
+/// Strings, each as its parts. One, as most lists have, lies in the value itself.
+pub type Strings = SmallVec<Parts, 1>;
+
 impl Part {
     /// The part where these names are declared to be those of variables that scripts share (RFC 6609, section 3.4.1). Takes no
     /// memory.

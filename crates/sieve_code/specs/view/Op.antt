@@ -9,7 +9,7 @@ abbrev pub op_as : Op → Operation
 op_as True = set_op true
 op_as False = set_op false
 op_as Not = invert_op
-op_as (Test test) = test_op (test_op_as test)
+op_as (Test test) = test_op (test_op_as test.value)
 op_as (Jump target) = jump_op target
 op_as (JumpIfFalse target) = jump_if_op false target
 op_as (JumpIfTrue target) = jump_if_op true target

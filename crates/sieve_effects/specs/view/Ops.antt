@@ -1,14 +1,15 @@
 -- What compiled code keeps of tests and commands.
-use Rattle.std.specs.Prelude.{List, Option, map}
+use Rattle.std.specs.Prelude.{List, Option, None, Some, false, map}
 use Rattle.std.specs.Option.{option_map}
 use Rattle.std.specs.declared.alloc.Global.{Global}
-use Rattle.std.specs.declared.vec.Vec.{Vec}
+use Rattle.std.specs.declared.boxed.Box.{Box}
 use Rattle.smallvec.specs.SmallVec.{SmallVec}
 use Rattle.sieve_reading.specs.Reading.{Ask, compares, exists_ask, over_ask, under_ask, Settings, Leaf, keep_leaf, fileinto_leaf, redirect_leaf, discard_leaf, set_leaf, flag_leaf, include_leaf}
 use Rattle.sieve_reading.specs.Reading as reading
 use Rattle.sieve_variables.specs.Part as part
 use Rattle.sieve_variables.specs.view.Part.{part_of, strings_of, variable_of}
 use Rattle.sieve_variables.specs.declared.part.Part.{Part}
+use Rattle.sieve_effects.specs.declared.ops.Said.{Said}
 use Rattle.sieve_effects.specs.declared.ops.SettingsOp.{SettingsOp}
 use Rattle.sieve_effects.specs.declared.ops.SourceOp.{SourceOp}
 use Rattle.sieve_effects.specs.declared.ops.SourceOp.TheVariants as source
@@ -22,7 +23,7 @@ abbrev pub held_parts : SmallVec Part → List part.Part
 held_parts parts = map part_of parts.items
 
 -- strings that may be left out
-abbrev pub given_strings : Option (Vec (SmallVec Part) Global) → Option (List (List part.Part))
+abbrev pub given_strings : Option (SmallVec (SmallVec Part)) → Option (List (List part.Part))
 given_strings strings = option_map (λ given. strings_of given.items) strings
 
 abbrev pub source_op_as : SourceOp → reading.ValueSource
@@ -38,14 +39,18 @@ test_op_as (test.Exists names) = exists_ask (strings_of names.items)
 test_op_as (test.Over limit) = over_ask limit
 test_op_as (test.Under limit) = under_ask limit
 
+abbrev pub said_as : Option (Box Said Global) → Settings
+said_as None = record { flags = None; copy = false }
+said_as (Some said) = record { flags = given_strings said.value.flags; copy = said.value.copy }
+
 abbrev pub settings_op_as : SettingsOp → Settings
-settings_op_as s = record { flags = given_strings s.flags; copy = s.copy }
+settings_op_as s = said_as s.said
 
 abbrev pub command_op_as : CommandOp → Leaf
 command_op_as (command.Keep settings) = keep_leaf (settings_op_as settings)
-command_op_as (command.Fileinto mailbox settings) = fileinto_leaf (held_parts mailbox) (settings_op_as settings)
-command_op_as (command.Redirect address settings) = redirect_leaf (held_parts address) (settings_op_as settings)
+command_op_as (command.Fileinto op) = fileinto_leaf (held_parts op.value.mailbox) (settings_op_as op.value.settings)
+command_op_as (command.Redirect op) = redirect_leaf (held_parts op.value.address) (settings_op_as op.value.settings)
 command_op_as command.Discard = discard_leaf
-command_op_as (command.Set variable modifiers value) = set_leaf (variable_of variable) modifiers (held_parts value)
-command_op_as (command.Flags change variable flags) = flag_leaf change (option_map variable_of variable) (strings_of flags.items)
-command_op_as (command.Include place once optional name) = include_leaf place once optional name.items
+command_op_as (command.Set op) = set_leaf (variable_of op.value.variable) op.value.modifiers (held_parts op.value.value)
+command_op_as (command.Flags op) = flag_leaf op.value.change (option_map variable_of op.value.variable) (strings_of op.value.flags.items)
+command_op_as (command.Include op) = include_leaf op.value.place op.value.once op.value.optional op.value.name.items

@@ -56,7 +56,7 @@ loop-plain-preserved c =
     let pushed = c.in_ok-push_word.ensures ∙ ap (λ (one : List ℕ). done ++ (kept c.loop-plain.behind_word gap ++ one)) c.deref.ensures.value in
     record {
       within = omega arith;
-      alone = refl;
+      alone = c.before_sign-plain-in-loop-plain.ensures.alone;
       decoded = word_decoded done c.push_word.new.octets.items gap meant c.loop-plain.behind_word word (pieces_of left) (pieces_of behind) _ pushed cut c.loop-plain.invariant.decoded;
       found = word_found c.loop-plain.behind_word _ gap meant word (pieces_of left) (pieces_of behind) cut c.loop-plain.invariant.found;
       unwritten = λ none. absurd (word_written (drop c.loop-plain.plain left) word (c.in-Some.ensures.is ∙ ap word_at c.split_at.ensures.back) (c.loop-plain.invariant.unwritten none).1);

@@ -1,0 +1,18 @@
+use Rattle.std.proofs.Common.{◌≡◌, ℕ, List, ◌++◌, take, drop, sym, ap, subst, false}
+use Rattle.encoded_words.specs.Cut.{octet}
+use Rattle.encoded_words.specs.Scan.{has_written, pieces_of}
+use Rattle.encoded_words.proofs.Steps.{front_of, in_front, signs_alone, written_from}
+use Rattle.encoded_words.proofs.values.before_sign.Goals as goal
+
+pub returns-clause-alone : goal.returns-clause-alone
+returns-clause-alone c =
+    let value = c.args.value.now in
+    let front = front_of value c.memchr.result c.memchr.ensures in
+    let P : ℕ → Type 0 = λ n. in_front (take n value) (pieces_of (drop n value)) ≡ pieces_of value in
+    subst P (sym c.unwrap_or.ensures) (signs_alone value _ front.0 front.1)
+
+pub returns-clause-unwritten : goal.returns-clause-unwritten
+returns-clause-unwritten c = λ none.
+    let value = c.args.value.now in
+    let P : ℕ → Type 0 = λ n. has_written (drop n value) ≡ false in
+    subst P (sym c.unwrap_or.ensures) (written_from value _ (front_of value c.memchr.result c.memchr.ensures).0 none)
