@@ -23,11 +23,11 @@ fn write_worded<W: Sink>(word: &[u8], string: &[Part], writer: &mut W) -> Result
 
 /// Writes the flags of what is stored: those that are named, or that these are the internal ones.
 #[tactic(auto, unfolding(crate::specs::Dump::stored_flags))]
-fn write_stored_flags<W: Sink>(flags: Option<&[Parts]>, writer: &mut W) -> Result<(), WriteFault>
-    ensures ok { OnOk result (Wrote W.contents W.fault_count writer.old writer.new (stored_flags (option_map (λ texts. strings_of texts.now) flags.entry))) }
-    ensures err { OnErr result (WroteFront W.contents W.fault_count writer.old writer.new (stored_flags (option_map (λ texts. strings_of texts.now) flags.entry))) }
+fn write_stored_flags<W: Sink>(settings: &SettingsOp, writer: &mut W) -> Result<(), WriteFault>
+    ensures ok { OnOk result (Wrote W.contents W.fault_count writer.old writer.new (stored_flags (settings_op_as settings.now).flags)) }
+    ensures err { OnErr result (WroteFront W.contents W.fault_count writer.old writer.new (stored_flags (settings_op_as settings.now).flags)) }
 {
-    match flags {
+    match settings.flags() {
         Some(flags) => write_list(b" flags ", flags, writer),
         None => write_out(b" internal", writer),
     }
@@ -42,11 +42,11 @@ fn given_word<'a>(is_given: bool, word: &'a [u8]) -> &'a [u8]
 
 /// Writes that an action is a copy, where it is one.
 #[tactic(auto, unfolding(crate::specs::Dump::copy_word))]
-fn write_copy<W: Sink>(copy: bool, writer: &mut W) -> Result<(), WriteFault>
-    ensures ok { OnOk result (Wrote W.contents W.fault_count writer.old writer.new (copy_word copy)) }
-    ensures err { OnErr result (WroteFront W.contents W.fault_count writer.old writer.new (copy_word copy)) }
+fn write_copy<W: Sink>(settings: &SettingsOp, writer: &mut W) -> Result<(), WriteFault>
+    ensures ok { OnOk result (Wrote W.contents W.fault_count writer.old writer.new (copy_word (settings_op_as settings.now).copy)) }
+    ensures err { OnErr result (WroteFront W.contents W.fault_count writer.old writer.new (copy_word (settings_op_as settings.now).copy)) }
 {
-    write_out(given_word(copy, b" copy"), writer)
+    write_out(given_word(settings.copy(), b" copy"), writer)
 }
 
 /// Writes what a command that stores says beside.
@@ -55,8 +55,8 @@ fn write_stored<W: Sink>(settings: &SettingsOp, writer: &mut W) -> Result<(), Wr
     ensures ok { OnOk result (Wrote W.contents W.fault_count writer.old writer.new (stored_text (settings_op_as settings.now))) }
     ensures err { OnErr result (WroteFront W.contents W.fault_count writer.old writer.new (stored_text (settings_op_as settings.now))) }
 {
-    write_stored_flags(settings.flags(), writer)?;
-    write_copy(settings.copy(), writer)
+    write_stored_flags(settings, writer)?;
+    write_copy(settings, writer)
 }
 
 /// Writes a command's word and then what it says beside.
@@ -84,7 +84,7 @@ fn write_redirect<W: Sink>(
     ensures err { OnErr result (WroteFront W.contents W.fault_count writer.old writer.new (worded_text (codes "redirect ") (map part_of address.now) ++ copy_word (settings_op_as settings.now).copy)) }
 {
     write_worded(b"redirect ", address, writer)?;
-    write_copy(settings.copy(), writer)
+    write_copy(settings, writer)
 }
 
 /// Writes a `fileinto`.

@@ -71,10 +71,10 @@ pub put_test-returns-in-Some-Never : goal.put_test-returns-in-Some-Never
 put_test-returns-in-Some-Never t c =
     on_ok_along _ _ _ _ (test_put c.args.test.now (Some reading.reads_never) c.args.tail.now (ap (λ r. Some (test_reading_as r)) (sym c.in-Some-Never.field-0-is) ∙ c.in-Some-Never.ensures)) c.put-in-Some-Never.ensures
 
-pub put_test-returns-in_ok-test_op-in-Some-Asks : goal.put_test-returns-in_ok-test_op-in-Some-Asks
-put_test-returns-in_ok-test_op-in-Some-Asks t c =
+pub put_test-returns-in_ok-ask_op-in-Some-Asks : goal.put_test-returns-in_ok-ask_op-in-Some-Asks
+put_test-returns-in_ok-ask_op-in-Some-Asks t c =
     on_ok_along _ _ _ _
-    (ap (λ ask. operation.test_op ask ∷ c.args.tail.now) c.in_ok-test_op-in-Some-Asks.ensures
+    (ap (λ op. op ∷ c.args.tail.now) c.in_ok-ask_op-in-Some-Asks.ensures
     ∙ test_put c.args.test.now (Some (reading.reads_ask (ask_as c.in-Some-Asks.ask))) c.args.tail.now (ap (λ r. Some (test_reading_as r)) (sym c.in-Some-Asks.field-0-is) ∙ c.in-Some-Asks.ensures))
     c.put-in-Some-Asks.ensures
 

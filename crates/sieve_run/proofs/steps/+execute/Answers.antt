@@ -1,6 +1,7 @@
 use Rattle.std.proofs.Common.{◌≡◌, ◌&&◌, ◌∙◌, ◌<◌, ◌≤◌, ◌+◌, ◌-◌, true, false, IfOk, List, length, map, nat_lt, sym, ap, subst, arith, Bor}
 use Rattle.std.proofs.lemmas.Bool.Decides.{nat_tests}
 use Rattle.std.proofs.lemmas.Result.{IfOk-weaker}
+use Rattle.sieve_code.specs.Operation.{test_op}
 use Rattle.sieve_code.specs.Walk.{code_walk, walk_from}
 use Rattle.sieve_code.specs.view.Code.{ops_of}
 use Rattle.sieve_code.specs.view.Op.{op_as}
@@ -32,7 +33,8 @@ pub carry_out-returns-in-Test-clause-step : goal.carry_out-returns-in-Test-claus
 carry_out-returns-in-Test-clause-step g t c =
     let find : ScriptName → Lookup = λ name. lookup_of (g.L.Library.texts c.args.lib.now name) in
     let d = delivery_as c.args.delivery.now in
-    asks_follow (act_of find c.args.depth d) d (test_op_as c.in-Test.test) _ _ _ _ _ _ _ (ap op_as c.in-Test.is) c.holds-truth.ensures.truth c.holds-truth.ensures.behind c.tested.ensures
+    let test = c.deref.result.now in
+    asks_follow (act_of find c.args.depth d) d (test_op_as test) _ _ _ _ _ _ _ (ap op_as c.in-Test.is ∙ ap (λ test. test_op (test_op_as test)) (sym c.deref.ensures)) c.holds-truth.ensures.truth c.holds-truth.ensures.behind c.tested.ensures
 
 pub carry_out-returns-in-Command-clause-step : goal.carry_out-returns-in-Command-clause-step
 carry_out-returns-in-Command-clause-step g t c =
@@ -53,16 +55,16 @@ pub act-returns-in-Fileinto-clause-ending : goal.act-returns-in-Fileinto-clause-
 act-returns-in-Fileinto-clause-ending g t c =
     let find : ScriptName → Lookup = λ name. lookup_of (g.L.Library.texts c.args.lib.now name) in
     let d = delivery_as c.args.delivery.now in
-    does_so c.file_into.result (state_of c.file_into.new.state) (act_of find c.args.depth d) (fileinto_leaf (map part_of c.deref.result.now) (settings_op_as c.in-Fileinto.settings)) _ c.args.line (state_of c.args.state.now)
-    (ap (λ mailbox. fileinto_leaf (map part_of mailbox) (settings_op_as c.in-Fileinto.settings)) c.deref.ensures ∙ ap command_op_as (sym c.in-Fileinto.is))
+    does_so c.file_into.result (state_of c.file_into.new.state) (act_of find c.args.depth d) (fileinto_leaf (map part_of c.deref-in-Fileinto.result.now) (settings_op_as c.deref-in-Fileinto-2.result.now.settings)) (command_op_as c.args.command.now) c.args.line (state_of c.args.state.now)
+    (rw (c.deref-in-Fileinto.ensures, c.deref-in-Fileinto-2.ensures, c.deref.ensures) (ap command_op_as (sym c.in-Fileinto.is)))
     c.file_into.ensures
 
 pub act-returns-in-Redirect-clause-ending : goal.act-returns-in-Redirect-clause-ending
 act-returns-in-Redirect-clause-ending g t c =
     let find : ScriptName → Lookup = λ name. lookup_of (g.L.Library.texts c.args.lib.now name) in
     let d = delivery_as c.args.delivery.now in
-    does_so c.redirect.result (state_of c.redirect.new.state) (act_of find c.args.depth d) (redirect_leaf (map part_of c.deref-in-Redirect.result.now) (settings_op_as c.in-Redirect.settings)) _ c.args.line (state_of c.args.state.now)
-    (ap (λ address. redirect_leaf (map part_of address) (settings_op_as c.in-Redirect.settings)) c.deref-in-Redirect.ensures ∙ ap command_op_as (sym c.in-Redirect.is))
+    does_so c.redirect.result (state_of c.redirect.new.state) (act_of find c.args.depth d) (redirect_leaf (map part_of c.deref-in-Redirect-2.result.now) (settings_op_as c.deref-in-Redirect-3.result.now.settings)) (command_op_as c.args.command.now) c.args.line (state_of c.args.state.now)
+    (rw (c.deref-in-Redirect-2.ensures, c.deref-in-Redirect-3.ensures, c.deref-in-Redirect.ensures) (ap command_op_as (sym c.in-Redirect.is)))
     c.redirect.ensures
 
 pub act-returns-in-Discard-clause-ending : goal.act-returns-in-Discard-clause-ending
@@ -77,25 +79,24 @@ pub act-returns-in-Set-clause-ending : goal.act-returns-in-Set-clause-ending
 act-returns-in-Set-clause-ending g t c =
     let find : ScriptName → Lookup = λ name. lookup_of (g.L.Library.texts c.args.lib.now name) in
     let d = delivery_as c.args.delivery.now in
-    does_so c.set.result (state_of c.set.new.state) (act_of find c.args.depth d) (set_leaf (variable_of c.in-Set.variable) c.in-Set.modifiers (map part_of c.deref-in-Set.result.now)) _ c.args.line (state_of c.args.state.now)
-    (ap (λ value. set_leaf (variable_of c.in-Set.variable) c.in-Set.modifiers (map part_of value)) c.deref-in-Set.ensures ∙ ap command_op_as (sym c.in-Set.is))
+    does_so c.set.result (state_of c.set.new.state) (act_of find c.args.depth d) (set_leaf (variable_of c.deref-in-Set.result.now.variable) c.deref-in-Set-2.result.now.modifiers (map part_of c.deref-in-Set-4.result.now)) (command_op_as c.args.command.now) c.args.line (state_of c.args.state.now)
+    (rw (c.deref-in-Set-4.ensures, c.deref-in-Set-3.ensures, c.deref-in-Set-2.ensures, c.deref-in-Set.ensures) (ap command_op_as (sym c.in-Set.is)))
     c.set.ensures
 
 pub act-returns-in-Flags-clause-ending : goal.act-returns-in-Flags-clause-ending
 act-returns-in-Flags-clause-ending g t c =
     let find : ScriptName → Lookup = λ name. lookup_of (g.L.Library.texts c.args.lib.now name) in
     let d = delivery_as c.args.delivery.now in
-    does_so c.change.result (state_of c.change.new.state) (act_of find c.args.depth d) (flag_leaf c.in-Flags.how (option_map variable_of c.in-Flags.variable) (strings_of c.deref-in-Flags.result.now)) _ c.args.line (state_of c.args.state.now)
-    (ap (λ flags. flag_leaf c.in-Flags.how (option_map variable_of c.in-Flags.variable) (strings_of flags)) c.deref-in-Flags.ensures.value ∙ ap command_op_as (sym c.in-Flags.is))
+    does_so c.change.result (state_of c.change.new.state) (act_of find c.args.depth d) (flag_leaf c.deref-in-Flags.result.now.change (option_map variable_of c.deref-in-Flags-2.result.now.variable) (strings_of c.deref-in-Flags-4.result.now)) (command_op_as c.args.command.now) c.args.line (state_of c.args.state.now)
+    (rw (c.deref-in-Flags-4.ensures, c.deref-in-Flags-3.ensures, c.deref-in-Flags-2.ensures, c.deref-in-Flags.ensures) (ap command_op_as (sym c.in-Flags.is)))
     c.change.ensures
 
-pub act-returns-in_ok-octets-in-Include-clause-ending : goal.act-returns-in_ok-octets-in-Include-clause-ending
-act-returns-in_ok-octets-in-Include-clause-ending g t c =
+pub act-returns-in_ok-copied-in-Include-clause-ending : goal.act-returns-in_ok-copied-in-Include-clause-ending
+act-returns-in_ok-copied-in-Include-clause-ending g t c =
     let find : ScriptName → Lookup = λ name. lookup_of (g.L.Library.texts c.args.lib.now name) in
     let d = delivery_as c.args.delivery.now in
-    let i = c.in-Include in
-    does_so c.include.result (state_of c.include.new.state) (act_of find c.args.depth d) (include_leaf i.place i.once i.optional c.in_ok-octets-in-Include.octets) _ c.args.line (state_of c.args.state.now)
-    (ap (include_leaf i.place i.once i.optional) (c.in_ok-octets-in-Include.ensures ∙ c.deref-in-Include.ensures) ∙ ap command_op_as (sym i.is))
+    does_so c.include.result (state_of c.include.new.state) (act_of find c.args.depth d) (include_leaf c.deref-in-Include.result.now.place c.deref-in-Include-4.result.now.once c.deref-in-Include-5.result.now.optional c.in_ok-copied-in-Include.field-0) (command_op_as c.args.command.now) c.args.line (state_of c.args.state.now)
+    (rw (c.in_ok-copied-in-Include.ensures, c.deref-in-Include-5.ensures, c.deref-in-Include-4.ensures, c.deref-in-Include-3.ensures, c.deref-in-Include-2.ensures, c.deref-in-Include.ensures) (ap command_op_as (sym c.in-Include.is)))
     c.include.ensures.ending
 
 pub execute_inside-returns-clause-ending : goal.execute_inside-returns-clause-ending
