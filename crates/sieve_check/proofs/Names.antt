@@ -1,6 +1,6 @@
 -- The names of the table, and of the capabilities.
-use Rattle.std.proofs.Common.{◌≡◌, Some, true, refl}
-use Rattle.sieve_table.specs.Capability.{capability_name, is_capability}
+use Rattle.std.proofs.Common.{◌≡◌, ◌∷◌, [], Some, filter, true, refl}
+use Rattle.sieve_table.specs.Capability.{capabilities, capability_name, is_capability, is_name_of}
 use Rattle.sieve_table.specs.Table.{command_named, command_row, tag_named, tag_row, test_named, test_row}
 use Rattle.sieve_table.specs.view.Number.{all_tags}
 use Rattle.sieve_table.specs.declared.capability.Capability.{Capability}
@@ -79,4 +79,14 @@ capability_found capability.Copy = refl
 capability_found capability.OctetComparator = refl
 capability_found capability.CasemapComparator = refl
 
-pub ruleset names = (command_found, test_found, tag_found, capability_found)
+pub capability_alone : (capability : Capability) → filter (is_name_of (capability_name capability)) capabilities ≡ capability ∷ []
+capability_alone capability.Fileinto = refl
+capability_alone capability.Envelope = refl
+capability_alone capability.Variables = refl
+capability_alone capability.Imap4flags = refl
+capability_alone capability.Include = refl
+capability_alone capability.Copy = refl
+capability_alone capability.OctetComparator = refl
+capability_alone capability.CasemapComparator = refl
+
+pub ruleset names = (command_found, test_found, tag_found, capability_found, capability_alone)

@@ -1,5 +1,5 @@
 //! Laws over the definitions. Each of these functions does nothing: its contract is the law.
-ghost use Rattle.std.specs.Prelude.{◌≡◌, ◌-◌, ◌||◌, ◌∷◌, ℕ, true, false, length, map, slice_get, take, All, List, [], Option, None, Some};
+ghost use Rattle.std.specs.Prelude.{◌≡◌, ◌-◌, ◌||◌, ◌∷◌, ℕ, true, false, filter, length, map, slice_get, take, All, List, [], Option, None, Some};
 ghost use Rattle.std.specs.List.{flat_map};
 ghost use Rattle.sieve_base.specs.Limits.{test_depth, block_room};
 ghost use Rattle.sieve_syntax.specs.Grammar.{Writes};
@@ -17,7 +17,7 @@ ghost use Rattle.sieve_check.specs.Parted.{Cutting, cutting_at_start, declared_b
 ghost use Rattle.sieve_check.specs.Readable.{IsReadable, DoesAll};
 ghost use Rattle.sieve_check.specs.Requirement.{IsTextJudgedUnder, JudgesBehindRequires};
 ghost use Rattle.sieve_table.specs.Role.{names_variable};
-ghost use Rattle.sieve_table.specs.Capability.{capability_name, is_capability, is_name_of};
+ghost use Rattle.sieve_table.specs.Capability.{capabilities, capability_name, is_capability, is_name_of};
 ghost use Rattle.sieve_table.specs.Table.{command_named, command_row, tag_named, tag_row, test_named, test_row};
 ghost use Rattle.sieve_table.specs.view.Number.{all_tags};
 ghost use Rattle.sieve_reading.specs.Tree as checked;
@@ -84,13 +84,14 @@ pub fn what_is_written_to_be_set_is_set()
     ensures before { (tree : List Node) (place : ℕ) (element : Element) → slice_get (elements_of tree) place ≡ Some element → HasSetBefore (take place (elements_of tree)) element }
 {}
 
-/// Each command, each test and each tag is found by the name of its row, and each capability by its name.
+/// Each command, each test and each tag is found by the name of its row, and each capability by its name, which no other has.
 #[tactic(auto, using(crate::proofs::Names::names))]
 pub fn names_are_found()
     ensures commands { (kind : CommandKind) → command_named (command_row kind).name ≡ Some kind }
     ensures tests { (kind : TestKind) → test_named (test_row kind).name ≡ Some kind }
     ensures tags { (tag : Tag) → tag_named all_tags (tag_row tag).name ≡ Some tag }
     ensures capabilities { (capability : Capability) → is_capability (capability_name capability) ≡ true }
+    ensures alone { (capability : Capability) → filter (is_name_of (capability_name capability)) capabilities ≡ capability ∷ [] }
 {}
 
 /// The abstract script of a readable tree has each command's choice, stop, return or act once, in the order of the text. So nothing of
