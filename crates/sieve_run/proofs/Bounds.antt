@@ -1,5 +1,5 @@
 -- What holds of the state of a run from its start to its end: it has no more actions than it may, and enters no more scripts.
-use Rattle.std.proofs.Common.{◌≡◌, ℕ, zero, suc, ◌≤◌, Bool, true, false, ◌&&◌, Option, None, Some, List, [], ◌∷◌, ◌++◌, length, map, nat_lt, refl, subst, sym, arith}
+use Rattle.std.proofs.Common.{◌≡◌, ℕ, zero, suc, ◌≤◌, Bool, true, false, ◌&&◌, Option, None, Some, List, [], ◌∷◌, ◌++◌, length, map, nat_lt, refl, ap, subst, sym, ◌∙◌, append-nil, append_assoc, arith}
 use Rattle.std.proofs.lemmas.Bool.Decides.{nat_tests}
 use Rattle.std.proofs.lemmas.List.{length_push, length-map}
 use Rattle.std.specs.Prelude.{if◌then◌else◌}
@@ -242,3 +242,20 @@ short = record {
 -- a run enters so many scripts at most
 pub run_short : (find : ScriptName → Lookup) (envelope : Envelope) (message : List ℕ) (main : ScriptName) (tree : List Node) → length (state_behind (run_of find envelope message main tree)).entered ≤ suc include_limit
 run_short find envelope message main tree = running_holds IsShort short find include_depth (delivery_to envelope message main) tree (begun main) (omega arith)
+
+-- the scripts that were entered begin with these
+abbrev Keeps : List ScriptName → RunState → Type 0
+Keeps front state = (more : List ScriptName) × (state.entered ≡ front ++ more)
+
+keeping : (front : List ScriptName) → IsKept (Keeps front)
+keeping front = record {
+  values = λ s values h. h;
+  flags = λ s flags h. h;
+  reads = λ s reads h. h;
+  acts = λ delivery line deed s h. (h.0, performs_enters delivery line s (list_any (same_action deed.action) s.actions) (nat_lt (length s.actions) action_limit) deed ∙ h.1);
+  enters = λ name s few h. (h.0 ++ name ∷ [], ap (λ (entered : List ScriptName). entered ++ name ∷ []) h.1 ∙ append_assoc front h.0 (name ∷ []));
+}
+
+-- what was entered stays
+pub run_keeps : (find : ScriptName → Lookup) (depth : ℕ) (delivery : Delivery) (tree : List Node) (state : RunState) → Keeps state.entered (state_behind (running find depth delivery tree state))
+run_keeps find depth delivery tree state = running_holds (Keeps state.entered) (keeping state.entered) find depth delivery tree state ([], sym (append-nil state.entered))

@@ -1,6 +1,6 @@
 //! Laws over the definitions. Each of these functions does nothing: its contract is the law.
 
-ghost use Rattle.std.specs.Prelude.{◌≡◌, ◌≤◌, ℕ, suc, Bool, List, Option, length};
+ghost use Rattle.std.specs.Prelude.{◌≡◌, ◌≤◌, ◌++◌, ℕ, suc, Bool, List, Option, length};
 ghost use Rattle.sieve_reading.specs.Reading.{Ask, Leaf};
 ghost use Rattle.sieve_reading.specs.Script.{Commands, Condition, returns, script_of, stops};
 ghost use Rattle.sieve_reading.specs.Tree.{Node};
@@ -31,9 +31,10 @@ pub fn return_ends_the_commands()
     ensures { (ask : Ask → RunState → Answer) (act : Leaf → ℕ → RunState → Ending) (rest : Commands) (behind : RunState → Ending) (state : RunState) → and_then (exec ask act (returns rest) state) behind ≡ returned state }
 {}
 
-/// A run enters at most 256 scripts beside the main one.
+/// A run enters at most 256 scripts beside the main one. A script that was entered stays among those that were, whatever is done then.
 pub fn a_run_enters_so_many_scripts()
-    ensures { (find : names.ScriptName → Lookup) (envelope : Envelope) (message : List ℕ) (main : names.ScriptName) (tree : List Node) → length (state_behind (run_of find envelope message main tree)).entered ≤ suc include_limit }
+    ensures many { (find : names.ScriptName → Lookup) (envelope : Envelope) (message : List ℕ) (main : names.ScriptName) (tree : List Node) → length (state_behind (run_of find envelope message main tree)).entered ≤ suc include_limit }
+    ensures kept { (find : names.ScriptName → Lookup) (depth : ℕ) (delivery : Delivery) (tree : List Node) (state : RunState) → (more : List names.ScriptName) × ((state_behind (running find depth delivery tree state)).entered ≡ state.entered ++ more) }
 {}
 
 /// Scripts include one another 10 deep at most, counted by those that include the running one: the main script runs with none
