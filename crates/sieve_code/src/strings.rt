@@ -9,7 +9,8 @@ ghost use Rattle.sieve_variables.specs.view.Part.{part_of, strings_of, variable_
 
 use sieve_base::{Place, SmallOctets};
 use sieve_effects::{
-    CommandOp, FileintoOp, FlagsOp, IncludeOp, RedirectOp, Said, SetOp, SettingsOp, SourceOp, TestOp,
+    CommandOp, FileintoOp, FlagsOp, IncludeOp, RedirectOp, Said, SetOp, SettingsOp, SourceOp,
+    TestOp,
 };
 use sieve_reading::{Ask, FlagChange, Leaf, Settings, Text, ValueSource};
 use sieve_variables::{Modifiers, Part, Parts, Strings, Variable};

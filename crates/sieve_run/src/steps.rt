@@ -141,19 +141,23 @@ fn act<L: Library>(
         CommandOp::Fileinto(op) => file_into(delivery, &op.mailbox, &op.settings, line, state),
         CommandOp::Redirect(op) => redirect(delivery, &op.address, &op.settings, line, state),
         CommandOp::Discard => discard(delivery, line, state),
-        CommandOp::Set(op) => set(
-            delivery, &op.variable, op.modifiers, &op.value, line, state,
-        ),
-        CommandOp::Flags(op) => change(
-            delivery, op.change, &op.variable, &op.flags, line, state,
-        ),
+        CommandOp::Set(op) => set(delivery, &op.variable, op.modifiers, &op.value, line, state),
+        CommandOp::Flags(op) => change(delivery, op.change, &op.variable, &op.flags, line, state),
         CommandOp::Include(op) => {
             let name = ScriptName {
                 place: op.place,
                 name: Octets::copied(delivery.alloc, &op.name)?,
             };
             include(
-                lib, depth, delivery, &name, op.once, op.optional, line, fields, state,
+                lib,
+                depth,
+                delivery,
+                &name,
+                op.once,
+                op.optional,
+                line,
+                fields,
+                state,
             )
         }
     }

@@ -1,5 +1,4 @@
-use Rattle.std.proofs.Common.{◌≡◌, ℕ, List, ◌++◌, take, drop, sym, ap, subst, false}
-use Rattle.encoded_words.specs.Cut.{octet}
+use Rattle.std.proofs.Common.{◌≡◌, ℕ, take, drop, sym, subst, false}
 use Rattle.encoded_words.specs.Scan.{has_written, pieces_of}
 use Rattle.encoded_words.proofs.Steps.{front_of, in_front, signs_alone, written_from}
 use Rattle.encoded_words.proofs.values.before_sign.Goals as goal
