@@ -3,7 +3,6 @@ ghost use Rattle.std.specs.Prelude.{◌≡◌, map, IfOk};
 ghost use Rattle.std.specs.Option.{option_map};
 ghost use Rattle.sieve_reading.specs.Reading.{fileinto_leaf, flag_leaf, include_leaf, redirect_leaf, set_leaf};
 ghost use Rattle.sieve_reading.specs.view.Reading.{ask_as, leaf_as, settings_as, source_as, texts_as};
-ghost use Rattle.sieve_reading.specs.view.Tree.{text_of};
 ghost use Rattle.sieve_effects.specs.view.Ops.{command_op_as, given_strings, held_parts, settings_op_as, source_op_as, test_op_as};
 ghost use Rattle.sieve_variables.specs.view.Part.{part_of, strings_of, variable_of};
 

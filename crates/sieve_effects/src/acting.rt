@@ -13,7 +13,7 @@ ghost use Rattle.sieve_effects.specs.declared.action.Deed as deeds;
 ghost use Rattle.sieve_effects.specs.view.State.{state_of};
 ghost use Rattle.sieve_variables.specs.Modifier.{modified};
 ghost use Rattle.sieve_variables.specs.Value.{text_value};
-ghost use Rattle.sieve_variables.specs.view.Part.{part_of, strings_of, variable_of};
+ghost use Rattle.sieve_variables.specs.view.Part.{part_of, variable_of};
 
 use crate::action::{Action, Deed};
 use crate::delivery::Delivery;
@@ -25,7 +25,7 @@ use crate::state::State;
 use message_text::{Address, AddressPart, addresses};
 use sieve_base::Octets;
 use sieve_base::limits::MAX_MAILBOX;
-use sieve_variables::{Modifiers, Part, Parts, Values, Variable};
+use sieve_variables::{Modifiers, Part, Values, Variable};
 use std::alloc::AllocError;
 
 /// Performs an action, which takes the place of the implicit keep (RFC 5228, section 2.10.2) unless it is a copy (RFC 3894, section 3).
