@@ -14,7 +14,8 @@ use Rattle.sieve_check.specs.Parted.{Cutting, parted_labelled, parted_test, part
 use Rattle.sieve_check.specs.Readable.{Joins, test_takes}
 use Rattle.sieve_reading.specs.Reading.{Ask, ValueSource, address_values, envelope_values, exists_ask, flag_values, header_values, over_ask, reads_ask, string_values, under_ask}
 use Rattle.sieve_reading.specs.TestReading.{address_source, compares_by, compares_from, envelope_source, exists_by, flag_source, header_source, size_by, size_from, string_source, test_reading_by}
-use Rattle.sieve_reading.specs.Given.{address_part_of, collation_by, given_texts, given_variable, has_tag, in_role, is_tagged, labels_in, literal_in, match_type_of, number_in, part_shape, text_in, texts_in, variable_in}
+use Rattle.sieve_reading.specs.Given.{address_part_of, collation_by, given_texts, given_variable, has_tag, in_role, is_tagged, literal_in, match_type_of, number_in, text_in, texts_in, variable_in}
+use Rattle.sieve_reading.specs.Shape.{row_labels, shape_of}
 use Rattle.sieve_table.specs.view.Number.{all_tags}
 use Rattle.sieve_table.specs.Role.{same_role}
 use Rattle.sieve_table.specs.Table.{same_tag, naming_slot, tag_row, test_row, same_kind}
@@ -107,11 +108,11 @@ module _ (wanted : Role) (form : Form) where
 
 module _ (tags : List Tag) (slots : List Slot) (args : List Argument) where
   abbrev pub its_labels : List Label
-  its_labels = labels_from (expecting slots) (map (part_shape tags) args)
+  its_labels = labels_from (expecting slots) (map (shape_of tags) args)
 
-  is_there : (wanted : Role) → is_to_come wanted slots ≡ true → fills (expecting slots) (map (part_shape tags) args) ≡ true → is_some (in_role wanted its_labels args) ≡ true
+  is_there : (wanted : Role) → is_to_come wanted slots ≡ true → fills (expecting slots) (map (shape_of tags) args) ≡ true → is_some (in_role wanted its_labels args) ≡ true
   is_there wanted comes filled =
-      let parts = and_parts (not (list_any is_unfit its_labels)) (no_slots (slots_left (expecting slots) (map (part_shape tags) args))) filled in
+      let parts = and_parts (not (list_any is_unfit its_labels)) (no_slots (slots_left (expecting slots) (map (shape_of tags) args))) filled in
       role_found wanted tags args (expecting slots) (not_true (list_any is_unfit its_labels) parts.0) parts.1 comes
 
   texts_fit : (wanted : Role) → tags_may_take wanted form.List ≡ true → all_may_take wanted form.List slots ≡ true → AllKeep its_labels args → none_or (λ a. is_some (texts_in (Some a))) (in_role wanted its_labels args) ≡ true
@@ -122,7 +123,7 @@ module _ (tags : List Tag) (slots : List Slot) (args : List Argument) where
   variable_fits take keep =
       role_fits role.NameToSet form.One (tags_take role.NameToSet form.One refl) tags (λ a. is_some (variable_in (Some a))) (variable_good tags) args (expecting slots) tt (slots_take role.NameToSet form.One slots take) keep
 
-  pub texts_are_read : (wanted : Role) → tags_may_take wanted form.List ≡ true → all_may_take wanted form.List slots ≡ true → is_to_come wanted slots ≡ true → fills (expecting slots) (map (part_shape tags) args) ≡ true → AllKeep its_labels args
+  pub texts_are_read : (wanted : Role) → tags_may_take wanted form.List ≡ true → all_may_take wanted form.List slots ≡ true → is_to_come wanted slots ≡ true → fills (expecting slots) (map (shape_of tags) args) ≡ true → AllKeep its_labels args
       → is_some (texts_in (in_role wanted its_labels args)) ≡ true
   texts_are_read wanted own take comes filled keep = texts_read (in_role wanted its_labels args) (texts_fit wanted own take keep) (is_there wanted comes filled)
 
@@ -130,28 +131,28 @@ module _ (tags : List Tag) (slots : List Slot) (args : List Argument) where
   pub given_texts_are_read : (wanted : Role) → tags_may_take wanted form.List ≡ true → all_may_take wanted form.List slots ≡ true → AllKeep its_labels args → is_some (given_texts (in_role wanted its_labels args)) ≡ true
   given_texts_are_read wanted own take keep = given_texts_read (in_role wanted its_labels args) (texts_fit wanted own take keep)
 
-  pub text_is_read : (wanted : Role) → tags_may_take wanted form.One ≡ true → all_may_take wanted form.One slots ≡ true → is_to_come wanted slots ≡ true → fills (expecting slots) (map (part_shape tags) args) ≡ true → AllKeep its_labels args
+  pub text_is_read : (wanted : Role) → tags_may_take wanted form.One ≡ true → all_may_take wanted form.One slots ≡ true → is_to_come wanted slots ≡ true → fills (expecting slots) (map (shape_of tags) args) ≡ true → AllKeep its_labels args
       → is_some (text_in (in_role wanted its_labels args)) ≡ true
   text_is_read wanted own take comes filled keep =
       text_read (in_role wanted its_labels args)
       (role_fits wanted form.One (tags_take wanted form.One own) tags (λ a. is_some (text_in (Some a))) (λ r a same keeps fit. text_good_alone tags r a keeps fit) args (expecting slots) tt (slots_take wanted form.One slots take) keep)
       (is_there wanted comes filled)
 
-  pub variable_is_read : all_may_take role.NameToSet form.One slots ≡ true → is_to_come role.NameToSet slots ≡ true → fills (expecting slots) (map (part_shape tags) args) ≡ true → AllKeep its_labels args
+  pub variable_is_read : all_may_take role.NameToSet form.One slots ≡ true → is_to_come role.NameToSet slots ≡ true → fills (expecting slots) (map (shape_of tags) args) ≡ true → AllKeep its_labels args
       → is_some (variable_in (in_role role.NameToSet its_labels args)) ≡ true
   variable_is_read take comes filled keep = variable_read (in_role role.NameToSet its_labels args) (variable_fits take keep) (is_there role.NameToSet comes filled)
 
   pub given_variable_is_read : all_may_take role.NameToSet form.One slots ≡ true → AllKeep its_labels args → is_some (given_variable (in_role role.NameToSet its_labels args)) ≡ true
   given_variable_is_read take keep = given_variable_read (in_role role.NameToSet its_labels args) (variable_fits take keep)
 
-  pub literal_is_read : all_may_take role.ScriptName form.One slots ≡ true → is_to_come role.ScriptName slots ≡ true → fills (expecting slots) (map (part_shape tags) args) ≡ true → AllKeep its_labels args
+  pub literal_is_read : all_may_take role.ScriptName form.One slots ≡ true → is_to_come role.ScriptName slots ≡ true → fills (expecting slots) (map (shape_of tags) args) ≡ true → AllKeep its_labels args
       → is_some (literal_in (in_role role.ScriptName its_labels args)) ≡ true
   literal_is_read take comes filled keep =
       literal_read (in_role role.ScriptName its_labels args)
       (role_fits role.ScriptName form.One (tags_take role.ScriptName form.One refl) tags (λ a. is_some (literal_in (Some a))) (literal_good tags) args (expecting slots) tt (slots_take role.ScriptName form.One slots take) keep)
       (is_there role.ScriptName comes filled)
 
-  number_is_read : (wanted : Role) → tags_may_take wanted form.Number ≡ true → all_may_take wanted form.Number slots ≡ true → is_to_come wanted slots ≡ true → fills (expecting slots) (map (part_shape tags) args) ≡ true → AllKeep its_labels args
+  number_is_read : (wanted : Role) → tags_may_take wanted form.Number ≡ true → all_may_take wanted form.Number slots ≡ true → is_to_come wanted slots ≡ true → fills (expecting slots) (map (shape_of tags) args) ≡ true → AllKeep its_labels args
       → is_some (number_in (in_role wanted its_labels args)) ≡ true
   number_is_read wanted own take comes filled keep =
       number_read (in_role wanted its_labels args)
@@ -262,61 +263,61 @@ size_asks false false limit one is = absurd (not_both one)
 
 -- arguments of a test of that kind, with these tests, are as its row says
 abbrev Says : TestKind → List Argument → syntax.Tests → Type 0
-Says k args ts = AsRowSays (test_row k) (map (part_shape (test_row k).tags) args) args ts false
+Says k args ts = AsRowSays (test_row k) (map (shape_of (test_row k).tags) args) args ts false
 
 -- the source of a test that compares, and what it asks
-header_reads : (args : List Argument) (ts : syntax.Tests) → Says kind.Header args ts → let labels = labels_in (test_row kind.Header) args in is_some (compares_by (header_source labels args) labels args) ≡ true
+header_reads : (args : List Argument) (ts : syntax.Tests) → Says kind.Header args ts → let labels = row_labels (test_row kind.Header) args in is_some (compares_by (header_source labels args) labels args) ≡ true
 header_reads args ts says =
     let row = test_row kind.Header in
-    compares_all (header_source (labels_in row args) args) (match_type_of (labels_in row args)) _ _
+    compares_all (header_source (row_labels row args) args) (match_type_of (row_labels row args)) _ _
     (maps_some header_values _ (texts_are_read row.tags row.slots args role.FieldNames refl refl refl says.filled says.keep))
     (collation_is_read row.tags row.slots args refl says.keep)
     (texts_are_read row.tags row.slots args role.Keys refl refl refl says.filled says.keep)
 
-address_reads : (args : List Argument) (ts : syntax.Tests) → Says kind.Address args ts → let labels = labels_in (test_row kind.Address) args in is_some (compares_by (address_source labels args) labels args) ≡ true
+address_reads : (args : List Argument) (ts : syntax.Tests) → Says kind.Address args ts → let labels = row_labels (test_row kind.Address) args in is_some (compares_by (address_source labels args) labels args) ≡ true
 address_reads args ts says =
     let row = test_row kind.Address in
-    compares_all (address_source (labels_in row args) args) (match_type_of (labels_in row args)) _ _
-    (maps_some (address_values (address_part_of (labels_in row args))) _ (texts_are_read row.tags row.slots args role.AddressFields refl refl refl says.filled says.keep))
+    compares_all (address_source (row_labels row args) args) (match_type_of (row_labels row args)) _ _
+    (maps_some (address_values (address_part_of (row_labels row args))) _ (texts_are_read row.tags row.slots args role.AddressFields refl refl refl says.filled says.keep))
     (collation_is_read row.tags row.slots args refl says.keep)
     (texts_are_read row.tags row.slots args role.Keys refl refl refl says.filled says.keep)
 
-envelope_reads : (args : List Argument) (ts : syntax.Tests) → Says kind.Envelope args ts → let labels = labels_in (test_row kind.Envelope) args in is_some (compares_by (envelope_source labels args) labels args) ≡ true
+envelope_reads : (args : List Argument) (ts : syntax.Tests) → Says kind.Envelope args ts → let labels = row_labels (test_row kind.Envelope) args in is_some (compares_by (envelope_source labels args) labels args) ≡ true
 envelope_reads args ts says =
     let row = test_row kind.Envelope in
-    compares_all (envelope_source (labels_in row args) args) (match_type_of (labels_in row args)) _ _
-    (maps_some (envelope_values (address_part_of (labels_in row args))) _ (texts_are_read row.tags row.slots args role.EnvelopeParts refl refl refl says.filled says.keep))
+    compares_all (envelope_source (row_labels row args) args) (match_type_of (row_labels row args)) _ _
+    (maps_some (envelope_values (address_part_of (row_labels row args))) _ (texts_are_read row.tags row.slots args role.EnvelopeParts refl refl refl says.filled says.keep))
     (collation_is_read row.tags row.slots args refl says.keep)
     (texts_are_read row.tags row.slots args role.Keys refl refl refl says.filled says.keep)
 
-string_reads : (args : List Argument) (ts : syntax.Tests) → Says kind.String args ts → let labels = labels_in (test_row kind.String) args in is_some (compares_by (string_source labels args) labels args) ≡ true
+string_reads : (args : List Argument) (ts : syntax.Tests) → Says kind.String args ts → let labels = row_labels (test_row kind.String) args in is_some (compares_by (string_source labels args) labels args) ≡ true
 string_reads args ts says =
     let row = test_row kind.String in
-    compares_all (string_source (labels_in row args) args) (match_type_of (labels_in row args)) _ _
+    compares_all (string_source (row_labels row args) args) (match_type_of (row_labels row args)) _ _
     (maps_some string_values _ (texts_are_read row.tags row.slots args role.Text refl refl refl says.filled says.keep))
     (collation_is_read row.tags row.slots args refl says.keep)
     (texts_are_read row.tags row.slots args role.Keys refl refl refl says.filled says.keep)
 
-hasflag_reads : (args : List Argument) (ts : syntax.Tests) → Says kind.HasFlag args ts → let labels = labels_in (test_row kind.HasFlag) args in is_some (compares_by (flag_source labels args) labels args) ≡ true
+hasflag_reads : (args : List Argument) (ts : syntax.Tests) → Says kind.HasFlag args ts → let labels = row_labels (test_row kind.HasFlag) args in is_some (compares_by (flag_source labels args) labels args) ≡ true
 hasflag_reads args ts says =
     let row = test_row kind.HasFlag in
-    let shapes = map (part_shape row.tags) args in
+    let shapes = map (shape_of row.tags) args in
     let slots = slots_of row shapes in
     let front = naming_slot form.List role.NamesToRead in
-    compares_all (flag_source (labels_in row args) args) (match_type_of (labels_in row args)) _ _
+    compares_all (flag_source (row_labels row args) args) (match_type_of (row_labels row args)) _ _
     (maps_some flag_values _ (given_texts_are_read row.tags slots args role.NamesToRead refl (either_slots (all_may_take role.NamesToRead form.List) front row.slots shapes refl refl) says.keep))
     (collation_is_read row.tags slots args (either_slots (all_may_take role.ComparatorName form.One) front row.slots shapes refl refl) says.keep)
     (texts_are_read row.tags slots args role.Keys refl (either_slots (all_may_take role.Keys form.List) front row.slots shapes refl refl) (either_slots (is_to_come role.Keys) front row.slots shapes refl refl) says.filled says.keep)
 
-exists_reads : (args : List Argument) (ts : syntax.Tests) → Says kind.Exists args ts → is_some (exists_by (labels_in (test_row kind.Exists) args) args) ≡ true
+exists_reads : (args : List Argument) (ts : syntax.Tests) → Says kind.Exists args ts → is_some (exists_by (row_labels (test_row kind.Exists) args) args) ≡ true
 exists_reads args ts says =
     let row = test_row kind.Exists in
     maps_some exists_ask _ (texts_are_read row.tags row.slots args role.FieldNames refl refl refl says.filled says.keep)
 
-size_reads : (args : List Argument) (ts : syntax.Tests) → Says kind.Size args ts → is_some (size_by (labels_in (test_row kind.Size) args) args) ≡ true
+size_reads : (args : List Argument) (ts : syntax.Tests) → Says kind.Size args ts → is_some (size_by (row_labels (test_row kind.Size) args) args) ≡ true
 size_reads args ts says =
     let row = test_row kind.Size in
-    let labels = labels_in row args in
+    let labels = row_labels row args in
     size_asks (has_tag tag.Over labels) (has_tag tag.Under labels) _
     (one_bound labels (or_parts _ _ (or_parts _ _ says.tags).1).0 (not_lacking (list_any (is_of_kind tag_kind.Bound) labels) says.kind))
     (number_is_read row.tags row.slots args role.Limit refl refl refl says.filled says.keep)
@@ -351,8 +352,8 @@ module _ (cutting : Cutting) where
   joins kind.Header args ts says = joins_none _ (parted_tests cutting ts) (header_reads args ts says) (none_fit ts says.tests)
   joins kind.Address args ts says = joins_none _ (parted_tests cutting ts) (address_reads args ts says) (none_fit ts says.tests)
   joins kind.Envelope args ts says = joins_none _ (parted_tests cutting ts) (envelope_reads args ts says) (none_fit ts says.tests)
-  joins kind.Exists args ts says = joins_none (exists_by (labels_in (test_row kind.Exists) args) args) (parted_tests cutting ts) (exists_reads args ts says) (none_fit ts says.tests)
-  joins kind.Size args ts says = joins_none (size_by (labels_in (test_row kind.Size) args) args) (parted_tests cutting ts) (size_reads args ts says) (none_fit ts says.tests)
+  joins kind.Exists args ts says = joins_none (exists_by (row_labels (test_row kind.Exists) args) args) (parted_tests cutting ts) (exists_reads args ts says) (none_fit ts says.tests)
+  joins kind.Size args ts says = joins_none (size_by (row_labels (test_row kind.Size) args) args) (parted_tests cutting ts) (size_reads args ts says) (none_fit ts says.tests)
   joins kind.AllOf args ts says = list_fits ts says.tests
   joins kind.AnyOf args ts says = list_fits ts says.tests
   joins kind.Not args ts says = one_fits ts says.tests

@@ -1,5 +1,5 @@
 -- Lists of commands and of tests, cut into parts one by one.
-use Rattle.std.proofs.Common.{◌≡◌, ℕ, Option, Some, None, List, [], ◌∷◌, map, refl, ap, sym, ◌∙◌}
+use Rattle.std.proofs.Common.{◌≡◌, ℕ, Some, List, [], ◌∷◌, map, refl, ap, sym, ◌∙◌}
 use Rattle.sieve_syntax.specs.Tree as syntax
 use Rattle.sieve_syntax.specs.view.Tree as seen
 use Rattle.sieve_check.specs.Parted.{Cutting, command_labels, declaring_command, parted_block, parted_labelled, parted_node, parted_nodes, parted_test, parted_test_list, parted_tests}
@@ -7,24 +7,15 @@ use Rattle.sieve_table.specs.Table.{command_named}
 use Rattle.std.specs.declared.vec.Vec.{Vec}
 use Rattle.smallvec.specs.SmallVec.{SmallVec}
 use Rattle.std.specs.declared.alloc.Global.{Global}
-use Rattle.sieve_syntax.specs.declared.tree.Command as syntax_commands
-use Rattle.sieve_syntax.specs.declared.tree.Command.TheViews as syntax_command_views
-use Rattle.sieve_syntax.specs.declared.tree.Test as syntax_one_tests
-use Rattle.sieve_syntax.specs.declared.tree.Tests.TheFolds as syntax_test_folds
-use Rattle.sieve_syntax.specs.declared.tree.Tests.TheOpen as syntax_test_layers
-use Rattle.sieve_syntax.specs.declared.tree.Tests.TheVariants as syntax_test_variants
-use Rattle.sieve_check.specs.view.Head.{block_as}
-use Rattle.sieve_check.proofs.Views.{seen_command}
-use Rattle.sieve_reading.specs.Tree.{Argument, Node, node, Nodes, end_nodes, items, Block, no_block, block, nodes, more_nodes, Test, Tests, test_list, tests, more_tests}
-use Rattle.sieve_reading.specs.view.Tree.{tests_of, test_of, tests_step, test_step, node_of, command_step, argument_of}
-use Rattle.sieve_reading.specs.declared.tree.Argument as arguments
-use Rattle.sieve_reading.specs.declared.tree.Command as commands
-use Rattle.sieve_reading.specs.declared.tree.Command.TheFolds as command_folds
-use Rattle.sieve_reading.specs.declared.tree.Command.TheViews as command_views
-use Rattle.sieve_reading.specs.declared.tree.Test as one_tests
-use Rattle.sieve_reading.specs.declared.tree.Tests.TheFolds as test_folds
-use Rattle.sieve_reading.specs.declared.tree.Tests.TheOpen as test_layers
-use Rattle.sieve_reading.specs.declared.tree.Tests.TheVariants as test_variants
+use Rattle.sieve_syntax.proofs.Views as views
+use Rattle.sieve_reading.specs.Tree.{Argument, node, Nodes, end_nodes, items, block, nodes, more_nodes, test_list, tests, more_tests}
+use Rattle.sieve_reading.specs.view.Tree.{argument_of, node_of, parts_of, test_of, tests_of}
+use Rattle.sieve_syntax.specs.declared.tree.Argument as arguments
+use Rattle.sieve_syntax.specs.declared.tree.Command as commands
+use Rattle.sieve_syntax.specs.declared.tree.Command.TheViews as command_views
+use Rattle.sieve_syntax.specs.declared.tree.Test as one_tests
+use Rattle.sieve_syntax.specs.declared.tree.Tests.TheVariants as test_variants
+use Rattle.sieve_variables.specs.declared.part.Part as parts
 
 test_list_parted : (cutting : Cutting) (ts : List syntax.Test) → parted_test_list cutting (syntax.tests ts) ≡ tests (map (parted_test cutting) ts)
 test_list_parted cutting [] = refl
@@ -35,31 +26,15 @@ nodes-items : (ns : Nodes) → nodes (items ns) ≡ ns
 nodes-items end_nodes = refl
 nodes-items (more_nodes n ns) = ap (λ rest. more_nodes n rest) (nodes-items ns)
 
--- VIEWS
-
-seen_list : (ts : Vec one_tests.Test Global) → tests_of (test_variants.List ts) ≡ test_list (tests (map test_of ts.items))
-seen_list ts = ap tests_of (sym (test_variants.rolls-List ts)) ∙ test_folds.fold-roll-Tests Tests Test tests_step test_step (test_layers.List ts)
-
-seen_syntax_list : (ts : Vec syntax_one_tests.Test Global) → seen.tests_of (syntax_test_variants.List ts) ≡ syntax.test_list (syntax.tests (map seen.test_of ts.items))
-seen_syntax_list ts = ap seen.tests_of (sym (syntax_test_variants.rolls-List ts)) ∙ syntax_test_folds.fold-roll-Tests syntax.Tests syntax.Test seen.tests_step seen.test_step (syntax_test_layers.List ts)
-
-abbrev block_of : Option (Vec commands.Command Global) → Block
-block_of None = no_block
-block_of (Some v) = block (nodes (map node_of v.items))
-
-seen_whole : (name : SmallVec ℕ) (line : ℕ) (args : Vec arguments.Argument Global) (ts : test_variants.the_data) (inner : Option (Vec commands.Command Global)) → node_of (command_views.roll-Command (record { name = name; line = line; args = args; tests = ts; block = inner })) ≡ node name.items line (map argument_of args.items) (tests_of ts) (block_of inner)
-seen_whole name line args ts None = command_folds.fold-roll-Command Node command_step (record { name = name; line = line; args = args; tests = ts; block = None })
-seen_whole name line args ts (Some v) = command_folds.fold-roll-Command Node command_step (record { name = name; line = line; args = args; tests = ts; block = Some v })
-
 -- COPIES
 
 -- copies of the tests of a list make the copy of the list
-pub list_copied : (cutting : Cutting) (copies : Vec one_tests.Test Global) (ts : Vec syntax_one_tests.Test Global) (xs : List syntax_one_tests.Test) (whole : syntax_test_variants.the_data) → whole ≡ syntax_test_variants.List ts → xs ≡ ts.items → map test_of copies.items ≡ map (parted_test cutting) (map seen.test_of xs) → tests_of (test_variants.List copies) ≡ parted_tests cutting (seen.tests_of whole)
+pub list_copied : (cutting : Cutting) (copies : Vec (one_tests.Test (SmallVec parts.Part)) Global) (ts : Vec (one_tests.Test (SmallVec ℕ)) Global) (xs : List (one_tests.Test (SmallVec ℕ))) (whole : test_variants.the_data (SmallVec ℕ)) → whole ≡ test_variants.List ts → xs ≡ ts.items → map test_of copies.items ≡ map (parted_test cutting) (map seen.test_of xs) → tests_of (test_variants.List copies) ≡ parted_tests cutting (seen.tests_of whole)
 list_copied cutting copies ts xs whole is same e =
-    seen_list copies
+    views.list_seen parts_of copies
     ∙ ap (λ cs. test_list (tests cs)) (e ∙ ap (λ l. map (parted_test cutting) (map seen.test_of l)) same)
     ∙ sym (ap (λ cs. test_list cs) (test_list_parted cutting (map seen.test_of ts.items)))
-    ∙ sym (ap (parted_tests cutting) (ap seen.tests_of is ∙ seen_syntax_list ts))
+    ∙ sym (ap (parted_tests cutting) (ap seen.tests_of is ∙ views.list_seen seen.octets_of ts))
 
 -- the arguments of a command of that name
 abbrev pub parted_args : Cutting → List ℕ → List syntax.Argument → List Argument
@@ -70,20 +45,20 @@ abbrev pub within_block : Cutting → List ℕ → List syntax.Argument → Cutt
 within_block cutting name args = record cutting { declared = declaring_command cutting.declared name args }
 
 -- copies of a command's parts make the copy of the command
-pub command_copied : (cutting within : Cutting) (name : SmallVec ℕ) (args : Vec arguments.Argument Global) (ts : test_variants.the_data) (copies : Vec commands.Command Global) (whole : syntax_commands.Command) (inner : Vec syntax_commands.Command Global) (xs : List syntax_commands.Command) → let o = syntax_command_views.out-Command whole in
+pub command_copied : (cutting within : Cutting) (name : SmallVec ℕ) (args : Vec (arguments.Argument (SmallVec parts.Part)) Global) (ts : test_variants.the_data (SmallVec parts.Part)) (copies : Vec (commands.Command (SmallVec parts.Part)) Global) (whole : commands.Command (SmallVec ℕ)) (inner : Vec (commands.Command (SmallVec ℕ)) Global) (xs : List (commands.Command (SmallVec ℕ))) → let o = command_views.out-Command (SmallVec ℕ) whole in
     name.items ≡ o.name.items → map argument_of args.items ≡ parted_args cutting o.name.items (map seen.argument_of o.args.items) → tests_of ts ≡ parted_tests cutting (seen.tests_of o.tests) → o.block ≡ Some inner → xs ≡ inner.items → within ≡ within_block cutting o.name.items (map seen.argument_of o.args.items) → map node_of copies.items ≡ items (parted_nodes within (syntax.nodes (map seen.node_of xs)))
-    → node_of (command_views.roll-Command (record { name = name; line = o.line; args = args; tests = ts; block = Some copies })) ≡ parted_node cutting (seen.node_of whole)
+    → node_of (command_views.roll-Command (SmallVec parts.Part) (record { name = name; line = o.line; args = args; tests = ts; block = Some copies })) ≡ parted_node cutting (seen.node_of whole)
 command_copied cutting within name args ts copies whole inner xs n a t b same w e =
-    let o = syntax_command_views.out-Command whole in
+    let o = command_views.out-Command (SmallVec ℕ) whole in
     let inside = within_block cutting o.name.items (map seen.argument_of o.args.items) in
     let made : nodes (map node_of copies.items) ≡ parted_nodes inside (syntax.nodes (map seen.node_of inner.items)) =
     ap nodes e ∙ nodes-items (parted_nodes within (syntax.nodes (map seen.node_of xs)))
     ∙ ap (λ c. parted_nodes c (syntax.nodes (map seen.node_of xs))) w
     ∙ ap (λ l. parted_nodes inside (syntax.nodes (map seen.node_of l))) same in
-    seen_whole name o.line args ts (Some copies)
+    views.seen parts_of name o.line args ts (Some copies)
     ∙ ap (λ x. node x o.line (map argument_of args.items) (tests_of ts) (block (nodes (map node_of copies.items)))) n
     ∙ ap (λ x. node o.name.items o.line x (tests_of ts) (block (nodes (map node_of copies.items)))) a
     ∙ ap (λ x. node o.name.items o.line (parted_args cutting o.name.items (map seen.argument_of o.args.items)) x (block (nodes (map node_of copies.items)))) t
     ∙ ap (λ x. node o.name.items o.line (parted_args cutting o.name.items (map seen.argument_of o.args.items)) (parted_tests cutting (seen.tests_of o.tests)) (block x)) made
-    ∙ ap (λ x. node o.name.items o.line (parted_args cutting o.name.items (map seen.argument_of o.args.items)) (parted_tests cutting (seen.tests_of o.tests)) (parted_block inside (block_as x))) (sym b)
-    ∙ sym (ap (parted_node cutting) (seen_command whole))
+    ∙ ap (λ x. node o.name.items o.line (parted_args cutting o.name.items (map seen.argument_of o.args.items)) (parted_tests cutting (seen.tests_of o.tests)) (parted_block inside (seen.block_of x))) (sym b)
+    ∙ sym (ap (parted_node cutting) (views.seen_command seen.octets_of whole))

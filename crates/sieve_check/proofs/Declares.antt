@@ -26,7 +26,7 @@ name_declares_none scope name = chosen scope _ (is_new_local name scope) refl
 
 texts_declare_none : (scope : Scope) (ts : List Text) → (assigning_texts scope ts).declared ≡ scope.declared
 texts_declare_none scope [] = refl
-texts_declare_none scope (t ∷ ts) = texts_declare_none (assigning scope t.octets) ts ∙ name_declares_none scope t.octets
+texts_declare_none scope (t ∷ ts) = texts_declare_none (assigning scope t.string) ts ∙ name_declares_none scope t.string
 
 argument_declares_none : (scope : Scope) (role : Option Role) (a : Argument) → (assigning_argument scope role a).declared ≡ scope.declared
 argument_declares_none scope role (strings items bracketed) = chosen scope (assigning_texts scope items) (has_role NameToSet role) (texts_declare_none scope items)

@@ -12,7 +12,7 @@ use Rattle.sieve_check.specs.Element.{argument_elements, judged_labels, labelled
 use Rattle.sieve_reading.specs.Label.{fits, is_filled, labels_of}
 use Rattle.sieve_check.specs.Parted.{Cutting, parted_argument, parted_labelled, parted_text, parts_in}
 use Rattle.sieve_check.specs.Readable.{row_takes}
-use Rattle.sieve_reading.specs.Given.{collation_by, given_texts, given_variable, literal_in, literal_in_parts, number_in, part_shape, text_in, texts_in, variable_in, variable_in_parts}
+use Rattle.sieve_reading.specs.Given.{collation_by, given_texts, given_variable, literal_in, literal_in_parts, number_in, text_in, texts_in, variable_in, variable_in_parts}
 use Rattle.sieve_reading.specs.Role.{first_role}
 use Rattle.sieve_table.specs.Role.{has_role}
 use Rattle.sieve_reading.specs.Shape.{row_labels, shape_of, shapes_of, texts_shape}
@@ -39,15 +39,15 @@ length-map f (x ∷ xs) = ap suc (length-map f xs)
 
 module _ (cutting : Cutting) where
   -- each has the shape that it had
-  same_shape : (tags : List Tag) (r : Option Role) (a : syntax.Argument) → part_shape tags (parted_argument cutting r a) ≡ shape_of tags a
+  same_shape : (tags : List Tag) (r : Option Role) (a : syntax.Argument) → shape_of tags (parted_argument cutting r a) ≡ shape_of tags a
   same_shape tags r (syntax.strings items bracketed) = ap (λ n. texts_shape n bracketed) (length-map (parted_text cutting r) items)
   same_shape tags r (syntax.number value line) = refl
   same_shape tags r (syntax.tag name line) = refl
 
-  same_shapes : (tags : List Tag) (labels : List Label) (args : List syntax.Argument) → map (part_shape tags) (parted_labelled cutting labels args) ≡ shapes_of tags args
+  same_shapes : (tags : List Tag) (labels : List Label) (args : List syntax.Argument) → map (shape_of tags) (parted_labelled cutting labels args) ≡ shapes_of tags args
   same_shapes tags labels [] = refl
   same_shapes tags labels (a ∷ args) =
-      ap (λ s. s ∷ map (part_shape tags) (parted_labelled cutting (drop 1 labels) args)) (same_shape tags (first_role labels) a)
+      ap (λ s. s ∷ map (shape_of tags) (parted_labelled cutting (drop 1 labels) args)) (same_shape tags (first_role labels) a)
       ∙ ap (λ l. shape_of tags a ∷ l) (same_shapes tags (drop 1 labels) args)
 
 module _ (cutting : Cutting) (context : Context) where
@@ -60,8 +60,8 @@ module _ (cutting : Cutting) (context : Context) where
       by_role None true e fine = absurd (not_both e)
       by_role (Some one) true e fine = ap (λ x. is_none (option_and_then collation_named (literal_in_parts (parts_in cutting (Some x) octets)))) (sym (one_role role.ComparatorName one e)) ∙ fine
 
-  text_names : (r : Option Role) (t : syntax.Text) → breaches_at (the_text context r t) ≡ [] → (has_role role.ComparatorName r && is_none (option_and_then collation_named (literal_in_parts (parts_in cutting r t.octets)))) ≡ false
-  text_names r t none = names_well r t.octets (keeps (the_text context r t) none UnknownComparator)
+  text_names : (r : Option Role) (t : syntax.Text) → breaches_at (the_text context r t) ≡ [] → (has_role role.ComparatorName r && is_none (option_and_then collation_named (literal_in_parts (parts_in cutting r t.string)))) ≡ false
+  text_names r t none = names_well r t.string (keeps (the_text context r t) none UnknownComparator)
 
   text_is_variable : (r : Option Role) (octets : List ℕ) → (has_role role.NameToSet r && is_none (variable_in_parts (parts_in cutting r octets))) ≡ false
   text_is_variable r octets = only_in_role role.NameToSet (λ x. is_none (variable_in_parts (parts_in cutting x octets))) r refl
@@ -73,7 +73,7 @@ module _ (cutting : Cutting) (context : Context) where
   texts_name r [] none = tt
   texts_name r (t ∷ ts) none =
       let parts = none_in_front (the_text context r t) (text_elements context r ts) none in
-      (text_names r t parts.0, text_is_variable r t.octets, text_is_literal r t.octets, texts_name r ts parts.1)
+      (text_names r t parts.0, text_is_variable r t.string, text_is_literal r t.string, texts_name r ts parts.1)
 
   argument_keeps : (r : Option Role) (a : syntax.Argument) → breaches_in (argument_elements context r a) ≡ [] → Keeps r (parted_argument cutting r a)
   argument_keeps r (syntax.strings items bracketed) none = texts_name r items none
@@ -128,13 +128,13 @@ module _ (cutting : Cutting) (context : Context) (row : Row) (args : List syntax
       }
 
   -- and so are they when their strings are cut
-  pub as_parted : has_bad_tag (row_labels row args) ≡ false → has_bad_arguments row (shapes_of row.tags args) ts b ≡ false → breaches_in (row_elements context row args ts b) ≡ [] → AsRowSays row (map (part_shape row.tags) parted_args) parted_args ts b
+  pub as_parted : has_bad_tag (row_labels row args) ≡ false → has_bad_arguments row (shapes_of row.tags args) ts b ≡ false → breaches_in (row_elements context row args ts b) ≡ [] → AsRowSays row (map (shape_of row.tags) parted_args) parted_args ts b
   as_parted fine well none = subst (λ shapes. AsRowSays row shapes parted_args ts b) (sym (same_shapes cutting row.tags (row_labels row args) args)) (as_judged fine well none)
 
 all_true : (bad_tag filled own kind : Bool) → bad_tag ≡ false → filled ≡ true → own ≡ false → kind ≡ false → (not bad_tag && (filled && (not own && not kind))) ≡ true
 all_true bad_tag filled own kind t f o k = ap (λ b. not b && (filled && (not own && not kind))) t ∙ ap (λ b. b && (not own && not kind)) f ∙ ap (λ b. not b && not kind) o ∙ ap not k
 
-pub takes : (row : Row) (args : List Argument) (ts : syntax.Tests) (b : Bool) → AsRowSays row (map (part_shape row.tags) args) args ts b → row_takes row args ≡ true
+pub takes : (row : Row) (args : List Argument) (ts : syntax.Tests) (b : Bool) → AsRowSays row (map (shape_of row.tags) args) args ts b → row_takes row args ≡ true
 takes row args ts b says = all_true _ _ _ _ says.tags says.filled says.own says.kind
 
 -- WHAT AN ARGUMENT OF A FORM IS READ AS
@@ -151,12 +151,12 @@ some_value : (value : Option ℕ) → is_none value ≡ false → is_some value 
 some_value None is = absurd (never_both is)
 some_value (Some n) is = refl
 
-pub text_good : (tags : List Tag) (r : Option Role) (a : Argument) → Keeps r a → fits form.List (part_shape tags a) ≡ true → is_some (texts_in (Some a)) ≡ true
+pub text_good : (tags : List Tag) (r : Option Role) (a : Argument) → Keeps r a → fits form.List (shape_of tags a) ≡ true → is_some (texts_in (Some a)) ≡ true
 text_good tags r (strings items bracketed) keeps fit = refl
 text_good tags r (number value line) keeps fit = absurd (not_both fit)
 text_good tags r (tag name line) keeps fit = absurd (not_both fit)
 
-pub number_good : (tags : List Tag) (r : Option Role) (a : Argument) → Keeps r a → fits form.Number (part_shape tags a) ≡ true → is_some (number_in (Some a)) ≡ true
+pub number_good : (tags : List Tag) (r : Option Role) (a : Argument) → Keeps r a → fits form.Number (shape_of tags a) ≡ true → is_some (number_in (Some a)) ≡ true
 number_good tags r (strings items bracketed) keeps fit = absurd (no_number (nat_eq (length items) 1 && not bracketed) fit)
 number_good tags r (number value line) keeps fit = some_value value keeps
 number_good tags r (tag name line) keeps fit = absurd (not_both fit)
@@ -168,7 +168,7 @@ two_are_no_text : (n : ℕ) (bracketed : Bool) → fits form.One (texts_shape (s
 two_are_no_text n bracketed fit = no_list (nat_eq (suc (suc n)) 1 && not bracketed) (ap (λ b. b && not bracketed) (not_one n)) fit
 
 -- one string without brackets
-pub text_good_alone : (tags : List Tag) (r : Option Role) (a : Argument) → Keeps r a → fits form.One (part_shape tags a) ≡ true → is_some (text_in (Some a)) ≡ true
+pub text_good_alone : (tags : List Tag) (r : Option Role) (a : Argument) → Keeps r a → fits form.One (shape_of tags a) ≡ true → is_some (text_in (Some a)) ≡ true
 text_good_alone tags r (strings [] bracketed) keeps fit = absurd (no_list (nat_eq 0 1 && not bracketed) refl fit)
 text_good_alone tags r (strings (t ∷ []) bracketed) keeps fit = refl
 text_good_alone tags r (strings (t ∷ s ∷ ts) bracketed) keeps fit = absurd (two_are_no_text (length ts) bracketed fit)
@@ -179,23 +179,23 @@ is_some_of : {X : Type 0} (c : Bool) (o : Option X) → c ≡ true → (c && is_
 is_some_of c None is e = absurd (never_both (sym (ap (λ b. b && true) is) ∙ e))
 is_some_of c (Some x) is e = refl
 
-pub collation_good : (tags : List Tag) (r : Option Role) (a : Argument) → has_role role.ComparatorName r ≡ true → Keeps r a → fits form.One (part_shape tags a) ≡ true → is_some (collation_by (Some a)) ≡ true
+pub collation_good : (tags : List Tag) (r : Option Role) (a : Argument) → has_role role.ComparatorName r ≡ true → Keeps r a → fits form.One (shape_of tags a) ≡ true → is_some (collation_by (Some a)) ≡ true
 collation_good tags r (strings [] bracketed) is keeps fit = absurd (no_list (nat_eq 0 1 && not bracketed) refl fit)
-collation_good tags r (strings (t ∷ []) bracketed) is keeps fit = is_some_of (has_role role.ComparatorName r) (option_and_then collation_named (literal_in_parts t.parts)) is keeps.0
+collation_good tags r (strings (t ∷ []) bracketed) is keeps fit = is_some_of (has_role role.ComparatorName r) (option_and_then collation_named (literal_in_parts t.string)) is keeps.0
 collation_good tags r (strings (t ∷ s ∷ ts) bracketed) is keeps fit = absurd (two_are_no_text (length ts) bracketed fit)
 collation_good tags r (number value line) is keeps fit = absurd (not_both fit)
 collation_good tags r (tag name line) is keeps fit = absurd (not_both fit)
 
-pub variable_good : (tags : List Tag) (r : Option Role) (a : Argument) → has_role role.NameToSet r ≡ true → Keeps r a → fits form.One (part_shape tags a) ≡ true → is_some (variable_in (Some a)) ≡ true
+pub variable_good : (tags : List Tag) (r : Option Role) (a : Argument) → has_role role.NameToSet r ≡ true → Keeps r a → fits form.One (shape_of tags a) ≡ true → is_some (variable_in (Some a)) ≡ true
 variable_good tags r (strings [] bracketed) is keeps fit = absurd (no_list (nat_eq 0 1 && not bracketed) refl fit)
-variable_good tags r (strings (t ∷ []) bracketed) is keeps fit = is_some_of (has_role role.NameToSet r) (variable_in_parts t.parts) is keeps.1
+variable_good tags r (strings (t ∷ []) bracketed) is keeps fit = is_some_of (has_role role.NameToSet r) (variable_in_parts t.string) is keeps.1
 variable_good tags r (strings (t ∷ s ∷ ts) bracketed) is keeps fit = absurd (two_are_no_text (length ts) bracketed fit)
 variable_good tags r (number value line) is keeps fit = absurd (not_both fit)
 variable_good tags r (tag name line) is keeps fit = absurd (not_both fit)
 
-pub literal_good : (tags : List Tag) (r : Option Role) (a : Argument) → has_role role.ScriptName r ≡ true → Keeps r a → fits form.One (part_shape tags a) ≡ true → is_some (literal_in (Some a)) ≡ true
+pub literal_good : (tags : List Tag) (r : Option Role) (a : Argument) → has_role role.ScriptName r ≡ true → Keeps r a → fits form.One (shape_of tags a) ≡ true → is_some (literal_in (Some a)) ≡ true
 literal_good tags r (strings [] bracketed) is keeps fit = absurd (no_list (nat_eq 0 1 && not bracketed) refl fit)
-literal_good tags r (strings (t ∷ []) bracketed) is keeps fit = is_some_of (has_role role.ScriptName r) (literal_in_parts t.parts) is keeps.2
+literal_good tags r (strings (t ∷ []) bracketed) is keeps fit = is_some_of (has_role role.ScriptName r) (literal_in_parts t.string) is keeps.2
 literal_good tags r (strings (t ∷ s ∷ ts) bracketed) is keeps fit = absurd (two_are_no_text (length ts) bracketed fit)
 literal_good tags r (number value line) is keeps fit = absurd (not_both fit)
 literal_good tags r (tag name line) is keeps fit = absurd (not_both fit)

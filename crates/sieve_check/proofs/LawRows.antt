@@ -61,7 +61,7 @@ astray_row reads = not_both reads.0.1.0
 
 -- if size :over 5 { keep; } require "a";
 order_row : map written_by (elements_of (syntax.node (codes "if") 1 [] (syntax.one_test (syntax.test (codes "size") 1 (syntax.tag (codes "over") 1 ∷ syntax.number (Some 5) 1 ∷ []) syntax.no_tests)) (syntax.block (syntax.nodes (plain (codes "keep") 2 ∷ [])))
-    ∷ syntax.node (codes "require") 3 (syntax.strings (record { octets = codes "a"; line = 3 } ∷ []) false ∷ []) syntax.no_tests syntax.no_block ∷ []))
+    ∷ syntax.node (codes "require") 3 (syntax.strings (record { string = codes "a"; line = 3 } ∷ []) false ∷ []) syntax.no_tests syntax.no_block ∷ []))
     ≡ identifier (codes "if") 1 ∷ identifier (codes "size") 1 ∷ number_word (Some 5) 1 ∷ identifier (codes "keep") 2 ∷ identifier (codes "require") 3 ∷ string_word (codes "a") 3 ∷ []
 unfolding nodes_elements node_elements block_elements tests_elements test_elements command_named test_named behind
 order_row = refl
@@ -69,7 +69,7 @@ order_row = refl
 -- A STRING, AND WHAT IS REQUIRED
 
 abbrev string : List ℕ → ℕ → syntax.Argument
-string octets line = syntax.strings (record { octets = octets; line = line } ∷ []) false
+string octets line = syntax.strings (record { string = octets; line = line } ∷ []) false
 
 abbrev requiring_one : List ℕ → ℕ → syntax.Node
 requiring_one name line = syntax.node (codes "require") line (string name line ∷ []) syntax.no_tests syntax.no_block
@@ -112,7 +112,7 @@ early_cut_row = refl
 
 -- redirect "${a}";
 bare_row : map bare_written_node (syntax.node (codes "redirect") 7 (string (codes "${a}") 8 ∷ []) syntax.no_tests syntax.no_block ∷ [])
-    ≡ node (codes "redirect") 7 (strings (record { parts = []; line = 8 } ∷ []) false ∷ []) no_tests no_block ∷ []
+    ≡ node (codes "redirect") 7 (strings (record { string = []; line = 8 } ∷ []) false ∷ []) no_tests no_block ∷ []
 bare_row = refl
 
 -- NAMES THAT ARE WRITTEN

@@ -39,11 +39,11 @@ in_turn (x ∷ xs) ys scope = in_turn xs ys (mentioned scope x)
 -- NAMES THAT ARE SET
 
 abbrev octets_of : List Text → List (List ℕ)
-octets_of ts = map (λ t. t.octets) ts
+octets_of ts = map (λ t. t.string) ts
 
 texts_set : (ts : List Text) (scope : Scope) → assigning_texts scope ts ≡ behind_mentions scope (map sets (octets_of ts))
 texts_set [] scope = refl
-texts_set (t ∷ ts) scope = texts_set ts (assigning scope t.octets)
+texts_set (t ∷ ts) scope = texts_set ts (assigning scope t.string)
 
 abbrev if_in_role : Bool → Argument → List (List ℕ)
 if_in_role b a = if b then octets_in a else []
@@ -82,7 +82,7 @@ declaring scope declared = record scope { declared = declared }
 
 texts_declare : (ts : List Text) (scope : Scope) → declaring scope (declaring_texts scope.declared ts) ≡ behind_mentions scope (map declares (octets_of ts))
 texts_declare [] scope = refl
-texts_declare (t ∷ ts) scope = texts_declare ts (declaring scope (with_name (folded_name t.octets) scope.declared))
+texts_declare (t ∷ ts) scope = texts_declare ts (declaring scope (with_name (folded_name t.string) scope.declared))
 
 argument_declares : (a : Argument) (scope : Scope) (role : Option Role) → declaring scope (declaring_argument scope.declared role a) ≡ behind_mentions scope (map declares (if_in_role (has_role NamesToDeclare role) a))
 argument_declares (strings items bracketed) scope role = by_role (has_role NamesToDeclare role)

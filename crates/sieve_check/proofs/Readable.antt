@@ -10,7 +10,8 @@ use Rattle.sieve_check.specs.Readable.{IsReadable, ReadsBlock, ReadsNode, ReadsN
 use Rattle.sieve_reading.specs.Reading as reading
 use Rattle.sieve_reading.specs.Reading.{Leaf, include_leaf, keep_leaf, Settings}
 use Rattle.sieve_reading.specs.CommandReading.{redirect_from, settings_with, command_reading, command_reading_by, fileinto_from, flags_by, flags_from, place_of, set_from}
-use Rattle.sieve_reading.specs.Given.{has_tag, labels_in, part_shape}
+use Rattle.sieve_reading.specs.Given.{has_tag}
+use Rattle.sieve_reading.specs.Shape.{row_labels, shape_of}
 use Rattle.sieve_reading.specs.Label.{slots_of}
 use Rattle.sieve_table.specs.Table.{command_named, command_row, flag_command, naming_slot, test_named}
 use Rattle.sieve_reading.specs.Tree.{Argument, Block, Tests, no_tests, Nodes, end_nodes, more_nodes, no_block, block, items, nodes}
@@ -50,7 +51,7 @@ module _ (cutting within : Cutting) (context : Context) where
 
   -- arguments of a command of that kind, with these tests and this end, are as its row says
   abbrev Says : CommandKind → List Argument → syntax.Tests → (ends_by_block : Bool) → Type 0
-  Says k args ts ends_by_block = AsRowSays (command_row k) (map (part_shape (command_row k).tags) args) args ts ends_by_block
+  Says k args ts ends_by_block = AsRowSays (command_row k) (map (shape_of (command_row k).tags) args) args ts ends_by_block
 
   sets_all : (variable : Option Variable) (modifiers : Modifiers) (value : Option (List Part)) → is_some variable ≡ true → is_some value ≡ true → is_some (set_from variable modifiers value) ≡ true
   sets_all None modifiers value n v = absurd (not_both n)
@@ -78,10 +79,10 @@ module _ (cutting within : Cutting) (context : Context) where
 
   -- a command that changes flags, whatever its name
   flags_stand : (how : FlagChange) (name : List ℕ) (args : List Argument) (ts : syntax.Tests) (ending : syntax.Block) → let row = flag_command name in
-      AsRowSays row (map (part_shape row.tags) args) args ts (has_block ending) → Stands context.follows_if (option_map reading.reads_act (flags_by how (labels_in row args) args)) (parted_tests cutting ts) (parted_block within ending)
+      AsRowSays row (map (shape_of row.tags) args) args ts (has_block ending) → Stands context.follows_if (option_map reading.reads_act (flags_by how (row_labels row args) args)) (parted_tests cutting ts) (parted_block within ending)
   flags_stand how name args ts ending says =
       let row = flag_command name in
-      let shapes = map (part_shape row.tags) args in
+      let shapes = map (shape_of row.tags) args in
       let slots = slots_of row shapes in
       let front = naming_slot form.One role.NameToSet in
       stands_acting _ (parted_tests cutting ts) (parted_block within ending)
@@ -138,7 +139,7 @@ module _ (cutting within : Cutting) (context : Context) where
   stands command.RemoveFlag args ts ending says place = flags_stand change.Remove _ args ts ending says
   stands command.Include args ts ending says place =
       let row = command_row command.Include in
-      let labels = labels_in row args in
+      let labels = row_labels row args in
       stands_acting _ (parted_tests cutting ts) (parted_block within ending)
       (maps_some reading.reads_act _ (maps_some (include_leaf (place_of labels) (has_tag tag.Once labels) (has_tag tag.Optional labels)) _ (literal_is_read row.tags row.slots args refl refl says.filled says.keep)))
       (none_fit cutting ts says.tests) (none_there ending says.block)

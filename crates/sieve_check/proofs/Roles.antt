@@ -6,7 +6,8 @@ use Rattle.std.specs.Prelude.{if◌then◌else◌, is_none}
 use Rattle.std.specs.Option.{option_and_then}
 use Rattle.match_text.specs.Comparator.{collation_named}
 use Rattle.sieve_reading.specs.Label.{Expected, expected_behind, fits, is_unfit, label_at, labels_from, no_slots, slot_label, slots_left, value_label, value_slots}
-use Rattle.sieve_reading.specs.Given.{in_role, literal_in_parts, part_shape, variable_in_parts}
+use Rattle.sieve_reading.specs.Given.{in_role, literal_in_parts, variable_in_parts}
+use Rattle.sieve_reading.specs.Shape.{shape_of}
 use Rattle.sieve_reading.specs.Role.{first_role, role_of}
 use Rattle.sieve_table.specs.Role.{has_role, same_role}
 use Rattle.sieve_table.specs.Table.{tag_row}
@@ -33,7 +34,7 @@ never_both e = cc
 -- script's name stand for themselves
 abbrev pub NamesWell : Option Role → List Text → Type 0
 NamesWell r [] = Unit {0}
-NamesWell r (t ∷ ts) = ((has_role role.ComparatorName r && is_none (option_and_then collation_named (literal_in_parts t.parts))) ≡ false) × ((has_role role.NameToSet r && is_none (variable_in_parts t.parts)) ≡ false) × ((has_role role.ScriptName r && is_none (literal_in_parts t.parts)) ≡ false) × NamesWell r ts
+NamesWell r (t ∷ ts) = ((has_role role.ComparatorName r && is_none (option_and_then collation_named (literal_in_parts t.string))) ≡ false) × ((has_role role.NameToSet r && is_none (variable_in_parts t.string)) ≡ false) × ((has_role role.ScriptName r && is_none (literal_in_parts t.string)) ≡ false) × NamesWell r ts
 
 -- and a number has a value
 abbrev pub Keeps : Option Role → Argument → Type 0
@@ -124,14 +125,14 @@ at_argument good true a rest here later = here refl
 at_argument good false a rest here later = later refl
 
 module _ (wanted : Role) (form : Form) (tags_take : (t : Tag) → MayTake wanted form (tag_row t).takes) (tags : List Tag) (good : Argument → Bool)
-    (step : (r : Option Role) (a : Argument) → has_role wanted r ≡ true → Keeps r a → fits form (part_shape tags a) ≡ true → good a ≡ true) where
+    (step : (r : Option Role) (a : Argument) → has_role wanted r ≡ true → Keeps r a → fits form (shape_of tags a) ≡ true → good a ≡ true) where
   -- where all that is of that form passes, so does the first argument in the role
-  pub role_fits : (args : List Argument) (expected : Expected) → MayTake wanted form expected.awaited → AllTake wanted form expected.slots → AllKeep (labels_from expected (map (part_shape tags) args)) args
-      → none_or good (in_role wanted (labels_from expected (map (part_shape tags) args)) args) ≡ true
+  pub role_fits : (args : List Argument) (expected : Expected) → MayTake wanted form expected.awaited → AllTake wanted form expected.slots → AllKeep (labels_from expected (map (shape_of tags) args)) args
+      → none_or good (in_role wanted (labels_from expected (map (shape_of tags) args)) args) ≡ true
   role_fits [] expected mine all keeps = refl
   role_fits (a ∷ args) expected mine all keeps =
-      let s = part_shape tags a in
-      at_argument good (has_role wanted (role_of (label_at expected s))) a (in_role wanted (labels_from (expected_behind expected s) (map (part_shape tags) args)) args)
+      let s = shape_of tags a in
+      at_argument good (has_role wanted (role_of (label_at expected s))) a (in_role wanted (labels_from (expected_behind expected s) (map (shape_of tags) args)) args)
       (λ is. step (role_of (label_at expected s)) a is keeps.0 (label_fits wanted form expected s mine all is))
       (λ not. role_fits args (expected_behind expected s) (awaited_behind wanted form tags_take expected s) (slots_behind wanted form expected s all) keeps.1)
 
@@ -177,11 +178,11 @@ module _ (wanted : Role) where
   found_at false a rest later = later refl
 
   -- where all fit and none is left, one was in that role
-  pub role_found : (tags : List Tag) (args : List Argument) (expected : Expected) → list_any is_unfit (labels_from expected (map (part_shape tags) args)) ≡ false → no_slots (slots_left expected (map (part_shape tags) args)) ≡ true → is_to_come expected.slots ≡ true
-      → is_some (in_role wanted (labels_from expected (map (part_shape tags) args)) args) ≡ true
+  pub role_found : (tags : List Tag) (args : List Argument) (expected : Expected) → list_any is_unfit (labels_from expected (map (shape_of tags) args)) ≡ false → no_slots (slots_left expected (map (shape_of tags) args)) ≡ true → is_to_come expected.slots ≡ true
+      → is_some (in_role wanted (labels_from expected (map (shape_of tags) args)) args) ≡ true
   role_found tags [] expected fit none is = absurd (none_to_come expected.slots none is)
   role_found tags (a ∷ args) expected fit none is =
-      let s = part_shape tags a in
-      let parts = or_parts (is_unfit (label_at expected s)) (list_any is_unfit (labels_from (expected_behind expected s) (map (part_shape tags) args))) fit in
-      found_at (has_role wanted (role_of (label_at expected s))) a (in_role wanted (labels_from (expected_behind expected s) (map (part_shape tags) args)) args)
+      let s = shape_of tags a in
+      let parts = or_parts (is_unfit (label_at expected s)) (list_any is_unfit (labels_from (expected_behind expected s) (map (shape_of tags) args))) fit in
+      found_at (has_role wanted (role_of (label_at expected s))) a (in_role wanted (labels_from (expected_behind expected s) (map (shape_of tags) args)) args)
       (λ not. role_found tags args (expected_behind expected s) parts.1 none (still expected s parts.0 not is))

@@ -28,7 +28,7 @@ use Rattle.sieve_table.specs.declared.rule.Rule.TheVariants.{RequirePlace, Unkno
 
 -- a string on line 1, a string without brackets as an argument, and a tag
 abbrev text : List ℕ → syntax.Text
-text octets = record { octets = octets; line = 1 }
+text octets = record { string = octets; line = 1 }
 
 abbrev one : List ℕ → syntax.Argument
 one octets = syntax.strings (text octets ∷ []) false
@@ -186,7 +186,7 @@ flags_row = refl
 
 -- a string on a line
 abbrev one_at : ℕ → List ℕ → syntax.Argument
-one_at line octets = syntax.strings (record { octets = octets; line = line } ∷ []) false
+one_at line octets = syntax.strings (record { string = octets; line = line } ∷ []) false
 
 -- a command of that name with one string, and one that sets a variable
 abbrev naming : List ℕ → ℕ → List ℕ → syntax.Node

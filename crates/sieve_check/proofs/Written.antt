@@ -43,11 +43,11 @@ before_close xs v w none same =
 module _ (context : Context) where
   more_texts : (role : Option Role) (ts : List Text) → AreWritten (text_elements context role ts) (written_more ts)
   more_texts role [] = refl
-  more_texts role (t ∷ ts) = ap (λ l. string_word t.octets t.line ∷ l) (more_texts role ts)
+  more_texts role (t ∷ ts) = ap (λ l. string_word t.string t.line ∷ l) (more_texts role ts)
 
   texts : (role : Option Role) (ts : List Text) → AreWritten (text_elements context role ts) (written_texts ts)
   texts role [] = refl
-  texts role (t ∷ ts) = ap (λ l. string_word t.octets t.line ∷ l) (more_texts role ts)
+  texts role (t ∷ ts) = ap (λ l. string_word t.string t.line ∷ l) (more_texts role ts)
 
   argument : (role : Option Role) (a : Argument) → AreWritten (argument_elements context role a) (written_argument a)
   argument role (strings items true) = before_close (text_elements context role items) (written_texts items) (close_bracket ∷ []) refl (texts role items)

@@ -8,7 +8,7 @@ use Rattle.sieve_reading.specs.Tree.{Text, Argument, strings, number, tag, Test,
 -- A TEXT'S TREE
 
 abbrev pub bare_written_text : syntax.Text → Text
-bare_written_text t = record { parts = []; line = t.line }
+bare_written_text t = record { string = []; line = t.line }
 
 abbrev pub bare_written_argument : syntax.Argument → Argument
 bare_written_argument (syntax.strings items bracketed) = strings (map bare_written_text items) bracketed
@@ -43,7 +43,7 @@ abbrev mutual
 -- A CHECKED TREE
 
 abbrev pub bare_text : Text → Text
-bare_text t = record { parts = []; line = t.line }
+bare_text t = record { string = []; line = t.line }
 
 abbrev pub bare_argument : Argument → Argument
 bare_argument (strings items bracketed) = strings (map bare_text items) bracketed

@@ -100,7 +100,7 @@ number_breaks value rule = false
 abbrev pub breaks : Element → Rule → Bool
 breaks (the_command context name line args ts ending) rule = command_breaks context (command_named name) args ts ending rule
 breaks (the_test context name line args ts) rule = test_breaks context (test_named name) args ts rule
-breaks (the_text context role text) rule = text_breaks context role text.octets rule
+breaks (the_text context role text) rule = text_breaks context role text.string rule
 breaks (the_number value line) rule = number_breaks value rule
 
 -- the line of an element

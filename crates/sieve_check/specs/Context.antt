@@ -54,7 +54,7 @@ requiring required name = record {
 -- with what strings name, and those of arguments
 abbrev pub requiring_texts : Required → List Text → Required
 requiring_texts required [] = required
-requiring_texts required (t ∷ ts) = requiring_texts (requiring required t.octets) ts
+requiring_texts required (t ∷ ts) = requiring_texts (requiring required t.string) ts
 
 abbrev pub requiring_argument : Required → Argument → Required
 requiring_argument required (strings items bracketed) = requiring_texts required items

@@ -24,7 +24,7 @@ pub data Mention : Type 0 where
 
 -- the strings of an argument
 abbrev pub octets_in : Argument → List (List ℕ)
-octets_in (strings items bracketed) = map (λ t. t.octets) items
+octets_in (strings items bracketed) = map (λ t. t.string) items
 octets_in (number value line) = []
 octets_in (tag name line) = []
 

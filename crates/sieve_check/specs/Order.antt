@@ -13,7 +13,7 @@ use Rattle.sieve_check.specs.Element.{Element, the_command, the_test, the_text, 
 abbrev pub written_by : Element → Word
 written_by (the_command context name line args ts ending) = identifier name line
 written_by (the_test context name line args ts) = identifier name line
-written_by (the_text context role text) = string_word text.octets text.line
+written_by (the_text context role text) = string_word text.string text.line
 written_by (the_number value line) = number_word value line
 
 -- identifiers, strings and numbers

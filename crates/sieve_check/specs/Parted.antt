@@ -31,7 +31,7 @@ parts_in cutting role octets =
     if takes_references cutting.required role then map (scoped_part cutting.declared) (parts_of octets) else literal octets ∷ []
 
 abbrev pub parted_text : Cutting → Option Role → syntax.Text → Text
-parted_text cutting role t = record { parts = parts_in cutting role t.octets; line = t.line }
+parted_text cutting role t = record { string = parts_in cutting role t.string; line = t.line }
 
 abbrev pub parted_argument : Cutting → Option Role → syntax.Argument → Argument
 parted_argument cutting role (syntax.strings items bracketed) = strings (map (parted_text cutting role) items) bracketed

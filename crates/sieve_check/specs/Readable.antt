@@ -6,7 +6,7 @@ use Rattle.sieve_reading.specs.Reading as reading
 use Rattle.sieve_reading.specs.Reading.{TestReading, reads_always, reads_never, reads_ask, reads_all, reads_any, reads_not, CommandReading, Leaf}
 use Rattle.sieve_reading.specs.CommandReading.{command_reading}
 use Rattle.sieve_reading.specs.TestReading.{test_reading}
-use Rattle.sieve_reading.specs.Given.{part_shape}
+use Rattle.sieve_reading.specs.Shape.{shape_of}
 use Rattle.sieve_reading.specs.Script.{Commands, no_commands, stops, returns, acts, chooses, Condition, branch_condition, conditions_in, script_of}
 use Rattle.sieve_table.specs.Table.{Row, command_named, test_named, command_row, test_row}
 use Rattle.sieve_reading.specs.Tree.{Argument, Test, test, Tests, no_tests, one_test, test_list, TestList, end_tests, more_tests, Node, node, Block, no_block, block, Nodes, end_nodes, more_nodes, nodes}
@@ -31,7 +31,7 @@ abbrev pub are_in_order : Row → List Shape → Bool
 are_in_order row shapes = not (has_bad_tag (labels_of row shapes)) && (is_filled row shapes && (not (lacks_own (labels_of row shapes)) && not (lacks_kind row.one_of (labels_of row shapes))))
 
 abbrev pub row_takes : Row → List Argument → Bool
-row_takes row args = are_in_order row (map (part_shape row.tags) args)
+row_takes row args = are_in_order row (map (shape_of row.tags) args)
 
 -- there is such a test, and such a command, and it takes these arguments
 abbrev pub test_takes : Option TestKind → List Argument → Bool

@@ -28,7 +28,7 @@ no_names = record { assigned = []; declared = [] }
 -- with those that strings name
 abbrev pub declaring_texts : List (List ℕ) → List Text → List (List ℕ)
 declaring_texts declared [] = declared
-declaring_texts declared (t ∷ ts) = declaring_texts (with_name (folded_name t.octets) declared) ts
+declaring_texts declared (t ∷ ts) = declaring_texts (with_name (folded_name t.string) declared) ts
 
 -- with those of an argument in its role
 abbrev pub declaring_argument : List (List ℕ) → Option Role → Argument → List (List ℕ)
@@ -58,7 +58,7 @@ assigning scope name = if is_new_local name scope then record scope { assigned =
 -- with those that strings name
 abbrev pub assigning_texts : Scope → List Text → Scope
 assigning_texts scope [] = scope
-assigning_texts scope (t ∷ ts) = assigning_texts (assigning scope t.octets) ts
+assigning_texts scope (t ∷ ts) = assigning_texts (assigning scope t.string) ts
 
 -- with those of an argument in its role
 abbrev pub assigning_argument : Scope → Option Role → Argument → Scope

@@ -167,7 +167,7 @@ fn check_text(
 ) -> Result<(), CheckFault>
     ensures { Finds (breaches_at (the_text (context_as context.entry) role (text_of text.now))) result }
 {
-    match first_broken(alloc, &RULES, context, role, &text.octets)? {
+    match first_broken(alloc, &RULES, context, role, &text.string)? {
         Some(rule) => Err(CheckFault::Breach {
             line: text.line,
             rule,

@@ -19,7 +19,7 @@ ghost use Rattle.sieve_variables.specs.view.Part.{part_of};
 use crate::context::{Required, required_in, takes_references};
 use crate::scope::declare_argument;
 use sieve_base::SmallOctets;
-use sieve_reading::{Argument, Command, Shaped, Test, Tests, Text, role_of, row_expected};
+use sieve_reading::{Argument, Command, Test, Tests, Text, role_of, row_expected, shape_of};
 use sieve_table::{Role, Row, command_named, names_variable, test_named};
 use sieve_variables::{Names, Part, Parts, Variable, parts_of, scoped_parts};
 use std::alloc::{AllocError, Global};
@@ -84,7 +84,7 @@ fn parted_text(
     ensures { IfOk result (λ copy. text_of copy ≡ parted_text (cutting_as cutting.entry) role (seen.text_of text.now)) }
 {
     Ok(Text {
-        parts: parts_in(alloc, cutting, role, &text.octets)?,
+        string: parts_in(alloc, cutting, role, &text.string)?,
         line: text.line,
     })
 }
@@ -142,7 +142,7 @@ fn parted_by_row(
     let mut copies = Vec::with_capacity(alloc, args.len())?;
     let mut expected = row_expected(row, args);
     for argument in args {
-        let shape = argument.shape(row.tags);
+        let shape = shape_of(row.tags, argument);
         let role = role_of(expected.label(shape));
         copies.push(parted_argument(alloc, cutting, role, argument)?)?;
         expected = expected.behind(shape);
@@ -264,7 +264,7 @@ fn declare_by_row(
 {
     let mut expected = row_expected(row, args);
     for argument in args {
-        let shape = argument.shape(row.tags);
+        let shape = shape_of(row.tags, argument);
         let role = role_of(expected.label(shape));
         declare_argument(alloc, &mut *declared, role, argument)?;
         expected = expected.behind(shape);

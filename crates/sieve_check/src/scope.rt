@@ -53,7 +53,7 @@ fn declare_texts(alloc: Global, declared: &mut Names, texts: &[Text]) -> Result<
     ensures { OnOk result (declared.new ≡ declaring_texts declared.old (map text_of texts.now)) }
 {
     for text in texts {
-        declare(alloc, &mut *declared, &text.octets)?;
+        declare(alloc, &mut *declared, &text.string)?;
     }
     Ok(())
 }
@@ -153,7 +153,7 @@ impl Scope {
         ensures { OnOk result (self.new ≡ assigning_texts self.old (map text_of texts.now)) }
     {
         for text in texts {
-            self.assign(alloc, &text.octets)?;
+            self.assign(alloc, &text.string)?;
         }
         Ok(())
     }

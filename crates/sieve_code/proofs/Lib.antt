@@ -3,7 +3,6 @@ pub mod Tails
 pub mod Conditions
 pub mod Chains
 pub mod Law
-pub mod Views
 pub mod Suffixes
 pub mod Putting
 pub mod Placing

@@ -38,7 +38,7 @@ abbrev list_of : List ℕ → List Test → Test
 list_of name ts = test name 1 [] (test_list (tests ts))
 
 abbrev string : List ℕ → Argument
-string octets = strings (record { parts = literal octets ∷ []; line = 1 } ∷ []) false
+string octets = strings (record { string = literal octets ∷ []; line = 1 } ∷ []) false
 
 abbrev header_test : Test
 header_test = test (codes "header") 1 (tag (codes "contains") 1 ∷ string (codes "Subject") ∷ string (codes "[list]") ∷ []) no_tests

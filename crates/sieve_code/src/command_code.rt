@@ -10,7 +10,7 @@ use crate::op::Op;
 use crate::strings::command_op;
 use crate::tail::Tail;
 use crate::test_code::put_first;
-use sieve_reading::{Command, CommandReading};
+use sieve_reading::{Command, CommandReading, read_command};
 use std::alloc::{AllocError, Global};
 
 /// What stands at the front of a tail.
@@ -95,7 +95,7 @@ fn put_command(
     ensures within { IfOk result (λ new. new.behind ≤ length tail.new) }
     ensures value { IfOk result (λ new. branches_as new tail.new ≡ node_before (node_of command.now) (branches_as front tail.old)) }
 {
-    match command.reading() {
+    match read_command(command) {
         Some(CommandReading::If) => {
             put_branch(alloc, command, front, tail)?;
             Ok(without_branch(tail))

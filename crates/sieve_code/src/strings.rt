@@ -43,7 +43,7 @@ fn copied_strings(alloc: Global, texts: &[Text]) -> Result<Strings, AllocError>
 {
     let mut copies = Strings::with_capacity(alloc, texts.len())?;
     for text in texts {
-        copies.push(copied_parts(alloc, &text.parts)?)?;
+        copies.push(copied_parts(alloc, &text.string)?)?;
     }
     Ok(copies)
 }

@@ -10,7 +10,7 @@ ghost use Rattle.sieve_code.specs.view.Op.{op_as};
 use crate::op::Op;
 use crate::strings::test_op;
 use crate::tail::Tail;
-use sieve_reading::{Ask, Test, TestReading, Tests};
+use sieve_reading::{Ask, Test, TestReading, Tests, read_test};
 use std::alloc::{AllocError, Global};
 
 /// The operation that sets the register.
@@ -54,7 +54,7 @@ fn put_joint(follows: bool, truth: bool, end: usize, tail: &mut Tail) -> Result<
 fn put_test(alloc: Global, test: &Test, tail: &mut Tail) -> Result<(), AllocError>
     ensures { OnOk result (tail.new ≡ test_before (test_of test.now) tail.old) }
 {
-    match test.reading() {
+    match read_test(test) {
         Some(TestReading::Always) => tail.put(Op::True),
         Some(TestReading::Never) => tail.put(Op::False),
         None => tail.put(Op::False),

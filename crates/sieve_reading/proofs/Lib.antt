@@ -1,3 +1,2 @@
-mod Fusing
 mod Labelling
 mod PositionalRows

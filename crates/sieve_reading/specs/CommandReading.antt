@@ -18,7 +18,8 @@ use Rattle.sieve_variables.specs.Variable.{Variable}
 use Rattle.sieve_variables.specs.declared.modifier.LetterCase.{LetterCase}
 use Rattle.sieve_variables.specs.declared.modifier.LetterCase.TheVariants as letter_case
 use Rattle.sieve_variables.specs.declared.modifier.Modifiers.{Modifiers}
-use Rattle.sieve_reading.specs.Given.{labels_in, in_role, texts_in, given_texts, text_in, variable_in, given_variable, literal_in, has_tag}
+use Rattle.sieve_reading.specs.Given.{in_role, texts_in, given_texts, text_in, variable_in, given_variable, literal_in, has_tag}
+use Rattle.sieve_reading.specs.Shape.{row_labels}
 use Rattle.sieve_reading.specs.Reading.{Settings, Leaf, keep_leaf, fileinto_leaf, redirect_leaf, discard_leaf, set_leaf, flag_leaf, include_leaf, CommandReading, reads_if, reads_elsif, reads_else, reads_stop, reads_return, reads_nothing, reads_act}
 
 -- what a command says beside its mailbox or its address (RFC 5232, section 5; RFC 3894, section 3)
@@ -97,16 +98,16 @@ command_reading_by (Some command.Require) args = Some reads_nothing
 command_reading_by (Some command.If) args = Some reads_if
 command_reading_by (Some command.Elsif) args = Some reads_elsif
 command_reading_by (Some command.Else) args = Some reads_else
-command_reading_by (Some command.Keep) args = option_map reads_act (keep_by (labels_in (command_row command.Keep) args) args)
-command_reading_by (Some command.Fileinto) args = option_map reads_act (fileinto_by (labels_in (command_row command.Fileinto) args) args)
-command_reading_by (Some command.Redirect) args = option_map reads_act (redirect_by (labels_in (command_row command.Redirect) args) args)
+command_reading_by (Some command.Keep) args = option_map reads_act (keep_by (row_labels (command_row command.Keep) args) args)
+command_reading_by (Some command.Fileinto) args = option_map reads_act (fileinto_by (row_labels (command_row command.Fileinto) args) args)
+command_reading_by (Some command.Redirect) args = option_map reads_act (redirect_by (row_labels (command_row command.Redirect) args) args)
 command_reading_by (Some command.Discard) args = Some (reads_act discard_leaf)
 command_reading_by (Some command.Stop) args = Some reads_stop
-command_reading_by (Some command.Set) args = option_map reads_act (set_by (labels_in (command_row command.Set) args) args)
-command_reading_by (Some command.SetFlag) args = option_map reads_act (flags_by change.Set (labels_in (command_row command.SetFlag) args) args)
-command_reading_by (Some command.AddFlag) args = option_map reads_act (flags_by change.Add (labels_in (command_row command.AddFlag) args) args)
-command_reading_by (Some command.RemoveFlag) args = option_map reads_act (flags_by change.Remove (labels_in (command_row command.RemoveFlag) args) args)
-command_reading_by (Some command.Include) args = option_map reads_act (include_by (labels_in (command_row command.Include) args) args)
+command_reading_by (Some command.Set) args = option_map reads_act (set_by (row_labels (command_row command.Set) args) args)
+command_reading_by (Some command.SetFlag) args = option_map reads_act (flags_by change.Set (row_labels (command_row command.SetFlag) args) args)
+command_reading_by (Some command.AddFlag) args = option_map reads_act (flags_by change.Add (row_labels (command_row command.AddFlag) args) args)
+command_reading_by (Some command.RemoveFlag) args = option_map reads_act (flags_by change.Remove (row_labels (command_row command.RemoveFlag) args) args)
+command_reading_by (Some command.Include) args = option_map reads_act (include_by (row_labels (command_row command.Include) args) args)
 command_reading_by (Some command.Return) args = Some reads_return
 command_reading_by (Some command.Global) args = Some reads_nothing
 

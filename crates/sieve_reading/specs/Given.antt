@@ -1,6 +1,6 @@
 -- What the arguments of a command or a test give, by their labels, by which the rules and the cut of strings go too. What no row allows
 -- gives nothing.
-use Rattle.std.specs.Prelude.{ℕ, Bool, false, List, [], ◌∷◌, Option, Some, None, map, drop, length, if◌then◌else◌}
+use Rattle.std.specs.Prelude.{ℕ, Bool, false, List, [], ◌∷◌, Option, Some, None, map, drop, if◌then◌else◌}
 use Rattle.std.specs.List.{list_any}
 use Rattle.std.specs.Option.{option_and_then, option_map}
 use Rattle.match_text.specs.Comparator.{collation_named}
@@ -8,16 +8,12 @@ use Rattle.match_text.specs.declared.comparators.Collation.{Collation}
 use Rattle.match_text.specs.declared.comparators.Collation.TheVariants.{Casemap}
 use Rattle.message_text.specs.declared.addressing.AddressPart.{AddressPart}
 use Rattle.message_text.specs.declared.addressing.AddressPart.TheVariants as part
-use Rattle.sieve_reading.specs.Label.{labels_of}
 use Rattle.sieve_reading.specs.Role.{first_role}
-use Rattle.sieve_reading.specs.Shape.{texts_shape}
 use Rattle.sieve_table.specs.Role.{has_role}
-use Rattle.sieve_table.specs.Table.{Row, same_tag, tag_named}
+use Rattle.sieve_table.specs.Table.{same_tag}
 use Rattle.sieve_reading.specs.Tree.{Argument, strings, number, tag}
 use Rattle.sieve_reading.specs.declared.label.Label.{Label}
 use Rattle.sieve_reading.specs.declared.label.Label.TheVariants.{Tagged, OtherTag, Own, InSlot, Unfit}
-use Rattle.sieve_reading.specs.declared.label.Shape.{Shape}
-use Rattle.sieve_reading.specs.declared.label.Shape.TheVariants as shape
 use Rattle.sieve_reading.specs.declared.reading.MatchType.{MatchType}
 use Rattle.sieve_reading.specs.declared.reading.MatchType.TheVariants.{Is, Contains, Matches}
 use Rattle.sieve_table.specs.declared.row.Role.{Role}
@@ -25,15 +21,6 @@ use Rattle.sieve_table.specs.declared.table.Tag.{Tag}
 use Rattle.sieve_table.specs.declared.table.Tag.TheVariants as tag
 use Rattle.sieve_variables.specs.Part.{Part, literal, variable_part, match_part}
 use Rattle.sieve_variables.specs.Variable.{Variable}
-
--- the shape of an argument, as in its text's tree
-abbrev pub part_shape : List Tag → Argument → Shape
-part_shape tags (strings items bracketed) = texts_shape (length items) bracketed
-part_shape tags (number value line) = shape.Number
-part_shape tags (tag name line) = shape.Tag (tag_named tags name)
-
-abbrev pub labels_in : Row → List Argument → List Label
-labels_in row args = labels_of row (map (part_shape row.tags) args)
 
 -- the first argument in a role
 abbrev pub in_role : Role → List Label → List Argument → Option Argument
@@ -43,7 +30,7 @@ in_role wanted labels (a ∷ args) = if has_role wanted (first_role labels) then
 -- the strings of an argument, each as its parts
 abbrev pub texts_in : Option Argument → Option (List (List Part))
 texts_in None = None
-texts_in (Some (strings items bracketed)) = Some (map (λ t. t.parts) items)
+texts_in (Some (strings items bracketed)) = Some (map (λ t. t.string) items)
 texts_in (Some (number value line)) = None
 texts_in (Some (tag name line)) = None
 
@@ -56,7 +43,7 @@ given_texts (Some a) = option_map Some (texts_in (Some a))
 abbrev pub text_in : Option Argument → Option (List Part)
 text_in None = None
 text_in (Some (strings [] bracketed)) = None
-text_in (Some (strings (t ∷ []) bracketed)) = Some t.parts
+text_in (Some (strings (t ∷ []) bracketed)) = Some t.string
 text_in (Some (strings (t ∷ s ∷ ts) bracketed)) = None
 text_in (Some (number value line)) = None
 text_in (Some (tag name line)) = None
@@ -73,7 +60,7 @@ variable_in_parts (match_part index ∷ parts) = None
 abbrev pub variable_in : Option Argument → Option Variable
 variable_in None = None
 variable_in (Some (strings [] bracketed)) = None
-variable_in (Some (strings (t ∷ []) bracketed)) = variable_in_parts t.parts
+variable_in (Some (strings (t ∷ []) bracketed)) = variable_in_parts t.string
 variable_in (Some (strings (t ∷ s ∷ ts) bracketed)) = None
 variable_in (Some (number value line)) = None
 variable_in (Some (tag name line)) = None
@@ -95,7 +82,7 @@ literal_in_parts (match_part index ∷ parts) = None
 abbrev pub literal_in : Option Argument → Option (List ℕ)
 literal_in None = None
 literal_in (Some (strings [] bracketed)) = None
-literal_in (Some (strings (t ∷ []) bracketed)) = literal_in_parts t.parts
+literal_in (Some (strings (t ∷ []) bracketed)) = literal_in_parts t.string
 literal_in (Some (strings (t ∷ s ∷ ts) bracketed)) = None
 literal_in (Some (number value line)) = None
 literal_in (Some (tag name line)) = None

@@ -11,7 +11,8 @@ use Rattle.sieve_table.specs.declared.table.Tag.TheVariants as tag
 use Rattle.sieve_table.specs.declared.table.TestKind.{TestKind}
 use Rattle.sieve_table.specs.declared.table.TestKind.TheVariants as kind
 use Rattle.sieve_variables.specs.Part.{Part}
-use Rattle.sieve_reading.specs.Given.{labels_in, in_role, texts_in, given_texts, number_in, has_tag, collation_by, match_type_of, address_part_of}
+use Rattle.sieve_reading.specs.Given.{in_role, texts_in, given_texts, number_in, has_tag, collation_by, match_type_of, address_part_of}
+use Rattle.sieve_reading.specs.Shape.{row_labels}
 use Rattle.sieve_reading.specs.Reading.{ValueSource, header_values, address_values, envelope_values, string_values, flag_values, Ask, compares, exists_ask, over_ask, under_ask, TestReading, reads_always, reads_never, reads_ask, reads_all, reads_any, reads_not}
 
 -- what a test asks that compares values with keys
@@ -60,18 +61,18 @@ size_by labels args = size_from (has_tag tag.Over labels) (has_tag tag.Under lab
 
 abbrev pub test_reading_by : Option TestKind → List Argument → Option TestReading
 test_reading_by None args = None
-test_reading_by (Some kind.Header) args = let labels = labels_in (test_row kind.Header) args in option_map reads_ask (compares_by (header_source labels args) labels args)
-test_reading_by (Some kind.Address) args = let labels = labels_in (test_row kind.Address) args in option_map reads_ask (compares_by (address_source labels args) labels args)
-test_reading_by (Some kind.Envelope) args = let labels = labels_in (test_row kind.Envelope) args in option_map reads_ask (compares_by (envelope_source labels args) labels args)
-test_reading_by (Some kind.Exists) args = option_map reads_ask (exists_by (labels_in (test_row kind.Exists) args) args)
-test_reading_by (Some kind.Size) args = option_map reads_ask (size_by (labels_in (test_row kind.Size) args) args)
+test_reading_by (Some kind.Header) args = let labels = row_labels (test_row kind.Header) args in option_map reads_ask (compares_by (header_source labels args) labels args)
+test_reading_by (Some kind.Address) args = let labels = row_labels (test_row kind.Address) args in option_map reads_ask (compares_by (address_source labels args) labels args)
+test_reading_by (Some kind.Envelope) args = let labels = row_labels (test_row kind.Envelope) args in option_map reads_ask (compares_by (envelope_source labels args) labels args)
+test_reading_by (Some kind.Exists) args = option_map reads_ask (exists_by (row_labels (test_row kind.Exists) args) args)
+test_reading_by (Some kind.Size) args = option_map reads_ask (size_by (row_labels (test_row kind.Size) args) args)
 test_reading_by (Some kind.AllOf) args = Some reads_all
 test_reading_by (Some kind.AnyOf) args = Some reads_any
 test_reading_by (Some kind.Not) args = Some reads_not
 test_reading_by (Some kind.True) args = Some reads_always
 test_reading_by (Some kind.False) args = Some reads_never
-test_reading_by (Some kind.String) args = let labels = labels_in (test_row kind.String) args in option_map reads_ask (compares_by (string_source labels args) labels args)
-test_reading_by (Some kind.HasFlag) args = let labels = labels_in (test_row kind.HasFlag) args in option_map reads_ask (compares_by (flag_source labels args) labels args)
+test_reading_by (Some kind.String) args = let labels = row_labels (test_row kind.String) args in option_map reads_ask (compares_by (string_source labels args) labels args)
+test_reading_by (Some kind.HasFlag) args = let labels = row_labels (test_row kind.HasFlag) args in option_map reads_ask (compares_by (flag_source labels args) labels args)
 
 abbrev pub test_reading : Test → Option TestReading
 test_reading (test name line args ts) = test_reading_by (test_named name) args

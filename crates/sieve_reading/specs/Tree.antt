@@ -1,60 +1,29 @@
--- The tree of a checked script as plain data. It has the shape of the text's tree (RFC 5228, section 8.2), with each string
--- cut into parts (RFC 5229, section 3).
-use Rattle.std.specs.Prelude.{ℕ, Bool, List, [], ◌∷◌, Option}
+-- The tree of a checked script. It is the text's tree (RFC 5228, section 8.2), with each string cut into parts (RFC 5229, section 3).
+use Rattle.std.specs.Prelude.{List}
+use Rattle.sieve_syntax.specs.TreeOf as tree
 use Rattle.sieve_variables.specs.Part.{Part}
+pub use Rattle.sieve_syntax.specs.TreeOf.{strings, number, tag, test, no_tests, one_test, test_list, end_tests, more_tests, node, no_block, block, end_nodes, more_nodes, items, nodes, tests}
 
--- a string: its parts, and the line where it begins
-pub record Text : Type 0 where
-  pub parts : List Part
-  pub line : ℕ
+abbrev pub Text : Type 0
+Text = tree.Text (List Part)
 
--- An argument: one string or a list of strings in brackets; a number, which has no value past 64 bits; a tag.
-pub data Argument : Type 0 where
-  strings : (items : List Text) (bracketed : Bool) → Argument
-  number : (value : Option ℕ) (line : ℕ) → Argument
-  tag : (name : List ℕ) (line : ℕ) → Argument
+abbrev pub Argument : Type 0
+Argument = tree.Argument (List Part)
 
-mutual
-  -- a test
-  pub data Test : Type 0 where
-    test : (name : List ℕ) (line : ℕ) (args : List Argument) (tests : Tests) → Test
+abbrev pub Test : Type 0
+Test = tree.Test (List Part)
 
-  -- the tests behind arguments: none, one, or a list in parentheses
-  pub data Tests : Type 0 where
-    no_tests : Tests
-    one_test : Test → Tests
-    test_list : TestList → Tests
+abbrev pub Tests : Type 0
+Tests = tree.Tests (List Part)
 
-  -- a list of tests
-  pub data TestList : Type 0 where
-    end_tests : TestList
-    more_tests : Test → TestList → TestList
+abbrev pub TestList : Type 0
+TestList = tree.TestList (List Part)
 
-mutual
-  -- a command
-  pub data Node : Type 0 where
-    node : (name : List ℕ) (line : ℕ) (args : List Argument) (tests : Tests) (block : Block) → Node
+abbrev pub Node : Type 0
+Node = tree.Node (List Part)
 
-  -- the block of a command, or none where it ends by a semicolon
-  pub data Block : Type 0 where
-    no_block : Block
-    block : Nodes → Block
+abbrev pub Block : Type 0
+Block = tree.Block (List Part)
 
-  -- a list of commands
-  pub data Nodes : Type 0 where
-    end_nodes : Nodes
-    more_nodes : Node → Nodes → Nodes
-
--- the commands as a list
-abbrev pub items : Nodes → List Node
-items end_nodes = []
-items (more_nodes n ns) = n ∷ items ns
-
--- a list of commands, and of tests, as such data
-abbrev pub nodes : List Node → Nodes
-nodes [] = end_nodes
-nodes (n ∷ ns) = more_nodes n (nodes ns)
-
-abbrev pub tests : List Test → TestList
-tests [] = end_tests
-tests (t ∷ ts) = more_tests t (tests ts)
+abbrev pub Nodes : Type 0
+Nodes = tree.Nodes (List Part)

@@ -1,7 +1,8 @@
 //! What the arguments of a command or a test give, by their labels. None of it takes memory.
 ghost use Rattle.std.specs.Prelude.{◌≡◌, Some, None, map};
 ghost use Rattle.std.specs.Option.{option_map};
-ghost use Rattle.sieve_reading.specs.Given.{address_part_of, collation_by, given_texts, given_variable, has_tag, labels_in, literal_in, literal_in_parts, match_type_of, number_in, text_in, texts_in, variable_in, variable_in_parts};
+ghost use Rattle.sieve_reading.specs.Given.{address_part_of, collation_by, given_texts, given_variable, has_tag, literal_in, literal_in_parts, match_type_of, number_in, text_in, texts_in, variable_in, variable_in_parts};
+ghost use Rattle.sieve_reading.specs.Shape.{row_labels};
 ghost use Rattle.match_text.specs.Comparator.{collation_named};
 ghost use Rattle.sieve_reading.specs.view.Reading.{texts_as};
 ghost use Rattle.sieve_table.specs.view.Row.{row_as};
@@ -44,7 +45,7 @@ pub(crate) fn text_in(argument: Option<&Argument>) -> Option<&[Part]>
 {
     match argument {
         Some(Argument::Strings { items, .. }) => match items.as_slice() {
-            [text] => Some(text.parts.as_slice()),
+            [text] => Some(text.string.as_slice()),
             _ => None,
         },
         Some(Argument::Number { .. }) => None,
@@ -69,7 +70,7 @@ pub(crate) fn variable_in(argument: Option<&Argument>) -> Option<&Variable>
 {
     match argument {
         Some(Argument::Strings { items, .. }) => match items.as_slice() {
-            [text] => variable_in_parts(&text.parts),
+            [text] => variable_in_parts(&text.string),
             _ => None,
         },
         Some(Argument::Number { .. }) => None,
@@ -104,7 +105,7 @@ pub(crate) fn literal_in(argument: Option<&Argument>) -> Option<&[u8]>
 {
     match argument {
         Some(Argument::Strings { items, .. }) => match items.as_slice() {
-            [text] => literal_in_parts(&text.parts),
+            [text] => literal_in_parts(&text.string),
             _ => None,
         },
         Some(Argument::Number { .. }) => None,
@@ -127,7 +128,7 @@ pub(crate) fn number_in(argument: Option<&Argument>) -> Option<u64>
 
 /// The match type of a test, which is `:is` where no other is given.
 pub(crate) fn match_type_of(row: &Row, args: &[Argument]) -> MatchType
-    ensures { result ≡ match_type_of (labels_in (row_as row.now) (map argument_of args.now)) }
+    ensures { result ≡ match_type_of (row_labels (row_as row.now) (map argument_of args.now)) }
 {
     if has_tag(row, Tag::Matches, args) {
         MatchType::Matches
@@ -150,7 +151,7 @@ pub(crate) fn collation_by(argument: Option<&Argument>) -> Option<Collation>
 
 /// The part of an address that a test names, which is all of it where none is named.
 pub(crate) fn address_part_of(row: &Row, args: &[Argument]) -> AddressPart
-    ensures { result ≡ address_part_of (labels_in (row_as row.now) (map argument_of args.now)) }
+    ensures { result ≡ address_part_of (row_labels (row_as row.now) (map argument_of args.now)) }
 {
     if has_tag(row, Tag::LocalPart, args) {
         AddressPart::Local

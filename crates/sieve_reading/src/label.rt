@@ -1,11 +1,9 @@
 //! What each argument is to its command or test (RFC 5228, section 2.6).
-ghost use Rattle.std.specs.Prelude.{◌≡◌, None, Some, IfOk, drop, map, slice_get};
-ghost use Rattle.sieve_reading.specs.Label.{expected_behind, expecting, fills, fits, label_at, labels_from, labels_of, slot_label, slots_of, value_label, value_slots, is_filled, is_unfit};
+ghost use Rattle.std.specs.Prelude.{◌≡◌, None, Some, drop, slice_get};
+ghost use Rattle.sieve_reading.specs.Label.{expected_behind, expecting, fits, label_at, slot_label, value_label, value_slots, is_unfit};
 ghost use Rattle.sieve_reading.specs.view.Expected.{expected_as, in_front, own_slot};
-ghost use Rattle.sieve_table.specs.view.Row.{row_as};
 
-use sieve_table::{Form, Row, Slot, Tag, tag_named};
-use std::alloc::{AllocError, Global};
+use sieve_table::{Form, Slot, Tag};
 
 /// What an argument looks like, where some tags are taken (RFC 5228, section 2.6).
 #[derive(Clone, Copy)]
@@ -60,7 +58,7 @@ fn fits(form: Form, shape: Shape) -> bool
 
 impl<'a> Expected<'a> {
     /// These positional arguments are expected.
-    fn new(front: Option<Slot>, slots: &'a [Slot]) -> Expected<'a>
+    pub(crate) fn new(front: Option<Slot>, slots: &'a [Slot]) -> Expected<'a>
         ensures { expected_as result ≡ expecting (in_front front slots.now) }
     {
         Expected {
@@ -71,7 +69,7 @@ impl<'a> Expected<'a> {
     }
 
     /// The next positional argument.
-    fn next_slot(self) -> Option<Slot>
+    pub(crate) fn next_slot(self) -> Option<Slot>
         ensures { result ≡ slice_get (expected_as self.entry).slots 0 }
     {
         match self.front {
@@ -161,90 +159,12 @@ impl<'a> Expected<'a> {
     }
 }
 
-/// An argument of a tree: that of a text, or that of a checked script.
-pub trait Shaped {
-    ghost use Rattle.std.specs.Prelude.{◌≡◌, List};
-    ghost use Rattle.sieve_reading.specs.declared.label.Shape.{Shape};
-    ghost use Rattle.sieve_table.specs.declared.table.Tag.{Tag};
-
-    // its shape, where some tags are taken
-    ghost shape_in: { List Tag → Self → Shape };
-
-    /// What it looks like, where these tags are taken.
-    fn shape(&self, tags: &[Tag]) -> Shape
-        ensures { result ≡ shape_in tags.now self.now };
-}
-
-/// What arguments are where these tags are taken.
-fn labels_from<A: Shaped>(
-    alloc: Global,
-    start: Expected<'_>,
-    tags: &[Tag],
-    args: &[A],
-) -> Result<Vec<Label>, AllocError>
-    ensures { IfOk result (λ labels. labels.items ≡ labels_from (expected_as start.entry) (map (A.shape_in tags.now) args.now)) }
-{
-    let mut labels = Vec::new(alloc);
-    let mut expected = start;
-    for argument in args {
-        let shape = argument.shape(tags);
-        labels.push(expected.label(shape))?;
-        expected = expected.behind(shape);
-    }
-    Ok(labels)
-}
-
-/// Whether the positional arguments are exactly those that are expected.
-fn fills<A: Shaped>(start: Expected<'_>, tags: &[Tag], args: &[A]) -> bool
-    ensures { result ≡ fills (expected_as start.entry) (map (A.shape_in tags.now) args.now) }
-{
-    let mut expected = start;
-    for argument in args {
-        let shape = argument.shape(tags);
-        if is_unfit(expected.label(shape)) {
-            return false;
-        }
-        expected = expected.behind(shape);
-    }
-    expected.next_slot().is_none()
-}
-
 /// Whether an argument is nothing that fits.
-fn is_unfit(label: Label) -> bool
+pub(crate) fn is_unfit(label: Label) -> bool
     ensures { result ≡ is_unfit label }
 {
     match label {
         Label::Unfit => true,
         Label::Tagged(_) | Label::OtherTag | Label::Own(_) | Label::InSlot(_) => false,
     }
-}
-
-/// What is expected of a row's arguments: the positional argument in front too, where they are then exactly those.
-pub(crate) fn expected_of<'a, A: Shaped>(row: &Row, args: &[A]) -> Expected<'a>
-    ensures { expected_as result ≡ expecting (slots_of (row_as row.now) (map (A.shape_in row.now.tags.now) args.now)) }
-{
-    let longer = Expected::new(row.front, row.slots);
-    if row.front.is_some() && fills(longer, row.tags, args) {
-        longer
-    } else {
-        Expected::new(None, row.slots)
-    }
-}
-
-/// What a row's arguments are.
-pub(crate) fn labels_of<A: Shaped>(
-    alloc: Global,
-    row: &Row,
-    args: &[A],
-) -> Result<Vec<Label>, AllocError>
-    ensures { IfOk result (λ labels. labels.items ≡ labels_of (row_as row.now) (map (A.shape_in row.now.tags.now) args.now)) }
-{
-    labels_from(alloc, expected_of(row, args), row.tags, args)
-}
-
-/// Whether a row's positional arguments are there and no others.
-pub(crate) fn is_filled<A: Shaped>(row: &Row, args: &[A]) -> bool
-    ensures { result ≡ is_filled (row_as row.now) (map (A.shape_in row.now.tags.now) args.now) }
-{
-    fills(expected_of(row, args), row.tags, args)
 }

@@ -13,13 +13,15 @@ mod shape;
 mod test_reading;
 mod tree;
 
-pub use label::{Expected, Label, Shape, Shaped};
+pub use command_reading::{kind_of, read_command};
+pub use label::{Expected, Label, Shape};
 pub use reading::{
     Ask, CommandReading, FlagChange, Leaf, MatchType, Settings, TestReading, ValueSource,
 };
 pub use role::role_of;
-pub use shape::{row_expected, row_is_filled, row_labels};
+pub use shape::{Strings, row_expected, row_is_filled, row_labels, shape_of};
 pub use sieve_base::{Place, SmallOctets};
 pub use sieve_table::{CommandKind, TestKind};
 pub use sieve_variables::{LetterCase, Modifiers, Part, Parts, Variable};
+pub use test_reading::read_test;
 pub use tree::{Argument, Command, Test, Tests, Text};

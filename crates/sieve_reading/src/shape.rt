@@ -1,18 +1,47 @@
-//! What the arguments of a text's tree look like.
+//! What the arguments of a tree look like, whatever its strings are, and what they are by that.
 ghost use Rattle.std.specs.Prelude.{◌≡◌, IfOk, map};
-ghost use Rattle.sieve_syntax.specs.view.Tree.{argument_of};
-ghost use Rattle.sieve_reading.specs.Shape.{shape_of, shapes_of, texts_shape};
-ghost use Rattle.sieve_reading.specs.Label.{expecting, is_filled, labels_of, slots_of};
+ghost use Rattle.sieve_syntax.specs.view.TreeOf.{argument_of};
+ghost use Rattle.sieve_reading.specs.Label.{expecting, fills, is_filled, labels_from, slots_of};
+ghost use Rattle.sieve_reading.specs.Shape.{row_labels, shape_of, shapes_of, texts_shape};
 ghost use Rattle.sieve_reading.specs.view.Expected.{expected_as};
 ghost use Rattle.sieve_table.specs.view.Row.{row_as};
 
-use crate::label::{Expected, Label, Shape, Shaped, expected_of, is_filled, labels_of};
+use crate::label::{Expected, Label, Shape, is_unfit};
+use sieve_base::SmallOctets;
 use sieve_syntax::Argument;
 use sieve_table::{Row, Tag, tag_named};
+use sieve_variables::Parts;
 use std::alloc::{AllocError, Global};
 
+/// What a string of a tree is: octets in that of a text, parts in that of a checked script.
+pub trait Strings {
+    // what it stands for
+    ghost Seen: { Type 0 };
+
+    ghost seen: { Self → Seen };
+}
+
+impl Strings for SmallOctets {
+    ghost use Rattle.std.specs.Prelude.{ℕ, List};
+    ghost use Rattle.sieve_syntax.specs.view.Tree.{octets_of};
+
+    ghost Seen = { List ℕ };
+
+    ghost seen = { octets_of };
+}
+
+impl Strings for Parts {
+    ghost use Rattle.std.specs.Prelude.{List};
+    ghost use Rattle.sieve_reading.specs.view.Tree.{parts_of};
+    ghost use Rattle.sieve_variables.specs.Part.{Part};
+
+    ghost Seen = { List Part };
+
+    ghost seen = { parts_of };
+}
+
 /// One string without brackets, or a list.
-pub(crate) fn texts_shape(count: usize, bracketed: bool) -> Shape
+fn texts_shape(count: usize, bracketed: bool) -> Shape
     ensures { result ≡ texts_shape count bracketed }
 {
     if count == 1 && !bracketed {
@@ -22,38 +51,78 @@ pub(crate) fn texts_shape(count: usize, bracketed: bool) -> Shape
     }
 }
 
-impl Shaped for Argument {
-    ghost shape_in = { λ tags a. shape_of tags (argument_of a) };
-
-    fn shape(&self, tags: &[Tag]) -> Shape {
-        match self {
-            Argument::Strings { items, bracketed } => texts_shape(items.len(), *bracketed),
-            Argument::Number { .. } => Shape::Number,
-            Argument::Tag { name, .. } => Shape::Tag(tag_named(tags, name)),
-        }
+/// What an argument looks like, where these tags are taken.
+pub fn shape_of<S: Strings>(tags: &[Tag], argument: &Argument<S>) -> Shape
+    ensures { result ≡ shape_of tags.now (argument_of S.seen argument.now) }
+{
+    match argument {
+        Argument::Strings { items, bracketed } => texts_shape(items.len(), *bracketed),
+        Argument::Number { .. } => Shape::Number,
+        Argument::Tag { name, .. } => Shape::Tag(tag_named(tags, name)),
     }
 }
 
-/// What is expected of a row's arguments, at the first of them (RFC 5228, section 2.6).
-#[tactic(auto, using(crate::proofs::Fusing::of_views))]
-pub fn row_expected<'a>(row: &Row, args: &[Argument]) -> Expected<'a>
-    ensures { expected_as result ≡ expecting (slots_of (row_as row.now) (shapes_of row.now.tags.now (map argument_of args.now))) }
+/// What arguments are where these tags are taken.
+fn labels_from<S: Strings>(
+    alloc: Global,
+    start: Expected<'_>,
+    tags: &[Tag],
+    args: &[Argument<S>],
+) -> Result<Vec<Label>, AllocError>
+    ensures { IfOk result (λ labels. labels.items ≡ labels_from (expected_as start.entry) (shapes_of tags.now (map (argument_of S.seen) args.now))) }
 {
-    expected_of(row, args)
+    let mut labels = Vec::new(alloc);
+    let mut expected = start;
+    for argument in args {
+        let shape = shape_of(tags, argument);
+        labels.push(expected.label(shape))?;
+        expected = expected.behind(shape);
+    }
+    Ok(labels)
+}
+
+/// Whether the positional arguments are exactly those that are expected.
+fn fills<S: Strings>(start: Expected<'_>, tags: &[Tag], args: &[Argument<S>]) -> bool
+    ensures { result ≡ fills (expected_as start.entry) (shapes_of tags.now (map (argument_of S.seen) args.now)) }
+{
+    let mut expected = start;
+    for argument in args {
+        let shape = shape_of(tags, argument);
+        if is_unfit(expected.label(shape)) {
+            return false;
+        }
+        expected = expected.behind(shape);
+    }
+    expected.next_slot().is_none()
+}
+
+/// What is expected of a row's arguments, at the first of them (RFC 5228, section 2.6): the positional argument in front too,
+/// where they are then exactly those.
+pub fn row_expected<'a, S: Strings>(row: &Row, args: &[Argument<S>]) -> Expected<'a>
+    ensures { expected_as result ≡ expecting (slots_of (row_as row.now) (shapes_of row.now.tags.now (map (argument_of S.seen) args.now))) }
+{
+    let longer = Expected::new(row.front, row.slots);
+    if row.front.is_some() && fills(longer, row.tags, args) {
+        longer
+    } else {
+        Expected::new(None, row.slots)
+    }
 }
 
 /// What a row's arguments are, each by its label (RFC 5228, section 2.6).
-#[tactic(auto, using(crate::proofs::Fusing::of_views))]
-pub fn row_labels(alloc: Global, row: &Row, args: &[Argument]) -> Result<Vec<Label>, AllocError>
-    ensures { IfOk result (λ labels. labels.items ≡ labels_of (row_as row.now) (shapes_of row.now.tags.now (map argument_of args.now))) }
+pub fn row_labels<S: Strings>(
+    alloc: Global,
+    row: &Row,
+    args: &[Argument<S>],
+) -> Result<Vec<Label>, AllocError>
+    ensures { IfOk result (λ labels. labels.items ≡ row_labels (row_as row.now) (map (argument_of S.seen) args.now)) }
 {
-    labels_of(alloc, row, args)
+    labels_from(alloc, row_expected(row, args), row.tags, args)
 }
 
 /// Whether a row's positional arguments are there and no others (RFC 5228, section 2.6.1).
-#[tactic(auto, using(crate::proofs::Fusing::of_views))]
-pub fn row_is_filled(row: &Row, args: &[Argument]) -> bool
-    ensures { result ≡ is_filled (row_as row.now) (shapes_of row.now.tags.now (map argument_of args.now)) }
+pub fn row_is_filled<S: Strings>(row: &Row, args: &[Argument<S>]) -> bool
+    ensures { result ≡ is_filled (row_as row.now) (shapes_of row.now.tags.now (map (argument_of S.seen) args.now)) }
 {
-    is_filled(row, args)
+    fills(row_expected(row, args), row.tags, args)
 }

@@ -276,7 +276,7 @@ unfolding exec included chain_of node_before block_commands conditions_in comman
 stop_inside_row = refl
 
 -- an error tells the script that it came in: "a" is `include "main";`
-error_inside_row : done_over (having script_a (node (codes "include") 7 (strings (record { parts = text (codes "main"); line = 7 } ∷ []) false ∷ []) no_tests no_block ∷ [])) (acts (include_leaf Personal false false (codes "a")) 2 (acts discard_leaf 3 no_commands))
+error_inside_row : done_over (having script_a (node (codes "include") 7 (strings (record { string = text (codes "main"); line = 7 } ∷ []) false ∷ []) no_tests no_block ∷ [])) (acts (include_leaf Personal false false (codes "a")) 2 (acts discard_leaf 3 no_commands))
     ≡ failed (record { script = script_a; line = 7; kind = RecursiveInclude }) (entered_a [] false)
 unfolding exec included chain_of node_before block_commands conditions_in command_named
 error_inside_row = refl

@@ -12,4 +12,5 @@ pub mod Scanning
 pub mod Spelling
 pub mod Steps
 pub mod Values
+pub mod Views
 pub mod Writing

@@ -31,7 +31,7 @@ outer_words o = block_words o.blocks ++ written_nodes (nodes o.done)
 
 abbrev texts_before : List Text → List Word
 texts_before [] = []
-texts_before (t ∷ ts) = string_word t.octets t.line ∷ comma ∷ texts_before ts
+texts_before (t ∷ ts) = string_word t.string t.line ∷ comma ∷ texts_before ts
 
 abbrev pub state_words : ParserState → List Word
 state_words (between o) = outer_words o
@@ -129,21 +129,21 @@ unfolding NestsTests NestsTestList
 list_nests [] t d h k = (k, tt)
 list_nests (s ∷ ts) t d h k = (h.0, each_nests (ts ++ t ∷ []) d (before_nest ts t d h.1 k))
 
-texts_words : (ts : List Text) (t : Text) → written_texts (ts ++ t ∷ []) ≡ texts_before ts ++ string_word t.octets t.line ∷ []
+texts_words : (ts : List Text) (t : Text) → written_texts (ts ++ t ∷ []) ≡ texts_before ts ++ string_word t.string t.line ∷ []
 texts_words [] t = refl
-texts_words (s ∷ ts) t = ap (λ x. string_word s.octets s.line ∷ x) (more_words ts t)
+texts_words (s ∷ ts) t = ap (λ x. string_word s.string s.line ∷ x) (more_words ts t)
   where
-    more_words : (us : List Text) (u : Text) → written_more (us ++ u ∷ []) ≡ comma ∷ (texts_before us ++ string_word u.octets u.line ∷ [])
+    more_words : (us : List Text) (u : Text) → written_more (us ++ u ∷ []) ≡ comma ∷ (texts_before us ++ string_word u.string u.line ∷ [])
     more_words [] u = refl
-    more_words (v ∷ us) u = ap (λ x. comma ∷ string_word v.octets v.line ∷ x) (more_words us u)
+    more_words (v ∷ us) u = ap (λ x. comma ∷ string_word v.string v.line ∷ x) (more_words us u)
 
 texts_comma : (ts : List Text) → HasText ts → texts_before ts ≡ written_texts ts ++ comma ∷ []
 texts_comma [] h = absurd h
-texts_comma (s ∷ ts) h = ap (λ x. string_word s.octets s.line ∷ x) (more_comma ts)
+texts_comma (s ∷ ts) h = ap (λ x. string_word s.string s.line ∷ x) (more_comma ts)
   where
     more_comma : (us : List Text) → comma ∷ texts_before us ≡ written_more us ++ comma ∷ []
     more_comma [] = refl
-    more_comma (v ∷ us) = ap (λ x. comma ∷ string_word v.octets v.line ∷ x) (more_comma us)
+    more_comma (v ∷ us) = ap (λ x. comma ∷ string_word v.string v.line ∷ x) (more_comma us)
 
 texts_some : (ts : List Text) (t : Text) → HasText (ts ++ t ∷ [])
 texts_some [] t = tt
@@ -301,7 +301,7 @@ module _ (depth room : ℕ) where
   step_takes (between o) close_brace t is e = close_block_takes o.blocks o.done t is.left is.blocks is.done e
   step_takes (between o) _ t is e = cc
   step_takes (in_arguments o ls h) (string_word octets line) t is e =
-      let text : Text = record { octets = octets; line = line } in
+      let text : Text = record { string = octets; line = line } in
       subst (Takes depth room (outer_words o ++ (level_words ls ++ head_words h)) (string_word octets line)) (same_Some _ t e)
       (word_takes o ls h (strings (text ∷ []) false) (string_word octets line) is tt refl)
   step_takes (in_arguments o ls h) (number_word value line) t is e =
@@ -333,7 +333,7 @@ module _ (depth room : ℕ) where
   step_takes (in_arguments o ls h) comma t is e = no_tests_takes o ls h comma t is e
   step_takes (in_arguments o ls h) bad t is e = no_tests_takes o ls h bad t is e
   step_takes (before_string o ls h before) (string_word octets line) t is e =
-      let text : Text = record { octets = octets; line = line } in
+      let text : Text = record { string = octets; line = line } in
       subst (Takes depth room (outer_words o ++ (level_words ls ++ (head_words h ++ open_bracket ∷ texts_before before))) (string_word octets line)) (same_Some _ t e) record {
         reached = (is, texts_some before text);
         words = ap (λ x. outer_words o ++ (level_words ls ++ (head_words h ++ open_bracket ∷ x))) (texts_words before text)

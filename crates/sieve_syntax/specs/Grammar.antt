@@ -9,12 +9,12 @@ use Rattle.sieve_syntax.specs.Word.{Word, identifier, tag_word, number_word, str
 -- strings with a comma before each
 abbrev pub written_more : List Text → List Word
 written_more [] = []
-written_more (t ∷ ts) = comma ∷ string_word t.octets t.line ∷ written_more ts
+written_more (t ∷ ts) = comma ∷ string_word t.string t.line ∷ written_more ts
 
 -- strings with a comma between each two
 abbrev pub written_texts : List Text → List Word
 written_texts [] = []
-written_texts (t ∷ ts) = string_word t.octets t.line ∷ written_more ts
+written_texts (t ∷ ts) = string_word t.string t.line ∷ written_more ts
 
 -- argument = string-list | number | tag, string-list = string | "[" string ("," string)* "]" (RFC 5228, section 8.2)
 abbrev pub written_argument : Argument → List Word

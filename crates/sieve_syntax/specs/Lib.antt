@@ -7,6 +7,7 @@ pub mod Spelling
 pub mod Syntax
 pub mod Token
 pub mod Tree
+pub mod TreeOf
 pub mod Value
 pub mod White
 pub mod Word

@@ -86,14 +86,14 @@ unfoldable pub step : ℕ → ℕ → ParserState → Word → Option ParserStat
 step depth room (between o) (identifier name line) = Some (in_arguments o [] (bare_head name line))
 step depth room (between o) close_brace = close_block o.blocks o.done
 step depth room (between o) _ = None
-step depth room (in_arguments o ls h) (string_word octets line) = Some (in_arguments o ls (with_argument h (strings (record { octets = octets; line = line } ∷ []) false)))
+step depth room (in_arguments o ls h) (string_word octets line) = Some (in_arguments o ls (with_argument h (strings (record { string = octets; line = line } ∷ []) false)))
 step depth room (in_arguments o ls h) (number_word value line) = Some (in_arguments o ls (with_argument h (number value line)))
 step depth room (in_arguments o ls h) (tag_word name line) = Some (in_arguments o ls (with_argument h (tag name line)))
 step depth room (in_arguments o ls h) open_bracket = Some (before_string o ls h [])
 step depth room (in_arguments o ls h) (identifier name line) = if nat_lt (length ls) depth then Some (in_arguments o (for_one h ∷ ls) (bare_head name line)) else None
 step depth room (in_arguments o ls h) open_parenthesis = if nat_lt (length ls) depth then Some (before_test o (for_list h [] ∷ ls)) else None
 step depth room (in_arguments o ls h) w = close room o ls h no_tests w
-step depth room (before_string o ls h items) (string_word octets line) = Some (after_string o ls h (items ++ record { octets = octets; line = line } ∷ []))
+step depth room (before_string o ls h items) (string_word octets line) = Some (after_string o ls h (items ++ record { string = octets; line = line } ∷ []))
 step depth room (before_string o ls h items) _ = None
 step depth room (after_string o ls h items) comma = Some (before_string o ls h items)
 step depth room (after_string o ls h items) close_bracket = Some (in_arguments o ls (with_argument h (strings items true)))

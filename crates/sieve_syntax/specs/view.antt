@@ -3,3 +3,4 @@ pub mod Cursor
 pub mod Parsed
 pub mod Reader
 pub mod Tree
+pub mod TreeOf

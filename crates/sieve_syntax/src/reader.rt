@@ -2,8 +2,8 @@
 
 ghost use Rattle.std.specs.Prelude.{◌≡◌};
 ghost use Rattle.sieve_syntax.specs.Machine.{node_with, test_with};
-ghost use Rattle.sieve_syntax.specs.view.Reader.{block_of, head_value};
-ghost use Rattle.sieve_syntax.specs.view.Tree.{node_of, test_of, tests_of};
+ghost use Rattle.sieve_syntax.specs.view.Reader.{head_value};
+ghost use Rattle.sieve_syntax.specs.view.Tree.{block_of, node_of, test_of, tests_of};
 
 use crate::tree::{Argument, Command, Test, Tests, Text};
 use sieve_base::SmallOctets;

@@ -105,7 +105,10 @@ fn in_arguments(
     match word {
         Word::String { octets, line } => {
             let mut items = Vec::with_capacity(alloc, 1)?;
-            items.push(Text { octets, line })?;
+            items.push(Text {
+                string: octets,
+                line,
+            })?;
             let argument = Argument::Strings {
                 items,
                 bracketed: false,
@@ -163,7 +166,10 @@ fn before_string(head: Head, items: Vec<Text>, word: Word) -> Result<ParserState
     match word {
         Word::String { octets, line } => {
             let mut items = items;
-            items.push(Text { octets, line })?;
+            items.push(Text {
+                string: octets,
+                line,
+            })?;
             Ok(ParserState::AfterString(head, items))
         }
         _ => Err(Stop::Fault),

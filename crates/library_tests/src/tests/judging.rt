@@ -4,7 +4,7 @@ use super::{holds, same};
 use sieve_check::{CheckFault, Checked, Rule, check};
 use sieve_reading::{
     Ask, Command, CommandKind, CommandReading, Leaf, MatchType, Part, Test, TestReading, Tests,
-    Text, ValueSource,
+    Text, ValueSource, kind_of, read_command, read_test,
 };
 use sieve_syntax::{Script, parse};
 use std::alloc::Global;
@@ -15,12 +15,12 @@ use std::test::Fail;
 fn check_named(rt: &impl Abort, command: &Command, name: &[u8], line: u64, kind: CommandKind) {
     same(rt, "the name of a command", command.name.as_slice(), name);
     holds(rt, "its line", command.line == line);
-    holds(rt, "its kind", command.kind() == Some(kind));
+    holds(rt, "its kind", kind_of(command) == Some(kind));
 }
 
 /// Whether a command reads as `keep` without flags.
 fn is_plain_keep(command: &Command) -> bool {
-    match command.reading() {
+    match read_command(command) {
         Some(CommandReading::Act(leaf)) => match leaf {
             Leaf::Keep { settings } => settings.flags.is_none() && !settings.copy,
             _ => false,
@@ -42,7 +42,7 @@ fn check_keep(rt: &impl Abort, keep: &Command) {
 
 /// Its test.
 fn check_negation(rt: &impl Abort, negation: &Test) {
-    let negates = matches!(negation.reading(), Some(TestReading::Not));
+    let negates = matches!(read_test(negation), Some(TestReading::Not));
     holds(rt, "the reading of not", negates);
     match &negation.tests {
         Tests::One(size) => holds(rt, "the reading of size", is_over(size)),
@@ -52,7 +52,7 @@ fn check_negation(rt: &impl Abort, negation: &Test) {
 
 /// Whether a test asks for more than 2,048 octets.
 fn is_over(test: &Test) -> bool {
-    match test.reading() {
+    match read_test(test) {
         Some(TestReading::Asks(ask)) => match ask {
             Ask::Over { limit } => limit == 2048,
             _ => false,
@@ -67,15 +67,19 @@ fn check_stop(rt: &impl Abort, block: &[Command]) {
         panic!(rt; "not one command");
     };
     check_named(rt, stop, b"Stop", 3, CommandKind::Stop);
-    let stops = matches!(stop.reading(), Some(CommandReading::Stop));
+    let stops = matches!(read_command(stop), Some(CommandReading::Stop));
     holds(rt, "the reading of stop", stops);
 }
 
 /// Its second command.
 fn check_choice(rt: &impl Abort, choice: &Command) {
     holds(rt, "the line of if", choice.line == 2);
-    holds(rt, "the kind of if", choice.kind() == Some(CommandKind::If));
-    let opens = matches!(choice.reading(), Some(CommandReading::If));
+    holds(
+        rt,
+        "the kind of if",
+        kind_of(choice) == Some(CommandKind::If),
+    );
+    let opens = matches!(read_command(choice), Some(CommandReading::If));
     holds(rt, "the reading of if", opens);
     match (&choice.tests, &choice.block) {
         (Tests::One(negation), Some(block)) => {
@@ -114,7 +118,7 @@ fn a_sound_script_has_its_tree(rt: HostRuntime) -> Result<(), Fail> {
 }
 
 fn check_text(rt: &impl Abort, text: &Text, octets: &[u8], line: u64) {
-    match text.parts.as_slice() {
+    match text.string.as_slice() {
         [Part::Literal(literal)] => {
             same(rt, "a literal", literal.as_slice(), octets);
             holds(rt, "its line", text.line == line);
@@ -125,7 +129,7 @@ fn check_text(rt: &impl Abort, text: &Text, octets: &[u8], line: u64) {
 
 /// The test of `if header :comparator "i;octet" "a"\n["b", "c"] {}`.
 fn check_header(rt: &impl Abort, test: &Test) {
-    match test.reading() {
+    match read_test(test) {
         Some(
             TestReading::Asks(
                 Ask::Compares {

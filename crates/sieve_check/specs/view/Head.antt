@@ -1,9 +1,6 @@
 -- What commands and tests of the program's tree have before their tests.
-use Rattle.std.specs.Prelude.{map, List, ◌∷◌, ◌++◌, Option, Some, None}
-use Rattle.std.specs.declared.vec.Vec.{Vec}
-use Rattle.std.specs.declared.alloc.Global.{Global}
-use Rattle.sieve_syntax.specs.Tree.{Block, no_block, block, nodes}
-use Rattle.sieve_syntax.specs.view.Tree.{argument_of, tests_of, node_of}
+use Rattle.std.specs.Prelude.{ℕ, map, List, ◌∷◌, ◌++◌, Some}
+use Rattle.sieve_syntax.specs.view.Tree.{argument_of, block_of, tests_of}
 use Rattle.sieve_syntax.specs.declared.tree.Command as commands
 use Rattle.sieve_syntax.specs.declared.tree.Test as one_tests
 use Rattle.sieve_check.specs.Breach.{Breach, breaches_by, breaches_in, command_breaks}
@@ -12,30 +9,27 @@ use Rattle.sieve_check.specs.Context.{Context, behind_kind}
 use Rattle.sieve_check.specs.Element.{Element, the_command, the_test, command_arguments, test_arguments, tests_elements}
 use Rattle.sieve_table.specs.Table.{command_named, test_named}
 use Rattle.sieve_table.specs.declared.table.CommandKind.{CommandKind}
-
-abbrev pub block_as : Option (Vec commands.Command Global) → Block
-block_as None = no_block
-block_as (Some inner) = block (nodes (map node_of inner.items))
+use Rattle.smallvec.specs.SmallVec.{SmallVec}
 
 -- a test and its arguments
-abbrev pub test_head : Context → one_tests.Test → List Element
-test_head context t = let o = one_tests.out-Test t in the_test context o.name.items o.line (map argument_of o.args.items) (tests_of o.tests) ∷ test_arguments context (test_named o.name.items) (map argument_of o.args.items) (tests_of o.tests)
+abbrev pub test_head : Context → one_tests.Test (SmallVec ℕ) → List Element
+test_head context t = let o = one_tests.out-Test (SmallVec ℕ) t in the_test context o.name.items o.line (map argument_of o.args.items) (tests_of o.tests) ∷ test_arguments context (test_named o.name.items) (map argument_of o.args.items) (tests_of o.tests)
 
 -- a command and its arguments
-abbrev pub command_head : Context → commands.Command → List Element
-command_head context c = let o = commands.out-Command c in the_command context o.name.items o.line (map argument_of o.args.items) (tests_of o.tests) (block_as o.block) ∷ command_arguments context (command_named o.name.items) (map argument_of o.args.items) (tests_of o.tests) (block_as o.block)
+abbrev pub command_head : Context → commands.Command (SmallVec ℕ) → List Element
+command_head context c = let o = commands.out-Command (SmallVec ℕ) c in the_command context o.name.items o.line (map argument_of o.args.items) (tests_of o.tests) (block_of o.block) ∷ command_arguments context (command_named o.name.items) (map argument_of o.args.items) (tests_of o.tests) (block_of o.block)
 
 -- a command, its arguments and its tests
-abbrev pub command_front : Context → commands.Command → List Element
-command_front context c = command_head context c ++ tests_elements context (tests_of (commands.out-Command c).tests)
+abbrev pub command_front : Context → commands.Command (SmallVec ℕ) → List Element
+command_front context c = command_head context c ++ tests_elements context (tests_of (commands.out-Command (SmallVec ℕ) c).tests)
 
 -- behind a command and before its block
-abbrev pub behind_front : Context → commands.Command → Context
-behind_front context c = let o = commands.out-Command c in behind_kind context (command_named o.name.items) (map argument_of o.args.items)
+abbrev pub behind_front : Context → commands.Command (SmallVec ℕ) → Context
+behind_front context c = let o = commands.out-Command (SmallVec ℕ) c in behind_kind context (command_named o.name.items) (map argument_of o.args.items)
 
 -- the rules that a command of a kind breaks itself, and then those of its arguments
-abbrev pub kind_found : Context → CommandKind → commands.Command → List Breach
+abbrev pub kind_found : Context → CommandKind → commands.Command (SmallVec ℕ) → List Breach
 kind_found context kind c =
-    let o = commands.out-Command c in
-    breaches_by (command_breaks context (Some kind) (map argument_of o.args.items) (tests_of o.tests) (block_as o.block)) o.line all_rules
-    ++ breaches_in (command_arguments context (Some kind) (map argument_of o.args.items) (tests_of o.tests) (block_as o.block))
+    let o = commands.out-Command (SmallVec ℕ) c in
+    breaches_by (command_breaks context (Some kind) (map argument_of o.args.items) (tests_of o.tests) (block_of o.block)) o.line all_rules
+    ++ breaches_in (command_arguments context (Some kind) (map argument_of o.args.items) (tests_of o.tests) (block_of o.block))

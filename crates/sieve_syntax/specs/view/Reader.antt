@@ -1,12 +1,8 @@
 -- The view of the program's reader as a state of the machine.
 use Rattle.std.specs.Prelude.{◌≡◌, List, Option, Some, None, Result, Ok, Err, map, reverse}
-use Rattle.std.specs.declared.vec.Vec.{Vec}
-use Rattle.std.specs.declared.alloc.Global.{Global}
-use Rattle.sieve_syntax.specs.Tree.{Block, no_block, block, nodes}
 use Rattle.sieve_syntax.specs.view.Tree.{node_of, test_of, tests_of, text_of, argument_of}
 use Rattle.sieve_syntax.specs.Word.{Word, identifier, tag_word, number_word, string_word, semicolon, open_brace, close_brace, open_parenthesis, close_parenthesis, open_bracket, close_bracket, comma, bad}
 use Rattle.sieve_syntax.specs.Machine.{Head, Level, for_one, for_list, Open, Outer, ParserState, between, in_arguments, before_string, after_string, before_test, after_tests}
-use Rattle.sieve_syntax.specs.declared.tree.Command as commands
 use Rattle.sieve_syntax.specs.declared.word.Word as words
 use Rattle.sieve_syntax.specs.declared.word.Word.TheVariants as word_variants
 use Rattle.sieve_syntax.specs.declared.reader.Head as heads
@@ -33,10 +29,6 @@ word_as word_variants.OpenBracket = open_bracket
 word_as word_variants.CloseBracket = close_bracket
 word_as word_variants.Comma = comma
 word_as word_variants.Bad = bad
-
-abbrev pub block_of : Option (Vec commands.Command Global) → Block
-block_of None = no_block
-block_of (Some v) = block (nodes (map node_of v.items))
 
 abbrev pub head_value : heads.Head → Head
 head_value h = record { name = h.name.items; line = h.line; args = map argument_of h.args.items }

@@ -1,0 +1,10 @@
+use Rattle.std.proofs.Common.{◌≡◌, drop, map}
+use Rattle.sieve_syntax.specs.view.TreeOf.{argument_of}
+use Rattle.sieve_reading.specs.Label.{fills}
+use Rattle.sieve_reading.specs.Shape.{shapes_of}
+use Rattle.sieve_reading.specs.view.Expected.{expected_as}
+use Rattle.sieve_reading.proofs.shape.fills.Given as goal
+
+-- the arguments that are left decide
+abbrev pub invariant-loop-argument : goal.invariant-loop-argument
+invariant-loop-argument g l = fills (expected_as l.expected) (shapes_of l.tags (map (argument_of g.S.Strings.seen) (drop l.argument-index l.args))) ≡ fills (expected_as l.start) (shapes_of l.tags (map (argument_of g.S.Strings.seen) l.args))

@@ -1,0 +1,10 @@
+use Rattle.std.proofs.Common.{◌≡◌, ◌++◌, drop, map}
+use Rattle.sieve_syntax.specs.view.TreeOf.{argument_of}
+use Rattle.sieve_reading.specs.Label.{labels_from}
+use Rattle.sieve_reading.specs.Shape.{shapes_of}
+use Rattle.sieve_reading.specs.view.Expected.{expected_as}
+use Rattle.sieve_reading.proofs.shape.labels_from.Given as goal
+
+-- the labels so far, and then those of the arguments that are left
+abbrev pub invariant-loop-argument : goal.invariant-loop-argument
+invariant-loop-argument g l = labels_from (expected_as l.start) (shapes_of l.tags (map (argument_of g.S.Strings.seen) l.args)) ≡ l.labels.items ++ labels_from (expected_as l.expected) (shapes_of l.tags (map (argument_of g.S.Strings.seen) (drop l.argument-index l.args)))

@@ -1,0 +1,5 @@
+use Rattle.std.proofs.Common.{rules}
+use Rattle.sieve_reading.proofs.shape.shape_of.Goals as goal
+
+pub returns-in-Number : goal.returns-in-Number
+returns-in-Number g c = search rules
