@@ -1,17 +1,20 @@
-"""Whether `docs/PROVED.md` and `docs/RULES.md` name what there is, and the former each law.
+"""Whether `docs/PROVED.md`, `docs/RULES.md` and `docs/ADDING.md` name what there is, and the first each law.
 
 In what is proved, names in parentheses are those of clauses, laws, definitions or ghost fields of the crate's sources; other names are
 words of its sources, or of another crate's. Of a rule, `Module.name` is a definition of that file, and the other names stand somewhere. What
-isn't a name, as `i;ascii-casemap`, isn't looked for.
+an addition takes has its places in the crate of its row, in words or in names of files, but for tests; other names stand somewhere. What isn't
+a name, as `i;ascii-casemap`, isn't looked for.
 """
 import pathlib
 import re
 
 TOP = pathlib.Path(__file__).resolve().parent.parent.parent
-PROVED, RULES = TOP / "docs/PROVED.md", TOP / "docs/RULES.md"
+PROVED, RULES, ADDING = (TOP / "docs" / name for name in ("PROVED.md", "RULES.md", "ADDING.md"))
 NAME = r"[A-Za-z_][A-Za-z0-9_]*"
 # What declares a name that stands for something proved: in code a clause, a function or what is ghost, and a definition.
 DECLARED = rf"\b(?:ensures|fn|ghost(?: fn)?) ({NAME})|^(?:unfoldable |abbrev |pub |record )+(?!fn )({NAME})"
+# How files end.
+FILES = "rt|antt|py|md|rows|faults|sessions"
 TESTS = ("text_tests", "library_tests", "bench_tests")
 
 
@@ -81,7 +84,40 @@ def of_rules():
     yield Named("other names of rules", names_in(text) + files, words, RULES)
 
 
+def places(folder):
+    """The words of the files in a folder, and the names of these and of their folders, but for what is built."""
+    files = [path for path in sorted(folder.rglob("*")) if path.suffix in (".rt", ".antt", ".edit", ".py") and "out" not in path.parts]
+    names = {part for path in files for part in (*path.parts, path.stem)}
+    return names | set(re.findall(NAME, text_of(files)))
+
+
+def of_additions():
+    """The rows of each crate, and all other names."""
+    crates = {path.name: places(path) for path in (TOP / "crates").iterdir() if path.is_dir()}
+    pages = (path.name for folder in ("docs", "docs/man", "examples/rows") for path in (TOP / folder).iterdir())
+    anywhere = set().union(*crates.values(), places(TOP / "tools/checks"), ("docs", "man", "tools", "checks", "tsv"), pages)
+    rows, others = {}, []
+    for line in ADDING.read_text(encoding="utf-8").splitlines():
+        crate, *cells = re.split(r" \| ", line.strip("|"))
+        crate = re.match(rf" `({NAME})`", crate)
+        if line.startswith("| ") and crate:
+            rows.setdefault(crate[1], []).extend(cells[:-1])
+            others += cells[-1:]
+        else:
+            others.append(line)
+    for crate, cells in rows.items():
+        yield Named(f"additions to {crate}", parts_of_names("\n".join(cells)), crates.get(crate, set()), ADDING)
+    yield Named("other names of additions", parts_of_names("\n".join(others)), anywhere | set(crates), ADDING)
+
+
+def parts_of_names(text):
+    """The names and the files between backquotes, each part of a path or of a qualified name by itself."""
+    paths = [path for path in re.findall(r"`([^` ]+)`", text) if re.fullmatch(rf"\+?{NAME}(?:(?:::|\.|/)\+?{NAME})*", path)]
+    return [part for path in paths for part in re.split(rf"::|/|\.(?!(?:{FILES})$)", path)]
+
+
 def of_documents():
-    """Both."""
+    """All three."""
     yield from of_claims()
     yield from of_rules()
+    yield from of_additions()
