@@ -67,6 +67,18 @@ def of_checks(room):
     shown = "-bare/mails/-\\xc3\\xbc \"x\" \\\\ y.eml under -\\xc3\\xbc \"x\" \\\\ y: nothing is expected"
     write(room / "-bare", {f"mails/{odd}.eml": b"", f"personal/{odd}.sieve": b"discard;", "mains": f"{odd}\n".encode()})
     yield run("odd names are told", room, "check --strict --no-utf8 -- -bare", lines(shown, counted(1, 1, 1, 0, 0, 1, 0, 0)), status=1)
+    write(room / "utf8", site({"\u00fc.eml": b"", "\u00fc.eml.expect": b'[main]\nstore "\\xe4" "\\\\Seen"\n'}, main='require "fileinto"; fileinto "B\u00fcro";'.encode()))
+    shown = lines("utf8/mails/\u00fc.eml under main", '  - store "\\xe4" "\\\\Seen"', '  + store "B\u00fcro"', counted(1, 1, 1, 0, 1, 0, 0, 0))
+    yield run("octets of UTF-8 are shown as characters, and others as they were", room, "check --utf8 utf8", shown, status=1)
+    write(room / "over", site({"1.eml": b"", "1.eml.expect": b"[main]\ndiscard\n", ".2.eml": b"", "3.EML": b"", "4.eml/x": b"", ".eml": b""}, main=b"discard;"))
+    write(room / "over", {"personal/.x.sieve": b"discard;", "personal/.sieve": b"kep;", "personal/x.SIEVE": b"kep;", "personal/y.sieve/x": b""})
+    (room / "over/mails/5.eml").symlink_to("nowhere")
+    (room / "over/mails/6.eml").symlink_to("1.eml")
+    yield run("files that are passed over, and a link that isn't", room, "check --main main --main .x over", lines(counted(2, 2, 4, 1, 0, 3, 0, 0)))
+    write(room / "names", {**site({"1.eml": b""}, main=b"discard;", other=b""), "mains": b"main\r\n\nother\r\nmain"})
+    yield run("CR LF, an empty line and a name again among those of main scripts", room, "check names", lines(counted(1, 2, 2, 0, 0, 2, 0, 0)))
+    write(room / "stale", site({"1.eml": b"", "1.eml.expect": b"[main]\ndiscard\n", "2.eml.expect": b""}, main=b"discard;"))
+    yield run("all agree, but a file is stale", room, "check --strict stale", lines("stale/mails/2.eml.expect: its mail isn't there", counted(1, 1, 1, 1, 0, 0, 1, 0)), status=1)
     yield run("an output that is closed early", room, "check --strict none | head -c 4", b"none")
 
 
@@ -88,6 +100,10 @@ def of_refusals(room):
     yield run("a script that is refused", room, "check large", b"", told('the script "large/personal/main.sieve" is refused: no too-large'), 2)
     yield run("a program that isn't there", room, "check --program ./absent --main main unnamed", b"", told('cannot run "./absent": No such file or directory'), 3)
     yield run("a site that isn't there", room, "check nowhere", b"", told('cannot read "nowhere/personal": No such file or directory'), 2)
+    for end in ("envelope", "expect"):
+        write(room / end, site({"1.eml": b""}, main=b""))
+        (room / end / f"mails/1.eml.{end}").symlink_to("nowhere")
+        yield run(f"a link to nothing, {end}", room, f"check {end}", b"", told(f'cannot read "{end}/mails/1.eml.{end}": No such file or directory'), 2)
     yield run("an unknown option", room, "check --no unnamed", b"", told('"--no" is no option here, or wants a value: --help tells the options'), 2)
     yield run("an option of another command", room, "lint --strict unnamed", b"", told('"--strict" is no option here, or wants a value: --help tells the options'), 2)
     yield run("an output that is full", room, "check good > /dev/full", b"", told("cannot write: No space left on device"), 2)
@@ -108,6 +124,22 @@ def of_results(room):
     counts = ", ".join(f'"{what}": {number}' for what, number in zip(COUNTS, (1, 2, 2, 1, 1, 0, 0, 0)))
     cases = '{"mail": "1.eml", "main": "main", "agrees": true, "expected": ["discard"], "verdict": ["discard"]}, {"mail": "1.eml", "main": "other", "agrees": false, "expected": ["discard"], "verdict": ["store \\"INBOX\\""]}'
     yield run("an object", room, "check --json both", lines(f'{{"passed": false, "counts": {{{counts}}}, "cases": [{cases}], "faults": [], "stale": []}}'), status=1)
+    odd = {'<&"\u00fc.eml': b"", '<&"\u00fc.eml.expect': b'[main]\nstore "A"\n', "2.eml.expect": b""}
+    write(room / "marks", {**site(odd, main='require "fileinto"; fileinto "<&\u00fc>";'.encode(), other=b""), "personal/broken.sieve": b"kep;"})
+    # A parser tells what servers read. Each of the files is one failure, and under --strict that nothing is expected is one too.
+    (room / "read").write_text("import sys, xml.etree.ElementTree as tree\nfor it in tree.parse(sys.argv[1]).iter():\n    print(ascii([it.tag, *it.attrib.values(), (it.text or '').strip()]))\n")
+    wrong = [["testcase", "main", '<&"\u00fc.eml', ""], ["failure", '- store "A"\n+ store "<&\u00fc>"'], ["testcase", "other", '<&"\u00fc.eml', ""]]
+    fault, stale = [["testcase", "sievebench-site", f"marks/{path}", ""] for path in ("personal/broken.sieve", "mails/2.eml.expect")]
+    wrong_file = [fault, ["failure", "line 1 unknown-command"]]
+    for title, words, rows in [
+        ("with marks", "", [["testsuite", "sievebench-site", "3", "2", ""], *wrong, ["skipped", ""], *wrong_file]),
+        ("under --strict", "--strict", [["testsuite", "sievebench-site", "4", "4", ""], *wrong, ["failure", "nothing is expected"], *wrong_file, stale, ["failure", "its mail isn't there"]]),
+    ]:
+        yield run(f"results of tests, {title}", room, f"check {words} --junit out.xml marks > /dev/null; python3 read out.xml", lines(*map(ascii, rows)))
+    write(room / "mark", site({"\u00fc.eml": b""}, **{"\u00f6": 'require "fileinto"; fileinto "\u00e4";'.encode()}))
+    counts = ", ".join(f'"{what}": {number}' for what, number in zip(COUNTS, (1, 1, 1, 0, 0, 1, 0, 0)))
+    cases = '{"mail": "\\u00fc.eml", "main": "\\u00f6", "agrees": null, "expected": null, "verdict": ["store \\"\\\\xc3\\\\xa4\\""]}'
+    yield run("an object, with names as they are and verdicts as they are expected", room, "check --json mark", lines(f'{{"passed": true, "counts": {{{counts}}}, "cases": [{cases}], "faults": [], "stale": []}}'))
 
 
 def of_records(room):
@@ -122,6 +154,18 @@ def of_records(room):
     yield run("an error is written", room, "record errors", lines("errors/mails/1.eml.expect: new, with an error", "1 mails, 1 written, 0 left"))
     write(room / "blocks", site({"1.eml": b"", "1.eml.expect": b'[old]\nstore "A"'}, main=b"discard;"))
     yield run("a block more", room, "record blocks", lines("blocks/mails/1.eml.expect: left, since it isn't as this tool writes it", "1 mails, 0 written, 1 left"), status=1)
+    # Names go in the order of their octets, and what is expected under a main script that isn't run stays, be it right or wrong.
+    write(room / "two", {**site({"1.eml": b"", "2.eml": b""}, a=b"discard;", b=b"keep;"), "mains": b"b\na\n"})
+    yield run("two main scripts", room, "record two", lines("two/mails/1.eml.expect: new", "two/mails/2.eml.expect: new", "2 mails, 2 written, 0 left"))
+    yield Run("sievebench-site: the order of names", room, "cat two/mails/1.eml.expect", lines("[a]", "discard", "[b]", 'store "INBOX"'))
+    write(room / "two", {"mails/1.eml.expect": b"[a]\nkeep\n[b]\nkeep\n"})
+    yield run("one main script of two", room, "record --main b two", lines("two/mails/1.eml.expect: changed", "2 mails, 1 written, 0 left"))
+    yield Run("sievebench-site: what stays", room, "cat two/mails/1.eml.expect", lines("[a]", "keep", "[b]", 'store "INBOX"'))
+    write(room / "modes", site({"1.eml": b"", "2.eml": b"", "2.eml.expect": b"", "3.eml": b"", "link": b""}, main=b"discard;"))
+    (room / "modes/mails/2.eml.expect").chmod(0o604)
+    (room / "modes/mails/3.eml.expect").symlink_to("link")
+    modes = f"umask 027; python3 {shlex.quote(str(TOOL))} record modes > told; cd modes/mails; stat -c %A *.expect; cat link"
+    yield Run("sievebench-site: the modes of new files and of old ones, and a link", room, modes, lines("-rw-r-----", "-rw----r--", "lrwxrwxrwx", "[main]", "discard"))
 
 
 def of_lints(room):
@@ -152,6 +196,9 @@ def of_lints(room):
     (room / "peer/bin/sievec").chmod(0o755)
     wanted = ["a.sieve:2: unknown-command: There is no such command or test.", "c.sieve:1: unknown-command: There is no such command or test.", "main.sieve:1: invalid-script: The script of this name has a fault.", "a.sieve:2: sievec: It compiles this.", "b.sieve:2: sievec: there is a reject", "main.sieve:1: sievec: It compiles this."]
     yield Run("sievebench-site: where sievec says otherwise", room, f'PATH="$PWD/peer/bin:$PATH" python3 {shlex.quote(str(TOOL))} lint --sievec peer', lines(*(f"peer/personal/{line}" for line in wanted)), status=1)
+    write(room / "alien", {"bin/sievec": b"#!/bin/sh\nexit 1\n", "personal/a.sieve": b"keep;"})
+    (room / "alien/bin/sievec").chmod(0o755)
+    yield Run("sievebench-site: where sievec alone says something", room, f'PATH="$PWD/alien/bin:$PATH" python3 {shlex.quote(str(TOOL))} lint --sievec alien', lines("alien/personal/a.sieve:0: sievec: It can't compile this."), status=1)
     write(room / "clean", {"personal/main.sieve": b"keep;", "personal/.x.sieve": b"keep;"})
     yield run("no faults", room, "lint clean")
 
