@@ -126,11 +126,15 @@ def of_settings(room):
         ("of several scripts main is", "two m", two + b'main personal "main"\n'),
         ("of several scripts the one that is named", "--main -other two m", two + b'main personal "-other"\n'),
         ("global scripts count for nothing there", "one m --global two", one + two.replace(b"personal", b"global") + b'main personal "only"\n'),
+        ("a folder on each side of --", "one -- m", one + mail + b'main personal "only"\n'),
         ("an envelope", "one m --envelope -a@b '<\u00fc \"q\\\"@c>'", one + mail + b'main personal "only"\nenvelope "-a@b" "<\\xc3\\xbc \\"q\\\\\\"@c>"\n'),
         ("a mailbox in front", "--envelope '' '' --mailbox --main one m", one + mail + b'main personal "only"\nenvelope "" ""\nmailbox "--main"\n'),
         ("an octet that isn't UTF-8", "--mailbox \"$(printf 'a\\377\\033')\" one m", one + mail + b'main personal "only"\nmailbox "a\\xff\\x1b"\n'),
     ]:
         yield Run(f"a session, {title}", room, f"{MAKE} {words}", octets + b"report\n")
+    options = [b"--main NAME ", b"--global DIR ", b"--envelope FROM TO ", b"--mailbox BOX "]
+    for word in ("-h", "--help"):
+        yield Run(f"the help by {word}", room, f"{MAKE} {word}", [b"tools/make-session [OPTIONS] SCRIPTS MAILS", *options])
     settings = f"{MAKE} --envelope '\u00fc' c@d --mailbox 'B \"x\"' one m | sievebench session"
     told = ['main personal "only"', 'envelope "\\xc3\\xbc" "c@d" mailbox "B \\"x\\""', 'script personal "only" ok', 'message "1"', '  implicit "B \\"x\\""']
     yield Run("settings in the report", room, settings, lines(*["ok"] * 5, *told, '  read personal "only"', "total 1 messages 0 errors"))
