@@ -58,6 +58,10 @@ def of_successes(room):
     yield Run("an install where nothing is named", top, f"HOME=home {INSTALL} > told; home/.local/bin/sievebench x", b"new x\n")
     has = b"The path has it: sievebench --help tells how it is used.\n"
     yield Run("an install again, into a folder of the path", top, 'PATH="$PWD/kit:$PWD/home/.local/bin" tools/install home/.local | tail -n 1', has)
+    (top / "link").symlink_to("home")
+    yield Run("an install into a folder that the path has by a link", top, 'PATH="$PWD/kit:$PWD/link/.local/bin" tools/install home/.local | tail -n 1', has)
+    for word in ("-h", "--help"):
+        yield Run(f"the help by {word}", top, f"{INSTALL} {word}", [b"tools/install [PREFIX]\n", b"PREFIX is ~/.local where none is given."])
     top = copy(room, BUILDS, {**OLD, **PAGES})
     here = os.fsencode(os.path.realpath(top))
     other = b"The path has another one before it, %s/p/bin/sievebench.\n" % here
@@ -66,6 +70,8 @@ def of_successes(room):
     found = lines("0", "p/bin/sievebench", "p/bin/sievebench-site", *pages, "new x", "page", "page of lines")
     used = "find p -type f | LC_ALL=C sort; p/bin/sievebench x; cat p/share/man/man1/* p/share/man/man5/*"
     yield Run("an install over an older one, with pages of the manual", top, f"{INSTALL} p > told; echo $?; {used}", found)
+    modes = f"umask 077; {INSTALL} r > told; find r -type f -perm 755 | LC_ALL=C sort; find r -type f -perm 644 | LC_ALL=C sort"
+    yield Run("an install for all users, whatever the mask", top, modes, lines(*(f"r{path[1:]}" for path in ["p/bin/sievebench", "p/bin/sievebench-site", *pages])))
 
 
 def of_failures(room):
