@@ -91,6 +91,7 @@ def of_failures(room):
         ("there is no rt", None, OLD, f"p; echo $?; {used}", b"1\n" + old, [b"install: there is no rt in the path"]),
         ("a folder is a file", calls, OLD, f"p/bin/sievebench; echo $?; {used}", b"1\n" + old, [b"install: cannot write to ", b"/p/bin/sievebench\n"]),
         ("the program's place is a folder", calls, {"p/bin/sievebench/x": b""}, "p; echo $?; find p -type f", b"1\np/bin/sievebench/x\n", [b"/p/bin/sievebench is a folder\n"]),
+        ("an option is unknown", calls, {}, "--prefix=p; echo $?; find . -name '*p'", b"1\n", [b"install: --prefix=p is no option"]),
         ("two words are given", calls, {}, "p q; echo $?; find . -name p -o -name q", b"1\n", [b"install: one word at most is wanted"]),
     ]:
         yield Run(f"no install where {title}", copy(room, rt, files), f"{INSTALL} {words}", output, error)
