@@ -105,6 +105,7 @@ def of_refusals(room):
         (room / end / f"mails/1.eml.{end}").symlink_to("nowhere")
         yield run(f"a link to nothing, {end}", room, f"check {end}", b"", told(f'cannot read "{end}/mails/1.eml.{end}": No such file or directory'), 2)
     yield run("an unknown option", room, "check --no unnamed", b"", told('"--no" is no option here, or wants a value: --help tells the options'), 2)
+    yield run("a value of an option that takes none", room, "check --strict=no good", b"", told('"--strict" takes no value: --help tells the options'), 2)
     yield run("an option of another command", room, "lint --strict unnamed", b"", told('"--strict" is no option here, or wants a value: --help tells the options'), 2)
     yield run("an output that is full", room, "check good > /dev/full", b"", told("cannot write: No space left on device"), 2)
 
