@@ -1,4 +1,5 @@
 """Sites that are made, under `sievebench-site`: what is expected of their mails is written from the rules."""
+import os
 import pathlib
 import shlex
 
@@ -70,13 +71,16 @@ def of_checks(room):
     write(room / "utf8", site({"\u00fc.eml": b"", "\u00fc.eml.expect": b'[main]\nstore "\\xe4" "\\\\Seen"\n'}, main='require "fileinto"; fileinto "B\u00fcro";'.encode()))
     shown = lines("utf8/mails/\u00fc.eml under main", '  - store "\\xe4" "\\\\Seen"', '  + store "B\u00fcro"', counted(1, 1, 1, 0, 1, 0, 0, 0))
     yield run("octets of UTF-8 are shown as characters, and others as they were", room, "check --utf8 utf8", shown, status=1)
+    write(room / "plain", site({"1.eml": b"", "1.eml.expect": '[main]\nstore "\u00fc"\n'.encode()}, main='require "fileinto"; fileinto "\u00fc";'.encode()))
+    shown = ['  - store "\\xc3\\xbc"', '  + store "\\xc3\\xbc"', "  (a line that is expected has an octet outside of 32 to 126, which verdicts spell \\xHH)"]
+    yield run("what is expected isn't spelled as verdicts are", room, "check plain", lines("plain/mails/1.eml under main", *shown, counted(1, 1, 1, 0, 1, 0, 0, 0)), status=1)
     write(room / "over", site({"1.eml": b"", "1.eml.expect": b"[main]\ndiscard\n", ".2.eml": b"", "3.EML": b"", "4.eml/x": b"", ".eml": b""}, main=b"discard;"))
     write(room / "over", {"personal/.x.sieve": b"discard;", "personal/.sieve": b"kep;", "personal/x.SIEVE": b"kep;", "personal/y.sieve/x": b""})
     (room / "over/mails/5.eml").symlink_to("nowhere")
     (room / "over/mails/6.eml").symlink_to("1.eml")
     yield run("files that are passed over, and a link that isn't", room, "check --main main --main .x over", lines(counted(2, 2, 4, 1, 0, 3, 0, 0)))
-    write(room / "names", {**site({"1.eml": b""}, main=b"discard;", other=b""), "mains": b"main\r\n\nother\r\nmain"})
-    yield run("CR LF, an empty line and a name again among those of main scripts", room, "check names", lines(counted(1, 2, 2, 0, 0, 2, 0, 0)))
+    write(room / "names", {**site({"\n\x1f\x7f\x80\udcff.eml": b""}, main=b"discard;", other=b""), "mains": b"main\r\n\nother\r\nmain"})
+    yield run("CR LF, an empty line and a name again among those of main scripts, and a mail of an odd name", room, "check names", lines(counted(1, 2, 2, 0, 0, 2, 0, 0)))
     write(room / "stale", site({"1.eml": b"", "1.eml.expect": b"[main]\ndiscard\n", "2.eml.expect": b""}, main=b"discard;"))
     yield run("all agree, but a file is stale", room, "check --strict stale", lines("stale/mails/2.eml.expect: its mail isn't there", counted(1, 1, 1, 1, 0, 0, 1, 0)), status=1)
     yield run("an output that is closed early", room, "check --strict none | head -c 4", b"none")
@@ -106,6 +110,39 @@ def of_refusals(room):
         yield run(f"a link to nothing, {end}", room, f"check {end}", b"", told(f'cannot read "{end}/mails/1.eml.{end}": No such file or directory'), 2)
     yield run("an unknown option", room, "check --no unnamed", b"", told('"--no" is no option here, or wants a value: --help tells the options'), 2)
     yield run("a value of an option that takes none", room, "check --strict=no good", b"", told('"--strict" takes no value: --help tells the options'), 2)
+    # The program beside the tool comes before that of the path, also where a link leads to the tool; a folder is none.
+    for name in ("beside", "folder"):
+        write(room / name, {"sievebench-site": TOOL.read_bytes(), "sievebench" if name == "beside" else "sievebench/x": b"#!/bin/sh\necho beside >&2\nexit 4\n"})
+    (room / "beside/sievebench").chmod(0o755)
+    (room / "linked").symlink_to("beside/sievebench-site")
+    yield Run("sievebench-site: the program beside the tool", room, "python3 linked check good", b"", [b'/beside/sievebench" ended with status 4: "beside"\n'], 3)
+    yield Run("sievebench-site: a folder beside the tool", room, "python3 folder/sievebench-site lint good")
+    write(room / "touch", site({"1.eml": b"", "1.eml.envelope": b'""ada@home.example\n'}, main=b""))
+    yield run("an envelope of words that touch", room, "check touch", b"", told('"touch/mails/1.eml.envelope" isn\'t two words, as in a session'), 2)
+    write(room / "sender", site({"1.eml": b"", "1.eml.envelope": b'"" ' + b"a" * 1_025}, main=b""))
+    yield run("an envelope that is refused", room, "check sender", b"", told('the envelope of "sender/mails/1.eml" is refused: no too-large'), 2)
+    yield run("the help of a command", room, "lint --help", [b"sievebench-site lint [--main NAME].. [--sievec] SITE\n", b"--program P "])
+    write(room / "bare", {**site({"1.eml": b""}, main=b""), "mains": b"\n"})
+    yield run("no name of a main script", room, "check bare", b"", told('no main script in "bare/mains"'), 2)
+    write(room / "escape", site({"1.eml": b"", "1.eml.expect": b'["m\\ain"]\n'}, main=b""))
+    yield run("a name that is no word", room, "check escape", b"", told('"escape/mails/1.eml.expect", line 1: between the brackets stands no name of a main script, or one that stood there before'), 2)
+    write(room / "pipe", site({"1.eml": b""}, main=b""))
+    os.mkfifo(room / "pipe/mails/1.eml.expect")
+    yield run("an expectation that is a pipe", room, "check pipe", b"", told('cannot read "pipe/mails/1.eml.expect": it is no plain file'), 2)
+    yield run("an option without its value", room, "check good --main", b"", told('"--main" is no option here, or wants a value: --help tells the options'), 2)
+    yield run("an unknown command", room, "chek good", b"", told('"chek" is none of check, record and lint: --help tells more'), 2)
+    for words in ("", "good none", "''"):
+        yield run(f"one folder is wanted: {words}", room, f"check {words}", b"", told("one folder is wanted, the site: --help tells more"), 2)
+    write(room / "far", site({"1.eml": b""}, main=b""))
+    (room / "far/mails/2.eml").symlink_to("n" * 300)
+    yield run("a mail of which nobody knows what it is", room, "check far", b"", told('cannot read "far/mails/2.eml": File name too long'), 2)
+    write(room / "mute", {"program": b"#!/bin/sh\ncat > /dev/null\n", "failing": b"#!/bin/sh\ncat > /dev/null\necho 'out of memory' >&2\nexit 4\n"})
+    for name, sentence in (("program", "the program answered too little"), ("failing", '"mute/failing" ended with status 4: "out of memory"')):
+        (room / "mute" / name).chmod(0o755)
+        yield run(f"a program that answers nothing, {name}", room, f"check --program mute/{name} good", b"", told(sentence), 3)
+    # Nothing but the tool itself is in this path.
+    alone = f'PATH=/nowhere "$(python3 -c "import sys; print(sys.executable)")" {shlex.quote(str(TOOL))} lint --sievec --program "$(command -v sievebench)" good'
+    yield Run("sievebench-site: sievec isn't there", room, alone, b"", told('cannot run "sievec": No such file or directory'), 3)
     yield run("an option of another command", room, "lint --strict unnamed", b"", told('"--strict" is no option here, or wants a value: --help tells the options'), 2)
     yield run("an output that is full", room, "check good > /dev/full", b"", told("cannot write: No space left on device"), 2)
 
@@ -122,15 +159,17 @@ def of_results(room):
         "</testsuite>",
     )
     yield run("results of tests", room, "check --junit out.xml both > /dev/null; cat out.xml", junit)
+    wrong = lines("both/mails/1.eml under other", "  - discard", '  + store "INBOX"', counted(1, 2, 2, 1, 1, 0, 0, 0))
+    yield run("results of tests in front of the lines", room, "check --junit /dev/stdout both > all; cat all", junit + wrong)
     counts = ", ".join(f'"{what}": {number}' for what, number in zip(COUNTS, (1, 2, 2, 1, 1, 0, 0, 0)))
     cases = '{"mail": "1.eml", "main": "main", "agrees": true, "expected": ["discard"], "verdict": ["discard"]}, {"mail": "1.eml", "main": "other", "agrees": false, "expected": ["discard"], "verdict": ["store \\"INBOX\\""]}'
     yield run("an object", room, "check --json both", lines(f'{{"passed": false, "counts": {{{counts}}}, "cases": [{cases}], "faults": [], "stale": []}}'), status=1)
-    odd = {'<&"\u00fc.eml': b"", '<&"\u00fc.eml.expect': b'[main]\nstore "A"\n', "2.eml.expect": b""}
-    write(room / "marks", {**site(odd, main='require "fileinto"; fileinto "<&\u00fc>";'.encode(), other=b""), "personal/broken.sieve": b"kep;"})
+    odd = {'<&"\u00fc.eml': b"", '<&"\u00fc.eml.expect': b'[main]\nstore "A"\n', "2\u00fc.eml.expect": b""}
+    write(room / "marks", {**site(odd, main='require "fileinto"; fileinto "<&\u00fc>";'.encode(), **{"\u00f6": b""}), "personal/broken.sieve": b"kep;"})
     # A parser tells what servers read. Each of the files is one failure, and under --strict that nothing is expected is one too.
     (room / "read").write_text("import sys, xml.etree.ElementTree as tree\nfor it in tree.parse(sys.argv[1]).iter():\n    print(ascii([it.tag, *it.attrib.values(), (it.text or '').strip()]))\n")
-    wrong = [["testcase", "main", '<&"\u00fc.eml', ""], ["failure", '- store "A"\n+ store "<&\u00fc>"'], ["testcase", "other", '<&"\u00fc.eml', ""]]
-    fault, stale = [["testcase", "sievebench-site", f"marks/{path}", ""] for path in ("personal/broken.sieve", "mails/2.eml.expect")]
+    wrong = [["testcase", "main", '<&"\u00fc.eml', ""], ["failure", '- store "A"\n+ store "<&\u00fc>"'], ["testcase", "\u00f6", '<&"\u00fc.eml', ""]]
+    fault, stale = [["testcase", "sievebench-site", f"marks/{path}", ""] for path in ("personal/broken.sieve", "mails/2\u00fc.eml.expect")]
     wrong_file = [fault, ["failure", "line 1 unknown-command"]]
     for title, words, rows in [
         ("with marks", "", [["testsuite", "sievebench-site", "3", "2", ""], *wrong, ["skipped", ""], *wrong_file]),
@@ -162,11 +201,15 @@ def of_records(room):
     write(room / "two", {"mails/1.eml.expect": b"[a]\nkeep\n[b]\nkeep\n"})
     yield run("one main script of two", room, "record --main b two", lines("two/mails/1.eml.expect: changed", "2 mails, 1 written, 0 left"))
     yield Run("sievebench-site: what stays", room, "cat two/mails/1.eml.expect", lines("[a]", "keep", "[b]", 'store "INBOX"'))
-    write(room / "modes", site({"1.eml": b"", "2.eml": b"", "2.eml.expect": b"", "3.eml": b"", "link": b""}, main=b"discard;"))
+    write(room / "quote", site({"1.eml": b""}, **{'a"[\\]': b"discard;"}))
+    yield run("a name that wants quotes", room, "record quote", lines("quote/mails/1.eml.expect: new", "1 mails, 1 written, 0 left"))
+    yield Run("sievebench-site: its quotes", room, "cat quote/mails/1.eml.expect", lines('["a\\"[\\\\]"]', "discard"))
+    yield run("what is recorded agrees", room, "check --strict quote", lines(counted(1, 1, 1, 1, 0, 0, 0, 0)))
+    write(room / "modes", site({"1.eml": b"", "2.eml": b"", "2.eml.expect": b"", "3.eml": b"", "4.eml": b"", "link": b""}, main=b"discard;"))
     (room / "modes/mails/2.eml.expect").chmod(0o604)
     (room / "modes/mails/3.eml.expect").symlink_to("link")
     modes = f"umask 027; python3 {shlex.quote(str(TOOL))} record modes > told; cd modes/mails; stat -c %A *.expect; cat link"
-    yield Run("sievebench-site: the modes of new files and of old ones, and a link", room, modes, lines("-rw-r-----", "-rw----r--", "lrwxrwxrwx", "[main]", "discard"))
+    yield Run("sievebench-site: the modes of new files and of old ones, and a link", room, modes, lines("-rw-r-----", "-rw----r--", "lrwxrwxrwx", "-rw-r-----", "[main]", "discard"))
 
 
 def of_lints(room):
@@ -191,11 +234,15 @@ def of_lints(room):
     yield run("a main script is entered already", room, "lint once")
     write(room / "ring", {"personal/main.sieve": b'require "include"; include :once "t";', "personal/t.sieve": b'require "include"; include "main";', "mains": b"main\n"})
     yield run("an include once enters", room, "lint ring", lines("ring/personal/t.sieve:1: recursive-include: The script of this name runs already."), status=1)
+    ring = {name: f'require "include"; include "{goal}";'.encode() for name, goal in (("main", "a"), ("a", "b"), ("b", "a"))}
+    write(room / "behind", {f"personal/{name}.sieve": text for name, text in ring.items()})
+    told_of = [f"behind/personal/{name}.sieve:1: recursive-include: The script of this name runs already." for name in "ab"]
+    yield run("a script that a ring is behind isn't in it", room, "lint behind", lines(*told_of), status=1)
     # In place of sievec: it compiles what has no `reject`, and is told where the scripts are that those include.
     fake = '#!/bin/sh\n[ "$2 $4" = "plugin/sieve=file:$PWD/peer/personal plugin/sieve_global=file:$PWD/peer/global" ] || exit 9\n! grep -n reject "$5" > /dev/null || { echo "x: line 2: error: there is a reject" >&2; exit 89; }\n'
-    write(room / "peer", {"bin/sievec": fake.encode(), "personal/main.sieve": b'require "include"; include "a";', "personal/a.sieve": b"\nkep;", "personal/b.sieve": b"# reject", "personal/c.sieve": b"reject;", "mains": b"main\n"})
+    write(room / "peer", {"bin/sievec": fake.encode(), "personal/main.sieve": b'require "include"; include "a";\ninclude "gone";', "personal/a.sieve": b"\nkep;", "personal/b.sieve": b"# reject", "personal/both.sieve": b"keep;", "personal/c.sieve": b"reject;", "mains": b"main\n"})
     (room / "peer/bin/sievec").chmod(0o755)
-    wanted = ["a.sieve:2: unknown-command: There is no such command or test.", "c.sieve:1: unknown-command: There is no such command or test.", "main.sieve:1: invalid-script: The script of this name has a fault.", "a.sieve:2: sievec: It compiles this.", "b.sieve:2: sievec: there is a reject", "main.sieve:1: sievec: It compiles this."]
+    wanted = ["a.sieve:2: unknown-command: There is no such command or test.", "c.sieve:1: unknown-command: There is no such command or test.", "main.sieve:1: invalid-script: The script of this name has a fault.", "main.sieve:2: missing-script: There is no script of this name.", "a.sieve:2: sievec: It compiles this.", "b.sieve:2: sievec: there is a reject", "main.sieve:1: sievec: It compiles this."]
     yield Run("sievebench-site: where sievec says otherwise", room, f'PATH="$PWD/peer/bin:$PATH" python3 {shlex.quote(str(TOOL))} lint --sievec peer', lines(*(f"peer/personal/{line}" for line in wanted)), status=1)
     write(room / "alien", {"bin/sievec": b"#!/bin/sh\nexit 1\n", "personal/a.sieve": b"keep;"})
     (room / "alien/bin/sievec").chmod(0o755)
