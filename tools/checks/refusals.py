@@ -62,10 +62,15 @@ SESSIONS = {
 }
 
 
+def served(octets, path, **settings):
+    """The process of a session."""
+    env = {**os.environ, "PATH": path, **settings}
+    return subprocess.run(["sievebench", "session"], input=octets, env=env, capture_output=True, timeout=SECONDS)
+
+
 def answered(octets, path, **settings):
     """What the program answers to a session, and its status."""
-    env = {**os.environ, "PATH": path, **settings}
-    done = subprocess.run(["sievebench", "session"], input=octets, env=env, capture_output=True, timeout=SECONDS)
+    done = served(octets, path, **settings)
     return done.stdout, done.returncode
 
 
@@ -120,7 +125,8 @@ class Pieces:
 
 class Failing:
     """A session whose reads, an octet each, fail one by one, and then its writes. Of a read that fails there must come what the commands
-    that were whole before it answer, and of a write a front of what the session answers."""
+    that were whole before it answer, and of a write a front of what the session answers. So it is where a write takes nothing: nothing
+    is written behind it, and standard error says so."""
 
     def __init__(self, library, title, commands):
         self.library, self.commands = library, commands
@@ -138,6 +144,9 @@ class Failing:
         while (found := answered(octets, path, LD_PRELOAD=str(self.library), READ="1", FAIL_WRITE=str(number))) != whole and number <= len(octets):
             if found[1] != 3 or not (whole[0].startswith(found[0]) and found[0].startswith(last)):
                 wrong.append(f"write {number} failed: got {found!r:.1000}")
+            done = served(octets, path, LD_PRELOAD=str(self.library), READ="1", NO_WRITE=str(number))
+            if (done.stdout, done.returncode, done.stderr) != (*found, b"sievebench: cannot write\n"):
+                wrong.append(f"write {number} took nothing: got {done!r:.1000}")
             last, number = found[0], number + 1
         return wrong[:3] + ([] if number > len(self.commands) // 2 else [f"only {number - 1} writes"])
 

@@ -6,6 +6,7 @@
    READ=N          lets a read give N octets at most
    FAIL_READ=N     lets the Nth read of standard input fail
    FAIL_WRITE=N    lets the Nth write to standard output fail
+   NO_WRITE=N      lets it take no octet
    INTERRUPT=1     interrupts each other read of standard input, and each other write to standard output
    REQUESTS=PATH   writes how many requests there were
    MARKS=PATH      writes how many of them came before the first mark, how many between a mark and the next, and how many there were
@@ -30,7 +31,7 @@ static unsigned long requests, once, from, most, before, between, interrupts;
 static int counts, marks;
 
 /* The calls of a device so far, and the one that fails. */
-static struct { unsigned long calls, failing; } in, out;
+static struct { unsigned long calls, failing, idle; } in, out;
 
 static unsigned long number(const char *name) {
     const char *text = getenv(name);
@@ -43,6 +44,7 @@ __attribute__((constructor)) static void begin(void) {
     most = number("READ");
     in.failing = number("FAIL_READ");
     out.failing = number("FAIL_WRITE");
+    out.idle = number("NO_WRITE");
     interrupts = number("INTERRUPT");
     counts = 1;
 }
@@ -112,5 +114,7 @@ ssize_t write(int file, const void *octets, size_t size) {
     }
     if (file == STDOUT_FILENO && (errno = fault_of(&out.calls, out.failing)))
         return -1;
+    if (file == STDOUT_FILENO && out.calls == out.idle)
+        return 0;
     return syscall(SYS_write, file, octets, size);
 }
