@@ -1,4 +1,3 @@
 pub mod Both
-pub mod Lists
 mod Rows
 pub mod Writing

@@ -1,11 +1,12 @@
 -- How what was written in one step after another joins.
-use Rattle.std.proofs.Common.{◌≡◌, ℕ, ◌≤◌, List, [], ◌∷◌, ◌++◌, sym, ap, ◌∙◌, subst, append_assoc, append-nil, arith, Option, Result, Ok, Err, OnErr, take, drop, length, get_or, ◌<◌, ◌+◌, take-append-drop}
+use Rattle.std.proofs.Common.{◌≡◌, ℕ, ◌≤◌, List, [], ◌∷◌, ◌++◌, sym, ap, ◌∙◌, subst, append_assoc, append-nil, arith, Option, Result, Ok, Err, OnErr, IsErr, take, drop, length, get_or, ◌<◌, ◌+◌, take-append-drop}
 use Rattle.std.specs.List.{flat_map}
 use Rattle.std.proofs.lemmas.Grind.{flat_map-append}
 use Rattle.std.proofs.lemmas.List.{take_more}
+use Rattle.std.proofs.lemmas.Result.{MatchResult-from_err}
 use Rattle.std.proofs.KnownBytes.{Appends-nil, Appends-trans}
 use Rattle.sieve_base.specs.Devices.{HasRisen}
-use Rattle.sieve_base.specs.Writers.{Wrote, WroteFront}
+use Rattle.sieve_base.specs.Writers.{Wrote, WroteFront, Writes}
 
 -- the front of what is left goes to what is done
 pub front_moves : (all done rest after : List ℕ) (n : ℕ) → after ≡ drop n rest → done ++ rest ≡ all → (done ++ take n rest) ++ after ≡ all
@@ -39,12 +40,18 @@ wrote_then_front contents fault_count a b c s t first second = record {
       omega arith;
 }
 
--- two texts were written, and then a front of a third
-pub wrote_two_then_front : {S : Type 0} (contents : S → Option (List ℕ)) (fault_count : S → ℕ) (a b c d : S) (s t u : List ℕ)
-    → Wrote contents fault_count a b s → Wrote contents fault_count b c t → WroteFront contents fault_count c d u
-    → WroteFront contents fault_count a d ((s ++ t) ++ u)
-wrote_two_then_front contents fault_count a b c d s t u first second third =
-    wrote_then_front contents fault_count a c d (s ++ t) u (wrote_both contents fault_count a b c s t first second) third
+-- one text was written, and then another was tried
+pub last_of_two : {S T E : Type 0} (contents : S → Option (List ℕ)) (fault_count : S → ℕ) (r : Result T E) (a b c : S) (s t : List ℕ)
+    → Wrote contents fault_count a b s → Writes contents fault_count r b c t → Writes contents fault_count r a c (s ++ t)
+last_of_two contents fault_count (Ok x) a b c s t first second = wrote_both contents fault_count a b c s t first second
+last_of_two contents fault_count (Err e) a b c s t first second = wrote_then_front contents fault_count a b c s t first second
+
+-- two texts were written, and then a third was tried
+pub last_of_three : {S T E : Type 0} (contents : S → Option (List ℕ)) (fault_count : S → ℕ) (r : Result T E) (a b c d : S) (s t u : List ℕ)
+    → Wrote contents fault_count a b s → Wrote contents fault_count b c t → Writes contents fault_count r c d u
+    → Writes contents fault_count r a d ((s ++ t) ++ u)
+last_of_three contents fault_count r a b c d s t u first second third =
+    last_of_two contents fault_count r a c d (s ++ t) u (wrote_both contents fault_count a b c s t first second) third
 
 -- a front of a text is a front of a longer one
 pub wrote_front_of : {S : Type 0} (contents : S → Option (List ℕ)) (fault_count : S → ℕ) (a b : S) (s t : List ℕ)
@@ -61,6 +68,11 @@ wrote_front_of contents fault_count a b s t first = record {
 pub on_err_from : {T E P : Type 0} (r : Result T E) → P → OnErr r P
 on_err_from (Ok x) p = tt
 on_err_from (Err e) p = p
+
+-- where a front was written and the answer is an error, the text was tried
+pub writes_failed : {S T E : Type 0} (contents : S → Option (List ℕ)) (fault_count : S → ℕ) (r : Result T E) (a b : S) (s : List ℕ)
+    → IsErr r → WroteFront contents fault_count a b s → Writes contents fault_count r a b s
+writes_failed contents fault_count r a b s is_err front = MatchResult-from_err r _ _ is_err (λ _. front)
 
 -- a front of some items' texts is a front of all their texts
 pub wrote_front_of_items : {S X : Type 0} (contents : S → Option (List ℕ)) (fault_count : S → ℕ) (a b : S) (f : X → List ℕ) (xs : List X) (n : ℕ)
@@ -81,9 +93,16 @@ wrote_items_then_front contents fault_count a b c f xs i d within first second =
     wrote_front_of_items contents fault_count a c f xs (i + 1)
     (subst (WroteFront contents fault_count a c) (sym joined) (wrote_then_front contents fault_count a b c _ _ first second))
 
+-- the same, where that item is known by another name
+pub wrote_items_then_front_at : {S X : Type 0} (contents : S → Option (List ℕ)) (fault_count : S → ℕ) (a b c : S) (f : X → List ℕ) (xs : List X) (i : ℕ) (d x : X)
+    → i < length xs → x ≡ get_or xs i d → Wrote contents fault_count a b (flat_map f (take i xs)) → WroteFront contents fault_count b c (f x)
+    → WroteFront contents fault_count a c (flat_map f xs)
+wrote_items_then_front_at contents fault_count a b c f xs i d x within same first second =
+    wrote_items_then_front contents fault_count a b c f xs i d within first (subst (λ y. WroteFront contents fault_count b c (f y)) same second)
+
 -- For `using(..)` on a function that writes up to three texts, one after another, and gives up at the first fault.
 -- Each text is a call of a definition that does not unfold there: one that computes to single octets hides where the texts join.
-pub ruleset writing = (wrote_nothing, wrote_both, wrote_then_front, wrote_two_then_front, wrote_front_of, on_err_from)
+pub ruleset writing = (last_of_two, last_of_three, wrote_nothing, wrote_both, wrote_then_front, wrote_front_of, on_err_from, writes_failed)
 
 -- For `using(..)` on a function that writes the text of each item of a slice.
-pub ruleset writing_items = (wrote_nothing, wrote_both, wrote_front_of_items, wrote_items_then_front, on_err_from)
+pub ruleset writing_items = (wrote_nothing, wrote_both, wrote_front_of_items, wrote_items_then_front, wrote_items_then_front_at, on_err_from, writes_failed)

@@ -1,5 +1,5 @@
 -- What is written: octets, their quoted form, and pieces of text.
-use Rattle.std.specs.Prelude.{◌≡◌, ℕ, ◌+◌, ◌-◌, ◌/◌, ◌%◌, ◌≤◌, ◌==◌, ◌||◌, nat_lt, if◌then◌else◌, List, [], ◌∷◌, ◌++◌, Option, codes, decimal}
+use Rattle.std.specs.Prelude.{◌≡◌, ℕ, ◌+◌, ◌-◌, ◌/◌, ◌%◌, ◌≤◌, ◌==◌, ◌||◌, nat_lt, if◌then◌else◌, List, [], ◌∷◌, ◌++◌, Option, Result, MatchResult, codes, decimal}
 use Rattle.std.specs.List.{flat_map}
 use Rattle.std.specs.Io.KnownBytes.{Appends}
 use Rattle.sieve_base.specs.Devices.{HasRisen}
@@ -51,3 +51,8 @@ pub record WroteFront {S : Type 0} (contents : S → Option (List ℕ)) (fault_c
   pub whole : front ++ back ≡ text
   pub front_appended : Appends (contents old) (contents new) front
   pub fault_counted : HasRisen (fault_count old) (fault_count new)
+
+-- What a function that writes this text has done: it answers `Ok` and has written the text, or `Err` and has written a front of it.
+abbrev pub Writes : {S T E : Type 0} → (S → Option (List ℕ)) → (S → ℕ) → Result T E → S → S → List ℕ → Type 0
+Writes contents fault_count result old new text =
+    MatchResult result (λ _. Wrote contents fault_count old new text) (λ _. WroteFront contents fault_count old new text)

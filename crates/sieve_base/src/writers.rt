@@ -1,7 +1,7 @@
 //! Writing octets, their quoted form, and lines of several pieces. None of it takes memory.
 ghost use Rattle.std.specs.Prelude.{◌≡◌, ℕ, ◌<◌, ◌≤◌, [], take, length, IfOk, OnOk, OnErr, IsTrue, ◌↔◌, ◌∷◌};
 ghost use Rattle.std.specs.List.{flat_map};
-ghost use Rattle.sieve_base.specs.Writers.{Wrote, WroteFront, hex_digit, octet_spelling, quoted, name_text, piece_text, pieces_text};
+ghost use Rattle.sieve_base.specs.Writers.{Wrote, WroteFront, Writes, hex_digit, octet_spelling, quoted, name_text, piece_text, pieces_text};
 
 use crate::devices::Sink;
 use crate::name::ScriptName;
@@ -57,8 +57,7 @@ fn write_front<W: Sink>(bytes: &[u8], writer: &mut W) -> Result<usize, WriteFaul
 /// Writes the octets. A write that was interrupted is tried again, at most 1,000 times in a row.
 #[tactic(auto, using(crate::proofs::Writing::writing))]
 pub fn write_out<W: Sink>(bytes: &[u8], writer: &mut W) -> Result<(), WriteFault>
-    ensures ok { OnOk result (Wrote W.contents W.fault_count writer.old writer.new bytes.now) }
-    ensures err { OnErr result (WroteFront W.contents W.fault_count writer.old writer.new bytes.now) }
+    ensures { Writes W.contents W.fault_count result writer.old writer.new bytes.now }
 {
     let mut rest = bytes;
     while !rest.is_empty() {
@@ -99,8 +98,7 @@ fn hex_digit_of(n: u8) -> u8
 // Writes how an octet stands between quotes.
 #[tactic(auto, using(crate::proofs::Writing::writing))]
 fn write_spelling<W: Sink>(octet: u8, writer: &mut W) -> Result<(), WriteFault>
-    ensures ok { OnOk result (Wrote W.contents W.fault_count writer.old writer.new (octet_spelling octet)) }
-    ensures err { OnErr result (WroteFront W.contents W.fault_count writer.old writer.new (octet_spelling octet)) }
+    ensures { Writes W.contents W.fault_count result writer.old writer.new (octet_spelling octet) }
 {
     match octet {
         b'"' | b'\\' => write_out(&[b'\\', octet], writer),
@@ -141,10 +139,7 @@ fn write_spelled_front<W: Sink>(bytes: &[u8], writer: &mut W) -> Result<usize, W
 // Writes the spelling of each octet.
 #[tactic(auto, using(crate::proofs::Writing::writing))]
 fn write_spelled<W: Sink>(bytes: &[u8], writer: &mut W) -> Result<(), WriteFault>
-    ensures ok { OnOk result (Wrote W.contents W.fault_count writer.old writer.new
-        (flat_map octet_spelling bytes.now)) }
-    ensures err { OnErr result (WroteFront W.contents W.fault_count writer.old writer.new
-        (flat_map octet_spelling bytes.now)) }
+    ensures { Writes W.contents W.fault_count result writer.old writer.new (flat_map octet_spelling bytes.now) }
 {
     let mut rest = bytes;
     while !rest.is_empty() {
@@ -158,8 +153,7 @@ fn write_spelled<W: Sink>(bytes: &[u8], writer: &mut W) -> Result<(), WriteFault
 /// two hexadecimal digits in lower case.
 #[tactic(auto, using(crate::proofs::Writing::writing), unfolding(crate::specs::Writers::quoted))]
 pub fn write_quoted<W: Sink>(bytes: &[u8], writer: &mut W) -> Result<(), WriteFault>
-    ensures ok { OnOk result (Wrote W.contents W.fault_count writer.old writer.new (quoted bytes.now)) }
-    ensures err { OnErr result (WroteFront W.contents W.fault_count writer.old writer.new (quoted bytes.now)) }
+    ensures { Writes W.contents W.fault_count result writer.old writer.new (quoted bytes.now) }
 {
     write_out(b"\"", writer)?;
     write_spelled(bytes, writer)?;
@@ -169,8 +163,7 @@ pub fn write_quoted<W: Sink>(bytes: &[u8], writer: &mut W) -> Result<(), WriteFa
 // Writes the word of a script's place and its quoted name.
 #[tactic(auto, using(crate::proofs::Writing::writing), unfolding(crate::specs::Writers::name_text))]
 fn write_name<W: Sink>(name: &ScriptName, writer: &mut W) -> Result<(), WriteFault>
-    ensures ok { OnOk result (Wrote W.contents W.fault_count writer.old writer.new (name_text name.now)) }
-    ensures err { OnErr result (WroteFront W.contents W.fault_count writer.old writer.new (name_text name.now)) }
+    ensures { Writes W.contents W.fault_count result writer.old writer.new (name_text name.now) }
 {
     write_out(name.place.word(), writer)?;
     write_out(b" ", writer)?;
@@ -180,8 +173,7 @@ fn write_name<W: Sink>(name: &ScriptName, writer: &mut W) -> Result<(), WriteFau
 // Writes one piece.
 #[tactic(auto, using(crate::proofs::Writing::writing))]
 fn write_piece<W: Sink>(piece: &Piece<'_>, writer: &mut W) -> Result<(), WriteFault>
-    ensures ok { OnOk result (Wrote W.contents W.fault_count writer.old writer.new (piece_text piece.now)) }
-    ensures err { OnErr result (WroteFront W.contents W.fault_count writer.old writer.new (piece_text piece.now)) }
+    ensures { Writes W.contents W.fault_count result writer.old writer.new (piece_text piece.now) }
 {
     match piece {
         Piece::Raw(octets) => write_out(octets, writer),
@@ -194,8 +186,7 @@ fn write_piece<W: Sink>(piece: &Piece<'_>, writer: &mut W) -> Result<(), WriteFa
 /// Writes the pieces in order.
 #[tactic(auto, using(crate::proofs::Writing::writing_items))]
 pub fn write_pieces<W: Sink>(pieces: &[Piece<'_>], writer: &mut W) -> Result<(), WriteFault>
-    ensures ok { OnOk result (Wrote W.contents W.fault_count writer.old writer.new (pieces_text pieces.now)) }
-    ensures err { OnErr result (WroteFront W.contents W.fault_count writer.old writer.new (pieces_text pieces.now)) }
+    ensures { Writes W.contents W.fault_count result writer.old writer.new (pieces_text pieces.now) }
 {
     for piece in pieces {
         write_piece(piece, writer)?;

@@ -2,24 +2,21 @@
 use Rattle.std.proofs.Common.{◌++◌, codes}
 use Rattle.std.specs.List.{flat_map}
 use Rattle.sieve_base.specs.Writers.{quoted, octet_spelling}
-use Rattle.sieve_base.proofs.Writing.{wrote_front_of, wrote_then_front, wrote_both, on_err_from}
-use Rattle.std.proofs.lemmas.Result.{on_err_weaker}
+use Rattle.sieve_base.proofs.Writing.{wrote_front_of, wrote_then_front, writes_failed, last_of_three}
 use Rattle.sieve_base.proofs.writers.write_quoted.Goals as goal
 
-pub returns-in_err-write_out-clause-err : goal.returns-in_err-write_out-clause-err
+pub returns-in_err-write_out : goal.returns-in_err-write_out
 unfolding quoted
-returns-in_err-write_out-clause-err g c =
-    on_err_from _ (wrote_front_of _ _ _ _ (codes "\"") (flat_map octet_spelling c.args.bytes.now ++ (codes "\"")) c.in_err-write_out.ensures.err)
+returns-in_err-write_out g c =
+    writes_failed _ _ _ _ _ _ c.from_residual.ensures.0 (wrote_front_of _ _ _ _ (codes "\"") (flat_map octet_spelling c.args.bytes.now ++ (codes "\"")) c.in_err-write_out.ensures)
 
-pub returns-in_err-write_spelled-clause-err : goal.returns-in_err-write_spelled-clause-err
+pub returns-in_err-write_spelled : goal.returns-in_err-write_spelled
 unfolding quoted
-returns-in_err-write_spelled-clause-err g c =
-    on_err_from _ (wrote_front_of _ _ _ _ ((codes "\"") ++ flat_map octet_spelling c.args.bytes.now) (codes "\"")
-    (wrote_then_front _ _ _ _ _ (codes "\"") (flat_map octet_spelling c.args.bytes.now) c.in_ok-write_out.ensures.ok c.in_err-write_spelled.ensures.err))
+returns-in_err-write_spelled g c =
+    writes_failed _ _ _ _ _ _ c.from_residual-in_err-write_spelled.ensures.0 (wrote_front_of _ _ _ _ ((codes "\"") ++ flat_map octet_spelling c.args.bytes.now) (codes "\"")
+    (wrote_then_front _ _ _ _ _ (codes "\"") (flat_map octet_spelling c.args.bytes.now) c.in_ok-write_out.ensures c.in_err-write_spelled.ensures))
 
-pub returns-clause-err : goal.returns-clause-err
+pub returns : goal.returns
 unfolding quoted
-returns-clause-err g c =
-    on_err_weaker _ (wrote_then_front _ _ _ _ _ ((codes "\"") ++ flat_map octet_spelling c.args.bytes.now) (codes "\"")
-    (wrote_both _ _ _ _ _ (codes "\"") (flat_map octet_spelling c.args.bytes.now) c.in_ok-write_out.ensures.ok c.in_ok-write_spelled.ensures.ok))
-    c.write_out-2.ensures.err
+returns g c =
+    last_of_three _ _ _ _ _ _ _ (codes "\"") (flat_map octet_spelling c.args.bytes.now) (codes "\"") c.in_ok-write_out.ensures c.in_ok-write_spelled.ensures c.write_out-2.ensures
