@@ -19,7 +19,7 @@ pub use reading::{
     Ask, CommandReading, FlagChange, Leaf, MatchType, Settings, TestReading, ValueSource,
 };
 pub use role::role_of;
-pub use shape::{Strings, row_expected, row_is_filled, row_labels, shape_of};
+pub use shape::{TreeString, row_expected, row_is_filled, row_labels, shape_of};
 pub use sieve_base::{Place, SmallOctets};
 pub use sieve_table::{CommandKind, TestKind};
 pub use sieve_variables::{LetterCase, Modifiers, Part, Parts, Variable};

@@ -14,14 +14,14 @@ use sieve_variables::Parts;
 use std::alloc::{AllocError, Global};
 
 /// What a string of a tree is: octets in that of a text, parts in that of a checked script.
-pub trait Strings {
+pub trait TreeString {
     // what it stands for
     ghost Seen: { Type 0 };
 
     ghost seen: { Self → Seen };
 }
 
-impl Strings for SmallOctets {
+impl TreeString for SmallOctets {
     ghost use Rattle.std.specs.Prelude.{ℕ, List};
     ghost use Rattle.sieve_syntax.specs.view.Tree.{octets_of};
 
@@ -30,7 +30,7 @@ impl Strings for SmallOctets {
     ghost seen = { octets_of };
 }
 
-impl Strings for Parts {
+impl TreeString for Parts {
     ghost use Rattle.std.specs.Prelude.{List};
     ghost use Rattle.sieve_reading.specs.view.Tree.{parts_of};
     ghost use Rattle.sieve_variables.specs.Part.{Part};
@@ -52,7 +52,7 @@ fn texts_shape(count: usize, bracketed: bool) -> Shape
 }
 
 /// What an argument looks like, where these tags are taken.
-pub fn shape_of<S: Strings>(tags: &[Tag], argument: &Argument<S>) -> Shape
+pub fn shape_of<S: TreeString>(tags: &[Tag], argument: &Argument<S>) -> Shape
     ensures { result ≡ shape_of tags.now (argument_of S.seen argument.now) }
 {
     match argument {
@@ -63,7 +63,7 @@ pub fn shape_of<S: Strings>(tags: &[Tag], argument: &Argument<S>) -> Shape
 }
 
 /// What arguments are where these tags are taken.
-fn labels_from<S: Strings>(
+fn labels_from<S: TreeString>(
     alloc: Global,
     start: Expected<'_>,
     tags: &[Tag],
@@ -82,7 +82,7 @@ fn labels_from<S: Strings>(
 }
 
 /// Whether the positional arguments are exactly those that are expected.
-fn fills<S: Strings>(start: Expected<'_>, tags: &[Tag], args: &[Argument<S>]) -> bool
+fn fills<S: TreeString>(start: Expected<'_>, tags: &[Tag], args: &[Argument<S>]) -> bool
     ensures { result ≡ fills (expected_as start.entry) (shapes_of tags.now (map (argument_of S.seen) args.now)) }
 {
     let mut expected = start;
@@ -98,7 +98,7 @@ fn fills<S: Strings>(start: Expected<'_>, tags: &[Tag], args: &[Argument<S>]) ->
 
 /// What is expected of a row's arguments, at the first of them (RFC 5228, section 2.6): the positional argument in front too,
 /// where they are then exactly those.
-pub fn row_expected<'a, S: Strings>(row: &Row, args: &[Argument<S>]) -> Expected<'a>
+pub fn row_expected<'a, S: TreeString>(row: &Row, args: &[Argument<S>]) -> Expected<'a>
     ensures { expected_as result ≡ expecting (slots_of (row_as row.now) (shapes_of row.now.tags.now (map (argument_of S.seen) args.now))) }
 {
     let longer = Expected::new(row.front, row.slots);
@@ -110,7 +110,7 @@ pub fn row_expected<'a, S: Strings>(row: &Row, args: &[Argument<S>]) -> Expected
 }
 
 /// What a row's arguments are, each by its label (RFC 5228, section 2.6).
-pub fn row_labels<S: Strings>(
+pub fn row_labels<S: TreeString>(
     alloc: Global,
     row: &Row,
     args: &[Argument<S>],
@@ -121,7 +121,7 @@ pub fn row_labels<S: Strings>(
 }
 
 /// Whether a row's positional arguments are there and no others (RFC 5228, section 2.6.1).
-pub fn row_is_filled<S: Strings>(row: &Row, args: &[Argument<S>]) -> bool
+pub fn row_is_filled<S: TreeString>(row: &Row, args: &[Argument<S>]) -> bool
     ensures { result ≡ is_filled (row_as row.now) (shapes_of row.now.tags.now (map (argument_of S.seen) args.now)) }
 {
     fills(row_expected(row, args), row.tags, args)
