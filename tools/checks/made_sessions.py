@@ -119,6 +119,7 @@ def of_settings(room):
     write(room / "one", {"only.sieve": b""})
     write(room / "two", {"main.sieve": b"", "-other.sieve": b""})
     write(room / "m", {"1": b""})
+    write(room / "site", {"1.eml": b"", "1.eml.envelope": b"a@b c@d", "1.eml.expect": b"", "1.envelope": b"", ".2.eml": b""})
     one, mail = b'script personal "only" 0\n', b'message "1" 0\n'
     two = b'script personal "-other" 0\nscript personal "main" 0\n' + mail
     for title, words, octets in [
@@ -127,6 +128,7 @@ def of_settings(room):
         ("of several scripts the one that is named", "--main -other two m", two + b'main personal "-other"\n'),
         ("global scripts count for nothing there", "one m --global two", one + two.replace(b"personal", b"global") + b'main personal "only"\n'),
         ("a folder on each side of --", "one -- m", one + mail + b'main personal "only"\n'),
+        ("what a site has beside a mail is no mail", "one site", one + b'message "1.eml" 0\nmessage "1.envelope" 0\nmain personal "only"\n'),
         ("an envelope", "one m --envelope -a@b '<\u00fc \"q\\\"@c>'", one + mail + b'main personal "only"\nenvelope "-a@b" "<\\xc3\\xbc \\"q\\\\\\"@c>"\n'),
         ("a mailbox in front", "--envelope '' '' --mailbox --main one m", one + mail + b'main personal "only"\nenvelope "" ""\nmailbox "--main"\n'),
         ("an octet that isn't UTF-8", "--mailbox \"$(printf 'a\\377\\033')\" one m", one + mail + b'main personal "only"\nmailbox "a\\xff\\x1b"\n'),

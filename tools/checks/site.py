@@ -1,4 +1,5 @@
 """Sites that are made, under `sievebench-site`: what is expected of their mails is written from the rules."""
+import codecs
 import os
 import pathlib
 import shlex
@@ -130,6 +131,7 @@ def of_refusals(room):
     os.mkfifo(room / "pipe/mails/1.eml.expect")
     yield run("an expectation that is a pipe", room, "check pipe", b"", told('cannot read "pipe/mails/1.eml.expect": it is no plain file'), 2)
     yield run("an option without its value", room, "check good --main", b"", told('"--main" is no option here, or wants a value: --help tells the options'), 2)
+    yield run("no command", room, "", b"", told("one of check, record and lint is wanted: --help tells more"), 2)
     yield run("an unknown command", room, "chek good", b"", told('"chek" is none of check, record and lint: --help tells more'), 2)
     for words in ("", "good none", "''"):
         yield run(f"one folder is wanted: {words}", room, f"check {words}", b"", told("one folder is wanted, the site: --help tells more"), 2)
@@ -160,7 +162,8 @@ def of_results(room):
     )
     yield run("results of tests", room, "check --junit out.xml both > /dev/null; cat out.xml", junit)
     wrong = lines("both/mails/1.eml under other", "  - discard", '  + store "INBOX"', counted(1, 2, 2, 1, 1, 0, 0, 0))
-    yield run("results of tests in front of the lines", room, "check --junit /dev/stdout both > all; cat all", junit + wrong)
+    for output in ("/dev/stdout", "/dev/fd/1"):
+        yield run(f"results of tests in front of the lines, by {output}", room, f"check --junit {output} both > all; cat all", junit + wrong)
     counts = ", ".join(f'"{what}": {number}' for what, number in zip(COUNTS, (1, 2, 2, 1, 1, 0, 0, 0)))
     cases = '{"mail": "1.eml", "main": "main", "agrees": true, "expected": ["discard"], "verdict": ["discard"]}, {"mail": "1.eml", "main": "other", "agrees": false, "expected": ["discard"], "verdict": ["store \\"INBOX\\""]}'
     yield run("an object", room, "check --json both", lines(f'{{"passed": false, "counts": {{{counts}}}, "cases": [{cases}], "faults": [], "stale": []}}'), status=1)
@@ -249,6 +252,11 @@ def of_lints(room):
     yield Run("sievebench-site: where sievec alone says something", room, f'PATH="$PWD/alien/bin:$PATH" python3 {shlex.quote(str(TOOL))} lint --sievec alien', lines("alien/personal/a.sieve:0: sievec: It can't compile this."), status=1)
     write(room / "clean", {"personal/main.sieve": b"keep;", "personal/.x.sieve": b"keep;"})
     yield run("no faults", room, "lint clean")
+    write(room / "marked", {"personal/main.sieve": codecs.BOM_UTF8 + b"keep;", "personal/other.sieve": b"keep;\n" + codecs.BOM_UTF8, "mains": b"main\nother\n"})
+    faults = ["main.sieve:1: syntax: The file begins with a byte order mark, the octets EF BB BF: save it without one.", "other.sieve:2: syntax: What stands here can't follow what stands before it, or the text ends too early."]
+    yield run("a byte order mark", room, "lint marked", lines(*(f"marked/personal/{fault}" for fault in faults)), status=1)
+    write(room / "twice", {"personal/main.sieve": b'redirect "x"; redirect "x";', "mains": b"main\n"})
+    yield run("a fault that stands twice on a line", room, "lint twice", lines("twice/personal/main.sieve:1: bad-address: This isn't one address."), status=1)
 
 
 def of_many(room):
