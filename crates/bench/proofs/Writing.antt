@@ -1,9 +1,9 @@
 -- How a text that is written in several steps comes about.
-use Rattle.std.proofs.Common.{◌≡◌, ℕ, List, [], ◌++◌, sym, ap, ◌∙◌, append_assoc, append-nil, refl, Option, Result, Ok, Err, OnOk, OnErr, ◌<◌, ◌+◌, length, get_or, drop, subst}
+use Rattle.std.proofs.Common.{◌≡◌, ℕ, List, [], ◌++◌, sym, ap, ◌∙◌, append_assoc, append-nil, refl, Option, Result, Ok, Err, IsErr, ◌<◌, ◌+◌, length, get_or, drop, subst}
 use Rattle.std.specs.List.{flat_map}
 use Rattle.std.proofs.lemmas.List.{drop_more}
-use Rattle.sieve_base.proofs.Writing.{wrote_nothing, wrote_both, wrote_then_front, wrote_front_of}
-use Rattle.sieve_base.specs.Writers.{Wrote, WroteFront}
+use Rattle.sieve_base.proofs.Writing.{wrote_nothing, wrote_both, wrote_then_front, wrote_front_of, writes_failed}
+use Rattle.sieve_base.specs.Writers.{Wrote, WroteFront, Writes}
 
 -- Between two states of a device all of a text was written, but for what is left.
 pub record Writing {S : Type 0} (contents : S → Option (List ℕ)) (fault_count : S → ℕ) (old new : S) (left all : List ℕ) : Type 0 where
@@ -52,23 +52,17 @@ breaks_off contents fault_count a b c part left all so_far step =
     (wrote_then_front contents fault_count a b c so_far.done part so_far.wrote step))
 
 -- the same, where an error is passed on
-pub stops : {S T E : Type 0} (contents : S → Option (List ℕ)) (fault_count : S → ℕ) (r : Result T E) (a b c : S) (part rest left all : List ℕ)
-    → Writing contents fault_count a b left all → left ≡ part ++ rest → WroteFront contents fault_count b c part → OnErr r (WroteFront contents fault_count a c all)
-stops contents fault_count (Ok x) a b c part rest left all so_far cut step = tt
-stops contents fault_count (Err e) a b c part rest left all so_far cut step = breaks_off contents fault_count a b c part rest all (rw (← cut) so_far) step
+pub stops : {S T E : Type 0} (contents : S → Option (List ℕ)) (fault_count : S → ℕ) (r : Result T E) → IsErr r → (a b c : S) (part rest left all : List ℕ)
+    → Writing contents fault_count a b left all → left ≡ part ++ rest → WroteFront contents fault_count b c part → Writes contents fault_count r a c all
+stops contents fault_count r is_err a b c part rest left all so_far cut step =
+    writes_failed contents fault_count r a c all is_err (breaks_off contents fault_count a b c part rest all (rw (← cut) so_far) step)
 
--- the last part is written in part, where that is what the answer says
-pub stops_last : {S T E : Type 0} (contents : S → Option (List ℕ)) (fault_count : S → ℕ) (r : Result T E) (a b c : S) (part all : List ℕ)
-    → Writing contents fault_count a b part all → OnErr r (WroteFront contents fault_count b c part) → OnErr r (WroteFront contents fault_count a c all)
-stops_last contents fault_count (Ok x) a b c part all so_far step = tt
-stops_last contents fault_count (Err e) a b c part all so_far step = breaks_off contents fault_count a b c part [] all (rw append-nil so_far) step
-
--- the last part is written, where that is what the answer says
+-- the last part is tried
 pub ends_last : {S T E : Type 0} (contents : S → Option (List ℕ)) (fault_count : S → ℕ) (r : Result T E) (a b c : S) (part all : List ℕ)
-    → Writing contents fault_count a b part all → OnOk r (Wrote contents fault_count b c part) → OnOk r (Wrote contents fault_count a c all)
+    → Writing contents fault_count a b part all → Writes contents fault_count r b c part → Writes contents fault_count r a c all
 ends_last contents fault_count (Ok x) a b c part all so_far step =
     subst (Wrote contents fault_count a c) so_far.whole (wrote_both contents fault_count a b c so_far.done part so_far.wrote step)
-ends_last contents fault_count (Err e) a b c part all so_far step = tt
+ends_last contents fault_count (Err e) a b c part all so_far step = breaks_off contents fault_count a b c part [] all (rw append-nil so_far) step
 
 -- the next item's text is written
 pub goes_on_at : {S X : Type 0} (contents : S → Option (List ℕ)) (fault_count : S → ℕ) (a b c : S) (f : X → List ℕ) (xs : List X) (i : ℕ) (x : X) (all : List ℕ)
@@ -77,9 +71,9 @@ goes_on_at contents fault_count a b c f xs i x all within is so_far step =
     goes_on contents fault_count a b c (f x) (flat_map f (drop (i + 1) xs)) all (rw (← flat_map-drop f xs i x within is) so_far) step
 
 -- the next item's text is written in part
-pub stops_at : {S T E X : Type 0} (contents : S → Option (List ℕ)) (fault_count : S → ℕ) (r : Result T E) (a b c : S) (f : X → List ℕ) (xs : List X) (i : ℕ) (x : X) (all : List ℕ)
-    → i < length xs → x ≡ get_or xs i x → Writing contents fault_count a b (flat_map f (drop i xs)) all → WroteFront contents fault_count b c (f x) → OnErr r (WroteFront contents fault_count a c all)
-stops_at contents fault_count r a b c f xs i x all within is so_far step =
-    stops contents fault_count r a b c (f x) (flat_map f (drop (i + 1) xs)) _ all so_far (flat_map-drop f xs i x within is) step
+pub stops_at : {S T E X : Type 0} (contents : S → Option (List ℕ)) (fault_count : S → ℕ) (r : Result T E) → IsErr r → (a b c : S) (f : X → List ℕ) (xs : List X) (i : ℕ) (x : X) (all : List ℕ)
+    → i < length xs → x ≡ get_or xs i x → Writing contents fault_count a b (flat_map f (drop i xs)) all → WroteFront contents fault_count b c (f x) → Writes contents fault_count r a c all
+stops_at contents fault_count r is_err a b c f xs i x all within is so_far step =
+    stops contents fault_count r is_err a b c (f x) (flat_map f (drop (i + 1) xs)) _ all so_far (flat_map-drop f xs i x within is) step
 
-pub ruleset writing = (begins, goes_on, goes_on_at, ends, breaks_off, stops, stops_last, stops_at)
+pub ruleset writing = (begins, goes_on, goes_on_at, ends, ends_last, breaks_off, stops, stops_at)

@@ -1,7 +1,7 @@
 //! Prints the code of a script.
-ghost use Rattle.std.specs.Prelude.{◌≡◌, ◌≤◌, IfOk, OnErr, OnOk, length};
+ghost use Rattle.std.specs.Prelude.{◌≡◌, ◌≤◌, IfOk, length};
 ghost use Rattle.sieve_base.specs.Limits.{text_limit};
-ghost use Rattle.sieve_base.specs.Writers.{Wrote, WroteFront};
+ghost use Rattle.sieve_base.specs.Writers.{Wrote, WroteFront, Writes};
 ghost use Rattle.sieve_check.specs.Judgement.{judgement_of};
 ghost use Rattle.sieve_code.specs.view.Code.{ops_of};
 ghost use Rattle.bench.specs.Dump.{DumpEnds, code_text, dump_end_of, dump_text_of, is_too_large};
@@ -16,8 +16,7 @@ use std::alloc::{AllocError, Global};
 
 /// Writes the lines of code, one operation a line. Where the writer fails, a front of them is written.
 pub fn write_code<W: Sink>(code: &Code, writer: &mut W) -> Result<(), WriteFault>
-    ensures ok { OnOk result (Wrote W.contents W.fault_count writer.old writer.new (code_text (ops_of code.now))) }
-    ensures err { OnErr result (WroteFront W.contents W.fault_count writer.old writer.new (code_text (ops_of code.now))) }
+    ensures { Writes W.contents W.fault_count result writer.old writer.new (code_text (ops_of code.now)) }
 {
     for i in 0..code.len() {
         code.dump_line(i, writer)?;
@@ -32,8 +31,7 @@ fn write_judged<W: Sink>(
     writer: &mut W,
 ) -> Result<(), WriteFault>
     requires { length script.now ≤ text_limit }
-    ensures ok { OnOk result (Wrote W.contents W.fault_count writer.old writer.new (dump_text_of name.now script.now)) }
-    ensures err { OnErr result (WroteFront W.contents W.fault_count writer.old writer.new (dump_text_of name.now script.now)) }
+    ensures { Writes W.contents W.fault_count result writer.old writer.new (dump_text_of name.now script.now) }
 {
     match script.found() {
         Found::Present(code) => write_code(code, writer),

@@ -4,7 +4,7 @@ ghost use Rattle.std.specs.List.{flat_map, list_any};
 ghost use Rattle.std.specs.Option.{option_copied};
 ghost use Rattle.indexmap.specs.IndexMap.{IsUnique};
 ghost use lib.Pointwise.{pointwise};
-ghost use Rattle.sieve_base.specs.Writers.{Wrote, WroteFront};
+ghost use Rattle.sieve_base.specs.Writers.{Writes};
 ghost use Rattle.bench.specs.Bench.{RefusedAmong};
 ghost use Rattle.bench.specs.Report.{script_line, verdict_by, message_lines, error_count, unexpected_count, total_line, report_with};
 ghost use Rattle.bench.specs.view.Lines.{action_text, read_text, verdict_texts};
@@ -52,8 +52,7 @@ pub(crate) fn run_stale(
 /// Writes the lines of the actions.
 #[tactic(auto, using(crate::proofs::Writing::writing))]
 fn write_actions<W: Sink>(outcome: &Outcome, writer: &mut W) -> Result<(), WriteFault>
-    ensures ok { OnOk result (Wrote W.contents W.fault_count writer.old writer.new (flat_map action_text outcome.now.actions)) }
-    ensures err { OnErr result (WroteFront W.contents W.fault_count writer.old writer.new (flat_map action_text outcome.now.actions)) }
+    ensures { Writes W.contents W.fault_count result writer.old writer.new (flat_map action_text outcome.now.actions) }
 {
     let actions = outcome.actions();
     for action in actions {
@@ -65,8 +64,7 @@ fn write_actions<W: Sink>(outcome: &Outcome, writer: &mut W) -> Result<(), Write
 /// Writes the lines of the looked-up names.
 #[tactic(auto, using(crate::proofs::Writing::writing))]
 fn write_reads<W: Sink>(outcome: &Outcome, writer: &mut W) -> Result<(), WriteFault>
-    ensures ok { OnOk result (Wrote W.contents W.fault_count writer.old writer.new (flat_map read_text outcome.now.reads)) }
-    ensures err { OnErr result (WroteFront W.contents W.fault_count writer.old writer.new (flat_map read_text outcome.now.reads)) }
+    ensures { Writes W.contents W.fault_count result writer.old writer.new (flat_map read_text outcome.now.reads) }
 {
     let reads = outcome.reads();
     for (name, is_present) in reads {
@@ -78,8 +76,7 @@ fn write_reads<W: Sink>(outcome: &Outcome, writer: &mut W) -> Result<(), WriteFa
 /// Writes the lines of scripts.
 #[tactic(auto, using(crate::proofs::Writing::writing))]
 fn write_scripts<W: Sink>(scripts: &Scripts, writer: &mut W) -> Result<(), WriteFault>
-    ensures ok { OnOk result (Wrote W.contents W.fault_count writer.old writer.new (flat_map script_line scripts.now)) }
-    ensures err { OnErr result (WroteFront W.contents W.fault_count writer.old writer.new (flat_map script_line scripts.now)) }
+    ensures { Writes W.contents W.fault_count result writer.old writer.new (flat_map script_line scripts.now) }
 {
     for (name, script) in &scripts.by_name {
         write_script(name, script, writer)?;
@@ -93,8 +90,7 @@ fn write_verdict<W: Sink>(
     outcome: &Outcome,
     writer: &mut W,
 ) -> Result<(), WriteFault>
-    ensures ok { OnOk result (Wrote W.contents W.fault_count writer.old writer.new (verdict_texts envelope.now.mailbox outcome.now)) }
-    ensures err { OnErr result (WroteFront W.contents W.fault_count writer.old writer.new (verdict_texts envelope.now.mailbox outcome.now)) }
+    ensures { Writes W.contents W.fault_count result writer.old writer.new (verdict_texts envelope.now.mailbox outcome.now) }
 {
     write_actions(outcome, writer)?;
     write_implicit_line(envelope, outcome, writer)?;
@@ -109,8 +105,7 @@ fn write_entry<W: Sink>(
     entry: &Entry,
     writer: &mut W,
 ) -> Result<(), WriteFault>
-    ensures ok { OnOk result (Wrote W.contents W.fault_count writer.old writer.new (flat_map (message_lines envelope.now.mailbox) (judged_of ((id.now, entry.now) ∷ [])))) }
-    ensures err { OnErr result (WroteFront W.contents W.fault_count writer.old writer.new (flat_map (message_lines envelope.now.mailbox) (judged_of ((id.now, entry.now) ∷ [])))) }
+    ensures { Writes W.contents W.fault_count result writer.old writer.new (flat_map (message_lines envelope.now.mailbox) (judged_of ((id.now, entry.now) ∷ []))) }
 {
     match &entry.kept {
         Some(outcome) => write_judged(envelope, id, outcome, entry.expected.as_ref(), writer),
@@ -126,10 +121,7 @@ fn write_judged<W: Sink>(
     expected: Option<&Octets>,
     writer: &mut W,
 ) -> Result<(), WriteFault>
-    ensures ok { OnOk result (Wrote W.contents W.fault_count writer.old writer.new
-        (message_lines envelope.now.mailbox (record { id = id.now; verdict = outcome.now; expected = option_copied expected.entry }))) }
-    ensures err { OnErr result (WroteFront W.contents W.fault_count writer.old writer.new
-        (message_lines envelope.now.mailbox (record { id = id.now; verdict = outcome.now; expected = option_copied expected.entry }))) }
+    ensures { Writes W.contents W.fault_count result writer.old writer.new (message_lines envelope.now.mailbox (record { id = id.now; verdict = outcome.now; expected = option_copied expected.entry })) }
 {
     write_message(id, writer)?;
     write_verdict(envelope, outcome, writer)?;
@@ -143,8 +135,7 @@ fn write_kept<W: Sink>(
     messages: &IndexMap<Octets, Entry>,
     writer: &mut W,
 ) -> Result<(), WriteFault>
-    ensures ok { OnOk result (Wrote W.contents W.fault_count writer.old writer.new (flat_map (message_lines envelope.now.mailbox) (judged_of messages.now.entries))) }
-    ensures err { OnErr result (WroteFront W.contents W.fault_count writer.old writer.new (flat_map (message_lines envelope.now.mailbox) (judged_of messages.now.entries))) }
+    ensures { Writes W.contents W.fault_count result writer.old writer.new (flat_map (message_lines envelope.now.mailbox) (judged_of messages.now.entries)) }
 {
     for (id, entry) in messages {
         write_entry(envelope, id, entry, writer)?;
@@ -207,10 +198,7 @@ pub(crate) fn write_report<W: Sink>(
     writer: &mut W,
 ) -> Result<(), WriteFault>
     requires { stale_of messages.now.entries ≡ [] }
-    ensures ok { OnOk result (Wrote W.contents W.fault_count writer.old writer.new
-        (report_with (option_copied main.entry) envelope.now scripts.now (judged_of messages.now.entries))) }
-    ensures err { OnErr result (WroteFront W.contents W.fault_count writer.old writer.new
-        (report_with (option_copied main.entry) envelope.now scripts.now (judged_of messages.now.entries))) }
+    ensures { Writes W.contents W.fault_count result writer.old writer.new (report_with (option_copied main.entry) envelope.now scripts.now (judged_of messages.now.entries)) }
 {
     write_main(main, writer)?;
     write_envelope(envelope, writer)?;
@@ -226,10 +214,7 @@ fn write_totals<W: Sink>(
     writer: &mut W,
 ) -> Result<(), WriteFault>
     requires { stale_of messages.now.entries ≡ [] }
-    ensures ok { OnOk result (Wrote W.contents W.fault_count writer.old writer.new
-        (total_line (length (judged_of messages.now.entries)) (error_count (judged_of messages.now.entries)) (unexpected_count envelope.now.mailbox (judged_of messages.now.entries)))) }
-    ensures err { OnErr result (WroteFront W.contents W.fault_count writer.old writer.new
-        (total_line (length (judged_of messages.now.entries)) (error_count (judged_of messages.now.entries)) (unexpected_count envelope.now.mailbox (judged_of messages.now.entries)))) }
+    ensures { Writes W.contents W.fault_count result writer.old writer.new (total_line (length (judged_of messages.now.entries)) (error_count (judged_of messages.now.entries)) (unexpected_count envelope.now.mailbox (judged_of messages.now.entries))) }
 {
     let unexpected = unexpected_count(envelope.mailbox.as_slice(), messages);
     write_total(

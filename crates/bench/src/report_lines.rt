@@ -1,7 +1,7 @@
 //! The lines of a report, one by one.
-ghost use Rattle.std.specs.Prelude.{◌≡◌, OnOk, OnErr};
+ghost use Rattle.std.specs.Prelude.{◌≡◌};
 ghost use Rattle.std.specs.Option.{option_copied};
-ghost use Rattle.sieve_base.specs.Writers.{Wrote, WroteFront};
+ghost use Rattle.sieve_base.specs.Writers.{Writes};
 ghost use Rattle.bench.specs.Report.{main_line, envelope_line, script_line, indent, indented, message_line, expectation_line, expectation_text, total_line};
 ghost use Rattle.bench.specs.view.Lines.{action_text, error_text, implicit_text, read_text};
 ghost use Rattle.sieve_run.specs.Lines.{error_line, implicit_line};
@@ -18,8 +18,7 @@ pub(crate) fn write_main<W: Sink>(
     main: Option<&ScriptName>,
     writer: &mut W,
 ) -> Result<(), WriteFault>
-    ensures ok { OnOk result (Wrote W.contents W.fault_count writer.old writer.new (main_line (option_copied main.entry))) }
-    ensures err { OnErr result (WroteFront W.contents W.fault_count writer.old writer.new (main_line (option_copied main.entry))) }
+    ensures { Writes W.contents W.fault_count result writer.old writer.new (main_line (option_copied main.entry)) }
 {
     match main {
         None => write_pieces(&[Piece::Raw(b"main none\n")], writer),
@@ -32,8 +31,7 @@ pub(crate) fn write_main<W: Sink>(
 
 /// Writes the line of the envelope.
 pub(crate) fn write_envelope<W: Sink>(envelope: &Envelope, writer: &mut W) -> Result<(), WriteFault>
-    ensures ok { OnOk result (Wrote W.contents W.fault_count writer.old writer.new (envelope_line envelope.now)) }
-    ensures err { OnErr result (WroteFront W.contents W.fault_count writer.old writer.new (envelope_line envelope.now)) }
+    ensures { Writes W.contents W.fault_count result writer.old writer.new (envelope_line envelope.now) }
 {
     write_pieces(
         &[
@@ -55,8 +53,7 @@ pub(crate) fn write_script<W: Sink>(
     script: &Script,
     writer: &mut W,
 ) -> Result<(), WriteFault>
-    ensures ok { OnOk result (Wrote W.contents W.fault_count writer.old writer.new (script_line (name.now, script.now))) }
-    ensures err { OnErr result (WroteFront W.contents W.fault_count writer.old writer.new (script_line (name.now, script.now))) }
+    ensures { Writes W.contents W.fault_count result writer.old writer.new (script_line (name.now, script.now)) }
 {
     match script.fault() {
         None => write_pieces(
@@ -85,8 +82,7 @@ pub(crate) fn write_script<W: Sink>(
 /// Writes the first line of a message.
 #[tactic(auto, unfolding(crate::specs::Report::message_line))]
 pub(crate) fn write_message<W: Sink>(id: &Octets, writer: &mut W) -> Result<(), WriteFault>
-    ensures ok { OnOk result (Wrote W.contents W.fault_count writer.old writer.new (message_line id.now)) }
-    ensures err { OnErr result (WroteFront W.contents W.fault_count writer.old writer.new (message_line id.now)) }
+    ensures { Writes W.contents W.fault_count result writer.old writer.new (message_line id.now) }
 {
     write_pieces(
         &[
@@ -101,8 +97,7 @@ pub(crate) fn write_message<W: Sink>(id: &Octets, writer: &mut W) -> Result<(), 
 /// Writes what stands before each line of a verdict.
 #[tactic(auto, unfolding(crate::specs::Report::indent))]
 fn write_indent<W: Sink>(writer: &mut W) -> Result<(), WriteFault>
-    ensures ok { OnOk result (Wrote W.contents W.fault_count writer.old writer.new indent) }
-    ensures err { OnErr result (WroteFront W.contents W.fault_count writer.old writer.new indent) }
+    ensures { Writes W.contents W.fault_count result writer.old writer.new indent }
 {
     write_out(b"  ", writer)
 }
@@ -110,8 +105,7 @@ fn write_indent<W: Sink>(writer: &mut W) -> Result<(), WriteFault>
 /// Writes the line of an action.
 #[tactic(auto, using(sieve_base::proofs::Writing::writing))]
 pub(crate) fn write_action_line<W: Sink>(action: &Action, writer: &mut W) -> Result<(), WriteFault>
-    ensures ok { OnOk result (Wrote W.contents W.fault_count writer.old writer.new (action_text action.now)) }
-    ensures err { OnErr result (WroteFront W.contents W.fault_count writer.old writer.new (action_text action.now)) }
+    ensures { Writes W.contents W.fault_count result writer.old writer.new (action_text action.now) }
 {
     write_indent(writer)?;
     write_action(action, writer)?;
@@ -125,8 +119,7 @@ fn write_kept_line<W: Sink>(
     flags: &FlagList,
     writer: &mut W,
 ) -> Result<(), WriteFault>
-    ensures ok { OnOk result (Wrote W.contents W.fault_count writer.old writer.new (indented (implicit_line mailbox.now flags.now))) }
-    ensures err { OnErr result (WroteFront W.contents W.fault_count writer.old writer.new (indented (implicit_line mailbox.now flags.now))) }
+    ensures { Writes W.contents W.fault_count result writer.old writer.new (indented (implicit_line mailbox.now flags.now)) }
 {
     write_indent(writer)?;
     write_implicit(mailbox, flags, writer)?;
@@ -139,8 +132,7 @@ pub(crate) fn write_implicit_line<W: Sink>(
     outcome: &Outcome,
     writer: &mut W,
 ) -> Result<(), WriteFault>
-    ensures ok { OnOk result (Wrote W.contents W.fault_count writer.old writer.new (implicit_text envelope.now.mailbox outcome.now.implicit)) }
-    ensures err { OnErr result (WroteFront W.contents W.fault_count writer.old writer.new (implicit_text envelope.now.mailbox outcome.now.implicit)) }
+    ensures { Writes W.contents W.fault_count result writer.old writer.new (implicit_text envelope.now.mailbox outcome.now.implicit) }
 {
     match outcome.implicit() {
         Some(flags) => write_kept_line(envelope.mailbox.as_slice(), flags, writer),
@@ -151,8 +143,7 @@ pub(crate) fn write_implicit_line<W: Sink>(
 /// Writes the line of an error.
 #[tactic(auto, using(sieve_base::proofs::Writing::writing))]
 fn write_failed_line<W: Sink>(error: &RunError, writer: &mut W) -> Result<(), WriteFault>
-    ensures ok { OnOk result (Wrote W.contents W.fault_count writer.old writer.new (indented (error_line error.now))) }
-    ensures err { OnErr result (WroteFront W.contents W.fault_count writer.old writer.new (indented (error_line error.now))) }
+    ensures { Writes W.contents W.fault_count result writer.old writer.new (indented (error_line error.now)) }
 {
     write_indent(writer)?;
     write_error(error, writer)?;
@@ -161,8 +152,7 @@ fn write_failed_line<W: Sink>(error: &RunError, writer: &mut W) -> Result<(), Wr
 
 /// Writes the line of the error, where there is one.
 pub(crate) fn write_error_line<W: Sink>(outcome: &Outcome, writer: &mut W) -> Result<(), WriteFault>
-    ensures ok { OnOk result (Wrote W.contents W.fault_count writer.old writer.new (error_text outcome.now.error)) }
-    ensures err { OnErr result (WroteFront W.contents W.fault_count writer.old writer.new (error_text outcome.now.error)) }
+    ensures { Writes W.contents W.fault_count result writer.old writer.new (error_text outcome.now.error) }
 {
     match outcome.error() {
         Some(error) => write_failed_line(error, writer),
@@ -177,8 +167,7 @@ pub(crate) fn write_read_line<W: Sink>(
     is_present: bool,
     writer: &mut W,
 ) -> Result<(), WriteFault>
-    ensures ok { OnOk result (Wrote W.contents W.fault_count writer.old writer.new (read_text (name.now, is_present))) }
-    ensures err { OnErr result (WroteFront W.contents W.fault_count writer.old writer.new (read_text (name.now, is_present))) }
+    ensures { Writes W.contents W.fault_count result writer.old writer.new (read_text (name.now, is_present)) }
 {
     write_indent(writer)?;
     write_read(name, is_present, writer)?;
@@ -188,8 +177,7 @@ pub(crate) fn write_read_line<W: Sink>(
 /// Writes whether a verdict is as it is expected to be.
 #[tactic(auto, unfolding(crate::specs::Report::indent))]
 fn write_agreement<W: Sink>(agrees: bool, writer: &mut W) -> Result<(), WriteFault>
-    ensures ok { OnOk result (Wrote W.contents W.fault_count writer.old writer.new (indented (expectation_line agrees))) }
-    ensures err { OnErr result (WroteFront W.contents W.fault_count writer.old writer.new (indented (expectation_line agrees))) }
+    ensures { Writes W.contents W.fault_count result writer.old writer.new (indented (expectation_line agrees)) }
 {
     if agrees {
         write_out(b"  expected\n", writer)
@@ -205,8 +193,7 @@ pub(crate) fn write_expectation<W: Sink>(
     expected: Option<&Octets>,
     writer: &mut W,
 ) -> Result<(), WriteFault>
-    ensures ok { OnOk result (Wrote W.contents W.fault_count writer.old writer.new (expectation_text envelope.now.mailbox outcome.now (option_copied expected.entry))) }
-    ensures err { OnErr result (WroteFront W.contents W.fault_count writer.old writer.new (expectation_text envelope.now.mailbox outcome.now (option_copied expected.entry))) }
+    ensures { Writes W.contents W.fault_count result writer.old writer.new (expectation_text envelope.now.mailbox outcome.now (option_copied expected.entry)) }
 {
     match expected {
         Some(text) => {
@@ -226,8 +213,7 @@ pub(crate) fn write_total<W: Sink>(
     unexpected: Option<u64>,
     writer: &mut W,
 ) -> Result<(), WriteFault>
-    ensures ok { OnOk result (Wrote W.contents W.fault_count writer.old writer.new (total_line messages errors unexpected)) }
-    ensures err { OnErr result (WroteFront W.contents W.fault_count writer.old writer.new (total_line messages errors unexpected)) }
+    ensures { Writes W.contents W.fault_count result writer.old writer.new (total_line messages errors unexpected) }
 {
     match unexpected {
         None => write_pieces(

@@ -1,6 +1,5 @@
 //! The lines of a verdict: what becomes of a message, and which names were looked up. Writing them takes no memory.
-ghost use Rattle.std.specs.Prelude.{OnOk, OnErr};
-ghost use Rattle.sieve_base.specs.Writers.{Wrote, WroteFront};
+ghost use Rattle.sieve_base.specs.Writers.{Writes};
 ghost use Rattle.sieve_run.specs.Lines.{action_line, error_line, flag_word, flag_words, implicit_line, mailbox_line, mailbox_words, read_line};
 
 use match_text::FlagList;
@@ -9,8 +8,7 @@ use sieve_effects::{Action, RunError};
 
 /// Writes a flag behind a space.
 fn write_flag<W: Sink>(flag: &[u8], writer: &mut W) -> Result<(), WriteFault>
-    ensures ok { OnOk result (Wrote W.contents W.fault_count writer.old writer.new (flag_word flag.now)) }
-    ensures err { OnErr result (WroteFront W.contents W.fault_count writer.old writer.new (flag_word flag.now)) }
+    ensures { Writes W.contents W.fault_count result writer.old writer.new (flag_word flag.now) }
 {
     write_pieces(&[Piece::Raw(b" "), Piece::Quoted(flag)], writer)
 }
@@ -18,8 +16,7 @@ fn write_flag<W: Sink>(flag: &[u8], writer: &mut W) -> Result<(), WriteFault>
 /// Writes flags, each behind a space.
 #[tactic(auto, using(sieve_base::proofs::Writing::writing_items))]
 fn write_flags<W: Sink>(flags: &FlagList, writer: &mut W) -> Result<(), WriteFault>
-    ensures ok { OnOk result (Wrote W.contents W.fault_count writer.old writer.new (flag_words flags.now)) }
-    ensures err { OnErr result (WroteFront W.contents W.fault_count writer.old writer.new (flag_words flags.now)) }
+    ensures { Writes W.contents W.fault_count result writer.old writer.new (flag_words flags.now) }
 {
     for i in 0..flags.len() {
         write_flag(flags.get(i), writer)?;
@@ -30,8 +27,7 @@ fn write_flags<W: Sink>(flags: &FlagList, writer: &mut W) -> Result<(), WriteFau
 /// Writes a word and a mailbox.
 #[tactic(auto, unfolding(crate::specs::Lines::mailbox_words))]
 fn write_mailbox<W: Sink>(word: &[u8], mailbox: &[u8], writer: &mut W) -> Result<(), WriteFault>
-    ensures ok { OnOk result (Wrote W.contents W.fault_count writer.old writer.new (mailbox_words word.now mailbox.now)) }
-    ensures err { OnErr result (WroteFront W.contents W.fault_count writer.old writer.new (mailbox_words word.now mailbox.now)) }
+    ensures { Writes W.contents W.fault_count result writer.old writer.new (mailbox_words word.now mailbox.now) }
 {
     write_pieces(&[Piece::Raw(word), Piece::Quoted(mailbox)], writer)
 }
@@ -44,8 +40,7 @@ fn write_mailbox_line<W: Sink>(
     flags: &FlagList,
     writer: &mut W,
 ) -> Result<(), WriteFault>
-    ensures ok { OnOk result (Wrote W.contents W.fault_count writer.old writer.new (mailbox_line word.now mailbox.now flags.now)) }
-    ensures err { OnErr result (WroteFront W.contents W.fault_count writer.old writer.new (mailbox_line word.now mailbox.now flags.now)) }
+    ensures { Writes W.contents W.fault_count result writer.old writer.new (mailbox_line word.now mailbox.now flags.now) }
 {
     write_mailbox(word, mailbox, writer)?;
     write_flags(flags, writer)
@@ -54,8 +49,7 @@ fn write_mailbox_line<W: Sink>(
 /// Writes the line of an action, without what stands before and behind it in a report. An error comes from the writer alone.
 #[tactic(auto, unfolding(crate::specs::Lines::action_line))]
 pub fn write_action<W: Sink>(action: &Action, writer: &mut W) -> Result<(), WriteFault>
-    ensures ok { OnOk result (Wrote W.contents W.fault_count writer.old writer.new (action_line action.now)) }
-    ensures err { OnErr result (WroteFront W.contents W.fault_count writer.old writer.new (action_line action.now)) }
+    ensures { Writes W.contents W.fault_count result writer.old writer.new (action_line action.now) }
 {
     match action {
         Action::Store { mailbox, flags } => {
@@ -77,8 +71,7 @@ pub fn write_implicit<W: Sink>(
     flags: &FlagList,
     writer: &mut W,
 ) -> Result<(), WriteFault>
-    ensures ok { OnOk result (Wrote W.contents W.fault_count writer.old writer.new (implicit_line mailbox.now flags.now)) }
-    ensures err { OnErr result (WroteFront W.contents W.fault_count writer.old writer.new (implicit_line mailbox.now flags.now)) }
+    ensures { Writes W.contents W.fault_count result writer.old writer.new (implicit_line mailbox.now flags.now) }
 {
     write_mailbox_line(b"implicit ", mailbox, flags, writer)
 }
@@ -86,8 +79,7 @@ pub fn write_implicit<W: Sink>(
 /// Writes the line of an error, without what stands before and behind it in a report. An error comes from the writer alone.
 #[tactic(auto, unfolding(crate::specs::Lines::error_line))]
 pub fn write_error<W: Sink>(error: &RunError, writer: &mut W) -> Result<(), WriteFault>
-    ensures ok { OnOk result (Wrote W.contents W.fault_count writer.old writer.new (error_line error.now)) }
-    ensures err { OnErr result (WroteFront W.contents W.fault_count writer.old writer.new (error_line error.now)) }
+    ensures { Writes W.contents W.fault_count result writer.old writer.new (error_line error.now) }
 {
     write_pieces(
         &[
@@ -109,8 +101,7 @@ pub fn write_read<W: Sink>(
     is_present: bool,
     writer: &mut W,
 ) -> Result<(), WriteFault>
-    ensures ok { OnOk result (Wrote W.contents W.fault_count writer.old writer.new (read_line (name.now, is_present))) }
-    ensures err { OnErr result (WroteFront W.contents W.fault_count writer.old writer.new (read_line (name.now, is_present))) }
+    ensures { Writes W.contents W.fault_count result writer.old writer.new (read_line (name.now, is_present)) }
 {
     let end: &[u8] = if is_present { b"" } else { b" missing" };
     write_pieces(

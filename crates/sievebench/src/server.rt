@@ -1,7 +1,7 @@
 //! A session: commands in, replies out.
-ghost use Rattle.std.specs.Prelude.{◌≡◌, ◌≤◌, ◌<◌, ◌+◌, ℕ, List, Option, OnOk, OnErr, codes, nat_lt, if◌then◌else◌};
+ghost use Rattle.std.specs.Prelude.{◌≡◌, ◌≤◌, ◌<◌, ◌+◌, ℕ, List, Option, codes, nat_lt, if◌then◌else◌};
 ghost use Rattle.sieve_base.specs.Devices.{HasRisen};
-ghost use Rattle.sieve_base.specs.Writers.{Wrote, WroteFront};
+ghost use Rattle.sieve_base.specs.Writers.{Wrote, WroteFront, Writes};
 ghost use Rattle.bench.specs.Bench.{BenchState};
 ghost use Rattle.sieve_run.specs.Library.{Lookup};
 ghost use Rattle.sieve_run.specs.view.Found.{FoundAs};
@@ -191,8 +191,7 @@ fn serve_report<W: Sink>(bench: &mut Bench, meter: &mut Meter, writer: &mut W) -
 /// Writes the lines of a script's code and `ok`, or why there are none.
 #[tactic(auto, using(sieve_base::proofs::Writing::writing))]
 fn write_dump<W: Sink>(found: Found<'_>, writer: &mut W) -> Result<(), WriteFault>
-    ensures ok { (lookup : Lookup) → FoundAs found.entry lookup → OnOk result (Wrote W.contents W.fault_count writer.old writer.new (dump_reply lookup)) }
-    ensures err { (lookup : Lookup) → FoundAs found.entry lookup → OnErr result (WroteFront W.contents W.fault_count writer.old writer.new (dump_reply lookup)) }
+    ensures { (lookup : Lookup) → FoundAs found.entry lookup → Writes W.contents W.fault_count result writer.old writer.new (dump_reply lookup) }
 {
     match found {
         Found::Missing => write_out(b"no no-such-script\n", writer),

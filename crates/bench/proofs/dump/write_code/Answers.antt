@@ -6,17 +6,17 @@ use Rattle.bench.proofs.Dumping.{lines_cut, no_lines}
 use Rattle.bench.proofs.Writing.{ends, goes_on_from, stops}
 use Rattle.bench.proofs.dump.write_code.Goals as goal
 
-pub returns-in_err-dump_line-clause-err : goal.returns-in_err-dump_line-clause-err
-returns-in_err-dump_line-clause-err g c =
+pub returns-in_err-dump_line : goal.returns-in_err-dump_line
+returns-in_err-dump_line g c =
     let ops = ops_of c.args.code.now in
-    stops _ _ _ _ _ _ (line_at ops c.loop-i.i) (lines_from (c.loop-i.i + 1) (drop (c.loop-i.i + 1) ops)) (lines_from c.loop-i.i (drop c.loop-i.i ops)) (code_text ops) c.loop-i.invariant (lines_cut ops c.loop-i.i (subst (λ n. c.loop-i.i < n) c.len-i-end.ensures c.loop-i-test.true)) c.in_err-dump_line.ensures.err
+    stops _ _ _ c.from_residual.ensures.0 _ _ _ (line_at ops c.loop-i.i) (lines_from (c.loop-i.i + 1) (drop (c.loop-i.i + 1) ops)) (lines_from c.loop-i.i (drop c.loop-i.i ops)) (code_text ops) c.loop-i.invariant (lines_cut ops c.loop-i.i (subst (λ n. c.loop-i.i < n) c.len-i-end.ensures c.loop-i-test.true)) c.in_err-dump_line.ensures
 
 pub loop-i-preserved : goal.loop-i-preserved
 loop-i-preserved g c =
     let ops = ops_of c.args.code.now in
-    goes_on_from _ _ _ _ _ (line_at ops c.loop-i.i) (lines_from (c.loop-i.i + 1) (drop (c.loop-i.i + 1) ops)) (lines_from c.loop-i.i (drop c.loop-i.i ops)) (code_text ops) c.loop-i.invariant (lines_cut ops c.loop-i.i (subst (λ n. c.loop-i.i < n) c.len-i-end.ensures c.loop-i-test.true)) c.in_ok-dump_line.ensures.ok
+    goes_on_from _ _ _ _ _ (line_at ops c.loop-i.i) (lines_from (c.loop-i.i + 1) (drop (c.loop-i.i + 1) ops)) (lines_from c.loop-i.i (drop c.loop-i.i ops)) (code_text ops) c.loop-i.invariant (lines_cut ops c.loop-i.i (subst (λ n. c.loop-i.i < n) c.len-i-end.ensures c.loop-i-test.true)) c.in_ok-dump_line.ensures
 
-pub returns-clause-ok : goal.returns-clause-ok
-returns-clause-ok g c =
+pub returns : goal.returns
+returns g c =
     let ops = ops_of c.args.code.now in
     ends _ _ _ _ (lines_from c.loop-i.i (drop c.loop-i.i ops)) (code_text ops) (no_lines ops c.loop-i.i (subst (λ n. n ≤ c.loop-i.i) c.len-i-end.ensures c.loop-i-test.false)) c.loop-i.invariant

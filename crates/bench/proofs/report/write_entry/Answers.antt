@@ -3,11 +3,8 @@ use Rattle.bench.proofs.Judged.{judged_one, one_lines}
 use Rattle.bench.specs.Report.{message_lines}
 use Rattle.bench.proofs.report.write_entry.Goals as goal
 
-pub returns-in-Some-clause-ok : goal.returns-in-Some-clause-ok
-returns-in-Some-clause-ok g c = rw (one_lines (message_lines c.args.envelope.now.mailbox) c.args.id.now c.args.entry.now c.in-Some.outcome c.in-Some.is, ← c.as_ref.ensures.value) c.write_judged.ensures.ok
+pub returns-in-Some : goal.returns-in-Some
+returns-in-Some g c = rw (one_lines (message_lines c.args.envelope.now.mailbox) c.args.id.now c.args.entry.now c.in-Some.outcome c.in-Some.is, ← c.as_ref.ensures.value) c.write_judged.ensures
 
-pub returns-in-Some-clause-err : goal.returns-in-Some-clause-err
-returns-in-Some-clause-err g c = rw (one_lines (message_lines c.args.envelope.now.mailbox) c.args.id.now c.args.entry.now c.in-Some.outcome c.in-Some.is, ← c.as_ref.ensures.value) c.write_judged.ensures.err
-
-pub returns-in-None-clause-ok : goal.returns-in-None-clause-ok
-returns-in-None-clause-ok g c = rw (judged_one c.args.id.now c.args.entry.now None c.in-None.is) (search rules)
+pub returns-in-None : goal.returns-in-None
+returns-in-None g c = rw (judged_one c.args.id.now c.args.entry.now None c.in-None.is) (search rules)

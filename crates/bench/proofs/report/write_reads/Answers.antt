@@ -7,9 +7,9 @@ use Rattle.bench.proofs.report.write_reads.Goals as goal
 pub loop-name-preserved : goal.loop-name-preserved
 loop-name-preserved g c =
     let cut : c.loop-name.name-iterator ≡ (c.in-Some.name.now, c.in-Some.is_present.now) ∷ c.next.new.self = c.in-Some.ensures.steps in
-    goes_on_from _ _ _ _ _ (read_text (c.in-Some.name.now, c.in-Some.is_present.now)) (flat_map read_text c.next.new.self) _ _ c.loop-name.invariant (ap (flat_map read_text) cut) c.in_ok-write_read_line.ensures.ok
+    goes_on_from _ _ _ _ _ (read_text (c.in-Some.name.now, c.in-Some.is_present.now)) (flat_map read_text c.next.new.self) _ _ c.loop-name.invariant (ap (flat_map read_text) cut) c.in_ok-write_read_line.ensures
 
-pub returns-in_err-write_read_line-clause-err : goal.returns-in_err-write_read_line-clause-err
-returns-in_err-write_read_line-clause-err g c =
+pub returns-in_err-write_read_line : goal.returns-in_err-write_read_line
+returns-in_err-write_read_line g c =
     let cut : c.loop-name.name-iterator ≡ (c.in-Some.name.now, c.in-Some.is_present.now) ∷ c.next.new.self = c.in-Some.ensures.steps in
-    stops _ _ _ _ _ _ (read_text (c.in-Some.name.now, c.in-Some.is_present.now)) (flat_map read_text c.next.new.self) _ _ c.loop-name.invariant (ap (flat_map read_text) cut) c.in_err-write_read_line.ensures.err
+    stops _ _ _ c.from_residual.ensures.0 _ _ _ (read_text (c.in-Some.name.now, c.in-Some.is_present.now)) (flat_map read_text c.next.new.self) _ _ c.loop-name.invariant (ap (flat_map read_text) cut) c.in_err-write_read_line.ensures

@@ -13,12 +13,12 @@ loop-name-init g c =
 pub loop-name-preserved : goal.loop-name-preserved
 loop-name-preserved g c =
     let cut : c.loop-name.name-iterator ≡ (c.in-Some.name.now, c.in-Some.script.now) ∷ c.next.new.self = c.in-Some.ensures.steps in
-    goes_on_from _ _ _ _ _ (script_line (c.in-Some.name.now, c.in-Some.script.now)) (flat_map script_line c.next.new.self) _ _ c.loop-name.invariant (ap (flat_map script_line) cut) c.in_ok-write_script.ensures.ok
+    goes_on_from _ _ _ _ _ (script_line (c.in-Some.name.now, c.in-Some.script.now)) (flat_map script_line c.next.new.self) _ _ c.loop-name.invariant (ap (flat_map script_line) cut) c.in_ok-write_script.ensures
 
-pub returns-clause-ok : goal.returns-clause-ok
-returns-clause-ok g c = ends _ _ _ _ _ _ (ap (flat_map script_line) c.in-None.ensures.steps.0) c.loop-name.invariant
+pub returns : goal.returns
+returns g c = ends _ _ _ _ _ _ (ap (flat_map script_line) c.in-None.ensures.steps.0) c.loop-name.invariant
 
-pub returns-in_err-write_script-clause-err : goal.returns-in_err-write_script-clause-err
-returns-in_err-write_script-clause-err g c =
+pub returns-in_err-write_script : goal.returns-in_err-write_script
+returns-in_err-write_script g c =
     let cut : c.loop-name.name-iterator ≡ (c.in-Some.name.now, c.in-Some.script.now) ∷ c.next.new.self = c.in-Some.ensures.steps in
-    stops _ _ _ _ _ _ (script_line (c.in-Some.name.now, c.in-Some.script.now)) (flat_map script_line c.next.new.self) _ _ c.loop-name.invariant (ap (flat_map script_line) cut) c.in_err-write_script.ensures.err
+    stops _ _ _ c.from_residual.ensures.0 _ _ _ (script_line (c.in-Some.name.now, c.in-Some.script.now)) (flat_map script_line c.next.new.self) _ _ c.loop-name.invariant (ap (flat_map script_line) cut) c.in_err-write_script.ensures

@@ -1,29 +1,24 @@
 use Rattle.std.proofs.Common.{refl}
 use Rattle.bench.specs.view.Lines.{verdict_texts}
-use Rattle.bench.proofs.Writing.{begins, goes_on, stops, stops_last, ends_last}
+use Rattle.bench.proofs.Writing.{begins, goes_on, stops, ends_last}
 use Rattle.bench.proofs.report.write_verdict.Goals as goal
 
-pub returns-in_err-write_actions-clause-err : goal.returns-in_err-write_actions-clause-err
+pub returns-in_err-write_actions : goal.returns-in_err-write_actions
 unfolding verdict_texts
-returns-in_err-write_actions-clause-err g c =
-    stops _ _ _ _ _ _ _ _ _ _ (begins _ _ _ _) refl c.in_err-write_actions.ensures.err
+returns-in_err-write_actions g c =
+    stops _ _ _ c.from_residual.ensures.0 _ _ _ _ _ _ _ (begins _ _ _ _) refl c.in_err-write_actions.ensures
 
-pub returns-in_err-write_implicit_line-clause-err : goal.returns-in_err-write_implicit_line-clause-err
+pub returns-in_err-write_implicit_line : goal.returns-in_err-write_implicit_line
 unfolding verdict_texts
-returns-in_err-write_implicit_line-clause-err g c =
-    stops _ _ _ _ _ _ _ _ _ _ (goes_on _ _ _ _ _ _ _ _ (begins _ _ _ _) c.in_ok-write_actions.ensures.ok) refl c.in_err-write_implicit_line.ensures.err
+returns-in_err-write_implicit_line g c =
+    stops _ _ _ c.from_residual-in_err-write_implicit_line.ensures.0 _ _ _ _ _ _ _ (goes_on _ _ _ _ _ _ _ _ (begins _ _ _ _) c.in_ok-write_actions.ensures) refl c.in_err-write_implicit_line.ensures
 
-pub returns-in_err-write_error_line-clause-err : goal.returns-in_err-write_error_line-clause-err
+pub returns-in_err-write_error_line : goal.returns-in_err-write_error_line
 unfolding verdict_texts
-returns-in_err-write_error_line-clause-err g c =
-    stops _ _ _ _ _ _ _ _ _ _ (goes_on _ _ _ _ _ _ _ _ (goes_on _ _ _ _ _ _ _ _ (begins _ _ _ _) c.in_ok-write_actions.ensures.ok) c.in_ok-write_implicit_line.ensures.ok) refl c.in_err-write_error_line.ensures.err
+returns-in_err-write_error_line g c =
+    stops _ _ _ c.from_residual-in_err-write_error_line.ensures.0 _ _ _ _ _ _ _ (goes_on _ _ _ _ _ _ _ _ (goes_on _ _ _ _ _ _ _ _ (begins _ _ _ _) c.in_ok-write_actions.ensures) c.in_ok-write_implicit_line.ensures) refl c.in_err-write_error_line.ensures
 
-pub returns-clause-err : goal.returns-clause-err
+pub returns : goal.returns
 unfolding verdict_texts
-returns-clause-err g c =
-    stops_last _ _ _ _ _ _ _ _ (goes_on _ _ _ _ _ _ _ _ (goes_on _ _ _ _ _ _ _ _ (goes_on _ _ _ _ _ _ _ _ (begins _ _ _ _) c.in_ok-write_actions.ensures.ok) c.in_ok-write_implicit_line.ensures.ok) c.in_ok-write_error_line.ensures.ok) c.write_reads.ensures.err
-
-pub returns-clause-ok : goal.returns-clause-ok
-unfolding verdict_texts
-returns-clause-ok g c =
-    ends_last _ _ _ _ _ _ _ _ (goes_on _ _ _ _ _ _ _ _ (goes_on _ _ _ _ _ _ _ _ (goes_on _ _ _ _ _ _ _ _ (begins _ _ _ _) c.in_ok-write_actions.ensures.ok) c.in_ok-write_implicit_line.ensures.ok) c.in_ok-write_error_line.ensures.ok) c.write_reads.ensures.ok
+returns g c =
+    ends_last _ _ _ _ _ _ _ _ (goes_on _ _ _ _ _ _ _ _ (goes_on _ _ _ _ _ _ _ _ (goes_on _ _ _ _ _ _ _ _ (begins _ _ _ _) c.in_ok-write_actions.ensures) c.in_ok-write_implicit_line.ensures) c.in_ok-write_error_line.ensures) c.write_reads.ensures
