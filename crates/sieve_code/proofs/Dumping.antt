@@ -1,8 +1,9 @@
 -- What the dump writes of parts and strings.
-use Rattle.std.proofs.Common.{◌≡◌, ℕ, ◌-◌, ◌<◌, ◌≤◌, Option, Result, OnOk, OnErr, List, [], ◌∷◌, ◌++◌, length, map, get_or, take, drop, codes, refl, sym, ap, subst, ◌∙◌, arith, append_assoc}
+use Rattle.std.proofs.Common.{◌≡◌, ℕ, ◌-◌, ◌<◌, ◌≤◌, Option, Result, IsErr, List, [], ◌∷◌, ◌++◌, length, map, get_or, take, drop, codes, refl, sym, ap, subst, ◌∙◌, arith, append_assoc}
 use Rattle.std.specs.List.{flat_map}
 use Rattle.std.proofs.lemmas.List.{take_rest}
-use Rattle.sieve_base.specs.Writers.{Wrote, WroteFront}
+use Rattle.sieve_base.specs.Writers.{Wrote, WroteFront, Writes}
+use Rattle.sieve_base.proofs.Writing.{last_of_two, writes_failed, wrote_front_of}
 use Rattle.smallvec.specs.SmallVec.{SmallVec}
 use Rattle.sieve_variables.specs.Part as part
 use Rattle.sieve_variables.specs.view.Part.{part_of}
@@ -12,15 +13,6 @@ use Rattle.sieve_variables.specs.declared.modifier.Modifiers.{Modifiers}
 use Rattle.sieve_code.specs.view.Marked.{marked_part, marked_string}
 use Rattle.sieve_effects.specs.view.Ops.{held_parts}
 use Rattle.sieve_variables.specs.view.Part.{strings_of}
-
-pub marked_part_at : (parts : List Part) (i : ℕ) (part : Part) → part ≡ get_or parts i part → codes "+" ++ part_text (part_of part) ≡ marked_part (get_or parts i part)
-unfolding marked_part
-marked_part_at parts i part is = ap (λ p. codes "+" ++ part_text (part_of p)) is
-
-pub marked_string_at : (strings : List (SmallVec Part)) (i : ℕ) (string : SmallVec Part) (parts : List Part) → parts ≡ string.items → string ≡ get_or strings i string → codes ", " ++ string_text (map part_of parts) ≡ marked_string (get_or strings i string)
-unfolding marked_string
-marked_string_at strings i string parts same is =
-    ap (λ ps. codes ", " ++ string_text (map part_of ps)) same ∙ ap (λ s. codes ", " ++ string_text (held_parts s)) is
 
 parts_marked : (parts : List Part) → flat_map (λ p. codes "+" ++ part_text p) (map part_of parts) ≡ flat_map marked_part parts
 unfolding marked_part
@@ -55,11 +47,18 @@ strings_some (s ∷ ss) string parts some same is =
 -- FRONTS
 
 -- what was written may be said otherwise
-pub ok_as : {S T E : Type 0} (contents : S → Option (List ℕ)) (fault_count : S → ℕ) (a b : S) (r : Result T E) (s t : List ℕ) → s ≡ t → OnOk r (Wrote contents fault_count a b s) → OnOk r (Wrote contents fault_count a b t)
-ok_as contents fault_count a b r s t same h = subst (λ text. OnOk r (Wrote contents fault_count a b text)) same h
+pub writes_as : {S T E : Type 0} (contents : S → Option (List ℕ)) (fault_count : S → ℕ) (r : Result T E) (a b : S) (s t : List ℕ) → s ≡ t → Writes contents fault_count r a b s → Writes contents fault_count r a b t
+writes_as contents fault_count r a b s t same writes = subst (Writes contents fault_count r a b) same writes
 
-pub err_as : {S T E : Type 0} (contents : S → Option (List ℕ)) (fault_count : S → ℕ) (a b : S) (r : Result T E) (s t : List ℕ) → s ≡ t → OnErr r (WroteFront contents fault_count a b s) → OnErr r (WroteFront contents fault_count a b t)
-err_as contents fault_count a b r s t same h = subst (λ text. OnErr r (WroteFront contents fault_count a b text)) same h
+-- the first of two texts was tried, and failed
+pub first_failed : {S T E : Type 0} (contents : S → Option (List ℕ)) (fault_count : S → ℕ) (r : Result T E) (a b : S) (s t u : List ℕ) → s ++ t ≡ u → IsErr r → WroteFront contents fault_count a b s → Writes contents fault_count r a b u
+first_failed contents fault_count r a b s t u same is_err front =
+    writes_as contents fault_count r a b (s ++ t) u same (writes_failed contents fault_count r a b (s ++ t) is_err (wrote_front_of contents fault_count a b s t front))
+
+-- the first was written, and the second tried
+pub then_last : {S T E : Type 0} (contents : S → Option (List ℕ)) (fault_count : S → ℕ) (r : Result T E) (a b c : S) (s t u : List ℕ) → s ++ t ≡ u → Wrote contents fault_count a b s → Writes contents fault_count r b c t → Writes contents fault_count r a c u
+then_last contents fault_count r a b c s t u same first second =
+    writes_as contents fault_count r a c (s ++ t) u same (last_of_two contents fault_count r a b c s t first second)
 
 -- all but the first
 abbrev pub others_of : {X : Type 0} → List X → List X

@@ -1,6 +1,6 @@
 //! Compiled code.
-ghost use Rattle.std.specs.Prelude.{◌≡◌, ◌<◌, length, map, Some, slice_get, OnOk, OnErr};
-ghost use Rattle.sieve_base.specs.Writers.{Wrote, WroteFront};
+ghost use Rattle.std.specs.Prelude.{◌≡◌, ◌<◌, length, map, Some, slice_get};
+ghost use Rattle.sieve_base.specs.Writers.{Writes};
 ghost use Rattle.sieve_code.specs.Choice.{AllGoForward};
 ghost use Rattle.sieve_code.specs.Compiles.{IsCode};
 ghost use Rattle.sieve_code.specs.Dump.{line_at};
@@ -40,8 +40,7 @@ impl Code {
     /// Writes the line of the operation at a place: the place, `: `, the operation, LF. Takes no memory.
     pub fn dump_line<W: Sink>(&self, i: usize, writer: &mut W) -> Result<(), WriteFault>
         requires { i < length (ops_of self.now) }
-        ensures ok { OnOk result (Wrote W.contents W.fault_count writer.old writer.new (line_at (ops_of self.now) i)) }
-        ensures err { OnErr result (WroteFront W.contents W.fault_count writer.old writer.new (line_at (ops_of self.now) i)) }
+        ensures { Writes W.contents W.fault_count result writer.old writer.new (line_at (ops_of self.now) i) }
     {
         write_line(i, self.op(i), writer)
     }

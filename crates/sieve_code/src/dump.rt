@@ -1,6 +1,6 @@
 //! The lines of a dump.
-ghost use Rattle.std.specs.Prelude.{◌++◌, codes, decimal, OnOk, OnErr};
-ghost use Rattle.sieve_base.specs.Writers.{Wrote, WroteFront};
+ghost use Rattle.std.specs.Prelude.{◌++◌, codes, decimal};
+ghost use Rattle.sieve_base.specs.Writers.{Writes};
 ghost use Rattle.sieve_code.specs.Dump.{at_line, leaf_text, line_text, operation_text};
 ghost use Rattle.sieve_code.specs.view.Op.{op_as};
 ghost use Rattle.sieve_effects.specs.view.Ops.{command_op_as};
@@ -14,8 +14,7 @@ use sieve_effects::CommandOp;
 /// Writes what a command does, and its line.
 #[tactic(auto, using(sieve_base::proofs::Writing::writing))]
 fn write_act<W: Sink>(command: &CommandOp, line: u64, writer: &mut W) -> Result<(), WriteFault>
-    ensures ok { OnOk result (Wrote W.contents W.fault_count writer.old writer.new (leaf_text (command_op_as command.now) ++ at_line line)) }
-    ensures err { OnErr result (WroteFront W.contents W.fault_count writer.old writer.new (leaf_text (command_op_as command.now) ++ at_line line)) }
+    ensures { Writes W.contents W.fault_count result writer.old writer.new (leaf_text (command_op_as command.now) ++ at_line line) }
 {
     write_command(command, writer)?;
     write_number(b" @", line, writer)
@@ -24,8 +23,7 @@ fn write_act<W: Sink>(command: &CommandOp, line: u64, writer: &mut W) -> Result<
 /// Writes an operation.
 #[tactic(auto, unfolding(crate::specs::Dump::operation_text))]
 fn write_op<W: Sink>(op: &Op, writer: &mut W) -> Result<(), WriteFault>
-    ensures ok { OnOk result (Wrote W.contents W.fault_count writer.old writer.new (operation_text (op_as op.now))) }
-    ensures err { OnErr result (WroteFront W.contents W.fault_count writer.old writer.new (operation_text (op_as op.now))) }
+    ensures { Writes W.contents W.fault_count result writer.old writer.new (operation_text (op_as op.now)) }
 {
     match op {
         Op::True => write_out(b"true", writer),
@@ -43,8 +41,7 @@ fn write_op<W: Sink>(op: &Op, writer: &mut W) -> Result<(), WriteFault>
 
 /// Writes a place.
 fn write_place<W: Sink>(place: usize, writer: &mut W) -> Result<(), WriteFault>
-    ensures ok { OnOk result (Wrote W.contents W.fault_count writer.old writer.new (decimal place ++ codes ": ")) }
-    ensures err { OnErr result (WroteFront W.contents W.fault_count writer.old writer.new (decimal place ++ codes ": ")) }
+    ensures { Writes W.contents W.fault_count result writer.old writer.new (decimal place ++ codes ": ") }
 {
     write_pieces(&[Piece::Number(place as u64), Piece::Raw(b": ")], writer)
 }
@@ -52,8 +49,7 @@ fn write_place<W: Sink>(place: usize, writer: &mut W) -> Result<(), WriteFault>
 /// Writes the line of an operation.
 #[tactic(auto, using(sieve_base::proofs::Writing::writing), unfolding(crate::specs::Dump::line_text))]
 pub(crate) fn write_line<W: Sink>(place: usize, op: &Op, writer: &mut W) -> Result<(), WriteFault>
-    ensures ok { OnOk result (Wrote W.contents W.fault_count writer.old writer.new (line_text place (op_as op.now))) }
-    ensures err { OnErr result (WroteFront W.contents W.fault_count writer.old writer.new (line_text place (op_as op.now))) }
+    ensures { Writes W.contents W.fault_count result writer.old writer.new (line_text place (op_as op.now)) }
 {
     write_place(place, writer)?;
     write_op(op, writer)?;

@@ -1,7 +1,7 @@
 //! The commands of a dump.
-ghost use Rattle.std.specs.Prelude.{◌≡◌, ◌++◌, codes, map, OnOk, OnErr};
+ghost use Rattle.std.specs.Prelude.{◌≡◌, ◌++◌, codes, map};
 ghost use Rattle.std.specs.Option.{option_map};
-ghost use Rattle.sieve_base.specs.Writers.{Wrote, WroteFront};
+ghost use Rattle.sieve_base.specs.Writers.{Writes};
 ghost use Rattle.sieve_code.specs.Dump.{case_word, change_word, changing_words, copy_word, first_word, given_word, include_words, leaf_text, list_text, modifier_words, set_words, stored_flags, stored_text, worded_settings, worded_text, worded_variable};
 ghost use Rattle.sieve_effects.specs.view.Ops.{command_op_as, settings_op_as};
 ghost use Rattle.sieve_variables.specs.view.Part.{part_of, strings_of, variable_of};
@@ -15,8 +15,7 @@ use sieve_variables::{LetterCase, Modifiers, Part, Parts, Variable};
 /// Writes a command's word and then a string.
 #[tactic(auto, unfolding(crate::specs::Dump::worded_text))]
 fn write_worded<W: Sink>(word: &[u8], string: &[Part], writer: &mut W) -> Result<(), WriteFault>
-    ensures ok { OnOk result (Wrote W.contents W.fault_count writer.old writer.new (worded_text word.now (map part_of string.now))) }
-    ensures err { OnErr result (WroteFront W.contents W.fault_count writer.old writer.new (worded_text word.now (map part_of string.now))) }
+    ensures { Writes W.contents W.fault_count result writer.old writer.new (worded_text word.now (map part_of string.now)) }
 {
     write_string(word, string, writer)
 }
@@ -24,8 +23,7 @@ fn write_worded<W: Sink>(word: &[u8], string: &[Part], writer: &mut W) -> Result
 /// Writes the flags of what is stored: those that are named, or that these are the internal ones.
 #[tactic(auto, unfolding(crate::specs::Dump::stored_flags))]
 fn write_stored_flags<W: Sink>(settings: &SettingsOp, writer: &mut W) -> Result<(), WriteFault>
-    ensures ok { OnOk result (Wrote W.contents W.fault_count writer.old writer.new (stored_flags (settings_op_as settings.now).flags)) }
-    ensures err { OnErr result (WroteFront W.contents W.fault_count writer.old writer.new (stored_flags (settings_op_as settings.now).flags)) }
+    ensures { Writes W.contents W.fault_count result writer.old writer.new (stored_flags (settings_op_as settings.now).flags) }
 {
     match settings.flags() {
         Some(flags) => write_list(b" flags ", flags, writer),
@@ -43,8 +41,7 @@ fn given_word<'a>(is_given: bool, word: &'a [u8]) -> &'a [u8]
 /// Writes that an action is a copy, where it is one.
 #[tactic(auto, unfolding(crate::specs::Dump::copy_word))]
 fn write_copy<W: Sink>(settings: &SettingsOp, writer: &mut W) -> Result<(), WriteFault>
-    ensures ok { OnOk result (Wrote W.contents W.fault_count writer.old writer.new (copy_word (settings_op_as settings.now).copy)) }
-    ensures err { OnErr result (WroteFront W.contents W.fault_count writer.old writer.new (copy_word (settings_op_as settings.now).copy)) }
+    ensures { Writes W.contents W.fault_count result writer.old writer.new (copy_word (settings_op_as settings.now).copy) }
 {
     write_out(given_word(settings.copy(), b" copy"), writer)
 }
@@ -52,8 +49,7 @@ fn write_copy<W: Sink>(settings: &SettingsOp, writer: &mut W) -> Result<(), Writ
 /// Writes what a command that stores says beside.
 #[tactic(auto, using(sieve_base::proofs::Writing::writing), unfolding(crate::specs::Dump::stored_text))]
 fn write_stored<W: Sink>(settings: &SettingsOp, writer: &mut W) -> Result<(), WriteFault>
-    ensures ok { OnOk result (Wrote W.contents W.fault_count writer.old writer.new (stored_text (settings_op_as settings.now))) }
-    ensures err { OnErr result (WroteFront W.contents W.fault_count writer.old writer.new (stored_text (settings_op_as settings.now))) }
+    ensures { Writes W.contents W.fault_count result writer.old writer.new (stored_text (settings_op_as settings.now)) }
 {
     write_stored_flags(settings, writer)?;
     write_copy(settings, writer)
@@ -66,8 +62,7 @@ fn write_worded_settings<W: Sink>(
     settings: &SettingsOp,
     writer: &mut W,
 ) -> Result<(), WriteFault>
-    ensures ok { OnOk result (Wrote W.contents W.fault_count writer.old writer.new (worded_settings word.now (settings_op_as settings.now))) }
-    ensures err { OnErr result (WroteFront W.contents W.fault_count writer.old writer.new (worded_settings word.now (settings_op_as settings.now))) }
+    ensures { Writes W.contents W.fault_count result writer.old writer.new (worded_settings word.now (settings_op_as settings.now)) }
 {
     write_out(word, writer)?;
     write_stored(settings, writer)
@@ -80,8 +75,7 @@ fn write_redirect<W: Sink>(
     settings: &SettingsOp,
     writer: &mut W,
 ) -> Result<(), WriteFault>
-    ensures ok { OnOk result (Wrote W.contents W.fault_count writer.old writer.new (worded_text (codes "redirect ") (map part_of address.now) ++ copy_word (settings_op_as settings.now).copy)) }
-    ensures err { OnErr result (WroteFront W.contents W.fault_count writer.old writer.new (worded_text (codes "redirect ") (map part_of address.now) ++ copy_word (settings_op_as settings.now).copy)) }
+    ensures { Writes W.contents W.fault_count result writer.old writer.new (worded_text (codes "redirect ") (map part_of address.now) ++ copy_word (settings_op_as settings.now).copy) }
 {
     write_worded(b"redirect ", address, writer)?;
     write_copy(settings, writer)
@@ -94,8 +88,7 @@ fn write_fileinto<W: Sink>(
     settings: &SettingsOp,
     writer: &mut W,
 ) -> Result<(), WriteFault>
-    ensures ok { OnOk result (Wrote W.contents W.fault_count writer.old writer.new (worded_text (codes "fileinto ") (map part_of mailbox.now) ++ stored_text (settings_op_as settings.now))) }
-    ensures err { OnErr result (WroteFront W.contents W.fault_count writer.old writer.new (worded_text (codes "fileinto ") (map part_of mailbox.now) ++ stored_text (settings_op_as settings.now))) }
+    ensures { Writes W.contents W.fault_count result writer.old writer.new (worded_text (codes "fileinto ") (map part_of mailbox.now) ++ stored_text (settings_op_as settings.now)) }
 {
     write_worded(b"fileinto ", mailbox, writer)?;
     write_stored(settings, writer)
@@ -130,8 +123,7 @@ fn write_variable<'x, W: Sink>(
     variable: &'x Variable,
     writer: &mut W,
 ) -> Result<(), WriteFault>
-    ensures ok { OnOk result (Wrote W.contents W.fault_count writer.old writer.new (worded_variable word.now (variable_of variable.now))) }
-    ensures err { OnErr result (WroteFront W.contents W.fault_count writer.old writer.new (worded_variable word.now (variable_of variable.now))) }
+    ensures { Writes W.contents W.fault_count result writer.old writer.new (worded_variable word.now (variable_of variable.now)) }
 {
     write_pieces(
         &[
@@ -145,10 +137,8 @@ fn write_variable<'x, W: Sink>(
 }
 
 /// Writes the modifiers of a `set`.
-#[tactic(auto, unfolding(crate::specs::Dump::modifier_words))]
 fn write_modifiers<W: Sink>(modifiers: Modifiers, writer: &mut W) -> Result<(), WriteFault>
-    ensures ok { OnOk result (Wrote W.contents W.fault_count writer.old writer.new (modifier_words modifiers)) }
-    ensures err { OnErr result (WroteFront W.contents W.fault_count writer.old writer.new (modifier_words modifiers)) }
+    ensures { Writes W.contents W.fault_count result writer.old writer.new (modifier_words modifiers) }
 {
     write_pieces(
         &[
@@ -169,8 +159,7 @@ fn write_set_words<W: Sink>(
     modifiers: Modifiers,
     writer: &mut W,
 ) -> Result<(), WriteFault>
-    ensures ok { OnOk result (Wrote W.contents W.fault_count writer.old writer.new (set_words (variable_of variable.now) modifiers)) }
-    ensures err { OnErr result (WroteFront W.contents W.fault_count writer.old writer.new (set_words (variable_of variable.now) modifiers)) }
+    ensures { Writes W.contents W.fault_count result writer.old writer.new (set_words (variable_of variable.now) modifiers) }
 {
     write_variable(b"set ", variable, writer)?;
     write_modifiers(modifiers, writer)
@@ -184,8 +173,7 @@ fn write_set<W: Sink>(
     value: &[Part],
     writer: &mut W,
 ) -> Result<(), WriteFault>
-    ensures ok { OnOk result (Wrote W.contents W.fault_count writer.old writer.new (worded_text (set_words (variable_of variable.now) modifiers) (map part_of value.now))) }
-    ensures err { OnErr result (WroteFront W.contents W.fault_count writer.old writer.new (worded_text (set_words (variable_of variable.now) modifiers) (map part_of value.now))) }
+    ensures { Writes W.contents W.fault_count result writer.old writer.new (worded_text (set_words (variable_of variable.now) modifiers) (map part_of value.now)) }
 {
     write_set_words(variable, modifiers, writer)?;
     write_string(b"", value, writer)
@@ -209,8 +197,7 @@ fn write_changing_words<W: Sink>(
     variable: &Option<Variable>,
     writer: &mut W,
 ) -> Result<(), WriteFault>
-    ensures ok { OnOk result (Wrote W.contents W.fault_count writer.old writer.new (changing_words change (option_map variable_of variable.now))) }
-    ensures err { OnErr result (WroteFront W.contents W.fault_count writer.old writer.new (changing_words change (option_map variable_of variable.now))) }
+    ensures { Writes W.contents W.fault_count result writer.old writer.new (changing_words change (option_map variable_of variable.now)) }
 {
     let word = change_word(change);
     match variable {
@@ -236,8 +223,7 @@ fn write_flags<W: Sink>(
     flags: &[Parts],
     writer: &mut W,
 ) -> Result<(), WriteFault>
-    ensures ok { OnOk result (Wrote W.contents W.fault_count writer.old writer.new (changing_words change (option_map variable_of variable.now) ++ list_text (strings_of flags.now))) }
-    ensures err { OnErr result (WroteFront W.contents W.fault_count writer.old writer.new (changing_words change (option_map variable_of variable.now) ++ list_text (strings_of flags.now))) }
+    ensures { Writes W.contents W.fault_count result writer.old writer.new (changing_words change (option_map variable_of variable.now) ++ list_text (strings_of flags.now)) }
 {
     write_changing_words(change, variable, writer)?;
     write_list(b"", flags, writer)
@@ -252,8 +238,7 @@ fn write_include<W: Sink>(
     name: &[u8],
     writer: &mut W,
 ) -> Result<(), WriteFault>
-    ensures ok { OnOk result (Wrote W.contents W.fault_count writer.old writer.new (include_words place once optional name.now)) }
-    ensures err { OnErr result (WroteFront W.contents W.fault_count writer.old writer.new (include_words place once optional name.now)) }
+    ensures { Writes W.contents W.fault_count result writer.old writer.new (include_words place once optional name.now) }
 {
     write_pieces(
         &[
@@ -271,8 +256,7 @@ fn write_include<W: Sink>(
 /// Writes what a command does.
 #[tactic(auto, unfolding(crate::specs::Dump::leaf_text))]
 pub(crate) fn write_command<W: Sink>(command: &CommandOp, writer: &mut W) -> Result<(), WriteFault>
-    ensures ok { OnOk result (Wrote W.contents W.fault_count writer.old writer.new (leaf_text (command_op_as command.now))) }
-    ensures err { OnErr result (WroteFront W.contents W.fault_count writer.old writer.new (leaf_text (command_op_as command.now))) }
+    ensures { Writes W.contents W.fault_count result writer.old writer.new (leaf_text (command_op_as command.now)) }
 {
     match command {
         CommandOp::Keep(settings) => write_worded_settings(b"keep", settings, writer),

@@ -1,7 +1,7 @@
 //! The parts and strings of a dump.
-ghost use Rattle.std.specs.Prelude.{◌≡◌, ◌++◌, codes, map, OnOk, OnErr};
+ghost use Rattle.std.specs.Prelude.{◌≡◌, ◌++◌, codes, map};
 ghost use Rattle.std.specs.List.{flat_map};
-ghost use Rattle.sieve_base.specs.Writers.{Wrote, WroteFront};
+ghost use Rattle.sieve_base.specs.Writers.{Writes};
 ghost use Rattle.sieve_code.specs.Dump.{further_list, list_text, name_of, part_text, scope_word, separated, string_text};
 ghost use Rattle.sieve_code.specs.view.Marked.{marked_part, marked_string};
 ghost use Rattle.sieve_variables.specs.view.Part.{part_of, strings_of, variable_of};
@@ -35,8 +35,7 @@ fn write_part<'x, W: Sink>(
     part: &'x Part,
     writer: &mut W,
 ) -> Result<(), WriteFault>
-    ensures ok { OnOk result (Wrote W.contents W.fault_count writer.old writer.new (front.now ++ part_text (part_of part.now))) }
-    ensures err { OnErr result (WroteFront W.contents W.fault_count writer.old writer.new (front.now ++ part_text (part_of part.now))) }
+    ensures { Writes W.contents W.fault_count result writer.old writer.new (front.now ++ part_text (part_of part.now)) }
 {
     match part {
         Part::Literal(octets) => write_pieces(&[Piece::Raw(front), Piece::Quoted(octets)], writer),
@@ -64,8 +63,7 @@ fn write_part<'x, W: Sink>(
 /// Writes parts behind another.
 #[tactic(auto, using(sieve_base::proofs::Writing::writing_items), unfolding(crate::specs::view::Marked::marked_part))]
 fn write_marked_parts<W: Sink>(parts: &[Part], writer: &mut W) -> Result<(), WriteFault>
-    ensures ok { OnOk result (Wrote W.contents W.fault_count writer.old writer.new (flat_map marked_part parts.now)) }
-    ensures err { OnErr result (WroteFront W.contents W.fault_count writer.old writer.new (flat_map marked_part parts.now)) }
+    ensures { Writes W.contents W.fault_count result writer.old writer.new (flat_map marked_part parts.now) }
 {
     for part in parts {
         write_part(b"+", part, writer)?;
@@ -74,14 +72,12 @@ fn write_marked_parts<W: Sink>(parts: &[Part], writer: &mut W) -> Result<(), Wri
 }
 
 /// Writes these octets and then a string.
-#[tactic(auto, using(sieve_base::proofs::Writing::writing))]
 pub(crate) fn write_string<W: Sink>(
     front: &[u8],
     parts: &[Part],
     writer: &mut W,
 ) -> Result<(), WriteFault>
-    ensures ok { OnOk result (Wrote W.contents W.fault_count writer.old writer.new (front.now ++ string_text (map part_of parts.now))) }
-    ensures err { OnErr result (WroteFront W.contents W.fault_count writer.old writer.new (front.now ++ string_text (map part_of parts.now))) }
+    ensures { Writes W.contents W.fault_count result writer.old writer.new (front.now ++ string_text (map part_of parts.now)) }
 {
     match parts {
         [] => write_pieces(&[Piece::Raw(front), Piece::Raw(b"\"\"")], writer),
@@ -95,8 +91,7 @@ pub(crate) fn write_string<W: Sink>(
 /// Writes strings behind another.
 #[tactic(auto, using(sieve_base::proofs::Writing::writing_items), unfolding(crate::specs::view::Marked::marked_string))]
 fn write_marked_strings<W: Sink>(strings: &[Parts], writer: &mut W) -> Result<(), WriteFault>
-    ensures ok { OnOk result (Wrote W.contents W.fault_count writer.old writer.new (flat_map marked_string strings.now)) }
-    ensures err { OnErr result (WroteFront W.contents W.fault_count writer.old writer.new (flat_map marked_string strings.now)) }
+    ensures { Writes W.contents W.fault_count result writer.old writer.new (flat_map marked_string strings.now) }
 {
     for string in strings {
         write_string(b", ", string, writer)?;
@@ -107,8 +102,7 @@ fn write_marked_strings<W: Sink>(strings: &[Parts], writer: &mut W) -> Result<()
 /// Writes these octets and then strings with commas between them.
 #[tactic(auto, using(sieve_base::proofs::Writing::writing))]
 fn write_strings<W: Sink>(front: &[u8], strings: &[Parts], writer: &mut W) -> Result<(), WriteFault>
-    ensures ok { OnOk result (Wrote W.contents W.fault_count writer.old writer.new (front.now ++ separated (codes ", ") string_text (strings_of strings.now))) }
-    ensures err { OnErr result (WroteFront W.contents W.fault_count writer.old writer.new (front.now ++ separated (codes ", ") string_text (strings_of strings.now))) }
+    ensures { Writes W.contents W.fault_count result writer.old writer.new (front.now ++ separated (codes ", ") string_text (strings_of strings.now)) }
 {
     match strings {
         [] => write_out(front, writer),
@@ -126,8 +120,7 @@ pub(crate) fn write_list<W: Sink>(
     strings: &[Parts],
     writer: &mut W,
 ) -> Result<(), WriteFault>
-    ensures ok { OnOk result (Wrote W.contents W.fault_count writer.old writer.new (front.now ++ list_text (strings_of strings.now))) }
-    ensures err { OnErr result (WroteFront W.contents W.fault_count writer.old writer.new (front.now ++ list_text (strings_of strings.now))) }
+    ensures { Writes W.contents W.fault_count result writer.old writer.new (front.now ++ list_text (strings_of strings.now)) }
 {
     write_out(front, writer)?;
     write_strings(b"[", strings, writer)?;
@@ -140,8 +133,7 @@ pub(crate) fn write_further_list<W: Sink>(
     strings: &[Parts],
     writer: &mut W,
 ) -> Result<(), WriteFault>
-    ensures ok { OnOk result (Wrote W.contents W.fault_count writer.old writer.new (further_list (strings_of strings.now))) }
-    ensures err { OnErr result (WroteFront W.contents W.fault_count writer.old writer.new (further_list (strings_of strings.now))) }
+    ensures { Writes W.contents W.fault_count result writer.old writer.new (further_list (strings_of strings.now)) }
 {
     write_list(b" ", strings, writer)
 }

@@ -1,6 +1,6 @@
 //! The tests of a dump.
-ghost use Rattle.std.specs.Prelude.{◌≡◌, ◌++◌, codes, decimal, OnOk, OnErr};
-ghost use Rattle.sieve_base.specs.Writers.{Wrote, WroteFront};
+ghost use Rattle.std.specs.Prelude.{◌≡◌, ◌++◌, codes, decimal};
+ghost use Rattle.sieve_base.specs.Writers.{Writes};
 ghost use Rattle.sieve_code.specs.Dump.{address_part_word, address_words, ask_text, collation_word, comparing_words, further_list, internal_list, match_word, source_text};
 ghost use Rattle.sieve_effects.specs.view.Ops.{given_strings, source_op_as, test_op_as};
 ghost use Rattle.sieve_variables.specs.view.Part.{strings_of};
@@ -53,8 +53,7 @@ fn write_comparing<W: Sink>(
     collation: Collation,
     writer: &mut W,
 ) -> Result<(), WriteFault>
-    ensures ok { OnOk result (Wrote W.contents W.fault_count writer.old writer.new (comparing_words test.now match_type collation)) }
-    ensures err { OnErr result (WroteFront W.contents W.fault_count writer.old writer.new (comparing_words test.now match_type collation)) }
+    ensures { Writes W.contents W.fault_count result writer.old writer.new (comparing_words test.now match_type collation) }
 {
     write_pieces(
         &[
@@ -77,8 +76,7 @@ fn write_address_words<W: Sink>(
     part: AddressPart,
     writer: &mut W,
 ) -> Result<(), WriteFault>
-    ensures ok { OnOk result (Wrote W.contents W.fault_count writer.old writer.new (address_words test.now match_type collation part)) }
-    ensures err { OnErr result (WroteFront W.contents W.fault_count writer.old writer.new (address_words test.now match_type collation part)) }
+    ensures { Writes W.contents W.fault_count result writer.old writer.new (address_words test.now match_type collation part) }
 {
     write_comparing(test, match_type, collation, writer)?;
     write_pieces(
@@ -93,8 +91,7 @@ fn write_internal_list<W: Sink>(
     variables: &Option<Strings>,
     writer: &mut W,
 ) -> Result<(), WriteFault>
-    ensures ok { OnOk result (Wrote W.contents W.fault_count writer.old writer.new (internal_list (given_strings variables.now))) }
-    ensures err { OnErr result (WroteFront W.contents W.fault_count writer.old writer.new (internal_list (given_strings variables.now))) }
+    ensures { Writes W.contents W.fault_count result writer.old writer.new (internal_list (given_strings variables.now)) }
 {
     match variables {
         Some(variables) => write_further_list(variables, writer),
@@ -111,8 +108,7 @@ fn write_values<W: Sink>(
     values: &[Parts],
     writer: &mut W,
 ) -> Result<(), WriteFault>
-    ensures ok { OnOk result (Wrote W.contents W.fault_count writer.old writer.new (comparing_words test.now match_type collation ++ further_list (strings_of values.now))) }
-    ensures err { OnErr result (WroteFront W.contents W.fault_count writer.old writer.new (comparing_words test.now match_type collation ++ further_list (strings_of values.now))) }
+    ensures { Writes W.contents W.fault_count result writer.old writer.new (comparing_words test.now match_type collation ++ further_list (strings_of values.now)) }
 {
     write_comparing(test, match_type, collation, writer)?;
     write_further_list(values, writer)
@@ -128,8 +124,7 @@ fn write_address<W: Sink>(
     names: &[Parts],
     writer: &mut W,
 ) -> Result<(), WriteFault>
-    ensures ok { OnOk result (Wrote W.contents W.fault_count writer.old writer.new (address_words test.now match_type collation part ++ further_list (strings_of names.now))) }
-    ensures err { OnErr result (WroteFront W.contents W.fault_count writer.old writer.new (address_words test.now match_type collation part ++ further_list (strings_of names.now))) }
+    ensures { Writes W.contents W.fault_count result writer.old writer.new (address_words test.now match_type collation part ++ further_list (strings_of names.now)) }
 {
     write_address_words(test, match_type, collation, part, writer)?;
     write_further_list(names, writer)
@@ -143,8 +138,7 @@ fn write_hasflag<W: Sink>(
     variables: &Option<Strings>,
     writer: &mut W,
 ) -> Result<(), WriteFault>
-    ensures ok { OnOk result (Wrote W.contents W.fault_count writer.old writer.new (comparing_words (codes "hasflag") match_type collation ++ internal_list (given_strings variables.now))) }
-    ensures err { OnErr result (WroteFront W.contents W.fault_count writer.old writer.new (comparing_words (codes "hasflag") match_type collation ++ internal_list (given_strings variables.now))) }
+    ensures { Writes W.contents W.fault_count result writer.old writer.new (comparing_words (codes "hasflag") match_type collation ++ internal_list (given_strings variables.now)) }
 {
     write_comparing(b"hasflag", match_type, collation, writer)?;
     write_internal_list(variables, writer)
@@ -158,8 +152,7 @@ fn write_source<W: Sink>(
     collation: Collation,
     writer: &mut W,
 ) -> Result<(), WriteFault>
-    ensures ok { OnOk result (Wrote W.contents W.fault_count writer.old writer.new (source_text (source_op_as source.now) match_type collation)) }
-    ensures err { OnErr result (WroteFront W.contents W.fault_count writer.old writer.new (source_text (source_op_as source.now) match_type collation)) }
+    ensures { Writes W.contents W.fault_count result writer.old writer.new (source_text (source_op_as source.now) match_type collation) }
 {
     match source {
         SourceOp::Header { names } => write_values(b"header", match_type, collation, names, writer),
@@ -183,8 +176,7 @@ fn write_compares<W: Sink>(
     keys: &[Parts],
     writer: &mut W,
 ) -> Result<(), WriteFault>
-    ensures ok { OnOk result (Wrote W.contents W.fault_count writer.old writer.new (source_text (source_op_as source.now) match_type collation ++ further_list (strings_of keys.now))) }
-    ensures err { OnErr result (WroteFront W.contents W.fault_count writer.old writer.new (source_text (source_op_as source.now) match_type collation ++ further_list (strings_of keys.now))) }
+    ensures { Writes W.contents W.fault_count result writer.old writer.new (source_text (source_op_as source.now) match_type collation ++ further_list (strings_of keys.now)) }
 {
     write_source(source, match_type, collation, writer)?;
     write_further_list(keys, writer)
@@ -196,8 +188,7 @@ pub(crate) fn write_number<W: Sink>(
     number: u64,
     writer: &mut W,
 ) -> Result<(), WriteFault>
-    ensures ok { OnOk result (Wrote W.contents W.fault_count writer.old writer.new (word.now ++ decimal number)) }
-    ensures err { OnErr result (WroteFront W.contents W.fault_count writer.old writer.new (word.now ++ decimal number)) }
+    ensures { Writes W.contents W.fault_count result writer.old writer.new (word.now ++ decimal number) }
 {
     write_pieces(&[Piece::Raw(word), Piece::Number(number)], writer)
 }
@@ -205,8 +196,7 @@ pub(crate) fn write_number<W: Sink>(
 /// Writes what a test asks.
 #[tactic(auto, unfolding(crate::specs::Dump::ask_text))]
 pub(crate) fn write_test<W: Sink>(test: &TestOp, writer: &mut W) -> Result<(), WriteFault>
-    ensures ok { OnOk result (Wrote W.contents W.fault_count writer.old writer.new (ask_text (test_op_as test.now))) }
-    ensures err { OnErr result (WroteFront W.contents W.fault_count writer.old writer.new (ask_text (test_op_as test.now))) }
+    ensures { Writes W.contents W.fault_count result writer.old writer.new (ask_text (test_op_as test.now)) }
 {
     match test {
         TestOp::Compares {

@@ -4,7 +4,6 @@ use Rattle.sieve_reading.specs.Reading as reading
 use Rattle.sieve_reading.specs.view.Reading.{ask_as, test_reading_as}
 use Rattle.sieve_reading.specs.view.Tree.{test_of, tests_of}
 use Rattle.sieve_code.specs.Choice.{first_before, list_before, test_before}
-use Rattle.sieve_code.specs.Operation as operation
 use Rattle.sieve_code.specs.Operation.{jump_if_op}
 use Rattle.sieve_code.proofs.Putting.{all_list, all_none, all_one, first_empty, first_listed, first_none, first_one, list_empty, list_none, list_on, list_put, list_some, on_ok_along, test_put}
 use Rattle.sieve_code.proofs.test_code.+test_code.Goals as goal
