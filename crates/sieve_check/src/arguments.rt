@@ -119,21 +119,14 @@ fn text_breaks(
     Ok(broken)
 }
 
-/// The rules in the order of their numbers.
-const RULES: [Rule; 16] = [
-    Rule::RequirePlace,
+/// The rules that a string can break, in the order of their numbers.
+const TEXT_RULES: [Rule; 9] = [
     Rule::UnknownCapability,
-    Rule::UnknownCommand,
-    Rule::NotRequired,
-    Rule::ElsePlace,
-    Rule::BadTag,
-    Rule::BadArguments,
     Rule::UnknownComparator,
     Rule::BadVariableName,
     Rule::GlobalAfterSet,
     Rule::BadNamespace,
     Rule::MatchIndex,
-    Rule::NumberTooLarge,
     Rule::BadEnvelopePart,
     Rule::NotAddressHeader,
     Rule::TooManyVariables,
@@ -167,7 +160,7 @@ fn check_text(
 ) -> Result<(), CheckFault>
     ensures { Finds (breaches_at (the_text (context_as context.entry) role (text_of text.now))) result }
 {
-    match first_broken(alloc, &RULES, context, role, &text.string)? {
+    match first_broken(alloc, &TEXT_RULES, context, role, &text.string)? {
         Some(rule) => Err(CheckFault::Breach {
             line: text.line,
             rule,
