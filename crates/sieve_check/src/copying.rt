@@ -6,10 +6,9 @@ ghost use Rattle.sieve_check.specs.Parted.{command_labels, declared_behind, decl
 ghost use Rattle.sieve_check.specs.Scope.{declaring_arguments};
 ghost use Rattle.sieve_reading.specs.Shape.{row_labels};
 ghost use Rattle.sieve_table.specs.Table as table;
-ghost use Rattle.sieve_table.specs.Table.{command_row};
 ghost use Rattle.sieve_reading.specs.Tree.{items};
 ghost use Rattle.sieve_check.specs.view.Context.{cutting_as};
-ghost use Rattle.sieve_check.specs.view.Copy.{IsFront, cutting_by, declared_behind_front, declares_names};
+ghost use Rattle.sieve_check.specs.view.Copy.{IsFront, cutting_by, declared_behind_front};
 ghost use Rattle.sieve_table.specs.view.Row.{row_as};
 ghost use Rattle.sieve_reading.specs.view.Tree.{argument_of, node_of, test_of, tests_of, text_of};
 ghost use Rattle.sieve_variables.specs.Part.{literal, scoped_part, variable_part};
@@ -21,7 +20,7 @@ use crate::context::{Required, required_in, takes_references};
 use crate::scope::declare_argument;
 use sieve_base::SmallOctets;
 use sieve_reading::{Argument, Command, Test, Tests, Text, role_of, row_expected, shape_of};
-use sieve_table::{CommandKind, Role, Row, command_named, names_variable, test_named};
+use sieve_table::{Role, Row, command_named, names_variable, test_named};
 use sieve_variables::{Names, Part, Parts, Variable, parts_of, scoped_parts};
 use std::alloc::{AllocError, Global};
 
@@ -181,6 +180,21 @@ fn test_arguments(
     }
 }
 
+/// The arguments of a command of that name, with their strings in parts.
+fn command_arguments(
+    alloc: Global,
+    cutting: Cutting<'_>,
+    name: &[u8],
+    args: &[sieve_syntax::Argument],
+) -> Result<Vec<Argument>, AllocError>
+    ensures { IfOk result (λ copies. map argument_of copies.items ≡ parted_labelled (cutting_as cutting.entry) (command_labels (table.command_named name.now) (map seen.argument_of args.now)) (map seen.argument_of args.now)) }
+{
+    match command_named(name) {
+        None => parted_without_row(alloc, cutting, args),
+        Some(kind) => parted_by_row(alloc, cutting, &kind.row(), args),
+    }
+}
+
 /// A test with its strings in parts.
 #[cycle(parted_tests)]
 fn parted_test(
@@ -258,69 +272,18 @@ fn declare_by_row(
     Ok(())
 }
 
-/// Whether a command of that kind may declare names (RFC 6609, section 3.4.1).
-fn declares_names(kind: CommandKind) -> bool
-    ensures { result ≡ declares_names kind }
-{
-    matches!(kind, CommandKind::Global)
-}
-
-/// Declares what a command of that kind declares.
-fn declare_by_kind(
+/// Declares what a command of that name declares.
+fn declare_by_command(
     alloc: Global,
-    declared: &mut Names,
-    kind: CommandKind,
-    args: &[sieve_syntax::Argument],
-) -> Result<(), AllocError>
-    ensures { OnOk result (declared.new ≡ declaring_arguments declared.old (row_labels (command_row kind) (map seen.argument_of args.now)) (map seen.argument_of args.now)) }
-{
-    if declares_names(kind) {
-        declare_by_row(alloc, declared, &kind.row(), args)
-    } else {
-        Ok(())
-    }
-}
-
-/// The arguments of a command of that kind, with their strings in parts. Its names are declared first: where a command declares
-/// names, no string of its arguments goes by them.
-fn kind_arguments(
-    alloc: Global,
-    required: Required,
-    declared: &mut Names,
-    kind: CommandKind,
-    args: &[sieve_syntax::Argument],
-) -> Result<Vec<Argument>, AllocError>
-    ensures copies { IfOk result (λ copies. map argument_of copies.items ≡ parted_labelled (cutting_by required declared.old) (row_labels (command_row kind) (map seen.argument_of args.now)) (map seen.argument_of args.now)) }
-    ensures declared { OnOk result (declared.new ≡ declaring_arguments declared.old (row_labels (command_row kind) (map seen.argument_of args.now)) (map seen.argument_of args.now)) }
-{
-    declare_by_kind(alloc, &mut *declared, kind, args)?;
-    let cutting = Cutting {
-        required,
-        declared: &*declared,
-    };
-    parted_by_row(alloc, cutting, &kind.row(), args)
-}
-
-/// The arguments of a command of that name, with their strings in parts. Then its names are declared.
-fn command_arguments(
-    alloc: Global,
-    required: Required,
     declared: &mut Names,
     name: &[u8],
     args: &[sieve_syntax::Argument],
-) -> Result<Vec<Argument>, AllocError>
-    ensures copies { IfOk result (λ copies. map argument_of copies.items ≡ parted_labelled (cutting_by required declared.old) (command_labels (table.command_named name.now) (map seen.argument_of args.now)) (map seen.argument_of args.now)) }
-    ensures declared { OnOk result (declared.new ≡ declaring_command declared.old name.now (map seen.argument_of args.now)) }
+) -> Result<(), AllocError>
+    ensures { OnOk result (declared.new ≡ declaring_command declared.old name.now (map seen.argument_of args.now)) }
 {
     match command_named(name) {
-        None => {
-            let cutting = Cutting {
-                required,
-                declared: &*declared,
-            };
-            parted_without_row(alloc, cutting, args)
-        }
-        Some(kind) => kind_arguments(alloc, required, declared, kind, args),
+        None => Ok(()),
+        Some(kind) => declare_by_row(alloc, declared, &kind.row(), args),
     }
 }
 
@@ -345,15 +308,10 @@ fn parted_front(
         required,
         declared: &*declared,
     };
-    let tests = parted_tests(alloc, cutting, &command.tests)?;
-    let args = command_arguments(
-        alloc,
-        required,
-        &mut *declared,
-        &command.name,
-        &command.args,
-    )?;
     let name = SmallOctets::from_slice(alloc, &command.name)?;
+    let args = command_arguments(alloc, cutting, &command.name, &command.args)?;
+    let tests = parted_tests(alloc, cutting, &command.tests)?;
+    declare_by_command(alloc, declared, &command.name, &command.args)?;
     Ok(Front { name, args, tests })
 }
 

@@ -1,5 +1,5 @@
 -- What copies of commands stand for.
-use Rattle.std.specs.Prelude.{◌≡◌, ℕ, Bool, true, false, List, map}
+use Rattle.std.specs.Prelude.{◌≡◌, ℕ, List, map}
 use Rattle.sieve_syntax.specs.view.Tree as seen
 use Rattle.sieve_syntax.specs.declared.tree.Command as syntax_commands
 use Rattle.sieve_check.specs.Parted.{Cutting, command_labels, declaring_command, parted_labelled, parted_tests}
@@ -8,8 +8,6 @@ use Rattle.sieve_reading.specs.view.Tree.{argument_of, tests_of}
 use Rattle.sieve_check.specs.declared.context.Required as requireds
 use Rattle.sieve_check.specs.declared.copying.Front as fronts
 use Rattle.sieve_table.specs.Table.{command_named}
-use Rattle.sieve_table.specs.declared.table.CommandKind.{CommandKind}
-use Rattle.sieve_table.specs.declared.table.CommandKind.TheVariants.{Require, If, Elsif, Else, Keep, Fileinto, Redirect, Discard, Stop, Set, SetFlag, AddFlag, RemoveFlag, Include, Return, Global}
 use Rattle.smallvec.specs.SmallVec.{SmallVec}
 
 abbrev pub cutting_by : requireds.Required → List (List ℕ) → Cutting
@@ -18,25 +16,6 @@ cutting_by r declared = record { required = required_as r; declared = declared }
 -- the names that are declared behind a command and before its block
 abbrev pub declared_behind_front : List (List ℕ) → syntax_commands.Command (SmallVec ℕ) → List (List ℕ)
 declared_behind_front declared c = let o = syntax_commands.out-Command (SmallVec ℕ) c in declaring_command declared o.name.items (map seen.argument_of o.args.items)
-
--- whether a command of that kind may declare names: one alone may (RFC 6609, section 3.4.1)
-abbrev pub declares_names : CommandKind → Bool
-declares_names Require = false
-declares_names If = false
-declares_names Elsif = false
-declares_names Else = false
-declares_names Keep = false
-declares_names Fileinto = false
-declares_names Redirect = false
-declares_names Discard = false
-declares_names Stop = false
-declares_names Set = false
-declares_names SetFlag = false
-declares_names AddFlag = false
-declares_names RemoveFlag = false
-declares_names Include = false
-declares_names Return = false
-declares_names Global = true
 
 -- the copy of a command apart from its line and its block
 pub record IsFront (cutting : Cutting) (front : fronts.Front) (c : syntax_commands.Command (SmallVec ℕ)) : Type 0 where
