@@ -103,7 +103,7 @@ fn write_indent<W: Sink>(writer: &mut W) -> Result<(), WriteFault>
 }
 
 /// Writes the line of an action.
-#[tactic(auto, using(sieve_base::proofs::Writing::writing))]
+#[tactic(auto, using(crate::proofs::Writing::lines))]
 pub(crate) fn write_action_line<W: Sink>(action: &Action, writer: &mut W) -> Result<(), WriteFault>
     ensures { Writes W.contents W.fault_count result writer.old writer.new (action_text action.now) }
 {
@@ -113,7 +113,7 @@ pub(crate) fn write_action_line<W: Sink>(action: &Action, writer: &mut W) -> Res
 }
 
 /// Writes the line of the implicit keep with its flags.
-#[tactic(auto, using(sieve_base::proofs::Writing::writing))]
+#[tactic(auto, using(crate::proofs::Writing::lines))]
 fn write_kept_line<W: Sink>(
     mailbox: &[u8],
     flags: &FlagList,
@@ -141,7 +141,7 @@ pub(crate) fn write_implicit_line<W: Sink>(
 }
 
 /// Writes the line of an error.
-#[tactic(auto, using(sieve_base::proofs::Writing::writing))]
+#[tactic(auto, using(crate::proofs::Writing::lines))]
 fn write_failed_line<W: Sink>(error: &RunError, writer: &mut W) -> Result<(), WriteFault>
     ensures { Writes W.contents W.fault_count result writer.old writer.new (indented (error_line error.now)) }
 {
@@ -161,7 +161,7 @@ pub(crate) fn write_error_line<W: Sink>(outcome: &Outcome, writer: &mut W) -> Re
 }
 
 /// Writes the line of a looked-up name.
-#[tactic(auto, using(sieve_base::proofs::Writing::writing))]
+#[tactic(auto, using(crate::proofs::Writing::lines))]
 pub(crate) fn write_read_line<W: Sink>(
     name: &ScriptName,
     is_present: bool,

@@ -13,7 +13,7 @@ returns-clause-ok g c =
     elim c.match-write_report.branch [
       | in-Ok w ↦
           rw (w.result-is, ← c.self.view_is) (subst (λ (text : List ℕ). Wrote g.W.Sink.contents g.W.Faults.fault_count c.args.writer.now c.write_report.new.writer text)
-          (report_is content (option_copied c.as_ref-main.result) c.run_stale.new.messages.entries c.as_ref-main.ensures.value c.run_stale.ensures.messages c.run_stale.ensures.due none) w.in-Ok.ensures.ok)
+          (report_is content (option_copied c.as_ref-main.result) c.run_stale.new.messages.entries c.as_ref-main.ensures.value c.run_stale.ensures.messages c.run_stale.ensures.due none) w.in-Ok.ensures)
       | in-Err w ↦ rw w.result-is tt
     ]
 
@@ -25,5 +25,5 @@ returns-clause-err g c =
       | in-Ok w ↦ rw w.result-is tt
       | in-Err w ↦
           rw (w.result-is, ← c.self.view_is) (subst (λ (text : List ℕ). WroteFront g.W.Sink.contents g.W.Faults.fault_count c.args.writer.now c.write_report.new.writer text)
-          (report_is content (option_copied c.as_ref-main.result) c.run_stale.new.messages.entries c.as_ref-main.ensures.value c.run_stale.ensures.messages c.run_stale.ensures.due none) w.in-Err.ensures.err)
+          (report_is content (option_copied c.as_ref-main.result) c.run_stale.new.messages.entries c.as_ref-main.ensures.value c.run_stale.ensures.messages c.run_stale.ensures.due none) w.in-Err.ensures)
     ]
