@@ -175,7 +175,7 @@ CALLS = {
     "judge/faulty": Told(lines("3 unknown-command")),
     "compile": Told(CODE),
     "dump_text": Told(CODE + lines("Clean")),
-    "parts_of": Told(lines('"to be put beside "', "local a_name_of_more_octets_than_sixteen", '", "', "global b", "match 1")),
+    "parts_of_text": Told(lines('"to be put beside "', "local a_name_of_more_octets_than_sixteen", '", "', "global b", "match 1")),
     "Values::set": Told(lines("ok"), each(b"its value"), [each(b"")]),
     "Values::expanded": Told(each(b"to be put beside its value, ", b"plain")),
     "Shelf::add": Told(lines("ok"), lines("4 operations"), [lines("invalid")]),

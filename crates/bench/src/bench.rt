@@ -24,7 +24,7 @@ use crate::refusal::{
 };
 use crate::report::{is_clean, run_stale, write_report};
 use crate::scripts::Scripts;
-use crate::sought::{Sought, remove_sought};
+use crate::sought::{SoughtId, remove_sought};
 use indexmap::IndexMap;
 use sieve_base::{Octets, ScriptName, Sink};
 use sieve_run::{Envelope, Found, Library, Meter, Outcome};
@@ -113,7 +113,7 @@ impl Bench {
         if let Some(fault) = refuse_expected(&self.messages, id, text.as_slice()) {
             return Err(fault);
         }
-        expect(&mut self.messages, Sought { octets: id }, Some(text));
+        expect(&mut self.messages, SoughtId { octets: id }, Some(text));
         Ok(())
     }
 
@@ -231,7 +231,7 @@ impl Bench {
         if let Some(fault) = refuse_absent(&self.messages, id) {
             return Err(fault);
         }
-        remove_sought(&mut self.messages, Sought { octets: id });
+        remove_sought(&mut self.messages, SoughtId { octets: id });
         Ok(())
     }
 
@@ -261,7 +261,7 @@ impl Bench {
         if let Some(fault) = refuse_absent(&self.messages, id) {
             return Err(fault);
         }
-        expect(&mut self.messages, Sought { octets: id }, None);
+        expect(&mut self.messages, SoughtId { octets: id }, None);
         Ok(())
     }
 

@@ -4,7 +4,7 @@ ghost use Rattle.sieve_base.specs.Limits.{text_limit};
 ghost use Rattle.sieve_base.specs.Writers.{Wrote, WroteFront, Writes};
 ghost use Rattle.sieve_check.specs.Judgement.{judgement_of};
 ghost use Rattle.sieve_code.specs.view.Code.{ops_of};
-ghost use Rattle.bench.specs.Dump.{DumpEnds, code_text, dump_end_of, dump_text_of, is_too_large};
+ghost use Rattle.bench.specs.Dump.{DumpEnds, code_text, dump_end_of, dump_text_of};
 
 use crate::report_lines::write_script;
 use crate::test_end::TestEnd;

@@ -7,7 +7,7 @@ ghost use lib.Pointwise.{pointwise};
 ghost use Rattle.bench.specs.view.Entry.{changed, expecting, put_entry, renewed};
 
 use crate::entry::Entry;
-use crate::sought::Sought;
+use crate::sought::SoughtId;
 use indexmap::IndexMap;
 use sieve_base::Octets;
 use sieve_run::Message;
@@ -71,7 +71,7 @@ pub(crate) fn put(
 /// Expects a text of the verdict on the message of an id, or none. Takes no memory.
 pub(crate) fn expect(
     messages: &mut IndexMap<Octets, Entry>,
-    sought: Sought<'_>,
+    sought: SoughtId<'_>,
     text: Option<Octets>,
 )
     ensures entries { messages.new.entries ≡ changed sought.entry.octets.now (expecting text) messages.old.entries }

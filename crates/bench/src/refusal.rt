@@ -6,7 +6,7 @@ ghost use Rattle.bench.specs.view.Entry.{messages_of};
 use crate::entry::Entry;
 use crate::fault::EditFault;
 use crate::scripts::Scripts;
-use crate::sought::Sought;
+use crate::sought::SoughtId;
 use indexmap::IndexMap;
 use sieve_base::limits::{
     MAX_ADDRESS, MAX_EXPECTED, MAX_ID, MAX_MAILBOX, MAX_MESSAGE, MAX_MESSAGES, MAX_NAME,
@@ -59,7 +59,7 @@ pub(crate) fn refuse_absent(messages: &IndexMap<Octets, Entry>, id: &[u8]) -> Op
 {
     if id.len() > MAX_ID {
         Some(EditFault::TooLarge)
-    } else if !messages.contains_key(Sought { octets: id }) {
+    } else if !messages.contains_key(SoughtId { octets: id }) {
         Some(EditFault::NoSuchMessage)
     } else {
         None
@@ -77,7 +77,7 @@ pub(crate) fn refuse_expected(
 {
     if id.len() > MAX_ID || text.len() > MAX_EXPECTED {
         Some(EditFault::TooLarge)
-    } else if !messages.contains_key(Sought { octets: id }) {
+    } else if !messages.contains_key(SoughtId { octets: id }) {
         Some(EditFault::NoSuchMessage)
     } else {
         None

@@ -13,11 +13,11 @@ use sieve_base::Octets;
 
 /// The octets of an id, which need not be copied to be looked up.
 #[derive(Clone, Copy, PartialEq, Eq, Hash)]
-pub(crate) struct Sought<'a> {
+pub(crate) struct SoughtId<'a> {
     pub(crate) octets: &'a [u8],
 }
 
-impl Equivalent<Octets> for Sought<'_> {
+impl Equivalent<Octets> for SoughtId<'_> {
     ghost equivalent = { λ sought id. pointwise nat_eq sought.octets.now id };
 
     ghost respects_hash = { λ sought id same. ap (fed.slice fed.u8) ((bytes_decides sought.octets.now id).0 same) };
@@ -30,7 +30,7 @@ impl Equivalent<Octets> for Sought<'_> {
 }
 
 /// Removes the message of an id. The others stay in their order. Takes no memory.
-pub(crate) fn remove_sought(messages: &mut IndexMap<Octets, Entry>, sought: Sought<'_>)
+pub(crate) fn remove_sought(messages: &mut IndexMap<Octets, Entry>, sought: SoughtId<'_>)
     ensures entries { messages.new.entries ≡ remove_entry (pointwise nat_eq sought.entry.octets.now) messages.old.entries }
     ensures unique { IsUnique (pointwise nat_eq) messages.new }
 {

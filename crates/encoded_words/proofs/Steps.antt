@@ -10,11 +10,11 @@ use Rattle.std.proofs.lemmas.List.{take_all, take_more}
 use Rattle.std.proofs.Math.ListN.{drop_of_length-le}
 use Rattle.std.proofs.lemmas.Str.{encodes-append, IsUtf8-from_is_utf8, is_utf8-from_IsUtf8}
 use Rattle.encoded_words.specs.Encoding.{octet_before}
-use Rattle.encoded_words.specs.Cut.{Cuts, Piece, joined, kept, leads_to_word, octet, replaced}
+use Rattle.encoded_words.specs.Cut.{Cuts, ValuePiece, joined, kept, leads_to_word, octet, replaced}
 use Rattle.sieve_base.specs.Octet.{is_blank}
 use Rattle.encoded_words.specs.Charset.{meaning}
 use Rattle.encoded_words.specs.Scan.{decoded_of, first_piece, has_word, replaced_of, has_written, further_octets, is_word, piece_by, pieces_from, pieces_of, run, word_at}
-use Rattle.encoded_words.specs.Word.{Word, is_word_octet}
+use Rattle.encoded_words.specs.Word.{EncodedWord, is_word_octet}
 use Rattle.encoded_words.proofs.Cut.{cuts_from, pieces_from-drop}
 
 pub utf8_said : (octets : List ℕ) → IsUtf8 octets → is_utf8 octets ≡ true
@@ -57,14 +57,14 @@ unfolding pieces_from
 none_at [] some is = absurd (omega arith)
 none_at (c ∷ rest) some is = ap (λ found. first_piece c found ∷ pieces_from (further_octets (first_piece c found)) rest) (sym is)
 
-pub meaningless_at : (value : List ℕ) (word : Word) → 0 < length value → Some word ≡ word_at value → None ≡ meaning word → pieces_of value ≡ octet (get_or value 0 0) ∷ pieces_of (drop 1 value)
+pub meaningless_at : (value : List ℕ) (word : EncodedWord) → 0 < length value → Some word ≡ word_at value → None ≡ meaning word → pieces_of value ≡ octet (get_or value 0 0) ∷ pieces_of (drop 1 value)
 unfolding pieces_from
 meaningless_at [] word some is none = absurd (omega arith)
 meaningless_at (c ∷ rest) word some is none =
     ap (λ found. first_piece c found ∷ pieces_from (further_octets (first_piece c found)) rest) (sym is)
     ∙ ap (λ meant. piece_by c word meant ∷ pieces_from (further_octets (piece_by c word meant)) rest) (sym none)
 
-replaced_at : (value meant : List ℕ) (word : Word) (n : ℕ) → 0 < length value → Some word ≡ word_at value → Some meant ≡ meaning word → n ≡ length word.charset + length word.text + 7 → pieces_of value ≡ replaced word meant ∷ pieces_of (drop n value)
+replaced_at : (value meant : List ℕ) (word : EncodedWord) (n : ℕ) → 0 < length value → Some word ≡ word_at value → Some meant ≡ meaning word → n ≡ length word.charset + length word.text + 7 → pieces_of value ≡ replaced word meant ∷ pieces_of (drop n value)
 unfolding pieces_from
 replaced_at [] meant word n some is means count = absurd (omega arith)
 replaced_at (c ∷ rest) meant word n some is means count =
@@ -76,7 +76,7 @@ replaced_at (c ∷ rest) meant word n some is means count =
     ∙ ap (λ n. replaced word meant ∷ pieces_of (drop n (c ∷ rest))) same
 
 -- octets that stand for themselves, and the pieces behind them
-abbrev pub in_front : List ℕ → List Piece → List Piece
+abbrev pub in_front : List ℕ → List ValuePiece → List ValuePiece
 in_front octets pieces = map octet octets ++ pieces
 
 plain_next : (left : List ℕ) (plain : ℕ) → plain < length left → pieces_of (drop plain left) ≡ octet (get_or (drop plain left) 0 0) ∷ pieces_of (drop 1 (drop plain left)) → in_front (take (suc plain) left) (pieces_of (drop (suc plain) left)) ≡ in_front (take plain left) (pieces_of (drop plain left))
@@ -84,10 +84,10 @@ plain_next [] plain within is = absurd (omega arith)
 plain_next (c ∷ rest) zero within is = sym is
 plain_next (c ∷ rest) (suc plain) within is = ap (λ pieces. octet c ∷ pieces) (plain_next rest plain (omega arith) is)
 
-pub plain_step : (left : List ℕ) (plain : ℕ) (whole : List Piece) → plain < length left → pieces_of (drop plain left) ≡ octet (get_or (drop plain left) 0 0) ∷ pieces_of (drop 1 (drop plain left)) → in_front (take plain left) (pieces_of (drop plain left)) ≡ whole → in_front (take (plain + 1) left) (pieces_of (drop (plain + 1) left)) ≡ whole
+pub plain_step : (left : List ℕ) (plain : ℕ) (whole : List ValuePiece) → plain < length left → pieces_of (drop plain left) ≡ octet (get_or (drop plain left) 0 0) ∷ pieces_of (drop 1 (drop plain left)) → in_front (take plain left) (pieces_of (drop plain left)) ≡ whole → in_front (take (plain + 1) left) (pieces_of (drop (plain + 1) left)) ≡ whole
 plain_step left plain whole within is so_far = rw add-one (plain_next left plain within is ∙ so_far)
 
-pub word_step : (gap rest behind meant : List ℕ) (word : Word) (n : ℕ) (whole : List Piece) → 0 < length rest → Some word ≡ word_at rest → Some meant ≡ meaning word → n ≡ length word.charset + length word.text + 7 → behind ≡ drop n rest → in_front gap (pieces_of rest) ≡ whole → whole ≡ in_front gap (replaced word meant ∷ pieces_of behind)
+pub word_step : (gap rest behind meant : List ℕ) (word : EncodedWord) (n : ℕ) (whole : List ValuePiece) → 0 < length rest → Some word ≡ word_at rest → Some meant ≡ meaning word → n ≡ length word.charset + length word.text + 7 → behind ≡ drop n rest → in_front gap (pieces_of rest) ≡ whole → whole ≡ in_front gap (replaced word meant ∷ pieces_of behind)
 word_step gap rest behind meant word n whole some is means count behind_is so_far =
     sym so_far
     ∙ ap (in_front gap) (replaced_at rest meant word n some is means count)
@@ -127,7 +127,7 @@ front_of value (Some n) (first, here) = (omega (arith, first.high), first.before
 
 -- what pieces stand for
 
-leads_gap : (gap meant : List ℕ) (word : Word) (pieces : List Piece) → leads_to_word (in_front gap (replaced word meant ∷ pieces)) ≡ list_all is_blank gap
+leads_gap : (gap meant : List ℕ) (word : EncodedWord) (pieces : List ValuePiece) → leads_to_word (in_front gap (replaced word meant ∷ pieces)) ≡ list_all is_blank gap
 leads_gap [] meant word pieces = refl
 leads_gap (c ∷ gap) meant word pieces = ap (λ b. is_blank c && b) (leads_gap gap meant word pieces)
 
@@ -137,7 +137,7 @@ gap_step true true false c gap rest true_rest false_rest dropped stays = ap (λ 
 gap_step true false all c gap rest true_rest false_rest dropped stays = ap (λ octets. c ∷ octets) stays
 gap_step false blank all c gap rest true_rest false_rest dropped stays = ap (λ octets. c ∷ octets) stays
 
-pub joined_gap : (behind_word : Bool) (gap meant : List ℕ) (word : Word) (pieces : List Piece) → joined behind_word (in_front gap (replaced word meant ∷ pieces)) ≡ kept behind_word gap ++ (meant ++ joined true pieces)
+pub joined_gap : (behind_word : Bool) (gap meant : List ℕ) (word : EncodedWord) (pieces : List ValuePiece) → joined behind_word (in_front gap (replaced word meant ∷ pieces)) ≡ kept behind_word gap ++ (meant ++ joined true pieces)
 joined_gap true [] meant word pieces = refl
 joined_gap false [] meant word pieces = refl
 joined_gap behind_word (c ∷ gap) meant word pieces =
@@ -146,7 +146,7 @@ joined_gap behind_word (c ∷ gap) meant word pieces =
     ∙ gap_step behind_word (is_blank c) (list_all is_blank gap) c gap (meant ++ joined true pieces) (joined true further) (joined false further)
     (joined_gap true gap meant word pieces) (joined_gap false gap meant word pieces)
 
-pub word_decoded : (done next gap meant : List ℕ) (behind_word : Bool) (word : Word) (left pieces : List Piece) (whole : List ℕ) → next ≡ done ++ (kept behind_word gap ++ meant) → left ≡ in_front gap (replaced word meant ∷ pieces) → done ++ joined behind_word left ≡ whole → next ++ joined true pieces ≡ whole
+pub word_decoded : (done next gap meant : List ℕ) (behind_word : Bool) (word : EncodedWord) (left pieces : List ValuePiece) (whole : List ℕ) → next ≡ done ++ (kept behind_word gap ++ meant) → left ≡ in_front gap (replaced word meant ∷ pieces) → done ++ joined behind_word left ≡ whole → next ++ joined true pieces ≡ whole
 word_decoded done next gap meant behind_word word left pieces whole next_is left_is so_far =
     ap (λ octets. octets ++ joined true pieces) next_is
     ∙ append_assoc done (kept behind_word gap ++ meant) (joined true pieces)
@@ -176,7 +176,7 @@ joined_octets behind_word (c ∷ octets) =
     ∙ stays_step behind_word (is_blank c) (joined true further) (c ∷ joined false further)
     ∙ ap (λ octets. c ∷ octets) (joined_octets false octets)
 
-pub last_decoded : (done left whole : List ℕ) (behind_word : Bool) (pieces : List Piece) → pieces ≡ map octet left → done ++ joined behind_word pieces ≡ whole → done ++ left ≡ whole
+pub last_decoded : (done left whole : List ℕ) (behind_word : Bool) (pieces : List ValuePiece) → pieces ≡ map octet left → done ++ joined behind_word pieces ≡ whole → done ++ left ≡ whole
 last_decoded done left whole behind_word pieces is so_far =
     ap (λ octets. done ++ octets) (sym (joined_octets behind_word left))
     ∙ ap (λ pieces. done ++ joined behind_word pieces) (sym is)
@@ -184,7 +184,7 @@ last_decoded done left whole behind_word pieces is so_far =
 
 -- whether a word was replaced
 
-any_in_front : (gap meant : List ℕ) (word : Word) (pieces : List Piece) → list_any is_word (in_front gap (replaced word meant ∷ pieces)) ≡ true
+any_in_front : (gap meant : List ℕ) (word : EncodedWord) (pieces : List ValuePiece) → list_any is_word (in_front gap (replaced word meant ∷ pieces)) ≡ true
 any_in_front [] meant word pieces = refl
 any_in_front (c ∷ gap) meant word pieces = any_in_front gap meant word pieces
 
@@ -192,7 +192,7 @@ or_true : (b : Bool) → (b || true) ≡ true
 or_true true = refl
 or_true false = refl
 
-pub word_found : (before whole : Bool) (gap meant : List ℕ) (word : Word) (left pieces : List Piece) → left ≡ in_front gap (replaced word meant ∷ pieces) → (before || list_any is_word left) ≡ whole → true ≡ whole
+pub word_found : (before whole : Bool) (gap meant : List ℕ) (word : EncodedWord) (left pieces : List ValuePiece) → left ≡ in_front gap (replaced word meant ∷ pieces) → (before || list_any is_word left) ≡ whole → true ≡ whole
 word_found before whole gap meant word left pieces is so_far =
     sym (or_true before)
     ∙ ap (λ b. before || b) (sym (any_in_front gap meant word pieces))
@@ -225,7 +225,7 @@ written_from [] (suc n) within none = absurd (omega arith)
 written_from (c ∷ rest) zero within none = none
 written_from (c ∷ rest) (suc n) within none = written_from rest n (omega arith) (or_last (is_some (word_at (c ∷ rest))) (has_written rest) none)
 
-pub word_written : (rest : List ℕ) (word : Word) → Some word ≡ word_at rest → has_written rest ≡ false → ⊥
+pub word_written : (rest : List ℕ) (word : EncodedWord) → Some word ≡ word_at rest → has_written rest ≡ false → ⊥
 unfolding has_written word_at
 word_written [] word is none = absurd cc
 word_written (c ∷ rest) word is none =
@@ -234,7 +234,7 @@ word_written (c ∷ rest) word is none =
 
 -- where no word is replaced
 
-unchanged_pieces : (pieces : List Piece) (value : List ℕ) → Cuts pieces value → list_any is_word pieces ≡ false → joined false pieces ≡ value
+unchanged_pieces : (pieces : List ValuePiece) (value : List ℕ) → Cuts pieces value → list_any is_word pieces ≡ false → joined false pieces ≡ value
 unchanged_pieces [] value is none = sym is
 unchanged_pieces (replaced word octets ∷ pieces) value cut none = absurd cc
 unchanged_pieces (octet c ∷ pieces) value (nowhere, rest, is, cut) none =

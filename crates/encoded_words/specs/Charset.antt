@@ -4,7 +4,7 @@ use Rattle.std.specs.List.{list_all}
 use Rattle.std.specs.Option.{option_and_then}
 use Rattle.std.specs.Str.{is_utf8, str_eq_ignore_ascii_case}
 use Rattle.encoded_words.specs.Encoding.{b_octets, q_octets}
-use Rattle.encoded_words.specs.Word.{Word, is_b}
+use Rattle.encoded_words.specs.Word.{EncodedWord, is_b}
 use Rattle.encoded_words.specs.declared.charset.Charset.{Charset}
 use Rattle.encoded_words.specs.declared.charset.Charset.TheVariants.{Utf8, Ascii, Latin1}
 
@@ -30,9 +30,9 @@ in_utf8 Ascii octets = if_right (list_all is_ascii octets) octets
 in_utf8 Latin1 octets = Some (encode_utf8_all octets)
 
 -- the octets of a word's text (RFC 2047, section 4)
-abbrev pub octets_in : Word → Option (List ℕ)
+abbrev pub octets_in : EncodedWord → Option (List ℕ)
 octets_in word = if is_b word.letter then b_octets word.text else q_octets word.text
 
 -- what a word stands for, if it can be decoded
-unfoldable pub meaning : Word → Option (List ℕ)
+unfoldable pub meaning : EncodedWord → Option (List ℕ)
 meaning word = option_and_then (λ charset. option_and_then (in_utf8 charset) (octets_in word)) (charset_named word.charset)

@@ -2,9 +2,9 @@
 use Rattle.std.specs.Prelude.{ℕ, zero, suc, ◌+◌, Bool, true, false, ◌==◌, ◌&&◌, List, [], ◌∷◌, length, drop, Option, None, Some, is_some, ◌||◌, if◌then◌else◌}
 use Rattle.std.specs.List.{list_any, prefix_len, take_while}
 use Rattle.encoded_words.specs.Charset.{meaning}
-use Rattle.encoded_words.specs.Cut.{Piece, joined, octet, replaced}
+use Rattle.encoded_words.specs.Cut.{ValuePiece, joined, octet, replaced}
 use Rattle.sieve_base.specs.Octet.{octet_of}
-use Rattle.encoded_words.specs.Word.{Word, is_filled, is_letter, is_word_octet}
+use Rattle.encoded_words.specs.Word.{EncodedWord, is_filled, is_letter, is_word_octet}
 
 -- the octets of a charset or a text that stand in front
 abbrev pub run : List ℕ → List ℕ
@@ -15,13 +15,13 @@ abbrev pub behind_run : List ℕ → List ℕ
 behind_run octets = drop (prefix_len is_word_octet octets) octets
 
 -- a word, by what stands behind its text: `?=`
-abbrev pub word_before : Word → List ℕ → Option Word
+abbrev pub word_before : EncodedWord → List ℕ → Option EncodedWord
 word_before word [] = None
 word_before word (q ∷ []) = None
 word_before word (q ∷ e ∷ rest) = if q == octet_of "?" && e == octet_of "=" then Some word else None
 
 -- a word, by its charset and what stands behind that: `?`, a letter, `?` and a text
-abbrev pub word_behind : (charset rest : List ℕ) → Option Word
+abbrev pub word_behind : (charset rest : List ℕ) → Option EncodedWord
 word_behind charset [] = None
 word_behind charset (q ∷ []) = None
 word_behind charset (q ∷ letter ∷ []) = None
@@ -31,33 +31,33 @@ word_behind charset (q ∷ letter ∷ r ∷ rest) =
     else None
 
 -- the word with which octets begin, whether or not it can be decoded
-unfoldable pub word_at : List ℕ → Option Word
+unfoldable pub word_at : List ℕ → Option EncodedWord
 word_at [] = None
 word_at (c ∷ []) = None
 word_at (c ∷ d ∷ rest) = if c == octet_of "=" && d == octet_of "?" then word_behind (run rest) (behind_run rest) else None
 
 -- the piece of an octet, or of a word that begins with it and can be decoded
-abbrev pub piece_by : ℕ → Word → Option (List ℕ) → Piece
+abbrev pub piece_by : ℕ → EncodedWord → Option (List ℕ) → ValuePiece
 piece_by c word None = octet c
 piece_by c word (Some octets) = replaced word octets
 
-abbrev pub first_piece : ℕ → Option Word → Piece
+abbrev pub first_piece : ℕ → Option EncodedWord → ValuePiece
 first_piece c None = octet c
 first_piece c (Some word) = piece_by c word (meaning word)
 
 -- how many octets of a piece stand behind its first
-abbrev pub further_octets : Piece → ℕ
+abbrev pub further_octets : ValuePiece → ℕ
 further_octets (octet c) = 0
 further_octets (replaced word octets) = length word.charset + length word.text + 6
 
 -- the pieces of a value, of which the first octets, as many as `skip`, belong to the piece before
-unfoldable pub pieces_from : (skip : ℕ) → List ℕ → List Piece
+unfoldable pub pieces_from : (skip : ℕ) → List ℕ → List ValuePiece
 pieces_from skip [] = []
 pieces_from zero (c ∷ rest) = first_piece c (word_at (c ∷ rest)) ∷ pieces_from (further_octets (first_piece c (word_at (c ∷ rest)))) rest
 pieces_from (suc skip) (c ∷ rest) = pieces_from skip rest
 
 -- the pieces of a value
-abbrev pub pieces_of : List ℕ → List Piece
+abbrev pub pieces_of : List ℕ → List ValuePiece
 pieces_of value = pieces_from 0 value
 
 -- a value with its words replaced
@@ -65,7 +65,7 @@ abbrev pub decoded_of : List ℕ → List ℕ
 decoded_of value = joined false (pieces_of value)
 
 -- whether a piece is a word
-abbrev pub is_word : Piece → Bool
+abbrev pub is_word : ValuePiece → Bool
 is_word (octet c) = false
 is_word (replaced word octets) = true
 

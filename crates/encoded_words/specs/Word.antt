@@ -5,7 +5,7 @@ use Rattle.std.specs.List.{list_all}
 use Rattle.sieve_base.specs.Octet.{octet_of, is_visible}
 
 -- an encoded word
-pub record Word : Type 0 where
+pub record EncodedWord : Type 0 where
   pub charset : List ℕ
   pub letter : ℕ
   pub text : List ℕ
@@ -31,9 +31,9 @@ abbrev pub is_filled : List ℕ → Bool
 is_filled octets = nat_lt 0 (length octets)
 
 -- whether parts are those of a word
-abbrev pub is_legal : Word → Bool
+abbrev pub is_legal : EncodedWord → Bool
 is_legal word = (is_filled word.charset && list_all is_word_octet word.charset) && (is_letter word.letter && list_all is_word_octet word.text)
 
 -- a word as it is written
-abbrev pub written : Word → List ℕ
+abbrev pub written : EncodedWord → List ℕ
 written word = codes "=?" ++ word.charset ++ octet_of "?" ∷ word.letter ∷ octet_of "?" ∷ word.text ++ codes "?="

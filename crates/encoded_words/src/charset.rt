@@ -6,7 +6,7 @@ ghost use Rattle.encoded_words.specs.Charset.{charset_named, in_utf8, is_ascii, 
 ghost use Rattle.encoded_words.specs.view.Word.{octets_of, word_of};
 
 use crate::encoding::{b_octets, q_octets};
-use crate::word::{Word, is_b};
+use crate::word::{EncodedWord, is_b};
 use std::alloc::{AllocError, Global};
 
 /// A charset whose words can be decoded.
@@ -85,7 +85,7 @@ fn in_utf8(alloc: Global, charset: Charset, octets: Vec<u8>) -> Result<Option<Ve
 }
 
 // The octets of a word's text, by the letter of its encoding.
-fn octets_in(alloc: Global, word: &Word<'_>) -> Result<Option<Vec<u8>>, AllocError>
+fn octets_in(alloc: Global, word: &EncodedWord<'_>) -> Result<Option<Vec<u8>>, AllocError>
     ensures { IfOk result (λ octets. octets_of octets ≡ octets_in (word_of word.now)) }
 {
     if is_b(word.letter) {
@@ -97,7 +97,7 @@ fn octets_in(alloc: Global, word: &Word<'_>) -> Result<Option<Vec<u8>>, AllocErr
 
 // What a word stands for, if it can be decoded. The charset comes first: a text of one that isn't known isn't read.
 #[tactic(auto, unfolding(crate::specs::Charset::meaning))]
-pub(crate) fn meaning(alloc: Global, word: &Word<'_>) -> Result<Option<Vec<u8>>, AllocError>
+pub(crate) fn meaning(alloc: Global, word: &EncodedWord<'_>) -> Result<Option<Vec<u8>>, AllocError>
     ensures is { IfOk result (λ octets. octets_of octets ≡ meaning (word_of word.now)) }
     ensures unknown { charset_named word.now.charset.now ≡ None → IsOk result }
 {

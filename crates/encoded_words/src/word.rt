@@ -1,8 +1,8 @@
 //! Encoded words as they are written (RFC 2047, section 2).
-ghost use Rattle.std.specs.Prelude.{◌≡◌, ◌+◌, ◌≤◌, IfSome, length, drop};
-ghost use Rattle.std.specs.List.{prefix_len, take_while};
+ghost use Rattle.std.specs.Prelude.{◌≡◌, ◌+◌, ◌≤◌, IfSome, length};
+ghost use Rattle.std.specs.List.{take_while};
 ghost use Rattle.std.specs.Option.{option_map};
-ghost use Rattle.encoded_words.specs.Scan.{behind_run, run, word_at, word_behind};
+ghost use Rattle.encoded_words.specs.Scan.{behind_run, run, word_at};
 ghost use Rattle.encoded_words.specs.Word.{is_b, is_letter, is_word_octet};
 ghost use Rattle.encoded_words.specs.view.Word.{word_of};
 
@@ -10,7 +10,7 @@ use sieve_base::octet::is_visible;
 
 /// An encoded word.
 #[derive(Clone, Copy)]
-pub(crate) struct Word<'a> {
+pub(crate) struct EncodedWord<'a> {
     /// The name of its charset.
     pub(crate) charset: &'a [u8],
     /// The letter of its encoding.
@@ -69,7 +69,7 @@ fn cut_run(octets: &[u8]) -> (&[u8], &[u8])
 // where such octets do, and one begins behind a `?`. A run behind `=?` is the charset of one word at most, and one behind `B?` or
 // `Q?` the text of one at most. So each octet is read twice at most, in all tries together.
 #[tactic(auto, unfolding(crate::specs::Scan::word_at))]
-pub(crate) fn word_at(octets: &[u8]) -> Option<Word<'_>>
+pub(crate) fn word_at(octets: &[u8]) -> Option<EncodedWord<'_>>
     ensures is { option_map word_of result ≡ word_at octets.now }
     ensures within { IfSome result (λ word. length word.charset.now + length word.text.now + 7 ≤ length octets.now) }
 {
@@ -87,7 +87,7 @@ pub(crate) fn word_at(octets: &[u8]) -> Option<Word<'_>>
     let [b'?', b'=', ..] = behind else {
         return None;
     };
-    Some(Word {
+    Some(EncodedWord {
         charset,
         letter: *letter,
         text,

@@ -1,5 +1,5 @@
 //! Lists of flags (RFC 5232, sections 2 and 3).
-ghost use Rattle.std.specs.Prelude.{◌≡◌, ◌<◌, ◌≤◌, ◌↔◌, ◌++◌, [], ◌∷◌, IfNone, IfOk, IfSome, IsTrue, OnOk, Some, filter, fold, length, nat_eq, remove, slice_get, take, true};
+ghost use Rattle.std.specs.Prelude.{◌≡◌, ◌<◌, ◌≤◌, ◌↔◌, ◌++◌, [], ◌∷◌, IfNone, IfOk, IfSome, IsTrue, OnOk, Some, filter, fold, length, remove, slice_get, take, true};
 ghost use Rattle.std.specs.List.{All};
 ghost use Rattle.match_text.specs.Comparator.{ascii_casemap, fold_of, same};
 ghost use Rattle.match_text.specs.Flags.{AreDistinct, has_flag, has_key, flag_list, flag_text, flag_union, flags_in};
@@ -75,11 +75,11 @@ impl Hash for Flag {
 
 /// A spelling to look for, which need not be copied.
 #[derive(Clone, Copy)]
-struct Sought<'a> {
+struct SoughtFlag<'a> {
     spelling: &'a [u8],
 }
 
-impl PartialEq for Sought<'_> {
+impl PartialEq for SoughtFlag<'_> {
     ghost eq = { λ a b. same ascii_casemap a.spelling.now b.spelling.now };
 
     ghost laws = { partial_equiv_from_equiv (on_equiv (λ sought. sought.spelling.now) same_equiv) };
@@ -89,11 +89,11 @@ impl PartialEq for Sought<'_> {
     }
 }
 
-impl Eq for Sought<'_> {
+impl Eq for SoughtFlag<'_> {
     ghost laws = { on_equiv (λ sought. sought.spelling.now) same_equiv };
 }
 
-impl Hash for Sought<'_> {
+impl Hash for SoughtFlag<'_> {
     ghost hash_input = { λ sought. flag_hash sought.spelling.now };
 
     ghost respects_eq = { λ a b alike. same_alike.fed a.spelling.now b.spelling.now alike };
@@ -103,7 +103,7 @@ impl Hash for Sought<'_> {
     }
 }
 
-impl Equivalent<Flag> for Sought<'_> {
+impl Equivalent<Flag> for SoughtFlag<'_> {
     ghost equivalent = { λ sought flag. same ascii_casemap sought.spelling.now flag };
 
     ghost respects_hash = { λ sought flag alike. same_alike.fed sought.spelling.now flag alike };
@@ -179,7 +179,7 @@ impl FlagList {
     pub fn has(&self, collation: Collation, key: &[u8]) -> bool
         ensures { result ≡ has_key (fold_of collation) self.now key.now }
     {
-        match self.flags.get(Sought { spelling: key }) {
+        match self.flags.get(SoughtFlag { spelling: key }) {
             Some(flag) => match collation {
                 Collation::Octet => is::<Octet>(flag.as_slice(), key),
                 Collation::Casemap => true,
@@ -209,7 +209,7 @@ impl FlagList {
         ensures some { IfSome result (λ i. (i < length self.old) × (self.new ≡ remove self.old i)) }
         ensures none { IfNone result (self.new ≡ self.old) }
     {
-        let place = self.flags.get_index_of(Sought { spelling: flag })?;
+        let place = self.flags.get_index_of(SoughtFlag { spelling: flag })?;
         self.flags.shift_remove_index(place);
         Some(place)
     }

@@ -1,7 +1,7 @@
 -- Small values and their addresses, computed.
 use Rattle.std.specs.Prelude.{◌≡◌, ℕ, List, [], ◌∷◌, ◌++◌, None, Some, codes, refl}
 use Rattle.message_text.specs.declared.addressing.AddressPart.TheVariants as part
-use Rattle.message_text.specs.Addresses.{AddrSpec, addresses_of, envelope_address_of, marks_from, part_of}
+use Rattle.message_text.specs.Addresses.{AddrSpec, addresses_of, envelope_address_of, marks_from, part_of_address}
 
 -- an address with a local part and a domain
 parts : (local_part domain : List ℕ) → AddrSpec
@@ -18,15 +18,15 @@ listed : addresses_of (codes "\"Doe, Jane\" <@a.example:Jane@B.example>, Team: x
 unfolding addresses_of marks_from jane parts
 listed = refl
 
-all_of_jane : part_of part.All jane ≡ Some (codes "Jane@B.example")
+all_of_jane : part_of_address part.All jane ≡ Some (codes "Jane@B.example")
 unfolding jane parts
 all_of_jane = refl
 
-local_part_of_jane : part_of part.Local jane ≡ Some (codes "Jane")
+local_part_of_jane : part_of_address part.Local jane ≡ Some (codes "Jane")
 unfolding jane parts
 local_part_of_jane = refl
 
-domain_of_jane : part_of part.Domain jane ≡ Some (codes "B.example")
+domain_of_jane : part_of_address part.Domain jane ≡ Some (codes "B.example")
 unfolding jane parts
 domain_of_jane = refl
 

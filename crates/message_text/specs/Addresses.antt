@@ -20,10 +20,10 @@ pub record AddrSpec : Type 0 where
   pub domain : Option (List ℕ)
 
 -- what a test sees of an address (RFC 5228, section 2.7.4)
-abbrev pub part_of : AddressPart → AddrSpec → Option (List ℕ)
-part_of part.All address = Some address.all
-part_of part.Local address = address.local_part
-part_of part.Domain address = address.domain
+abbrev pub part_of_address : AddressPart → AddrSpec → Option (List ℕ)
+part_of_address part.All address = Some address.all
+part_of_address part.Local address = address.local_part
+part_of_address part.Domain address = address.domain
 
 -- MARKS
 

@@ -2,7 +2,7 @@
 ghost use Rattle.std.specs.Prelude.{◌≡◌, ◌<◌, ◌++◌, IfOk, OnOk, Some, length, option_to_list};
 ghost use Rattle.std.specs.Option.{option_map};
 ghost use Rattle.sieve_base.specs.Octet.{octet_of};
-ghost use Rattle.message_text.specs.Addresses.{address_by, address_in, addresses_of, is_free, octets_of, part_of};
+ghost use Rattle.message_text.specs.Addresses.{address_by, address_in, addresses_of, is_free, octets_of, part_of_address};
 ghost use Rattle.message_text.specs.view.Divisions.{IsBehindLast, divided_at};
 
 use crate::marks::{Marked, marks_of};
@@ -44,7 +44,7 @@ impl Address {
     /// The octets of a part, or nothing where the address has no such part. The whole is always
     /// there; local part and domain are there both or not at all (RFC 5228, section 2.7.4).
     pub fn part(&self, part: AddressPart) -> Option<&[u8]>
-        ensures { option_map (λ octets. octets.now) result ≡ part_of part self.now }
+        ensures { option_map (λ octets. octets.now) result ≡ part_of_address part self.now }
     {
         let all = self.all.as_slice();
         match part {

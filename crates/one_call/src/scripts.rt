@@ -5,7 +5,7 @@ use bench::{TestEnd, dump_text, write_code};
 use sieve_base::{Counted, Piece, write_quoted};
 use sieve_check::{CheckFault, Checked, JudgeFault, Judged, check, judge};
 use sieve_code::{Code, compile};
-use sieve_syntax::{Command, Script, SyntaxFault, Tests, Token, parse, tokens};
+use sieve_syntax::{Command, ParsedScript, SyntaxFault, Tests, Token, parse, tokens};
 use std::io;
 
 // A token of each kind, the last of which is no token of Sieve.
@@ -68,7 +68,7 @@ pub(crate) fn read(rt: &impl Host, text: &[u8]) -> io::Result<()> {
 }
 
 /// Tells each command, and each of its block.
-fn tell_script(rt: &impl Print, script: &Script) -> io::Result<()> {
+fn tell_script(rt: &impl Print, script: &ParsedScript) -> io::Result<()> {
     for command in &script.commands {
         tell_command(rt, command)?;
         if let Some(block) = &command.block {

@@ -2,7 +2,7 @@
 
 use crate::telling::{Host, mark, tell, tell_done, tell_octets, tell_refused};
 use sieve_base::{Octets, Piece};
-use sieve_variables::{Part, Parts, Values, Variable, parts_of};
+use sieve_variables::{Part, Parts, Values, Variable, parts_of_text};
 use std::borrow::CowSlice;
 use std::io;
 
@@ -14,7 +14,7 @@ const TEXT: &[u8] = b"to be put beside ${A_Name_Of_More_Octets_Than_Sixteen}, ${
 
 pub(crate) fn cut(rt: &impl Host) -> io::Result<()> {
     mark(rt);
-    let answer = parts_of(rt.alloc(), TEXT);
+    let answer = parts_of_text(rt.alloc(), TEXT);
     mark(rt);
     match answer {
         Ok(parts) => tell_parts(rt, &parts),
@@ -66,8 +66,8 @@ fn values_of(rt: &impl Host) -> io::Result<Values> {
 pub(crate) fn expand(rt: &impl Host) -> io::Result<()> {
     let values = values_of(rt)?;
     let mut strings: Vec<Parts> = Vec::new(rt.alloc());
-    strings.push(parts_of(rt.alloc(), TEXT)?)?;
-    strings.push(parts_of(rt.alloc(), b"plain")?)?;
+    strings.push(parts_of_text(rt.alloc(), TEXT)?)?;
+    strings.push(parts_of_text(rt.alloc(), b"plain")?)?;
     mark(rt);
     let answer = values.expanded(rt.alloc(), &strings);
     mark(rt);

@@ -9,7 +9,7 @@ const WORDS: &str = "is contains contains_in matches Captures \
     Message::new Message::value Message::decoded decoded_value addresses \
     Message Message::value/unfolded Message::decoded/plain Address \
     tokens parse parse/faulty check judge judge/faulty compile dump_text Checked Code write_quoted \
-    parts_of Values::set Values::expanded Values \
+    parts_of_text Values::set Values::expanded Values \
     Shelf::add run/tests run/variables run/flags run/includes run/error Shelf Outcome \
     put_script put_script/new keep_script put_message put_message/new keep_message rename_script \
     set_main set_envelope set_mailbox set_expected \
@@ -73,7 +73,7 @@ fn call_scripts(rt: &impl Host, word: &str) -> Option<io::Result<()>> {
         "Checked" => scripts::ask_checked(rt),
         "Code" => scripts::ask_code(rt),
         "write_quoted" => scripts::quote(rt),
-        "parts_of" => values::cut(rt),
+        "parts_of_text" => values::cut(rt),
         "Values::set" => values::set(rt),
         "Values::expanded" => values::expand(rt),
         "Values" => values::ask(rt),

@@ -1,5 +1,5 @@
 //! Writing octets, their quoted form, and lines of several pieces. None of it takes memory.
-ghost use Rattle.std.specs.Prelude.{◌≡◌, ℕ, ◌<◌, ◌≤◌, [], take, length, IfOk, OnOk, OnErr, IsTrue, ◌↔◌, ◌∷◌};
+ghost use Rattle.std.specs.Prelude.{◌≡◌, ◌<◌, ◌≤◌, [], take, length, IfOk, OnErr, IsTrue, ◌↔◌, ◌∷◌};
 ghost use Rattle.std.specs.List.{flat_map};
 ghost use Rattle.sieve_base.specs.Writers.{Wrote, WroteFront, Writes, hex_digit, octet_spelling, quoted, name_text, piece_text, pieces_text};
 

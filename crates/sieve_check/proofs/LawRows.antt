@@ -1,7 +1,7 @@
 -- Worked rows of what the laws speak of.
 use Rattle.std.proofs.Common.{◌≡◌, ℕ, Bool, true, false, List, [], ◌∷◌, map, Some, refl, codes}
 use Rattle.sieve_syntax.specs.Tree as syntax
-use Rattle.sieve_syntax.specs.Word.{identifier, number_word, string_word}
+use Rattle.sieve_syntax.specs.Symbol.{identifier, number_symbol, string_symbol}
 use Rattle.sieve_check.specs.Bare.{bare_written_node}
 use Rattle.sieve_check.specs.Breach.{breaches_at, breaches_in, breaches_of}
 use Rattle.sieve_check.specs.Context.{behind, nothing_required, takes_references}
@@ -12,7 +12,7 @@ use Rattle.sieve_check.specs.Parted.{cutting_at_start, parted}
 use Rattle.sieve_check.specs.Readable.{IsReadable, ReadsBlock, ReadsNode, ReadsNodes, act_mark, block_marks, choice_mark, marks, node_marks, nodes_marks, return_mark, stop_mark}
 use Rattle.sieve_reading.specs.Reading.{plain_settings, discard_leaf, keep_leaf}
 use Rattle.sieve_check.specs.Requirement.{leading_requires}
-use Rattle.sieve_reading.specs.Script.{always, block_commands, chain_of, condition_of, conditions_in, never, node_before, script_of}
+use Rattle.sieve_reading.specs.Script.{always, block_commands, chain_of, condition_of, conditions_in, never, chain_with, script_of}
 use Rattle.sieve_table.specs.Table.{command_named, test_named}
 use Rattle.sieve_reading.specs.Tree.{node, no_block, no_tests, nodes, strings}
 use Rattle.sieve_table.specs.declared.row.Role.TheVariants.{Address}
@@ -34,7 +34,7 @@ abbrev branches : List syntax.Node
 branches = branch (codes "if") 1 (codes "true") (plain (codes "keep") 1) ∷ branch (codes "elsif") 2 (codes "false") (plain (codes "stop") 2) ∷ last 3 (plain (codes "discard") 3) ∷ plain (codes "keep") 4 ∷ []
 
 marks_row : marks (script_of (parted branches)) ≡ choice_mark always ∷ act_mark (keep_leaf plain_settings) 1 ∷ choice_mark never ∷ stop_mark ∷ act_mark discard_leaf 3 ∷ act_mark (keep_leaf plain_settings) 4 ∷ []
-unfolding marks chain_of node_before block_commands condition_of conditions_in command_named test_named
+unfolding marks chain_of chain_with block_commands condition_of conditions_in command_named test_named
 marks_row = refl
 
 tree_marks_row : nodes_marks (nodes (parted branches)) ≡ choice_mark always ∷ act_mark (keep_leaf plain_settings) 1 ∷ choice_mark never ∷ stop_mark ∷ act_mark discard_leaf 3 ∷ act_mark (keep_leaf plain_settings) 4 ∷ []
@@ -43,7 +43,7 @@ tree_marks_row = refl
 
 -- return; keep;
 return_marks_row : marks (script_of (parted (plain (codes "return") 1 ∷ plain (codes "keep") 2 ∷ []))) ≡ return_mark ∷ act_mark (keep_leaf plain_settings) 2 ∷ []
-unfolding marks chain_of node_before block_commands condition_of conditions_in command_named test_named
+unfolding marks chain_of chain_with block_commands condition_of conditions_in command_named test_named
 return_marks_row = refl
 
 -- the branches break no rule, so they are readable
@@ -62,7 +62,7 @@ astray_row reads = not_both reads.0.1.0
 -- if size :over 5 { keep; } require "a";
 order_row : map written_by (elements_of (syntax.node (codes "if") 1 [] (syntax.one_test (syntax.test (codes "size") 1 (syntax.tag (codes "over") 1 ∷ syntax.number (Some 5) 1 ∷ []) syntax.no_tests)) (syntax.block (syntax.nodes (plain (codes "keep") 2 ∷ [])))
     ∷ syntax.node (codes "require") 3 (syntax.strings (record { string = codes "a"; line = 3 } ∷ []) false ∷ []) syntax.no_tests syntax.no_block ∷ []))
-    ≡ identifier (codes "if") 1 ∷ identifier (codes "size") 1 ∷ number_word (Some 5) 1 ∷ identifier (codes "keep") 2 ∷ identifier (codes "require") 3 ∷ string_word (codes "a") 3 ∷ []
+    ≡ identifier (codes "if") 1 ∷ identifier (codes "size") 1 ∷ number_symbol (Some 5) 1 ∷ identifier (codes "keep") 2 ∷ identifier (codes "require") 3 ∷ string_symbol (codes "a") 3 ∷ []
 unfolding nodes_elements node_elements block_elements tests_elements test_elements command_named test_named behind
 order_row = refl
 

@@ -5,7 +5,7 @@ use Rattle.sieve_check.specs.Readable.{Mark, marks, own_marks, node_marks, block
 use Rattle.sieve_reading.specs.Reading as reading
 use Rattle.sieve_reading.specs.Reading.{CommandReading}
 use Rattle.sieve_reading.specs.CommandReading.{command_reading}
-use Rattle.sieve_reading.specs.Script.{no_commands, Chain, Condition, branch_condition, command_before, node_before, block_commands, chain_of, conditions_in}
+use Rattle.sieve_reading.specs.Script.{no_commands, Chain, Condition, branch_condition, chain_with_command, chain_with, block_commands, chain_of, conditions_in}
 use Rattle.sieve_reading.specs.Tree.{Tests, Node, node, Block, no_block, block, Nodes, end_nodes, more_nodes, nodes}
 
 -- Commands from some place on do what these marks say. Where no branch may go on there, no branch does.
@@ -30,7 +30,7 @@ block_empty ending is = ap block_marks is
 
 module _ (line : ℕ) (condition : Condition) (ending : Block) (chain : Chain) (all : List Mark) where
   abbrev before : CommandReading → Chain
-  before r = command_before (Some r) line condition (block_commands ending) chain
+  before r = chain_with_command (Some r) line condition (block_commands ending) chain
 
   abbrev with_own : CommandReading → List Mark
   with_own r = (own_marks (Some r) line condition ++ block_marks ending) ++ all
@@ -89,7 +89,7 @@ module _ (line : ℕ) (condition : Condition) (ending : Block) (chain : Chain) (
 
   -- a command of some reading, which stands where it may
   at_command : (r : Option CommandReading) (follows_if : Bool) (ts : Tests) → Stands follows_if r ts ending → marks (block_commands ending) ≡ block_marks ending → Agrees (may_go_on r) chain all
-      → Agrees follows_if (command_before r line condition (block_commands ending) chain) ((own_marks r line condition ++ block_marks ending) ++ all)
+      → Agrees follows_if (chain_with_command r line condition (block_commands ending) chain) ((own_marks r line condition ++ block_marks ending) ++ all)
   at_command None follows_if ts stands inner so = absurd stands
   at_command (Some reading.reads_if) follows_if ts stands inner so = at_open follows_if inner so
   at_command (Some reading.reads_elsif) follows_if ts stands inner so = at_continuing follows_if stands.0 inner so
@@ -102,9 +102,9 @@ module _ (line : ℕ) (condition : Condition) (ending : Block) (chain : Chain) (
 -- THE TREE
 
 mutual
-  unfolding node_before block_commands chain_of node_marks block_marks nodes_marks ReadsNode ReadsBlock ReadsNodes marks
+  unfolding chain_with block_commands chain_of node_marks block_marks nodes_marks ReadsNode ReadsBlock ReadsNodes marks
 
-  node_agrees : (n : Node) (follows_if : Bool) (chain : Chain) (all : List Mark) → ReadsNode follows_if n → Agrees (may_go_on (command_reading n)) chain all → Agrees follows_if (node_before n chain) (node_marks n ++ all)
+  node_agrees : (n : Node) (follows_if : Bool) (chain : Chain) (all : List Mark) → ReadsNode follows_if n → Agrees (may_go_on (command_reading n)) chain all → Agrees follows_if (chain_with n chain) (node_marks n ++ all)
   node_agrees (node name line args ts ending) follows_if chain all reads so =
       at_command line (branch_condition (conditions_in ts)) ending chain all (command_reading (node name line args ts ending)) follows_if ts reads.1 (block_agrees ending reads.3) so
 

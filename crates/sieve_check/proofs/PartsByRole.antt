@@ -8,7 +8,7 @@ use Rattle.sieve_table.specs.declared.row.Role.{Role}
 use Rattle.sieve_table.specs.declared.row.Role.TheVariants.{NameToSet, NamesToRead}
 use Rattle.sieve_variables.specs.Part.{Part, grouped, literal, scoped_part, variable_part}
 use Rattle.sieve_variables.specs.Reference.{Cuts, Piece}
-use Rattle.sieve_variables.specs.Scan.{parts_of, pieces_of}
+use Rattle.sieve_variables.specs.Scan.{parts_of_text, pieces_of}
 use Rattle.sieve_variables.specs.Variable.{scoped, variable_named}
 use Rattle.sieve_table.proofs.Telling.{only_in_role}
 use Rattle.sieve_variables.proofs.Cut.{cuts_from}
@@ -26,7 +26,7 @@ module _ (cutting : Cutting) (role : Option Role) (octets : List ℕ) where
   its_variable = variable_part (scoped cutting.declared (variable_named octets)) ∷ []
 
   abbrev its_parts : List Part
-  its_parts = map (scoped_part cutting.declared) (parts_of octets)
+  its_parts = map (scoped_part cutting.declared) (parts_of_text octets)
 
   other_role : names_variable role ≡ false → parts_in cutting role octets ≡ (if takes_references cutting.required role then its_parts else literal octets ∷ [])
   other_role other = ap (λ b. if b then its_variable else if takes_references cutting.required role then its_parts else literal octets ∷ []) other

@@ -13,7 +13,7 @@ use Rattle.sieve_syntax.specs.Line.{lines_of}
 use Rattle.sieve_syntax.specs.Spelling.{are_multi_line, is_identifier, is_multi_line, is_number, is_one, is_quoted, is_tag, spells}
 use Rattle.sieve_syntax.specs.Token.{IsBad, IsInside, IsLongest, Spells, SpellsFrom, White, line_at, line_feeds, nothing, white}
 use Rattle.sieve_syntax.specs.Tree.{Node}
-use Rattle.sieve_syntax.specs.Word.{Word, bad, close_brace, close_bracket, close_parenthesis, comma, identifier, number_word, open_brace, open_bracket, open_parenthesis, semicolon, string_word, tag_word, word_at, word_of, words_of}
+use Rattle.sieve_syntax.specs.Symbol.{Symbol, bad, close_brace, close_bracket, close_parenthesis, comma, identifier, number_symbol, open_brace, open_bracket, open_parenthesis, semicolon, string_symbol, tag_symbol, symbol_at, symbol_of, symbols_of}
 use Rattle.sieve_syntax.specs.declared.token.Token.{Token}
 use Rattle.sieve_syntax.specs.declared.token.TokenKind.{TokenKind}
 use Rattle.sieve_syntax.specs.declared.token.TokenKind.TheVariants as kinds
@@ -139,34 +139,34 @@ stand_from text (token ∷ tokens) place spelled = by_token (stand_from text tok
 -- THE LINES OF ELEMENTS
 
 -- the line of a word that writes an element
-abbrev word_line : Word → ℕ
-word_line (identifier name line) = line
-word_line (tag_word name line) = line
-word_line (number_word value line) = line
-word_line (string_word octets line) = line
-word_line semicolon = 0
-word_line open_brace = 0
-word_line close_brace = 0
-word_line open_parenthesis = 0
-word_line close_parenthesis = 0
-word_line open_bracket = 0
-word_line close_bracket = 0
-word_line comma = 0
-word_line bad = 0
+abbrev symbol_line : Symbol → ℕ
+symbol_line (identifier name line) = line
+symbol_line (tag_symbol name line) = line
+symbol_line (number_symbol value line) = line
+symbol_line (string_symbol octets line) = line
+symbol_line semicolon = 0
+symbol_line open_brace = 0
+symbol_line close_brace = 0
+symbol_line open_parenthesis = 0
+symbol_line close_parenthesis = 0
+symbol_line open_bracket = 0
+symbol_line close_bracket = 0
+symbol_line comma = 0
+symbol_line bad = 0
 
-element_line : (e : Element) → line_of e ≡ word_line (written_by e)
+element_line : (e : Element) → line_of e ≡ symbol_line (written_by e)
 element_line (the_command context name line args ts ending) = refl
 element_line (the_test context name line args ts) = refl
 element_line (the_text context role text) = refl
 element_line (the_number value line) = refl
 
-element_lines : (es : List Element) → map line_of es ≡ map word_line (map written_by es)
+element_lines : (es : List Element) → map line_of es ≡ map symbol_line (map written_by es)
 element_lines [] = refl
-element_lines (e ∷ es) = ap (λ n. n ∷ map line_of es) (element_line e) ∙ ap (λ l. word_line (written_by e) ∷ l) (element_lines es)
+element_lines (e ∷ es) = ap (λ n. n ∷ map line_of es) (element_line e) ∙ ap (λ l. symbol_line (written_by e) ∷ l) (element_lines es)
 
 -- it is the line of its token
-token_line : (kind : TokenKind) (octets : List ℕ) (line : ℕ) → writes_element (word_at kind octets line) ≡ true → word_line (word_at kind octets line) ≡ line
-unfolding word_at
+token_line : (kind : TokenKind) (octets : List ℕ) (line : ℕ) → writes_element (symbol_at kind octets line) ≡ true → symbol_line (symbol_at kind octets line) ≡ line
+unfolding symbol_at
 token_line kinds.Identifier octets line is = refl
 token_line kinds.Tag octets line is = refl
 token_line kinds.Number octets line is = refl
@@ -184,17 +184,17 @@ token_line kinds.Bad octets line is = absurd (not_both is)
 
 module _ (text : List ℕ) where
   abbrev writes : Token → Bool
-  writes token = writes_element (word_of text token)
+  writes token = writes_element (symbol_of text token)
 
-  token_lines : (tokens : List Token) → map word_line (map (word_of text) (filter writes tokens)) ≡ map (λ token. token.line) (filter writes tokens)
+  token_lines : (tokens : List Token) → map symbol_line (map (symbol_of text) (filter writes tokens)) ≡ map (λ token. token.line) (filter writes tokens)
   token_lines [] = refl
   token_lines (token ∷ tokens) = by_token (writes token) refl (token_lines tokens)
     where
-      by_token : (b : Bool) → writes token ≡ b → map word_line (map (word_of text) (filter writes tokens)) ≡ map (λ token. token.line) (filter writes tokens) → map word_line (map (word_of text) (cond b (token ∷ filter writes tokens) (filter writes tokens))) ≡ map (λ token. token.line) (cond b (token ∷ filter writes tokens) (filter writes tokens))
-      by_token true is below = ap (λ n. n ∷ map word_line (map (word_of text) (filter writes tokens))) (token_line token.kind (slice_range text token.start token.end) token.line is) ∙ ap (λ l. token.line ∷ l) below
+      by_token : (b : Bool) → writes token ≡ b → map symbol_line (map (symbol_of text) (filter writes tokens)) ≡ map (λ token. token.line) (filter writes tokens) → map symbol_line (map (symbol_of text) (cond b (token ∷ filter writes tokens) (filter writes tokens))) ≡ map (λ token. token.line) (cond b (token ∷ filter writes tokens) (filter writes tokens))
+      by_token true is below = ap (λ n. n ∷ map symbol_line (map (symbol_of text) (filter writes tokens))) (token_line token.kind (slice_range text token.start token.end) token.line is) ∙ ap (λ l. token.line ∷ l) below
       by_token false is below = below
 
-pub in_text_order : (tree : List Node) (text : List ℕ) (tokens : List Token) → Spells tokens text → Writes test_depth block_room tree (words_of text tokens) → IsInTextOrder tree text tokens
+pub in_text_order : (tree : List Node) (text : List ℕ) (tokens : List Token) → Spells tokens text → Writes test_depth block_room tree (symbols_of text tokens) → IsInTextOrder tree text tokens
 in_text_order tree text tokens spelled written =
     let stand = stand_from text tokens 0 spelled in
     let same = elements_written tree text tokens test_depth block_room written in
@@ -202,6 +202,6 @@ in_text_order tree text tokens spelled written =
       elements = same;
       inside = stand.inside;
       apart = never_fall 0 (ends_of tokens) stand.apart;
-      lines = subst (λ l. IsNonDecreasing l) (sym (element_lines (elements_of tree) ∙ ap (map word_line) same ∙ token_lines text tokens))
+      lines = subst (λ l. IsNonDecreasing l) (sym (element_lines (elements_of tree) ∙ ap (map symbol_line) same ∙ token_lines text tokens))
           (never_fall (line_at text 0) (map (λ token. token.line) (filter (writes text) tokens)) (stand.lines (writes text)));
     }

@@ -5,7 +5,7 @@ use Rattle.std.proofs.lemmas.List.Elements.{filter-append}
 use Rattle.std.specs.List.{filter}
 use Rattle.sieve_syntax.specs.Grammar.{Writes, written_argument, written_arguments, written_block, written_more, written_node, written_nodes, written_test, written_test_list, written_test_rest, written_tests, written_texts}
 use Rattle.sieve_syntax.specs.Tree.{Node, node, Nodes, end_nodes, more_nodes, nodes, Block, no_block, block, Test, test, Tests, no_tests, one_test, test_list, TestList, end_tests, more_tests, Text, Argument, strings, number, tag}
-use Rattle.sieve_syntax.specs.Word.{Word, close_bracket, identifier, string_word, word_of, words_of}
+use Rattle.sieve_syntax.specs.Symbol.{Symbol, close_bracket, identifier, string_symbol, symbol_of, symbols_of}
 use Rattle.sieve_syntax.specs.declared.token.Token.{Token}
 use Rattle.sieve_check.specs.Context.{Context, behind, behind_kind, inside, script_start}
 use Rattle.sieve_check.specs.Element.{Element, argument_elements, block_elements, command_arguments, elements_of, judged_labels, labelled_elements, node_elements, nodes_elements, test_arguments, test_elements, test_list_elements, tests_elements, text_elements}
@@ -20,10 +20,10 @@ use Rattle.sieve_table.specs.declared.table.CommandKind.{CommandKind}
 use Rattle.sieve_table.specs.declared.table.TestKind.{TestKind}
 
 -- these elements are written by those among these words that write elements
-abbrev AreWritten : List Element → List Word → Type 0
+abbrev AreWritten : List Element → List Symbol → Type 0
 AreWritten elements words = map written_by elements ≡ filter writes_element words
 
-in_turn : (xs ys : List Element) (v w : List Word) → AreWritten xs v → AreWritten ys w → AreWritten (xs ++ ys) (v ++ w)
+in_turn : (xs ys : List Element) (v w : List Symbol) → AreWritten xs v → AreWritten ys w → AreWritten (xs ++ ys) (v ++ w)
 in_turn xs ys v w first second =
     map-append written_by xs ys
     ∙ ap (λ l. l ++ map written_by ys) first
@@ -31,7 +31,7 @@ in_turn xs ys v w first second =
     ∙ sym (filter-append writes_element v w)
 
 -- with a word behind that writes none
-before_close : (xs : List Element) (v w : List Word) → filter writes_element w ≡ [] → AreWritten xs v → AreWritten xs (v ++ w)
+before_close : (xs : List Element) (v w : List Symbol) → filter writes_element w ≡ [] → AreWritten xs v → AreWritten xs (v ++ w)
 before_close xs v w none same =
     same
     ∙ sym (append-nil (filter writes_element v))
@@ -43,11 +43,11 @@ before_close xs v w none same =
 module _ (context : Context) where
   more_texts : (role : Option Role) (ts : List Text) → AreWritten (text_elements context role ts) (written_more ts)
   more_texts role [] = refl
-  more_texts role (t ∷ ts) = ap (λ l. string_word t.string t.line ∷ l) (more_texts role ts)
+  more_texts role (t ∷ ts) = ap (λ l. string_symbol t.string t.line ∷ l) (more_texts role ts)
 
   texts : (role : Option Role) (ts : List Text) → AreWritten (text_elements context role ts) (written_texts ts)
   texts role [] = refl
-  texts role (t ∷ ts) = ap (λ l. string_word t.string t.line ∷ l) (more_texts role ts)
+  texts role (t ∷ ts) = ap (λ l. string_symbol t.string t.line ∷ l) (more_texts role ts)
 
   argument : (role : Option Role) (a : Argument) → AreWritten (argument_elements context role a) (written_argument a)
   argument role (strings items true) = before_close (text_elements context role items) (written_texts items) (close_bracket ∷ []) refl (texts role items)
@@ -122,7 +122,7 @@ mutual
 
 -- THE TOKENS
 
-filtered : {X : Type 0} (view : X → Word) (xs : List X) → filter writes_element (map view xs) ≡ map view (filter (λ x. writes_element (view x)) xs)
+filtered : {X : Type 0} (view : X → Symbol) (xs : List X) → filter writes_element (map view xs) ≡ map view (filter (λ x. writes_element (view x)) xs)
 filtered view [] = refl
 filtered view (x ∷ xs) = by_first (writes_element (view x)) (filtered view xs)
   where
@@ -132,9 +132,9 @@ filtered view (x ∷ xs) = by_first (writes_element (view x)) (filtered view xs)
     by_first false same = same
 
 -- the elements of a tree are written by those of its tokens that write elements
-pub elements_written : (tree : List Node) (text : List ℕ) (tokens : List Token) (depth room : ℕ) → Writes depth room tree (words_of text tokens)
-    → map written_by (elements_of tree) ≡ map (word_of text) (filter (λ token. writes_element (word_of text token)) tokens)
+pub elements_written : (tree : List Node) (text : List ℕ) (tokens : List Token) (depth room : ℕ) → Writes depth room tree (symbols_of text tokens)
+    → map written_by (elements_of tree) ≡ map (symbol_of text) (filter (λ token. writes_element (symbol_of text token)) tokens)
 elements_written tree text tokens depth room writes =
     nodes_written (nodes tree) script_start
     ∙ ap (filter writes_element) (sym writes.1)
-    ∙ filtered (word_of text) tokens
+    ∙ filtered (symbol_of text) tokens

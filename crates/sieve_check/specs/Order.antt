@@ -4,24 +4,24 @@ use Rattle.std.specs.List.{flat_map}
 use Rattle.std.specs.List.Sorted.{IsNonDecreasing}
 use Rattle.sieve_syntax.specs.Token.{IsInside}
 use Rattle.sieve_syntax.specs.Tree.{Node}
-use Rattle.sieve_syntax.specs.Word.{Word, identifier, tag_word, number_word, string_word, semicolon, open_brace, close_brace, open_parenthesis, close_parenthesis, open_bracket, close_bracket, comma, bad, word_of}
+use Rattle.sieve_syntax.specs.Symbol.{Symbol, identifier, tag_symbol, number_symbol, string_symbol, semicolon, open_brace, close_brace, open_parenthesis, close_parenthesis, open_bracket, close_bracket, comma, bad, symbol_of}
 use Rattle.sieve_syntax.specs.declared.token.Token.{Token}
 use Rattle.sieve_check.specs.Breach.{line_of}
 use Rattle.sieve_check.specs.Element.{Element, the_command, the_test, the_text, the_number, elements_of}
 
 -- the word that an element is written by: a command or test by its identifier (RFC 5228, sections 2.4 and 8.2)
-abbrev pub written_by : Element → Word
+abbrev pub written_by : Element → Symbol
 written_by (the_command context name line args ts ending) = identifier name line
 written_by (the_test context name line args ts) = identifier name line
-written_by (the_text context role text) = string_word text.string text.line
-written_by (the_number value line) = number_word value line
+written_by (the_text context role text) = string_symbol text.string text.line
+written_by (the_number value line) = number_symbol value line
 
 -- identifiers, strings and numbers
-abbrev pub writes_element : Word → Bool
+abbrev pub writes_element : Symbol → Bool
 writes_element (identifier name line) = true
-writes_element (tag_word name line) = false
-writes_element (number_word value line) = true
-writes_element (string_word octets line) = true
+writes_element (tag_symbol name line) = false
+writes_element (number_symbol value line) = true
+writes_element (string_symbol octets line) = true
 writes_element semicolon = false
 writes_element open_brace = false
 writes_element close_brace = false
@@ -40,7 +40,7 @@ StandApart tokens = IsNonDecreasing (flat_map (λ token. token.start ∷ token.e
 -- among them. The tokens aren't empty, and stand apart and in order in the text, and the lines of the elements never fall. By
 -- this nothing of a text is left out or judged out of its place; what an element carries beside its word says `elements_of`.
 pub record IsInTextOrder (tree : List Node) (text : List ℕ) (tokens : List Token) : Type 0 where
-  pub elements : map written_by (elements_of tree) ≡ map (word_of text) (filter (λ token. writes_element (word_of text token)) tokens)
+  pub elements : map written_by (elements_of tree) ≡ map (symbol_of text) (filter (λ token. writes_element (symbol_of text token)) tokens)
   pub inside : All (IsInside text) tokens
   pub apart : StandApart tokens
   pub lines : IsNonDecreasing (map line_of (elements_of tree))

@@ -15,7 +15,7 @@ use Rattle.sieve_table.specs.declared.row.Role.{Role}
 use Rattle.sieve_table.specs.declared.table.CommandKind.{CommandKind}
 use Rattle.sieve_table.specs.declared.table.TestKind.{TestKind}
 use Rattle.sieve_variables.specs.Part.{Part, literal, variable_part, scoped_part}
-use Rattle.sieve_variables.specs.Scan.{parts_of}
+use Rattle.sieve_variables.specs.Scan.{parts_of_text}
 use Rattle.sieve_variables.specs.Variable.{scoped, variable_named}
 
 -- By what strings are cut: what the script requires, and the names that are declared before the command, in lower case.
@@ -28,7 +28,7 @@ pub record Cutting : Type 0 where
 abbrev pub parts_in : Cutting → Option Role → List ℕ → List Part
 parts_in cutting role octets =
     if names_variable role then variable_part (scoped cutting.declared (variable_named octets)) ∷ [] else
-    if takes_references cutting.required role then map (scoped_part cutting.declared) (parts_of octets) else literal octets ∷ []
+    if takes_references cutting.required role then map (scoped_part cutting.declared) (parts_of_text octets) else literal octets ∷ []
 
 abbrev pub parted_text : Cutting → Option Role → syntax.Text → Text
 parted_text cutting role t = record { string = parts_in cutting role t.string; line = t.line }

@@ -13,7 +13,6 @@ ghost use Rattle.sieve_table.specs.view.Row.{row_as};
 ghost use Rattle.sieve_check.specs.view.Use.{row_found};
 ghost use Rattle.sieve_table.specs.declared.row.Role.TheVariants.{NameToSet, NamesToDeclare};
 ghost use Rattle.sieve_variables.specs.Name.{is_global_name, is_identifier};
-ghost use Rattle.sieve_variables.specs.Scan.{has_far_index, has_foreign_namespace, has_namespace, has_reference};
 
 use crate::context::{Context, Required, takes_references};
 use crate::role::{behind_first, first_role};

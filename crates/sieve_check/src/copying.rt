@@ -12,7 +12,7 @@ ghost use Rattle.sieve_check.specs.view.Copy.{IsFront, cutting_by, declared_behi
 ghost use Rattle.sieve_table.specs.view.Row.{row_as};
 ghost use Rattle.sieve_reading.specs.view.Tree.{argument_of, node_of, test_of, tests_of, text_of};
 ghost use Rattle.sieve_variables.specs.Part.{literal, scoped_part, variable_part};
-ghost use Rattle.sieve_variables.specs.Scan.{parts_of};
+ghost use Rattle.sieve_variables.specs.Scan.{parts_of_text};
 ghost use Rattle.sieve_variables.specs.Variable.{scoped, variable_named};
 ghost use Rattle.sieve_variables.specs.view.Part.{part_of};
 
@@ -21,7 +21,7 @@ use crate::scope::declare_argument;
 use sieve_base::SmallOctets;
 use sieve_reading::{Argument, Command, Test, Tests, Text, role_of, row_expected, shape_of};
 use sieve_table::{Role, Row, command_named, names_variable, test_named};
-use sieve_variables::{Names, Part, Parts, Variable, parts_of, scoped_parts};
+use sieve_variables::{Names, Part, Parts, Variable, parts_of_text, scoped_parts};
 use std::alloc::{AllocError, Global};
 
 /// By what strings are cut: what the script requires, and the names that are declared before the command.
@@ -49,9 +49,9 @@ fn variable_parts(alloc: Global, declared: &Names, name: &[u8]) -> Result<Parts,
 
 /// The octets and references in a string.
 fn reference_parts(alloc: Global, declared: &Names, octets: &[u8]) -> Result<Parts, AllocError>
-    ensures { IfOk result (λ parts. map part_of parts.items ≡ map (scoped_part declared.now) (parts_of octets.now)) }
+    ensures { IfOk result (λ parts. map part_of parts.items ≡ map (scoped_part declared.now) (parts_of_text octets.now)) }
 {
-    let parts = parts_of(alloc, octets)?;
+    let parts = parts_of_text(alloc, octets)?;
     scoped_parts(alloc, parts, declared)
 }
 
@@ -166,7 +166,7 @@ fn parted_without_row(
 }
 
 /// The arguments of a test of that name, with their strings in parts.
-fn test_arguments(
+fn parted_test_arguments(
     alloc: Global,
     cutting: Cutting<'_>,
     name: &[u8],
@@ -181,7 +181,7 @@ fn test_arguments(
 }
 
 /// The arguments of a command of that name, with their strings in parts.
-fn command_arguments(
+fn parted_command_arguments(
     alloc: Global,
     cutting: Cutting<'_>,
     name: &[u8],
@@ -205,7 +205,7 @@ fn parted_test(
     ensures { IfOk result (λ copy. test_of copy ≡ parted_test (cutting_as cutting.entry) (seen.test_of test.now)) }
 {
     let name = SmallOctets::from_slice(alloc, &test.name)?;
-    let args = test_arguments(alloc, cutting, &test.name, &test.args)?;
+    let args = parted_test_arguments(alloc, cutting, &test.name, &test.args)?;
     let tests = parted_tests(alloc, cutting, &test.tests)?;
     Ok(Test {
         name,
@@ -309,7 +309,7 @@ fn parted_front(
         declared: &*declared,
     };
     let name = SmallOctets::from_slice(alloc, &command.name)?;
-    let args = command_arguments(alloc, cutting, &command.name, &command.args)?;
+    let args = parted_command_arguments(alloc, cutting, &command.name, &command.args)?;
     let tests = parted_tests(alloc, cutting, &command.tests)?;
     declare_by_command(alloc, declared, &command.name, &command.args)?;
     Ok(Front { name, args, tests })
@@ -369,7 +369,7 @@ fn parted_commands(
 /// A script's commands with their strings in parts.
 pub(crate) fn parted(
     alloc: Global,
-    script: &sieve_syntax::Script,
+    script: &sieve_syntax::ParsedScript,
 ) -> Result<Vec<Command>, AllocError>
     ensures { IfOk result (λ commands. map node_of commands.items ≡ parted (seen.nodes_of script.now)) }
 {

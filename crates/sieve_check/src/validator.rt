@@ -12,7 +12,7 @@ use crate::command_rules::check_commands;
 use crate::context::Spot;
 use crate::copying::parted;
 use crate::scope::Scope;
-use sieve_syntax::Script;
+use sieve_syntax::ParsedScript;
 use sieve_table::Rule;
 use std::alloc::{AllocError, Global};
 use thiserror::Error;
@@ -38,7 +38,7 @@ impl From<AllocError> for CheckFault {
 }
 
 /// Checks a script: the least breach of a rule, or, where there is none, the checked script.
-pub fn check(alloc: Global, script: &Script) -> Result<Checked, CheckFault>
+pub fn check(alloc: Global, script: &ParsedScript) -> Result<Checked, CheckFault>
     ensures { MatchResult result
         (λ checked. (breaches_of (nodes_of script.now) ≡ []) × (tree_of checked ≡ parted (nodes_of script.now)))
         (IsFirst (breaches_of (nodes_of script.now))) }

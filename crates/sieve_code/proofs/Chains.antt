@@ -104,7 +104,7 @@ test_branch first inner condition cs b chain behind next f i c =
 -- COMMANDS
 
 module _ (first inner : Tail → Tail) (condition : Condition) (cs : Commands) (f : IsConditionCode first condition) (i : IsBlock inner cs) (b : Branches) (chain : Chain) (behind : Tail) (next : Walk) (c : IsChain b chain behind next) where
-  command_chain : (r : Option CommandReading) (line : ℕ) → IsChain (command_before r line first inner b) (script.command_before r line condition cs chain) behind next
+  command_chain : (r : Option CommandReading) (line : ℕ) → IsChain (command_before r line first inner b) (script.chain_with_command r line condition cs chain) behind next
   unfolding commands_walk
   command_chain None line = plain_chain b.behind_branches chain.rest behind next c.rest
   command_chain (Some reading.reads_if) line =
@@ -137,9 +137,9 @@ unfolding block_before block_commands
 block_of_chain ns chain = record { at = λ behind next g. (chain behind next g).rest }
 
 mutual
-  unfolding node_before script.node_before nodes_before chain_of
+  unfolding node_before script.chain_with nodes_before chain_of
 
-  node_code : (n : Node) (b : Branches) (chain : Chain) (behind : Tail) (next : Walk) → IsChain b chain behind next → IsChain (node_before n b) (script.node_before n chain) behind next
+  node_code : (n : Node) (b : Branches) (chain : Chain) (behind : Tail) (next : Walk) → IsChain b chain behind next → IsChain (node_before n b) (script.chain_with n chain) behind next
   node_code (node name line args ts ending) b chain behind next c =
       command_chain (first_before ts) (block_before ending) (branch_condition (conditions_in ts)) (block_commands ending) (first_code ts) (block_code ending) b chain behind next c (command_reading (node name line args ts ending)) line
 

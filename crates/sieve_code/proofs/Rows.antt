@@ -132,7 +132,7 @@ unfolding walk_from
 worked_code_row = refl
 
 worked_tree_row : tree_walk worked ≡ worked_walk
-unfolding commands_walk condition_walk chain_of script.node_before block_commands condition_of conditions_in conditions command_named test_named
+unfolding commands_walk condition_walk chain_of script.chain_with block_commands condition_of conditions_in conditions command_named test_named
 worked_tree_row = refl
 
 -- five operations are too few on the longest way alone

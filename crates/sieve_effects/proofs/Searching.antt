@@ -7,7 +7,7 @@ use Rattle.std.proofs.Math.Bool.{or-true}
 use Rattle.std.proofs.lemmas.List.{drop_all}
 use Rattle.encoded_words.specs.Scan.{decoded_of}
 use Rattle.match_text.specs.declared.comparators.Collation.{Collation}
-use Rattle.message_text.specs.Addresses.{AddrSpec, addresses_of, envelope_address_of, part_of}
+use Rattle.message_text.specs.Addresses.{AddrSpec, addresses_of, envelope_address_of, part_of_address}
 use Rattle.message_text.specs.Fields.{Field, IsNextNamed, fields_of, is_field_named}
 use Rattle.message_text.specs.declared.addressing.AddressPart.{AddressPart}
 use Rattle.sieve_reading.specs.Reading.{ValueSource, address_values, envelope_values, flag_values, header_values, string_values}
@@ -189,7 +189,7 @@ module _ (find : List ℕ → Option (List (List ℕ))) where
   -- what parts of addresses give is what the addresses give
   first_part : (part : AddressPart) (addresses : List AddrSpec) → first_some find (address_parts part addresses) ≡ first_some (part_found find part) addresses
   first_part part [] = refl
-  first_part part (address ∷ addresses) = one_part (part_of part address) (address_parts part addresses) ∙ ap (option_or (part_found find part address)) (first_part part addresses)
+  first_part part (address ∷ addresses) = one_part (part_of_address part address) (address_parts part addresses) ∙ ap (option_or (part_found find part address)) (first_part part addresses)
 
   where_so : (b : Bool) (octets : List (List ℕ)) → first_some find (if b then octets else []) ≡ (if b then first_some find octets else None)
   where_so true octets = refl
@@ -217,7 +217,7 @@ module _ (find : List ℕ → Option (List (List ℕ))) where
 
   first_of_path : (part : AddressPart) (path : Option (List ℕ)) → first_some find (parts_of_envelope part path) ≡ option_and_then (path_found find part) path
   first_of_path part None = refl
-  first_of_path part (Some text) = one_part (part_of part (envelope_address_of text)) [] ∙ or_none (part_found find part (envelope_address_of text))
+  first_of_path part (Some text) = one_part (part_of_address part (envelope_address_of text)) [] ∙ or_none (part_found find part (envelope_address_of text))
 
   pub first_of_paths : (part : AddressPart) (delivery : Delivery) (state : RunState) (names : List (List Part)) → first_some find (values_of delivery state (envelope_values part names)) ≡ first_some (path_name_found find part delivery.envelope) (map (text_value state.values) names)
   first_of_paths part delivery state names =

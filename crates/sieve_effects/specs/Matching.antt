@@ -9,7 +9,7 @@ use Rattle.match_text.specs.Comparator.{same, is_part, fold_of}
 use Rattle.match_text.specs.Flags.{flag_keys_of_texts, flag_list}
 use Rattle.match_text.specs.Wildcard.{matched}
 use Rattle.match_text.specs.declared.comparators.Collation.{Collation}
-use Rattle.message_text.specs.Addresses.{AddrSpec, part_of, addresses_of, envelope_address_of}
+use Rattle.message_text.specs.Addresses.{AddrSpec, part_of_address, addresses_of, envelope_address_of}
 use Rattle.message_text.specs.Fields.{Field, fields_of, is_field_named}
 use Rattle.message_text.specs.declared.addressing.AddressPart.{AddressPart}
 use Rattle.sieve_reading.specs.Reading.{ValueSource, header_values, address_values, envelope_values, string_values, flag_values, Ask, compares, exists_ask, over_ask, under_ask}
@@ -48,7 +48,7 @@ pairs_with keys value = map (λ key. record { value = value; key = key }) keys
 
 -- the part of each of some addresses; one that lacks the part gives nothing (RFC 5228, section 2.7.4)
 abbrev pub address_parts : AddressPart → List AddrSpec → List (List ℕ)
-address_parts part addresses = filter_map (part_of part) addresses
+address_parts part addresses = filter_map (part_of_address part) addresses
 
 -- the parts of the addresses in a value
 abbrev pub parts_of_value : AddressPart → List ℕ → List (List ℕ)

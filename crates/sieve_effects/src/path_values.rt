@@ -1,7 +1,7 @@
 //! What a test finds in an envelope (RFC 5228, section 5.4).
 ghost use Rattle.std.specs.Prelude.{◌≡◌, None, map, IfOk};
 ghost use Rattle.std.specs.Option.{option_map};
-ghost use Rattle.message_text.specs.Addresses.{envelope_address_of, is_null_path, part_of};
+ghost use Rattle.message_text.specs.Addresses.{envelope_address_of, is_null_path, part_of_address};
 ghost use Rattle.sieve_reading.specs.Reading.{envelope_values};
 ghost use Rattle.sieve_effects.specs.Matching.{envelope_text, first_some, values_of};
 ghost use Rattle.sieve_effects.specs.view.Delivery.{delivery_as};
@@ -41,7 +41,7 @@ fn is_null_path(text: &[u8]) -> bool
 
 /// What of a text that isn't one address is seen: all of it alone.
 fn seen_part(part: AddressPart, text: &[u8]) -> Option<&[u8]>
-    ensures { option_map (λ octets. octets.now) result ≡ part_of part (record { all = text.now; local_part = None; domain = None }) }
+    ensures { option_map (λ octets. octets.now) result ≡ part_of_address part (record { all = text.now; local_part = None; domain = None }) }
 {
     match part {
         AddressPart::All => Some(text),

@@ -1,2 +1,3 @@
 mod Labelling
 mod PositionalRows
+mod Tags

@@ -77,19 +77,19 @@ pub record Chain : Type 0 where
   pub rest : Commands
 
 -- a command in front of others; one that isn't read as anything, which no faultless script has, does nothing
-abbrev pub command_before : Option CommandReading → ℕ → Condition → Commands → Chain → Chain
-command_before None line condition inner chain = record { otherwise = no_commands; rest = chain.rest }
-command_before (Some reading.reads_if) line condition inner chain = record { otherwise = no_commands; rest = chooses condition inner chain.otherwise chain.rest }
-command_before (Some reading.reads_elsif) line condition inner chain = record { otherwise = chooses condition inner chain.otherwise no_commands; rest = chain.rest }
-command_before (Some reading.reads_else) line condition inner chain = record { otherwise = inner; rest = chain.rest }
-command_before (Some reading.reads_stop) line condition inner chain = record { otherwise = no_commands; rest = stops chain.rest }
-command_before (Some reading.reads_return) line condition inner chain = record { otherwise = no_commands; rest = returns chain.rest }
-command_before (Some reading.reads_nothing) line condition inner chain = record { otherwise = no_commands; rest = chain.rest }
-command_before (Some (reading.reads_act leaf)) line condition inner chain = record { otherwise = no_commands; rest = acts leaf line chain.rest }
+abbrev pub chain_with_command : Option CommandReading → ℕ → Condition → Commands → Chain → Chain
+chain_with_command None line condition inner chain = record { otherwise = no_commands; rest = chain.rest }
+chain_with_command (Some reading.reads_if) line condition inner chain = record { otherwise = no_commands; rest = chooses condition inner chain.otherwise chain.rest }
+chain_with_command (Some reading.reads_elsif) line condition inner chain = record { otherwise = chooses condition inner chain.otherwise no_commands; rest = chain.rest }
+chain_with_command (Some reading.reads_else) line condition inner chain = record { otherwise = inner; rest = chain.rest }
+chain_with_command (Some reading.reads_stop) line condition inner chain = record { otherwise = no_commands; rest = stops chain.rest }
+chain_with_command (Some reading.reads_return) line condition inner chain = record { otherwise = no_commands; rest = returns chain.rest }
+chain_with_command (Some reading.reads_nothing) line condition inner chain = record { otherwise = no_commands; rest = chain.rest }
+chain_with_command (Some (reading.reads_act leaf)) line condition inner chain = record { otherwise = no_commands; rest = acts leaf line chain.rest }
 
 unfoldable mutual
-  pub node_before : Node → Chain → Chain
-  node_before (node name line args ts ending) chain = command_before (command_reading (node name line args ts ending)) line (branch_condition (conditions_in ts)) (block_commands ending) chain
+  pub chain_with : Node → Chain → Chain
+  chain_with (node name line args ts ending) chain = chain_with_command (command_reading (node name line args ts ending)) line (branch_condition (conditions_in ts)) (block_commands ending) chain
 
   pub block_commands : Block → Commands
   block_commands no_block = no_commands
@@ -97,7 +97,7 @@ unfoldable mutual
 
   pub chain_of : Nodes → Chain
   chain_of end_nodes = record { otherwise = no_commands; rest = no_commands }
-  chain_of (more_nodes n ns) = node_before n (chain_of ns)
+  chain_of (more_nodes n ns) = chain_with n (chain_of ns)
 
 -- the abstract script of a checked tree
 abbrev pub script_of : List Node → Commands

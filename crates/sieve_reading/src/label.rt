@@ -1,6 +1,6 @@
 //! What each argument is to its command or test (RFC 5228, section 2.6).
 ghost use Rattle.std.specs.Prelude.{◌≡◌, None, Some, drop, slice_get};
-ghost use Rattle.sieve_reading.specs.Label.{expected_behind, expecting, fits, label_at, slot_label, value_label, value_slots, is_unfit};
+ghost use Rattle.sieve_reading.specs.Label.{expected_behind, expecting, fits, label_at, slot_label, is_unfit};
 ghost use Rattle.sieve_reading.specs.view.Expected.{expected_as, in_front, own_slot};
 
 use sieve_table::{Form, Slot, Tag};

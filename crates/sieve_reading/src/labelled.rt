@@ -1,16 +1,16 @@
 //! The arguments of a checked tree by their labels. None of it takes memory.
 ghost use Rattle.std.specs.Prelude.{◌≡◌, map};
 ghost use Rattle.std.specs.Option.{option_map};
-ghost use Rattle.sieve_reading.specs.Given.{has_tag, in_role, is_tagged};
-ghost use Rattle.sieve_reading.specs.Shape.{row_labels};
+ghost use Rattle.sieve_reading.specs.Given.{has_tag, in_role};
+ghost use Rattle.sieve_reading.specs.Shape.{row_labels, shape_of};
+ghost use Rattle.sieve_reading.specs.view.Expected.{shows_tag};
 ghost use Rattle.sieve_table.specs.view.Row.{row_as};
 ghost use Rattle.sieve_reading.specs.view.Tree.{argument_of};
 
-use crate::label::Label;
 use crate::role::role_of;
 use crate::shape::{row_expected, shape_of};
 use crate::tree::Argument;
-use sieve_table::{Role, Row, Tag, has_role, same_tag};
+use sieve_table::{Role, Row, Tag, has_role, same_tag, tag_named};
 
 /// The first argument in a role.
 pub(crate) fn argument_in<'a>(row: &Row, wanted: Role, args: &'a [Argument]) -> Option<&'a Argument>
@@ -27,27 +27,27 @@ pub(crate) fn argument_in<'a>(row: &Row, wanted: Role, args: &'a [Argument]) -> 
     None
 }
 
-/// Whether it is this tag.
-fn is_tagged(wanted: Tag, label: Label) -> bool
-    ensures { result ≡ is_tagged wanted label }
+/// Whether an argument is this tag, where these are taken.
+fn is_tag(taken: &[Tag], wanted: Tag, argument: &Argument) -> bool
+    ensures { result ≡ shows_tag wanted (shape_of taken.now (argument_of argument.now)) }
 {
-    match label {
-        Label::Tagged(tag) => same_tag(wanted, tag),
-        Label::OtherTag | Label::Own(_) | Label::InSlot(_) | Label::Unfit => false,
+    match argument {
+        Argument::Tag { name, .. } => match tag_named(taken, name) {
+            Some(tag) => same_tag(wanted, tag),
+            None => false,
+        },
+        Argument::Strings { .. } | Argument::Number { .. } => false,
     }
 }
 
-/// Whether this tag is among the arguments.
+/// Whether this tag is among the arguments. It is one whatever stands before it, so no labels are made.
 pub(crate) fn has_tag(row: &Row, wanted: Tag, args: &[Argument]) -> bool
     ensures { result ≡ has_tag wanted (row_labels (row_as row.now) (map argument_of args.now)) }
 {
-    let mut expected = row_expected(row, args);
     for argument in args {
-        let shape = shape_of(row.tags, argument);
-        if is_tagged(wanted, expected.label(shape)) {
+        if is_tag(row.tags, wanted, argument) {
             return true;
         }
-        expected = expected.behind(shape);
     }
     false
 }

@@ -3,7 +3,7 @@ use Rattle.std.proofs.Common.{◌≡◌, ℕ, Bool, true, false, List, [], ◌�
 use Rattle.std.specs.List.{IsDistinct}
 use Rattle.match_text.specs.declared.comparators.Collation.TheVariants.{Octet, Casemap}
 use Rattle.sieve_reading.specs.Reading.{Settings, plain_settings, Ask, string_values, flag_values, compares, over_ask, keep_leaf, fileinto_leaf, redirect_leaf, discard_leaf, set_leaf, flag_leaf, include_leaf}
-use Rattle.sieve_reading.specs.Script.{always, asks, Commands, no_commands, stops, acts, chooses, chain_of, node_before, block_commands, conditions_in}
+use Rattle.sieve_reading.specs.Script.{always, asks, Commands, no_commands, stops, acts, chooses, chain_of, chain_with, block_commands, conditions_in}
 use Rattle.sieve_table.specs.Table.{command_named}
 use Rattle.sieve_variables.specs.Part.{literal, local_part, match_part}
 use Rattle.sieve_variables.specs.Modifier.{modified}
@@ -267,18 +267,18 @@ once_row find = refl
 
 -- include "a"; discard; where "a" is `return; keep;`: the including script goes on
 return_row : done_over (having script_a (plain (codes "return") ∷ plain (codes "keep") ∷ [])) (acts (include_leaf Personal false false (codes "a")) 2 (acts discard_leaf 3 no_commands)) ≡ goes_on (entered_a (Discard ∷ []) true)
-unfolding exec included chain_of node_before block_commands conditions_in command_named
+unfolding exec included chain_of chain_with block_commands conditions_in command_named
 return_row = refl
 
 -- and where it is `stop;`: the run ends
 stop_inside_row : done_over (having script_a (plain (codes "stop") ∷ [])) (acts (include_leaf Personal false false (codes "a")) 2 (acts discard_leaf 3 no_commands)) ≡ stopped (entered_a [] false)
-unfolding exec included chain_of node_before block_commands conditions_in command_named
+unfolding exec included chain_of chain_with block_commands conditions_in command_named
 stop_inside_row = refl
 
 -- an error tells the script that it came in: "a" is `include "main";`
 error_inside_row : done_over (having script_a (node (codes "include") 7 (strings (record { string = text (codes "main"); line = 7 } ∷ []) false ∷ []) no_tests no_block ∷ [])) (acts (include_leaf Personal false false (codes "a")) 2 (acts discard_leaf 3 no_commands))
     ≡ failed (record { script = script_a; line = 7; kind = RecursiveInclude }) (entered_a [] false)
-unfolding exec included chain_of node_before block_commands conditions_in command_named
+unfolding exec included chain_of chain_with block_commands conditions_in command_named
 error_inside_row = refl
 
 -- what an included script sets as its own leaves all as it was in the including one, whose own it doesn't see
@@ -312,7 +312,7 @@ nine = script_b ∷ script_b ∷ script_b ∷ script_b ∷ script_b ∷ script_b
 
 -- where a run is watched, a script that ten include is run, and one that eleven include isn't
 watched_row : (beyond : Delivery → List Node → RunState → Ending) → watched_include beyond (having script_a []) 1 (under nine) script_a false false 2 (begun main) ≡ goes_on (entered_a [] false)
-unfolding exec included watched_include chain_of node_before block_commands conditions_in command_named
+unfolding exec included watched_include chain_of chain_with block_commands conditions_in command_named
 watched_row beyond = refl
 
 beyond_row : (beyond : Delivery → List Node → RunState → Ending) → watched_include beyond (having script_a []) 1 (under (script_b ∷ nine)) script_a false false 2 (begun main) ≡ resumed no_values (beyond (inside script_a (under (script_b ∷ nine))) [] (record (entered_a [] false) { values = begun_values no_values }))
@@ -378,5 +378,5 @@ empty_script_row message = refl
 -- discard; discard; keep;
 present_row : (message : List ℕ) → outcome_of (λ name. present (node (codes "discard") 1 [] no_tests no_block ∷ node (codes "DISCARD") 2 [] no_tests no_block ∷ node (codes "keep") 3 [] no_tests no_block ∷ [])) (Some main) envelope message
     ≡ record { actions = Discard ∷ inbox ∷ []; implicit = None; error = None; reads = (main, true) ∷ [] }
-unfolding outcome_of exec chain_of node_before block_commands conditions_in command_named
+unfolding outcome_of exec chain_of chain_with block_commands conditions_in command_named
 present_row message = refl

@@ -1,5 +1,5 @@
 //! Where a run finds scripts.
-ghost use Rattle.sieve_run.specs.Library.{Lookup, lookup_of};
+ghost use Rattle.sieve_run.specs.Library.{lookup_of};
 ghost use Rattle.sieve_run.specs.view.Found.{FoundAs};
 
 use sieve_base::ScriptName;

@@ -1,5 +1,5 @@
 //! The count of runs.
-ghost use Rattle.std.specs.Prelude.{◌≡◌, ◌+◌, ◌-◌, ◌^◌, min};
+ghost use Rattle.std.specs.Prelude.{◌≡◌, ◌+◌, ◌-◌, ◌^◌};
 ghost use Rattle.sieve_run.specs.Meter.{next_run};
 
 use std::marker::Model;

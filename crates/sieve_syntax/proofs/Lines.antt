@@ -299,9 +299,9 @@ pub record IsTextColon (xs : List ℕ) : Type 0 where
 opening_parts : (line : List ℕ) → is_opening line ≡ true → IsTextColon line
 unfolding is_opening
 opening_parts (t ∷ e ∷ x ∷ u ∷ c ∷ cs) h =
-    let word = and_left (spells_text t e x u) _ h in
-    let first = and_left (t == 116 || (t == 84)) _ word in
-    let three = and_right (t == 116 || (t == 84)) _ word in
+    let symbol = and_left (spells_text t e x u) _ h in
+    let first = and_left (t == 116 || (t == 84)) _ symbol in
+    let three = and_right (t == 116 || (t == 84)) _ symbol in
     let second = and_left (e == 101 || (e == 69)) _ three in
     let two = and_right (e == 101 || (e == 69)) _ three in
     let colon = and_left (c == 58) _ (and_right (spells_text t e x u) _ h) in

@@ -255,7 +255,7 @@ number-most c cs m h q ends =
 quoted-most : (cs : List ℕ) (m : ℕ) → m ≤ length cs → ends_quoted (take m cs) ≡ true → IsAtMost (34 ∷ cs) Quoted (suc m)
 quoted-most cs m h ends = exactly (34 ∷ cs) Quoted (suc m) (at_quote cs ∙ ap (option_map quoted_token) (quoted_only cs m h ends))
 
-is_one-alone : (octet : ℕ) (word : List ℕ) → is_one octet word ≡ true → word ≡ octet ∷ []
+is_one-alone : (octet : ℕ) (symbol : List ℕ) → is_one octet symbol ≡ true → symbol ≡ octet ∷ []
 unfolding is_one
 is_one-alone octet [] e = cc
 is_one-alone octet (c ∷ []) e = ap (λ x. x ∷ []) (eqb-true c octet e)

@@ -133,10 +133,10 @@ either_plain c a b p q e =
 
 -- behind `text:` the first line goes on
 text_line : (t e x u c : ℕ) (cs : List ℕ) → spells_text t e x u ≡ true → (c == 58) ≡ true → line_length (t ∷ e ∷ x ∷ u ∷ c ∷ cs) ≡ suc (suc (suc (suc (suc (line_length cs)))))
-text_line t e x u c cs word colon =
-    let three = and_right (t == 116 || (t == 84)) _ word in
+text_line t e x u c cs symbol colon =
+    let three = and_right (t == 116 || (t == 84)) _ symbol in
     let two = and_right (e == 101 || (e == 69)) _ three in
-    line_more t _ (either_plain t 116 84 refl refl (and_left (t == 116 || (t == 84)) _ word))
+    line_more t _ (either_plain t 116 84 refl refl (and_left (t == 116 || (t == 84)) _ symbol))
     ∙ ap suc (line_more e _ (either_plain e 101 69 refl refl (and_left (e == 101 || (e == 69)) _ three))
     ∙ ap suc (line_more x _ (either_plain x 120 88 refl refl (and_left (x == 120 || (x == 88)) _ two))
     ∙ ap suc (line_more u _ (either_plain u 116 84 refl refl (and_right (x == 120 || (x == 88)) _ two))
@@ -148,14 +148,14 @@ opening_is (t ∷ e ∷ x ∷ u ∷ c ∷ cs) =
     by_cases (spells_text t e x u && (c == 58))
     (λ b. (spells_text t e x u && (c == 58)) ≡ b → (if b then option_map (λ n. 5 + n) (opening_end cs) else None) ≡ given (is_opening (take (line_length (t ∷ e ∷ x ∷ u ∷ c ∷ cs)) (t ∷ e ∷ x ∷ u ∷ c ∷ cs))) (line_length (t ∷ e ∷ x ∷ u ∷ c ∷ cs)))
     (λ q p.
-    let word = and_left (spells_text t e x u) _ p in
+    let symbol = and_left (spells_text t e x u) _ p in
     let colon = and_right (spells_text t e x u) _ p in
     let whole : (spells_text t e x u && ((c == 58) && ends_opening (take (line_length cs) cs))) ≡ ends_opening (take (line_length cs) cs) =
-    ap (λ b. b && ((c == 58) && ends_opening (take (line_length cs) cs))) word ∙ ap (λ b. b && ends_opening (take (line_length cs) cs)) colon in
+    ap (λ b. b && ((c == 58) && ends_opening (take (line_length cs) cs))) symbol ∙ ap (λ b. b && ends_opening (take (line_length cs) cs)) colon in
     ap (option_map (λ n. 5 + n)) (end_is cs)
     ∙ five (ends_opening (take (line_length cs) cs)) (line_length cs)
     ∙ ap (λ b. given b (suc (suc (suc (suc (suc (line_length cs))))))) (sym whole)
-    ∙ ap (λ n. given (is_opening (take n (t ∷ e ∷ x ∷ u ∷ c ∷ cs))) n) (sym (text_line t e x u c cs word colon)))
+    ∙ ap (λ n. given (is_opening (take n (t ∷ e ∷ x ∷ u ∷ c ∷ cs))) n) (sym (text_line t e x u c cs symbol colon)))
     (λ q p. ap (λ b. given b (line_length (t ∷ e ∷ x ∷ u ∷ c ∷ cs))) (sym (no_opening t e x u c cs (line_length (t ∷ e ∷ x ∷ u ∷ c ∷ cs)) p)))
     refl
   where

@@ -3,41 +3,41 @@ use Rattle.std.proofs.Common.{◌≡◌, ℕ, ◌⊎◌, inl, inr, List, [], ◌
 use Rattle.std.proofs.lemmas.Option.{same_Some}
 use Rattle.sieve_syntax.specs.Tree.{Tests, no_tests, one_test, test_list, tests, Node, no_block, block, nodes}
 use Rattle.sieve_syntax.specs.Token.{line_at}
-use Rattle.sieve_syntax.specs.Word.{Word, identifier, string_word, semicolon, close_brace, close_parenthesis, close_bracket, word_of, words_of}
+use Rattle.sieve_syntax.specs.Symbol.{Symbol, identifier, string_symbol, semicolon, close_brace, close_parenthesis, close_bracket, symbol_of, symbols_of}
 use Rattle.sieve_syntax.specs.Grammar.{written_nodes, NestsNodes, Writes, Begins}
 use Rattle.sieve_syntax.specs.Machine.{Head, Level, for_one, for_list, Open, Outer, ParserState, between, in_arguments, before_string, after_string, before_test, after_tests, bare_head, test_with, node_with, close_block, step, start, whole, whole_outer, read}
 use Rattle.sieve_syntax.specs.Syntax.{IsFaultAt, IsFaultAtEnd}
 use Rattle.sieve_syntax.specs.declared.token.Token.{Token}
 use Rattle.sieve_syntax.proofs.Cases.{by_option}
 use Rattle.sieve_syntax.proofs.Reading.{run, closed, EndsFirst, items-nodes, closed_one, after_list, end_list, end_node, read_no_tests, read_nodes}
-use Rattle.sieve_syntax.proofs.Writing.{state_words, IsReached, Takes, step_takes}
+use Rattle.sieve_syntax.proofs.Writing.{state_symbols, IsReached, Takes, step_takes}
 
 abbrev pub ended : List Node → ParserState
 ended tree = between (record { blocks = []; done = tree })
 
 module _ (depth room : ℕ) where
-  run_takes : (ws : List Word) (s t : ParserState) → IsReached depth room s → run depth room s ws ≡ Some t → IsReached depth room t × (state_words t ≡ state_words s ++ ws)
+  run_takes : (ws : List Symbol) (s t : ParserState) → IsReached depth room s → run depth room s ws ≡ Some t → IsReached depth room t × (state_symbols t ≡ state_symbols s ++ ws)
   unfolding run
   run_takes [] s t is e =
       let same : s ≡ t = cc in
-      (subst (IsReached depth room) same is, ap state_words (sym same) ∙ sym (append-nil (state_words s)))
+      (subst (IsReached depth room) same is, ap state_symbols (sym same) ∙ sym (append-nil (state_symbols s)))
   run_takes (w ∷ ws) s t is e =
-      by_option (step depth room s w) (λ o. step depth room s w ≡ o → elim o as (λ x. Option ParserState) [ Some next ↦ run depth room next ws | None ↦ None ] ≡ Some t → IsReached depth room t × (state_words t ≡ state_words s ++ w ∷ ws))
+      by_option (step depth room s w) (λ o. step depth room s w ≡ o → elim o as (λ x. Option ParserState) [ Some next ↦ run depth room next ws | None ↦ None ] ≡ Some t → IsReached depth room t × (state_symbols t ≡ state_symbols s ++ w ∷ ws))
       (λ next q p f.
-      let one : Takes depth room (state_words s) w next = step_takes depth room s w next is p in
+      let one : Takes depth room (state_symbols s) w next = step_takes depth room s w next is p in
       let more = run_takes ws next t one.reached f in
-      (more.0, more.1 ∙ ap (λ x. x ++ ws) one.words ∙ append_assoc (state_words s) (w ∷ []) ws))
+      (more.0, more.1 ∙ ap (λ x. x ++ ws) one.symbols ∙ append_assoc (state_symbols s) (w ∷ []) ws))
       (λ q p f. cc) refl e
 
   -- EACH STATE CAN BE CLOSED
 
   record Closes (s : ParserState) : Type 0 where
-    more : List Word
+    more : List Symbol
     tree : List Node
     runs : run depth room s more ≡ Some (ended tree)
 
   record ClosesLevels (o : Outer) (ls : List Level) (h : Head) (ts : Tests) : Type 0 where
-    more : List Word
+    more : List Symbol
     tree : List Node
     ends : EndsFirst more
     runs : closed depth room o ls h ts more ≡ Some (ended tree)
@@ -77,7 +77,7 @@ module _ (depth room : ℕ) where
   closes (in_arguments o ls h) = closes_arguments o ls h
   closes (before_string o ls h before) =
       let outer = closes_arguments o ls _ in
-      record { more = string_word [] 0 ∷ close_bracket ∷ outer.more; tree = outer.tree; runs = outer.runs }
+      record { more = string_symbol [] 0 ∷ close_bracket ∷ outer.more; tree = outer.tree; runs = outer.runs }
   closes (after_string o ls h before) =
       let outer = closes_arguments o ls _ in
       record { more = close_bracket ∷ outer.more; tree = outer.tree; runs = outer.runs }
@@ -94,39 +94,39 @@ module _ (depth room : ℕ) where
   unfolding NestsNodes
   start_reached = record { left = room; blocks = refl; done = tt }
 
-  ended_writes : (tree : List Node) (ws : List Word) → run depth room start ws ≡ Some (ended tree) → Writes depth room tree ws
+  ended_writes : (tree : List Node) (ws : List Symbol) → run depth room start ws ≡ Some (ended tree) → Writes depth room tree ws
   unfolding written_nodes
   ended_writes tree ws e =
       let t = run_takes ws start (ended tree) start_reached e in
       (subst (NestsNodes depth (nodes tree)) t.0.blocks t.0.done, sym t.1)
 
-  run-append : (xs ys : List Word) (s t : ParserState) → run depth room s xs ≡ Some t → run depth room s (xs ++ ys) ≡ run depth room t ys
+  run-append : (xs ys : List Symbol) (s t : ParserState) → run depth room s xs ≡ Some t → run depth room s (xs ++ ys) ≡ run depth room t ys
   unfolding run
   run-append [] ys s t e = let same : s ≡ t = cc in ap (λ x. run depth room x ys) same
   run-append (w ∷ xs) ys s t e =
       by_option (step depth room s w) (λ o. elim o as (λ x. Option ParserState) [ Some next ↦ run depth room next xs | None ↦ None ] ≡ Some t → elim o as (λ x. Option ParserState) [ Some next ↦ run depth room next (xs ++ ys) | None ↦ None ] ≡ run depth room t ys)
       (λ next p f. run-append xs ys next t f) (λ p f. cc) e
 
-  run-none : (xs ys : List Word) (s : ParserState) → run depth room s xs ≡ None → run depth room s (xs ++ ys) ≡ None
+  run-none : (xs ys : List Symbol) (s : ParserState) → run depth room s xs ≡ None → run depth room s (xs ++ ys) ≡ None
   unfolding run
   run-none [] ys s e = cc
   run-none (w ∷ xs) ys s e =
       by_option (step depth room s w) (λ o. elim o as (λ x. Option ParserState) [ Some next ↦ run depth room next xs | None ↦ None ] ≡ None → elim o as (λ x. Option ParserState) [ Some next ↦ run depth room next (xs ++ ys) | None ↦ None ] ≡ None)
       (λ next p f. run-none xs ys next f) (λ p f. refl) e
 
-  pub writes_runs : (tree : List Node) (ws : List Word) → Writes depth room tree ws → run depth room start ws ≡ Some (ended tree)
+  pub writes_runs : (tree : List Node) (ws : List Symbol) → Writes depth room tree ws → run depth room start ws ≡ Some (ended tree)
   unfolding run
   writes_runs tree ws h =
       ap (run depth room start) (h.1 ∙ sym (append-nil (written_nodes (nodes tree))))
       ∙ read_nodes depth room (nodes tree) (record { blocks = []; done = [] }) [] room h.0 (omega arith)
       ∙ ap (λ x. Some (ended x)) (items-nodes tree)
 
-  runs_begin : (ws : List Word) (s : ParserState) → run depth room start ws ≡ Some s → Begins depth room ws
+  runs_begin : (ws : List Symbol) (s : ParserState) → run depth room start ws ≡ Some s → Begins depth room ws
   runs_begin ws s e =
       let c : Closes s = closes s in
       (c.more, c.tree, ended_writes c.tree (ws ++ c.more) (run-append ws c.more start s e ∙ c.runs))
 
-  begins_run : (ws : List Word) → Begins depth room ws → (s : ParserState) × (run depth room start ws ≡ Some s)
+  begins_run : (ws : List Symbol) → Begins depth room ws → (s : ParserState) × (run depth room start ws ≡ Some s)
   begins_run ws h =
       by_option (run depth room start ws) (λ o. (s : ParserState) × (o ≡ Some s)) (λ s e. (s, refl))
       (λ e. absurd (let p = run-none ws h.0 start e in let q = writes_runs h.1 (ws ++ h.0) h.2 in cc))
@@ -135,53 +135,53 @@ module _ (depth room : ℕ) where
 
   module _ (text : List ℕ) where
     -- what is read from a state that the machine reaches
-    read-run : (xs ys : List Token) (s t : ParserState) → run depth room s (words_of text xs) ≡ Some t → read depth room text s (xs ++ ys) ≡ read depth room text t ys
+    read-run : (xs ys : List Token) (s t : ParserState) → run depth room s (symbols_of text xs) ≡ Some t → read depth room text s (xs ++ ys) ≡ read depth room text t ys
     unfolding run read
     read-run [] ys s t e = let same : s ≡ t = cc in ap (λ x. read depth room text x ys) same
     read-run (x ∷ xs) ys s t e =
-        by_option (step depth room s (word_of text x)) (λ o. elim o as (λ z. Option ParserState) [ Some next ↦ run depth room next (words_of text xs) | None ↦ None ] ≡ Some t → elim o as (λ z. Result (List Node) ℕ) [ Some next ↦ read depth room text next (xs ++ ys) | None ↦ Err x.line ] ≡ read depth room text t ys)
+        by_option (step depth room s (symbol_of text x)) (λ o. elim o as (λ z. Option ParserState) [ Some next ↦ run depth room next (symbols_of text xs) | None ↦ None ] ≡ Some t → elim o as (λ z. Result (List Node) ℕ) [ Some next ↦ read depth room text next (xs ++ ys) | None ↦ Err x.line ] ≡ read depth room text t ys)
         (λ next p f. read-run xs ys next t f) (λ p f. cc) e
 
     read-end : (s : ParserState) → read depth room text s [] ≡ elim (whole s) as (λ z. Result (List Node) ℕ) [ Some tree ↦ Ok tree | None ↦ Err (line_at text (length text)) ]
     unfolding read
     read-end s = refl
 
-    read-stuck : (s : ParserState) (token : Token) (rest : List Token) → step depth room s (word_of text token) ≡ None → read depth room text s (token ∷ rest) ≡ Err token.line
+    read-stuck : (s : ParserState) (token : Token) (rest : List Token) → step depth room s (symbol_of text token) ≡ None → read depth room text s (token ∷ rest) ≡ Err token.line
     unfolding read
     read-stuck s token rest e = ap (λ o. elim o as (λ z. Result (List Node) ℕ) [ Some next ↦ read depth room text next rest | None ↦ Err token.line ]) e
 
-    run-stuck : (s : ParserState) (w : Word) (ws : List Word) → step depth room s w ≡ None → run depth room s (w ∷ ws) ≡ None
+    run-stuck : (s : ParserState) (w : Symbol) (ws : List Symbol) → step depth room s w ≡ None → run depth room s (w ∷ ws) ≡ None
     unfolding run
     run-stuck s w ws e = ap (λ o. elim o as (λ z. Option ParserState) [ Some next ↦ run depth room next ws | None ↦ None ]) e
 
-    run-one : (s t : ParserState) (w : Word) → step depth room s w ≡ Some t → run depth room s (w ∷ []) ≡ Some t
+    run-one : (s t : ParserState) (w : Symbol) → step depth room s w ≡ Some t → run depth room s (w ∷ []) ≡ Some t
     unfolding run
     run-one s t w e = ap (λ o. elim o as (λ z. Option ParserState) [ Some next ↦ Some next | None ↦ None ]) e
 
-    words-append : (xs ys : List Token) → words_of text (xs ++ ys) ≡ words_of text xs ++ words_of text ys
-    words-append [] ys = refl
-    words-append (x ∷ xs) ys = ap (λ z. word_of text x ∷ z) (words-append xs ys)
+    symbols-append : (xs ys : List Token) → symbols_of text (xs ++ ys) ≡ symbols_of text xs ++ symbols_of text ys
+    symbols-append [] ys = refl
+    symbols-append (x ∷ xs) ys = ap (λ z. symbol_of text x ∷ z) (symbols-append xs ys)
 
-    run-more : (front : List Token) (token : Token) (s t : ParserState) → run depth room start (words_of text front) ≡ Some s → step depth room s (word_of text token) ≡ Some t → run depth room start (words_of text (front ++ token ∷ [])) ≡ Some t
+    run-more : (front : List Token) (token : Token) (s t : ParserState) → run depth room start (symbols_of text front) ≡ Some s → step depth room s (symbol_of text token) ≡ Some t → run depth room start (symbols_of text (front ++ token ∷ [])) ≡ Some t
     run-more front token s t e f =
-        ap (run depth room start) (words-append front (token ∷ []))
-        ∙ run-append (words_of text front) (word_of text token ∷ []) start s e
-        ∙ run-one s t (word_of text token) f
+        ap (run depth room start) (symbols-append front (token ∷ []))
+        ∙ run-append (symbols_of text front) (symbol_of text token ∷ []) start s e
+        ∙ run-one s t (symbol_of text token) f
 
     -- a token that the state does not take begins nothing
-    stuck_stops : (front : List Token) (token : Token) (s : ParserState) → run depth room start (words_of text front) ≡ Some s → step depth room s (word_of text token) ≡ None → Begins depth room (words_of text (front ++ token ∷ [])) → ⊥
+    stuck_stops : (front : List Token) (token : Token) (s : ParserState) → run depth room start (symbols_of text front) ≡ Some s → step depth room s (symbol_of text token) ≡ None → Begins depth room (symbols_of text (front ++ token ∷ [])) → ⊥
     stuck_stops front token s e f h =
         let b = begins_run _ h in
-        let none : run depth room start (words_of text (front ++ token ∷ [])) ≡ None =
-        ap (run depth room start) (words-append front (token ∷ []))
-        ∙ run-append (words_of text front) (word_of text token ∷ []) start s e
-        ∙ run-stuck s (word_of text token) [] f in
+        let none : run depth room start (symbols_of text (front ++ token ∷ [])) ≡ None =
+        ap (run depth room start) (symbols-append front (token ∷ []))
+        ∙ run-append (symbols_of text front) (symbol_of text token ∷ []) start s e
+        ∙ run-stuck s (symbol_of text token) [] f in
         let some = b.1 in
         let clash : Some b.0 ≡ None = sym some ∙ none in
         cc
 
     -- what has no whole state is no tree
-    part_stops : (tokens : List Token) (s : ParserState) → run depth room start (words_of text tokens) ≡ Some s → whole s ≡ None → (tree : List Node) → Writes depth room tree (words_of text tokens) → ⊥
+    part_stops : (tokens : List Token) (s : ParserState) → run depth room start (symbols_of text tokens) ≡ Some s → whole s ≡ None → (tree : List Node) → Writes depth room tree (symbols_of text tokens) → ⊥
     unfolding whole
     part_stops tokens s e f tree h =
         let p = writes_runs tree _ h in
@@ -202,23 +202,23 @@ module _ (depth room : ℕ) where
     whole_ended (before_test o ls) tree e = cc
     whole_ended (after_tests o ls h ts) tree e = cc
 
-    -- what is read, in the words of the grammar
+    -- what is read, in the symbols of the grammar
     abbrev pub IsRead : List Token → Result (List Node) ℕ → Type 0
-    IsRead tokens (Ok tree) = Writes depth room tree (words_of text tokens)
+    IsRead tokens (Ok tree) = Writes depth room tree (symbols_of text tokens)
     IsRead tokens (Err line) = IsFaultAt depth room text tokens line ⊎ IsFaultAtEnd depth room text tokens line
 
-    read_is_from : (rest front : List Token) (s : ParserState) → run depth room start (words_of text front) ≡ Some s → IsRead (front ++ rest) (read depth room text s rest)
+    read_is_from : (rest front : List Token) (s : ParserState) → run depth room start (symbols_of text front) ≡ Some s → IsRead (front ++ rest) (read depth room text s rest)
     unfolding read
     read_is_from [] front s e =
         by_option (whole s) (λ o. whole s ≡ o → IsRead (front ++ []) (elim o as (λ z. Result (List Node) ℕ) [ Some tree ↦ Ok tree | None ↦ Err (line_at text (length text)) ]))
-        (λ tree q p. subst (λ x. Writes depth room tree (words_of text x)) (sym (append-nil front)) (ended_writes tree (words_of text front) (e ∙ ap (λ x. Some x) (whole_ended s tree p))))
+        (λ tree q p. subst (λ x. Writes depth room tree (symbols_of text x)) (sym (append-nil front)) (ended_writes tree (symbols_of text front) (e ∙ ap (λ x. Some x) (whole_ended s tree p))))
         (λ q p. inr (record {
-          begins = subst (λ x. Begins depth room (words_of text x)) (sym (append-nil front)) (runs_begin _ s e);
-          stops = subst (λ x. (tree : List Node) → Writes depth room tree (words_of text x) → ⊥) (sym (append-nil front)) (part_stops front s e p);
+          begins = subst (λ x. Begins depth room (symbols_of text x)) (sym (append-nil front)) (runs_begin _ s e);
+          stops = subst (λ x. (tree : List Node) → Writes depth room tree (symbols_of text x) → ⊥) (sym (append-nil front)) (part_stops front s e p);
           line_is = refl;
         })) refl
     read_is_from (token ∷ rest) front s e =
-        by_option (step depth room s (word_of text token)) (λ o. step depth room s (word_of text token) ≡ o → IsRead (front ++ token ∷ rest) (elim o as (λ z. Result (List Node) ℕ) [ Some next ↦ read depth room text next rest | None ↦ Err token.line ]))
+        by_option (step depth room s (symbol_of text token)) (λ o. step depth room s (symbol_of text token) ≡ o → IsRead (front ++ token ∷ rest) (elim o as (λ z. Result (List Node) ℕ) [ Some next ↦ read depth room text next rest | None ↦ Err token.line ]))
         (λ next q p. subst (λ x. IsRead x (read depth room text next rest)) (append_assoc front (token ∷ []) rest) (read_is_from rest (front ++ token ∷ []) next (run-more front token s next e p)))
         (λ q p. inl (record {
           front = front;
@@ -235,7 +235,7 @@ module _ (depth room : ℕ) where
     read_is tokens = read_is_from tokens [] start refl
 
     -- a tree that writes the tokens is what is read
-    pub read_ok : (tokens : List Token) (tree : List Node) → Writes depth room tree (words_of text tokens) → read depth room text start tokens ≡ Ok tree
+    pub read_ok : (tokens : List Token) (tree : List Node) → Writes depth room tree (symbols_of text tokens) → read depth room text start tokens ≡ Ok tree
     unfolding whole
     read_ok tokens tree h =
         ap (read depth room text start) (sym (append-nil tokens))
@@ -246,7 +246,7 @@ module _ (depth room : ℕ) where
     pub read_stops : (tokens : List Token) (line : ℕ) → IsFaultAt depth room text tokens line → read depth room text start tokens ≡ Err line
     read_stops tokens line h =
         let b = begins_run _ h.begins in
-        by_option (step depth room b.0 (word_of text h.token)) (λ o. step depth room b.0 (word_of text h.token) ≡ o → read depth room text start tokens ≡ Err line)
+        by_option (step depth room b.0 (symbol_of text h.token)) (λ o. step depth room b.0 (symbol_of text h.token) ≡ o → read depth room text start tokens ≡ Err line)
         (λ next q p. absurd (h.stops (runs_begin _ next (run-more h.front h.token b.0 next b.1 p))))
         (λ q p. ap (read depth room text start) h.split ∙ read-run h.front (h.token ∷ h.rest) start b.0 b.1 ∙ read-stuck b.0 h.token h.rest p ∙ ap (λ n. Err n) (sym h.line_is)) refl
 

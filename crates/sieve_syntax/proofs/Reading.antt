@@ -2,22 +2,22 @@
 use Rattle.std.proofs.Common.{◌≡◌, ℕ, zero, suc, ◌+◌, ◌<◌, true, false, if◌then◌else◌, List, [], ◌∷◌, ◌++◌, length, Option, Some, None, refl, sym, ap, ◌∙◌, arith, append_assoc, append-nil}
 use Rattle.std.proofs.lemmas.Bool.{lt-ltb}
 use Rattle.sieve_syntax.specs.Tree.{Text, Argument, strings, number, tag, Test, test, Tests, no_tests, one_test, test_list, TestList, end_tests, more_tests, tests, test_items, Node, node, Block, no_block, block, Nodes, end_nodes, more_nodes, nodes, items}
-use Rattle.sieve_syntax.specs.Word.{Word, identifier, semicolon, open_brace, close_brace, open_parenthesis, close_parenthesis, close_bracket, comma}
+use Rattle.sieve_syntax.specs.Symbol.{Symbol, identifier, semicolon, open_brace, close_brace, open_parenthesis, close_parenthesis, close_bracket, comma}
 use Rattle.sieve_syntax.specs.Grammar.{written_more, written_argument, written_arguments, written_test, written_tests, written_test_list, written_test_rest, written_node, written_block, written_nodes, IsArgument, AreArguments, NestsTest, NestsTests, NestsTestList, NestsNode, NestsBlock, NestsNodes}
 use Rattle.sieve_syntax.specs.Machine.{Head, Level, for_one, for_list, Outer, ParserState, between, in_arguments, after_string, before_test, after_tests, bare_head, with_argument, test_with, node_with, after_node, inside_block, after_command, after_listed, close, close_block, step}
 
--- the state after these words
-unfoldable pub run : ℕ → ℕ → ParserState → List Word → Option ParserState
+-- the state after these symbols
+unfoldable pub run : ℕ → ℕ → ParserState → List Symbol → Option ParserState
 run depth room s [] = Some s
 run depth room s (w ∷ ws) = elim (step depth room s w) [ Some next ↦ run depth room next ws | None ↦ None ]
 
--- the state after these words, the first of which ends a command or a test
-unfoldable pub closed : ℕ → ℕ → Outer → List Level → Head → Tests → List Word → Option ParserState
+-- the state after these symbols, the first of which ends a command or a test
+unfoldable pub closed : ℕ → ℕ → Outer → List Level → Head → Tests → List Symbol → Option ParserState
 closed depth room o ls h ts [] = None
 closed depth room o ls h ts (w ∷ ws) = elim (close room o ls h ts w) [ Some next ↦ run depth room next ws | None ↦ None ]
 
--- words that begin with one that may end a command or a test
-abbrev pub EndsFirst : List Word → Type 0
+-- symbols that begin with one that may end a command or a test
+abbrev pub EndsFirst : List Symbol → Type 0
 EndsFirst [] = ⊥
 EndsFirst (semicolon ∷ ws) = Unit {0}
 EndsFirst (open_brace ∷ ws) = Unit {0}
@@ -41,13 +41,13 @@ abbrev with_arguments : Head → List Argument → Head
 with_arguments h more = record { name = h.name; line = h.line; args = h.args ++ more }
 
 module _ (depth room : ℕ) where
-  read_more : (o : Outer) (ls : List Level) (h : Head) (before more : List Text) (ws : List Word) → run depth room (after_string o ls h before) (written_more more ++ close_bracket ∷ ws) ≡ run depth room (in_arguments o ls (with_argument h (strings (before ++ more) true))) ws
+  read_more : (o : Outer) (ls : List Level) (h : Head) (before more : List Text) (ws : List Symbol) → run depth room (after_string o ls h before) (written_more more ++ close_bracket ∷ ws) ≡ run depth room (in_arguments o ls (with_argument h (strings (before ++ more) true))) ws
   unfolding run step
   read_more o ls h before [] ws = ap (λ xs. run depth room (in_arguments o ls (with_argument h (strings xs true))) ws) (sym (append-nil before))
   read_more o ls h before (t ∷ ts) ws =
       read_more o ls h (before ++ t ∷ []) ts ws ∙ ap (λ xs. run depth room (in_arguments o ls (with_argument h (strings xs true))) ws) (append_assoc before (t ∷ []) ts)
 
-  read_argument : (o : Outer) (ls : List Level) (h : Head) (a : Argument) (ws : List Word) → IsArgument a → run depth room (in_arguments o ls h) (written_argument a ++ ws) ≡ run depth room (in_arguments o ls (with_argument h a)) ws
+  read_argument : (o : Outer) (ls : List Level) (h : Head) (a : Argument) (ws : List Symbol) → IsArgument a → run depth room (in_arguments o ls h) (written_argument a ++ ws) ≡ run depth room (in_arguments o ls (with_argument h a)) ws
   unfolding run step
   read_argument o ls h (strings [] true) ws is = absurd is
   read_argument o ls h (strings [] false) ws is = absurd is
@@ -59,7 +59,7 @@ module _ (depth room : ℕ) where
   read_argument o ls h (number value line) ws is = refl
   read_argument o ls h (tag name line) ws is = refl
 
-  read_arguments : (o : Outer) (ls : List Level) (h : Head) (more : List Argument) (ws : List Word) → AreArguments more → run depth room (in_arguments o ls h) (written_arguments more ++ ws) ≡ run depth room (in_arguments o ls (with_arguments h more)) ws
+  read_arguments : (o : Outer) (ls : List Level) (h : Head) (more : List Argument) (ws : List Symbol) → AreArguments more → run depth room (in_arguments o ls h) (written_arguments more ++ ws) ≡ run depth room (in_arguments o ls (with_arguments h more)) ws
   read_arguments o ls h [] ws are = ap (λ xs. run depth room (in_arguments o ls (record { name = h.name; line = h.line; args = xs })) ws) (sym (append-nil h.args))
   read_arguments o ls h (a ∷ more) ws are =
       ap (run depth room (in_arguments o ls h)) (append_assoc (written_argument a) (written_arguments more) ws)
@@ -68,7 +68,7 @@ module _ (depth room : ℕ) where
       ∙ ap (λ xs. run depth room (in_arguments o ls (record { name = h.name; line = h.line; args = xs })) ws) (append_assoc h.args (a ∷ []) more)
 
   -- an identifier and its arguments, where a test may stand
-  pub read_no_tests : (o : Outer) (ls : List Level) (h : Head) (ws : List Word) → EndsFirst ws → run depth room (in_arguments o ls h) ws ≡ closed depth room o ls h no_tests ws
+  pub read_no_tests : (o : Outer) (ls : List Level) (h : Head) (ws : List Symbol) → EndsFirst ws → run depth room (in_arguments o ls h) ws ≡ closed depth room o ls h no_tests ws
   unfolding run step closed
   read_no_tests o ls h [] ends = absurd ends
   read_no_tests o ls h (semicolon ∷ ws) ends = refl
@@ -77,43 +77,43 @@ module _ (depth room : ℕ) where
   read_no_tests o ls h (close_parenthesis ∷ ws) ends = refl
   read_no_tests o ls h (_ ∷ ws) ends = absurd ends
 
-  pub closed_one : (o : Outer) (ls : List Level) (g h : Head) (ts : Tests) (ws : List Word) → closed depth room o (for_one g ∷ ls) h ts ws ≡ closed depth room o ls g (one_test (test_with h ts)) ws
+  pub closed_one : (o : Outer) (ls : List Level) (g h : Head) (ts : Tests) (ws : List Symbol) → closed depth room o (for_one g ∷ ls) h ts ws ≡ closed depth room o ls g (one_test (test_with h ts)) ws
   unfolding closed close after_command after_listed
   closed_one o ls g h ts [] = refl
   closed_one o ls g h ts (w ∷ ws) = refl
 
   -- into a test
-  enter_one : (o : Outer) (ls : List Level) (h : Head) (name : List ℕ) (line : ℕ) (ws : List Word) → length ls < depth → run depth room (in_arguments o ls h) (identifier name line ∷ ws) ≡ run depth room (in_arguments o (for_one h ∷ ls) (bare_head name line)) ws
+  enter_one : (o : Outer) (ls : List Level) (h : Head) (name : List ℕ) (line : ℕ) (ws : List Symbol) → length ls < depth → run depth room (in_arguments o ls h) (identifier name line ∷ ws) ≡ run depth room (in_arguments o (for_one h ∷ ls) (bare_head name line)) ws
   unfolding run step
   enter_one o ls h name line ws fits =
       ap (λ b. elim (if b then Some (in_arguments o (for_one h ∷ ls) (bare_head name line)) else None) as (λ x. Option ParserState) [ Some next ↦ run depth room next ws | None ↦ None ]) (lt-ltb (length ls) depth fits)
 
   -- into a list of tests
-  enter_list : (o : Outer) (ls : List Level) (h : Head) (ws : List Word) → length ls < depth → run depth room (in_arguments o ls h) (open_parenthesis ∷ ws) ≡ run depth room (before_test o (for_list h [] ∷ ls)) ws
+  enter_list : (o : Outer) (ls : List Level) (h : Head) (ws : List Symbol) → length ls < depth → run depth room (in_arguments o ls h) (open_parenthesis ∷ ws) ≡ run depth room (before_test o (for_list h [] ∷ ls)) ws
   unfolding run step
   enter_list o ls h ws fits =
       ap (λ b. elim (if b then Some (before_test o (for_list h [] ∷ ls)) else None) as (λ x. Option ParserState) [ Some next ↦ run depth room next ws | None ↦ None ]) (lt-ltb (length ls) depth fits)
 
-  pub after_list : (o : Outer) (ls : List Level) (h g : Head) (before : List Test) (ts : Tests) (ws : List Word) →
+  pub after_list : (o : Outer) (ls : List Level) (h g : Head) (before : List Test) (ts : Tests) (ws : List Symbol) →
       closed depth room o (for_list h before ∷ ls) g ts (close_parenthesis ∷ ws) ≡ run depth room (after_tests o ls h (test_list (tests (before ++ test_with g ts ∷ [])))) ws
   unfolding closed close after_command after_listed
   after_list o ls h g before ts ws = refl
 
-  next_in_list : (o : Outer) (ls : List Level) (h g : Head) (before : List Test) (ts : Tests) (name : List ℕ) (line : ℕ) (ws : List Word) →
+  next_in_list : (o : Outer) (ls : List Level) (h g : Head) (before : List Test) (ts : Tests) (name : List ℕ) (line : ℕ) (ws : List Symbol) →
       closed depth room o (for_list h before ∷ ls) g ts (comma ∷ identifier name line ∷ ws) ≡ run depth room (in_arguments o (for_list h (before ++ test_with g ts ∷ []) ∷ ls) (bare_head name line)) ws
   unfolding closed close after_command after_listed run step
   next_in_list o ls h g before ts name line ws = refl
 
-  first_in_list : (o : Outer) (ls : List Level) (name : List ℕ) (line : ℕ) (ws : List Word) → run depth room (before_test o ls) (identifier name line ∷ ws) ≡ run depth room (in_arguments o ls (bare_head name line)) ws
+  first_in_list : (o : Outer) (ls : List Level) (name : List ℕ) (line : ℕ) (ws : List Symbol) → run depth room (before_test o ls) (identifier name line ∷ ws) ≡ run depth room (in_arguments o ls (bare_head name line)) ws
   unfolding run step
   first_in_list o ls name line ws = refl
 
-  pub end_list : (o : Outer) (ls : List Level) (h : Head) (ts : Tests) (ws : List Word) → EndsFirst ws → run depth room (after_tests o ls h ts) ws ≡ closed depth room o ls h ts ws
+  pub end_list : (o : Outer) (ls : List Level) (h : Head) (ts : Tests) (ws : List Symbol) → EndsFirst ws → run depth room (after_tests o ls h ts) ws ≡ closed depth room o ls h ts ws
   unfolding run step closed
   end_list o ls h ts [] ends = absurd ends
   end_list o ls h ts (w ∷ ws) ends = refl
 
-  rest_ends : (ts : TestList) (ws : List Word) → EndsFirst (written_test_rest ts ++ ws)
+  rest_ends : (ts : TestList) (ws : List Symbol) → EndsFirst (written_test_rest ts ++ ws)
   unfolding written_test_rest
   rest_ends end_tests ws = tt
   rest_ends (more_tests t ts) ws = tt
@@ -121,7 +121,7 @@ module _ (depth room : ℕ) where
   mutual
     unfolding written_tests written_test written_test_list written_test_rest NestsTests NestsTest NestsTestList
 
-    read_tests : (ts : Tests) (o : Outer) (ls : List Level) (h : Head) (ws : List Word) (d : ℕ) → NestsTests ts d → d + length ls ≡ depth → EndsFirst ws → run depth room (in_arguments o ls h) (written_tests ts ++ ws) ≡ closed depth room o ls h ts ws
+    read_tests : (ts : Tests) (o : Outer) (ls : List Level) (h : Head) (ws : List Symbol) (d : ℕ) → NestsTests ts d → d + length ls ≡ depth → EndsFirst ws → run depth room (in_arguments o ls h) (written_tests ts ++ ws) ≡ closed depth room o ls h ts ws
     read_tests no_tests o ls h ws d nests left ends = read_no_tests o ls h ws ends
     read_tests (one_test (test n l as' ts)) o ls h ws zero nests left ends = absurd nests
     read_tests (one_test (test n l as' ts)) o ls h ws (suc d) nests left ends =
@@ -142,7 +142,7 @@ module _ (depth room : ℕ) where
         ∙ read_rest more o ls h g ts [] ws d nests.1 (omega arith) ends
         ∙ ap (λ x. closed depth room o ls h (test_list (more_tests (test n l as' ts) x)) ws) (tests-items more)
 
-    read_rest : (more : TestList) (o : Outer) (ls : List Level) (h g : Head) (ts : Tests) (before : List Test) (ws : List Word) (d : ℕ) → NestsTestList more d → suc (d + length ls) ≡ depth → EndsFirst ws →
+    read_rest : (more : TestList) (o : Outer) (ls : List Level) (h g : Head) (ts : Tests) (before : List Test) (ws : List Symbol) (d : ℕ) → NestsTestList more d → suc (d + length ls) ≡ depth → EndsFirst ws →
         closed depth room o (for_list h before ∷ ls) g ts (written_test_rest more ++ ws) ≡ closed depth room o ls h (test_list (tests (before ++ test_with g ts ∷ test_items more))) ws
     read_rest end_tests o ls h g ts before ws d nests left ends =
         after_list o ls h g before ts ws ∙ end_list o ls h (test_list (tests (before ++ test_with g ts ∷ []))) ws ends
@@ -158,33 +158,33 @@ module _ (depth room : ℕ) where
 
   -- COMMANDS
 
-  block_ends : (b : Block) (ws : List Word) → EndsFirst (written_block b ++ ws)
+  block_ends : (b : Block) (ws : List Symbol) → EndsFirst (written_block b ++ ws)
   unfolding written_block
   block_ends no_block ws = tt
   block_ends (block ns) ws = tt
 
-  pub end_node : (o : Outer) (h : Head) (ts : Tests) (ws : List Word) → closed depth room o [] h ts (semicolon ∷ ws) ≡ run depth room (between (after_node o (node_with h ts no_block))) ws
+  pub end_node : (o : Outer) (h : Head) (ts : Tests) (ws : List Symbol) → closed depth room o [] h ts (semicolon ∷ ws) ≡ run depth room (between (after_node o (node_with h ts no_block))) ws
   unfolding closed close after_command after_listed
   end_node o h ts ws = refl
 
-  enter_block : (o : Outer) (h : Head) (ts : Tests) (ws : List Word) → length o.blocks < room → closed depth room o [] h ts (open_brace ∷ ws) ≡ run depth room (between (inside_block o h ts)) ws
+  enter_block : (o : Outer) (h : Head) (ts : Tests) (ws : List Symbol) → length o.blocks < room → closed depth room o [] h ts (open_brace ∷ ws) ≡ run depth room (between (inside_block o h ts)) ws
   unfolding closed close after_command after_listed
   enter_block o h ts ws fits =
       ap (λ b. elim (if b then Some (between (inside_block o h ts)) else None) as (λ x. Option ParserState) [ Some next ↦ run depth room next ws | None ↦ None ]) (lt-ltb (length o.blocks) room fits)
 
-  leave_block : (o : Outer) (h : Head) (ts : Tests) (done : List Node) (ws : List Word) →
+  leave_block : (o : Outer) (h : Head) (ts : Tests) (done : List Node) (ws : List Symbol) →
       run depth room (between (record { blocks = record { done = o.done; head = h; tests = ts } ∷ o.blocks; done = done })) (close_brace ∷ ws) ≡ run depth room (between (after_node o (node_with h ts (block (nodes done))))) ws
   unfolding run step close_block
   leave_block o h ts done ws = refl
 
-  enter_node : (o : Outer) (name : List ℕ) (line : ℕ) (ws : List Word) → run depth room (between o) (identifier name line ∷ ws) ≡ run depth room (in_arguments o [] (bare_head name line)) ws
+  enter_node : (o : Outer) (name : List ℕ) (line : ℕ) (ws : List Symbol) → run depth room (between o) (identifier name line ∷ ws) ≡ run depth room (in_arguments o [] (bare_head name line)) ws
   unfolding run step
   enter_node o name line ws = refl
 
   mutual
     unfolding written_node written_block written_nodes NestsNode NestsBlock NestsNodes
 
-    read_node : (n : Node) (o : Outer) (ws : List Word) (r : ℕ) → NestsNode depth n r → r + length o.blocks ≡ room → run depth room (between o) (written_node n ++ ws) ≡ run depth room (between (after_node o n)) ws
+    read_node : (n : Node) (o : Outer) (ws : List Symbol) (r : ℕ) → NestsNode depth n r → r + length o.blocks ≡ room → run depth room (between o) (written_node n ++ ws) ≡ run depth room (between (after_node o n)) ws
     read_node (node n l as' ts ending) o ws r nests left =
         let h : Head = record { name = n; line = l; args = as' } in
         enter_node o n l ((written_arguments as' ++ written_tests ts ++ written_block ending) ++ ws)
@@ -193,7 +193,7 @@ module _ (depth room : ℕ) where
         ∙ read_tests ts o [] h (written_block ending ++ ws) depth nests.1 (omega arith) (block_ends ending ws)
         ∙ read_block ending o h ts ws r nests.2 left
 
-    read_block : (b : Block) (o : Outer) (h : Head) (ts : Tests) (ws : List Word) (r : ℕ) → NestsBlock depth b r → r + length o.blocks ≡ room → closed depth room o [] h ts (written_block b ++ ws) ≡ run depth room (between (after_node o (node_with h ts b))) ws
+    read_block : (b : Block) (o : Outer) (h : Head) (ts : Tests) (ws : List Symbol) (r : ℕ) → NestsBlock depth b r → r + length o.blocks ≡ room → closed depth room o [] h ts (written_block b ++ ws) ≡ run depth room (between (after_node o (node_with h ts b))) ws
     read_block no_block o h ts ws r nests left = end_node o h ts ws
     read_block (block ns) o h ts ws zero nests left = absurd nests
     read_block (block ns) o h ts ws (suc r) nests left =
@@ -203,7 +203,7 @@ module _ (depth room : ℕ) where
         ∙ leave_block o h ts (items ns) ws
         ∙ ap (λ x. run depth room (between (after_node o (node_with h ts (block x)))) ws) (nodes-items ns)
 
-    pub read_nodes : (ns : Nodes) (o : Outer) (ws : List Word) (r : ℕ) → NestsNodes depth ns r → r + length o.blocks ≡ room → run depth room (between o) (written_nodes ns ++ ws) ≡ run depth room (between (record { blocks = o.blocks; done = o.done ++ items ns })) ws
+    pub read_nodes : (ns : Nodes) (o : Outer) (ws : List Symbol) (r : ℕ) → NestsNodes depth ns r → r + length o.blocks ≡ room → run depth room (between o) (written_nodes ns ++ ws) ≡ run depth room (between (record { blocks = o.blocks; done = o.done ++ items ns })) ws
     read_nodes end_nodes o ws r nests left = ap (λ x. run depth room (between (record { blocks = o.blocks; done = x })) ws) (sym (append-nil o.done))
     read_nodes (more_nodes n ns) o ws r nests left =
         ap (run depth room (between o)) (append_assoc (written_node n) (written_nodes ns) ws)

@@ -8,13 +8,13 @@ use Rattle.sieve_base.specs.Limits.{test_depth, block_room}
 use Rattle.sieve_syntax.specs.Syntax.{syntax_of}
 use Rattle.sieve_syntax.specs.Token.{line_at, SpellsFrom}
 use Rattle.sieve_syntax.specs.Tree.{Node}
-use Rattle.sieve_syntax.specs.Word.{word_of}
+use Rattle.sieve_syntax.specs.Symbol.{symbol_of}
 use Rattle.sieve_syntax.specs.declared.cursor.Cursor.{Cursor}
 use Rattle.sieve_syntax.specs.declared.parser.SyntaxFault.{SyntaxFault}
 use Rattle.sieve_syntax.specs.declared.parser.SyntaxFault.TheVariants.{Syntax, TooLarge, NoMemory}
 use Rattle.sieve_syntax.specs.declared.token.Token.{Token}
 use Rattle.sieve_syntax.specs.declared.reader.Outer as outers
-use Rattle.sieve_syntax.specs.declared.tree.Script as scripts
+use Rattle.sieve_syntax.specs.declared.tree.ParsedScript as scripts
 use Rattle.sieve_syntax.proofs.Spelling.{tokens_of_spell, some_tokens, unique}
 
 -- whatever tokens spell the rest of the text, from this state they give what the text means
@@ -25,11 +25,11 @@ pub start_means : (text : List ℕ) → Means text start 0
 unfolding syntax_of
 start_means text more h = ap (read test_depth block_room text start) (unique text more (tokens_of text) h (tokens_of_spell text))
 
-read-next : (text : List ℕ) (s next : ParserState) (token : Token) (more : List Token) → step test_depth block_room s (word_of text token) ≡ Some next → read test_depth block_room text s (token ∷ more) ≡ read test_depth block_room text next more
+read-next : (text : List ℕ) (s next : ParserState) (token : Token) (more : List Token) → step test_depth block_room s (symbol_of text token) ≡ Some next → read test_depth block_room text s (token ∷ more) ≡ read test_depth block_room text next more
 unfolding read
 read-next text s next token more e = ap (λ o. elim o as (λ z. Result (List Node) ℕ) [ Some n ↦ read test_depth block_room text n more | None ↦ Err token.line ]) e
 
-read-stop : (text : List ℕ) (s : ParserState) (token : Token) (more : List Token) → step test_depth block_room s (word_of text token) ≡ None → read test_depth block_room text s (token ∷ more) ≡ Err token.line
+read-stop : (text : List ℕ) (s : ParserState) (token : Token) (more : List Token) → step test_depth block_room s (symbol_of text token) ≡ None → read test_depth block_room text s (token ∷ more) ≡ Err token.line
 unfolding read
 read-stop text s token more e = ap (λ o. elim o as (λ z. Result (List Node) ℕ) [ Some n ↦ read test_depth block_room text n more | None ↦ Err token.line ]) e
 
@@ -38,11 +38,11 @@ unfolding read
 read-end text s o e = ap (λ x. elim x as (λ z. Result (List Node) ℕ) [ Some tree ↦ Ok tree | None ↦ Err (line_at text (length text)) ]) e
 
 -- a token that is taken goes on
-pub next_means : (text : List ℕ) (s next : ParserState) (place : ℕ) (token : Token) (behind : Cursor) → IsNext text place token behind → step test_depth block_room s (word_of text token) ≡ Some next → Means text s place → Means text next behind.place
+pub next_means : (text : List ℕ) (s next : ParserState) (place : ℕ) (token : Token) (behind : Cursor) → IsNext text place token behind → step test_depth block_room s (symbol_of text token) ≡ Some next → Means text s place → Means text next behind.place
 next_means text s next place token behind is e so more h = sym (read-next text s next token more e) ∙ so (token ∷ more) (is.goes more h)
 
 -- a token that isn't taken is the fault
-pub stop_means : (text : List ℕ) (s : ParserState) (place : ℕ) (token : Token) (behind : Cursor) (fault : SyntaxFault) (o : outers.Outer) → IsNext text place token behind → Goes o (Err fault) (step test_depth block_room s (word_of text token)) token.line → Means text s place → Parses (Err fault) (syntax_of text)
+pub stop_means : (text : List ℕ) (s : ParserState) (place : ℕ) (token : Token) (behind : Cursor) (fault : SyntaxFault) (o : outers.Outer) → IsNext text place token behind → Goes o (Err fault) (step test_depth block_room s (symbol_of text token)) token.line → Means text s place → Parses (Err fault) (syntax_of text)
 stop_means text s place token behind (Syntax line) o is h so =
     let more = some_tokens text behind.place is.is.within in
     sym (so (token ∷ more.0) (is.goes more.0 more.1)) ∙ read-stop text s token more.0 h.0 ∙ ap (λ n. Err n) (sym h.1)
@@ -50,7 +50,7 @@ stop_means text s place token behind TooLarge o is h so = absurd h
 stop_means text s place token behind NoMemory o is h so = tt
 
 -- the end
-pub end_means : (text : List ℕ) (s : ParserState) (place : ℕ) (r : Result scripts.Script SyntaxFault) → SpellsFrom text place [] → Means text s place → Finishes r (whole s) (line_at text (length text)) → Parses r (syntax_of text)
+pub end_means : (text : List ℕ) (s : ParserState) (place : ℕ) (r : Result scripts.ParsedScript SyntaxFault) → SpellsFrom text place [] → Means text s place → Finishes r (whole s) (line_at text (length text)) → Parses r (syntax_of text)
 end_means text s place (Ok script) h so e = sym (so [] h) ∙ read-end text s _ e
 end_means text s place (Err (Syntax line)) h so e = sym (so [] h) ∙ read-end text s None e.0 ∙ ap (λ n. Err n) (sym e.1)
 end_means text s place (Err TooLarge) h so e = absurd e

@@ -81,21 +81,21 @@ pub one_more : (o : Option ℕ) (n : ℕ) → option_map suc o ≡ Some n → (m
 one_more (Some m) n e = (m, refl, cc)
 one_more None n e = cc
 
-ends_backslash : (c : ℕ) (word : List ℕ) → (c == 92) ≡ true → ends_quoted (c ∷ word) ≡ ends_protected word
+ends_backslash : (c : ℕ) (symbol : List ℕ) → (c == 92) ≡ true → ends_quoted (c ∷ symbol) ≡ ends_protected symbol
 unfolding ends_quoted
-ends_backslash c word e = ap (λ b. if b then ends_protected word else (if c == 34 then is_none word else ends_quoted word)) e
+ends_backslash c symbol e = ap (λ b. if b then ends_protected symbol else (if c == 34 then is_none symbol else ends_quoted symbol)) e
 
-ends_mark : (c : ℕ) (word : List ℕ) → (c == 92) ≡ false → (c == 34) ≡ true → ends_quoted (c ∷ word) ≡ is_none word
+ends_mark : (c : ℕ) (symbol : List ℕ) → (c == 92) ≡ false → (c == 34) ≡ true → ends_quoted (c ∷ symbol) ≡ is_none symbol
 unfolding ends_quoted
-ends_mark c word e f =
-    ap (λ b. if b then ends_protected word else (if c == 34 then is_none word else ends_quoted word)) e
-    ∙ ap (λ b. if b then is_none word else ends_quoted word) f
+ends_mark c symbol e f =
+    ap (λ b. if b then ends_protected symbol else (if c == 34 then is_none symbol else ends_quoted symbol)) e
+    ∙ ap (λ b. if b then is_none symbol else ends_quoted symbol) f
 
-ends_plain : (c : ℕ) (word : List ℕ) → (c == 92) ≡ false → (c == 34) ≡ false → ends_quoted (c ∷ word) ≡ ends_quoted word
+ends_plain : (c : ℕ) (symbol : List ℕ) → (c == 92) ≡ false → (c == 34) ≡ false → ends_quoted (c ∷ symbol) ≡ ends_quoted symbol
 unfolding ends_quoted
-ends_plain c word e f =
-    ap (λ b. if b then ends_protected word else (if c == 34 then is_none word else ends_quoted word)) e
-    ∙ ap (λ b. if b then is_none word else ends_quoted word) f
+ends_plain c symbol e f =
+    ap (λ b. if b then ends_protected symbol else (if c == 34 then is_none symbol else ends_quoted symbol)) e
+    ∙ ap (λ b. if b then is_none symbol else ends_quoted symbol) f
 
 mutual
   unfolding quoted_length ends_quoted

@@ -32,7 +32,7 @@ longest-made text place found h e =
     let len = length-drop place text in
     record {
       inside = omega (arith, f.inside);
-      spelled = subst (λ word. IsTrue (spells found.0 word)) (sym (range-take text place found.1)) (f.spelled);
+      spelled = subst (λ symbol. IsTrue (spells found.0 symbol)) (sym (range-take text place found.1)) (f.spelled);
       longest = λ kind end within spelled.
           let most : IsAtMost (drop place text) kind (end - place) = longest_at-most (drop place text) kind (end - place) (omega arith) spelled in
           let same : most.found ≡ found = let i = most.is in cc in
@@ -138,7 +138,7 @@ longest-there text token h =
     let bound = most.most in
     let reach : token.start + most.found.1 ≤ token.end =
     h.longest most.found.0 (token.start + most.found.1) (omega arith)
-    (subst (λ word. IsTrue (spells most.found.0 word)) (sym (range-take text token.start most.found.1)) f.spelled) in
+    (subst (λ symbol. IsTrue (spells most.found.0 symbol)) (sym (range-take text token.start most.found.1)) f.spelled) in
     let same : m ≡ most.found.1 = omega arith in
     record {
       found = found_is (longest_at rest) token.kind most.found.0 m most.found.1 most.is (most.only same) same;

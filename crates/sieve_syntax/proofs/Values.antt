@@ -36,8 +36,8 @@ number_grows (c ∷ cs) n =
     times : (a b : ℕ) → 1 ≤ b → a ≤ a * b
     times a b h = grind arith
 
-pub number_fits : (word : List ℕ) (n : ℕ) → number_from 0 word ≡ n → n < 2 ^ 64 → number_of word ≡ Some n
-number_fits word n e h =
+pub number_fits : (symbol : List ℕ) (n : ℕ) → number_from 0 symbol ≡ n → n < 2 ^ 64 → number_of symbol ≡ Some n
+number_fits symbol n e h =
     ap (λ k. if nat_lt k (2 ^ 64) then Some k else None) e
     ∙ ap (λ b. if b then Some n else None) (lt-ltb n (2 ^ 64) h)
 
@@ -75,7 +75,7 @@ kept-end xs i true h = at_drop_all first_kept xs i h
 kept-end xs i false h = at_drop_all unprotected xs i h
 
 -- a quoted string of fewer than two octets
-pub no_octets : (word : List ℕ) → length word < 2 → quoted_octets word ≡ []
+pub no_octets : (symbol : List ℕ) → length symbol < 2 → quoted_octets symbol ≡ []
 unfolding quoted_octets unprotected with_cr
 no_octets [] h = refl
 no_octets (c ∷ []) h = refl
@@ -91,15 +91,15 @@ plain_kept (c ∷ cs) after_cr e =
     ∙ ap (λ b. if b then first_kept (with_cr (c == 13) cs) else c ∷ unprotected (with_cr (c == 13) cs)) (nor_right (c == 10) (c == 92) here)
     ∙ ap (λ x. c ∷ x) (plain_kept cs (c == 13) (nor_right (is_changed c) (list_any is_changed cs) e))
 
-pub plain_string : (word : List ℕ) → list_any is_changed (slice_range word 1 (length word - 1)) ≡ false → quoted_octets word ≡ slice_range word 1 (length word - 1)
+pub plain_string : (symbol : List ℕ) → list_any is_changed (slice_range symbol 1 (length symbol - 1)) ≡ false → quoted_octets symbol ≡ slice_range symbol 1 (length symbol - 1)
 unfolding quoted_octets
-plain_string word e = plain_kept (slice_range word 1 (length word - 1)) false e
+plain_string symbol e = plain_kept (slice_range symbol 1 (length symbol - 1)) false e
 
 pub ruleset quoted_steps = (no_octets, plain_string)
 
 -- LINES
 
-pub dot_lines-first : (word : List ℕ) → multi_line_octets word ≡ dot_lines (lines_of (drop (line_length word) word))
+pub dot_lines-first : (symbol : List ℕ) → multi_line_octets symbol ≡ dot_lines (lines_of (drop (line_length symbol) symbol))
 unfolding multi_line_octets dot_lines line_length
 dot_lines-first [] = ap (λ ls. dot_lines (drop 1 ls)) lines_none ∙ sym (ap dot_lines lines_none)
 dot_lines-first (c ∷ cs) = ap (λ ls. dot_lines (drop 1 ls)) (lines_some (c ∷ cs) (omega arith))
@@ -123,33 +123,33 @@ dot_lines-end xs i h = ap (λ l. dot_lines (lines_of l)) (drop_all i xs h) ∙ a
 pub ruleset line_steps = (dot_lines-first)
 
 -- the first line from a place on, as the program takes it
-first_line : (word : List ℕ) (place k : ℕ) → k ≡ line_length (take (length word - place) (drop place word)) → (k ≡ line_length (drop place word)) × (take ((place + k) - place) (drop place word) ≡ take (line_length (drop place word)) (drop place word))
-first_line word place k e =
-    let same : k ≡ line_length (drop place word) = e ∙ ap line_length (take_rest word place) in
+first_line : (symbol : List ℕ) (place k : ℕ) → k ≡ line_length (take (length symbol - place) (drop place symbol)) → (k ≡ line_length (drop place symbol)) × (take ((place + k) - place) (drop place symbol) ≡ take (line_length (drop place symbol)) (drop place symbol))
+first_line symbol place k e =
+    let same : k ≡ line_length (drop place symbol) = e ∙ ap line_length (take_rest symbol place) in
     let less : (place + k) - place ≡ k = omega arith in
-    (same, ap (λ n. take n (drop place word)) (less ∙ same))
+    (same, ap (λ n. take n (drop place symbol)) (less ∙ same))
 
-pub joins_stop : (word out all : List ℕ) (place k : ℕ) → place < length word → k ≡ line_length (take (length word - place) (drop place word)) → is_dot_line (take ((place + k) - place) (drop place word)) ≡ true
-    → out ++ dot_lines (lines_of (drop place word)) ≡ all → out ≡ all
-joins_stop word out all place k less e dot joined =
-    let line = first_line word place k e in
-    let is_dot : is_dot_line (take (line_length (drop place word)) (drop place word)) ≡ true = sym (ap is_dot_line line.1) ∙ dot in
-    let none : dot_lines (lines_of (drop place word)) ≡ [] = dot_lines-more word place less ∙ ap (λ b. if b then [] else with_cr false (without_dot (take (line_length (drop place word)) (drop place word))) ++ dot_lines (lines_of (drop (place + line_length (drop place word)) word))) is_dot in
+pub joins_stop : (symbol out all : List ℕ) (place k : ℕ) → place < length symbol → k ≡ line_length (take (length symbol - place) (drop place symbol)) → is_dot_line (take ((place + k) - place) (drop place symbol)) ≡ true
+    → out ++ dot_lines (lines_of (drop place symbol)) ≡ all → out ≡ all
+joins_stop symbol out all place k less e dot joined =
+    let line = first_line symbol place k e in
+    let is_dot : is_dot_line (take (line_length (drop place symbol)) (drop place symbol)) ≡ true = sym (ap is_dot_line line.1) ∙ dot in
+    let none : dot_lines (lines_of (drop place symbol)) ≡ [] = dot_lines-more symbol place less ∙ ap (λ b. if b then [] else with_cr false (without_dot (take (line_length (drop place symbol)) (drop place symbol))) ++ dot_lines (lines_of (drop (place + line_length (drop place symbol)) symbol))) is_dot in
     sym (append-nil out) ∙ ap (λ x. out ++ x) (sym none) ∙ joined
 
-pub joins_on : (word out after all : List ℕ) (place k : ℕ) → place < length word → k ≡ line_length (take (length word - place) (drop place word)) → is_dot_line (take ((place + k) - place) (drop place word)) ≡ false
-    → after ≡ out ++ with_cr false (without_dot (take ((place + k) - place) (drop place word)))
-    → out ++ dot_lines (lines_of (drop place word)) ≡ all → after ++ dot_lines (lines_of (drop (place + k) word)) ≡ all
-joins_on word out after all place k less e dot is joined =
-    let line = first_line word place k e in
-    let text = with_cr false (without_dot (take (line_length (drop place word)) (drop place word))) in
-    let is_dot : is_dot_line (take (line_length (drop place word)) (drop place word)) ≡ false = sym (ap is_dot_line line.1) ∙ dot in
-    let more : dot_lines (lines_of (drop place word)) ≡ text ++ dot_lines (lines_of (drop (place + line_length (drop place word)) word)) =
-    dot_lines-more word place less ∙ ap (λ b. if b then [] else text ++ dot_lines (lines_of (drop (place + line_length (drop place word)) word))) is_dot in
-    ap (λ x. x ++ dot_lines (lines_of (drop (place + k) word))) (is ∙ ap (λ x. out ++ with_cr false (without_dot x)) line.1)
-    ∙ ap (λ n. (out ++ text) ++ dot_lines (lines_of (drop (place + n) word))) line.0
-    ∙ append_assoc out text (dot_lines (lines_of (drop (place + line_length (drop place word)) word)))
+pub joins_on : (symbol out after all : List ℕ) (place k : ℕ) → place < length symbol → k ≡ line_length (take (length symbol - place) (drop place symbol)) → is_dot_line (take ((place + k) - place) (drop place symbol)) ≡ false
+    → after ≡ out ++ with_cr false (without_dot (take ((place + k) - place) (drop place symbol)))
+    → out ++ dot_lines (lines_of (drop place symbol)) ≡ all → after ++ dot_lines (lines_of (drop (place + k) symbol)) ≡ all
+joins_on symbol out after all place k less e dot is joined =
+    let line = first_line symbol place k e in
+    let text = with_cr false (without_dot (take (line_length (drop place symbol)) (drop place symbol))) in
+    let is_dot : is_dot_line (take (line_length (drop place symbol)) (drop place symbol)) ≡ false = sym (ap is_dot_line line.1) ∙ dot in
+    let more : dot_lines (lines_of (drop place symbol)) ≡ text ++ dot_lines (lines_of (drop (place + line_length (drop place symbol)) symbol)) =
+    dot_lines-more symbol place less ∙ ap (λ b. if b then [] else text ++ dot_lines (lines_of (drop (place + line_length (drop place symbol)) symbol))) is_dot in
+    ap (λ x. x ++ dot_lines (lines_of (drop (place + k) symbol))) (is ∙ ap (λ x. out ++ with_cr false (without_dot x)) line.1)
+    ∙ ap (λ n. (out ++ text) ++ dot_lines (lines_of (drop (place + n) symbol))) line.0
+    ∙ append_assoc out text (dot_lines (lines_of (drop (place + line_length (drop place symbol)) symbol)))
     ∙ ap (λ x. out ++ x) (sym more) ∙ joined
 
-pub joins_end : (word out all : List ℕ) (place : ℕ) → length word ≤ place → out ++ dot_lines (lines_of (drop place word)) ≡ all → out ≡ all
-joins_end word out all place past joined = sym (append-nil out) ∙ ap (λ x. out ++ x) (sym (dot_lines-end word place past)) ∙ joined
+pub joins_end : (symbol out all : List ℕ) (place : ℕ) → length symbol ≤ place → out ++ dot_lines (lines_of (drop place symbol)) ≡ all → out ≡ all
+joins_end symbol out all place past joined = sym (append-nil out) ∙ ap (λ x. out ++ x) (sym (dot_lines-end symbol place past)) ∙ joined

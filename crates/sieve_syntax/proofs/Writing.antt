@@ -3,43 +3,43 @@ use Rattle.std.proofs.Common.{◌≡◌, ℕ, zero, suc, ◌+◌, ◌<◌, true,
 use Rattle.std.proofs.lemmas.Option.{same_Some}
 use Rattle.std.proofs.lemmas.Bool.{ltb-true}
 use Rattle.sieve_syntax.specs.Tree.{Text, Argument, strings, number, tag, Test, Tests, no_tests, one_test, test_list, tests, Node, no_block, block, nodes}
-use Rattle.sieve_syntax.specs.Word.{Word, identifier, tag_word, number_word, string_word, semicolon, open_brace, close_brace, open_parenthesis, close_parenthesis, open_bracket, close_bracket, comma, bad}
+use Rattle.sieve_syntax.specs.Symbol.{Symbol, identifier, tag_symbol, number_symbol, string_symbol, semicolon, open_brace, close_brace, open_parenthesis, close_parenthesis, open_bracket, close_bracket, comma, bad}
 use Rattle.sieve_syntax.specs.Grammar.{written_more, written_texts, written_argument, written_arguments, written_test, written_tests, written_test_list, written_test_rest, written_node, written_block, written_nodes, IsArgument, AreArguments, NestsTest, NestsTests, NestsTestList, NestsNode, NestsBlock, NestsNodes}
 use Rattle.sieve_syntax.specs.Machine.{Head, Level, for_one, for_list, Open, Outer, ParserState, between, in_arguments, before_string, after_string, before_test, after_tests, bare_head, with_argument, test_with, node_with, inside_block, after_command, after_listed, close, close_block, step}
 use Rattle.sieve_syntax.proofs.Cases.{by_cases}
 
 -- THE WORDS READ SO FAR
 
-abbrev head_words : Head → List Word
-head_words h = identifier h.name h.line ∷ written_arguments h.args
+abbrev head_symbols : Head → List Symbol
+head_symbols h = identifier h.name h.line ∷ written_arguments h.args
 
-abbrev tests_before : List Test → List Word
+abbrev tests_before : List Test → List Symbol
 tests_before [] = []
 tests_before (t ∷ ts) = written_test t ++ comma ∷ tests_before ts
 
-abbrev level_words : List Level → List Word
-level_words [] = []
-level_words (for_one g ∷ ls) = level_words ls ++ head_words g
-level_words (for_list g before ∷ ls) = level_words ls ++ (head_words g ++ open_parenthesis ∷ tests_before before)
+abbrev level_symbols : List Level → List Symbol
+level_symbols [] = []
+level_symbols (for_one g ∷ ls) = level_symbols ls ++ head_symbols g
+level_symbols (for_list g before ∷ ls) = level_symbols ls ++ (head_symbols g ++ open_parenthesis ∷ tests_before before)
 
-abbrev block_words : List Open → List Word
-block_words [] = []
-block_words (b ∷ bs) = block_words bs ++ (written_nodes (nodes b.done) ++ (head_words b.head ++ (written_tests b.tests ++ open_brace ∷ [])))
+abbrev block_symbols : List Open → List Symbol
+block_symbols [] = []
+block_symbols (b ∷ bs) = block_symbols bs ++ (written_nodes (nodes b.done) ++ (head_symbols b.head ++ (written_tests b.tests ++ open_brace ∷ [])))
 
-abbrev outer_words : Outer → List Word
-outer_words o = block_words o.blocks ++ written_nodes (nodes o.done)
+abbrev outer_symbols : Outer → List Symbol
+outer_symbols o = block_symbols o.blocks ++ written_nodes (nodes o.done)
 
-abbrev texts_before : List Text → List Word
+abbrev texts_before : List Text → List Symbol
 texts_before [] = []
-texts_before (t ∷ ts) = string_word t.string t.line ∷ comma ∷ texts_before ts
+texts_before (t ∷ ts) = string_symbol t.string t.line ∷ comma ∷ texts_before ts
 
-abbrev pub state_words : ParserState → List Word
-state_words (between o) = outer_words o
-state_words (in_arguments o ls h) = outer_words o ++ (level_words ls ++ head_words h)
-state_words (before_string o ls h before) = outer_words o ++ (level_words ls ++ (head_words h ++ open_bracket ∷ texts_before before))
-state_words (after_string o ls h before) = outer_words o ++ (level_words ls ++ (head_words h ++ open_bracket ∷ written_texts before))
-state_words (before_test o ls) = outer_words o ++ level_words ls
-state_words (after_tests o ls h ts) = outer_words o ++ (level_words ls ++ (head_words h ++ written_tests ts))
+abbrev pub state_symbols : ParserState → List Symbol
+state_symbols (between o) = outer_symbols o
+state_symbols (in_arguments o ls h) = outer_symbols o ++ (level_symbols ls ++ head_symbols h)
+state_symbols (before_string o ls h before) = outer_symbols o ++ (level_symbols ls ++ (head_symbols h ++ open_bracket ∷ texts_before before))
+state_symbols (after_string o ls h before) = outer_symbols o ++ (level_symbols ls ++ (head_symbols h ++ open_bracket ∷ written_texts before))
+state_symbols (before_test o ls) = outer_symbols o ++ level_symbols ls
+state_symbols (after_tests o ls h ts) = outer_symbols o ++ (level_symbols ls ++ (head_symbols h ++ written_tests ts))
 
 -- THE STATES THAT ARE REACHED
 
@@ -83,41 +83,41 @@ IsReached depth room (after_tests o ls h ts) = (is : IsOpen depth room o ls h) �
 
 -- ONE MORE AT THE END
 
-nodes_words : (ns : List Node) (n : Node) → written_nodes (nodes (ns ++ n ∷ [])) ≡ written_nodes (nodes ns) ++ written_node n
+nodes_symbols : (ns : List Node) (n : Node) → written_nodes (nodes (ns ++ n ∷ [])) ≡ written_nodes (nodes ns) ++ written_node n
 unfolding written_nodes
-nodes_words [] n = append-nil (written_node n)
-nodes_words (m ∷ ns) n = ap (λ x. written_node m ++ x) (nodes_words ns n) ∙ sym (append_assoc (written_node m) (written_nodes (nodes ns)) (written_node n))
+nodes_symbols [] n = append-nil (written_node n)
+nodes_symbols (m ∷ ns) n = ap (λ x. written_node m ++ x) (nodes_symbols ns n) ∙ sym (append_assoc (written_node m) (written_nodes (nodes ns)) (written_node n))
 
 nodes_nest : (depth r : ℕ) (ns : List Node) (n : Node) → NestsNodes depth (nodes ns) r → NestsNode depth n r → NestsNodes depth (nodes (ns ++ n ∷ [])) r
 unfolding NestsNodes
 nodes_nest depth r [] n h k = (k, tt)
 nodes_nest depth r (m ∷ ns) n h k = (h.0, nodes_nest depth r ns n h.1 k)
 
-arguments_words : (more : List Argument) (a : Argument) → written_arguments (more ++ a ∷ []) ≡ written_arguments more ++ written_argument a
-arguments_words [] a = append-nil (written_argument a)
-arguments_words (b ∷ more) a = ap (λ x. written_argument b ++ x) (arguments_words more a) ∙ sym (append_assoc (written_argument b) (written_arguments more) (written_argument a))
+arguments_symbols : (more : List Argument) (a : Argument) → written_arguments (more ++ a ∷ []) ≡ written_arguments more ++ written_argument a
+arguments_symbols [] a = append-nil (written_argument a)
+arguments_symbols (b ∷ more) a = ap (λ x. written_argument b ++ x) (arguments_symbols more a) ∙ sym (append_assoc (written_argument b) (written_arguments more) (written_argument a))
 
 arguments_are : (more : List Argument) (a : Argument) → AreArguments more → IsArgument a → AreArguments (more ++ a ∷ [])
 arguments_are [] a h k = (k, tt)
 arguments_are (b ∷ more) a h k = (h.0, arguments_are more a h.1 k)
 
-before_words : (ts : List Test) (t : Test) → tests_before (ts ++ t ∷ []) ≡ tests_before ts ++ (written_test t ++ comma ∷ [])
-before_words [] t = refl
-before_words (s ∷ ts) t = ap (λ x. written_test s ++ comma ∷ x) (before_words ts t) ∙ sym (append_assoc (written_test s) (comma ∷ tests_before ts) (written_test t ++ comma ∷ []))
+before_symbols : (ts : List Test) (t : Test) → tests_before (ts ++ t ∷ []) ≡ tests_before ts ++ (written_test t ++ comma ∷ [])
+before_symbols [] t = refl
+before_symbols (s ∷ ts) t = ap (λ x. written_test s ++ comma ∷ x) (before_symbols ts t) ∙ sym (append_assoc (written_test s) (comma ∷ tests_before ts) (written_test t ++ comma ∷ []))
 
 before_nest : (ts : List Test) (t : Test) (d : ℕ) → NestsEach ts d → NestsTest t d → NestsEach (ts ++ t ∷ []) d
 before_nest [] t d h k = (k, tt)
 before_nest (s ∷ ts) t d h k = (h.0, before_nest ts t d h.1 k)
 
-rest_words : (ts : List Test) (t : Test) → written_test_rest (tests (ts ++ t ∷ [])) ≡ comma ∷ (tests_before ts ++ (written_test t ++ close_parenthesis ∷ []))
+rest_symbols : (ts : List Test) (t : Test) → written_test_rest (tests (ts ++ t ∷ [])) ≡ comma ∷ (tests_before ts ++ (written_test t ++ close_parenthesis ∷ []))
 unfolding written_test_rest
-rest_words [] t = refl
-rest_words (s ∷ ts) t = ap (λ x. comma ∷ (written_test s ++ x)) (rest_words ts t) ∙ ap (λ x. comma ∷ x) (sym (append_assoc (written_test s) (comma ∷ tests_before ts) (written_test t ++ close_parenthesis ∷ [])))
+rest_symbols [] t = refl
+rest_symbols (s ∷ ts) t = ap (λ x. comma ∷ (written_test s ++ x)) (rest_symbols ts t) ∙ ap (λ x. comma ∷ x) (sym (append_assoc (written_test s) (comma ∷ tests_before ts) (written_test t ++ close_parenthesis ∷ [])))
 
-list_words : (ts : List Test) (t : Test) → written_test_list (tests (ts ++ t ∷ [])) ≡ tests_before ts ++ (written_test t ++ close_parenthesis ∷ [])
+list_symbols : (ts : List Test) (t : Test) → written_test_list (tests (ts ++ t ∷ [])) ≡ tests_before ts ++ (written_test t ++ close_parenthesis ∷ [])
 unfolding written_test_list written_test_rest
-list_words [] t = refl
-list_words (s ∷ ts) t = ap (λ x. written_test s ++ x) (rest_words ts t) ∙ sym (append_assoc (written_test s) (comma ∷ tests_before ts) (written_test t ++ close_parenthesis ∷ []))
+list_symbols [] t = refl
+list_symbols (s ∷ ts) t = ap (λ x. written_test s ++ x) (rest_symbols ts t) ∙ sym (append_assoc (written_test s) (comma ∷ tests_before ts) (written_test t ++ close_parenthesis ∷ []))
 
 each_nests : (ts : List Test) (d : ℕ) → NestsEach ts d → NestsTestList (tests ts) d
 unfolding NestsTestList
@@ -129,21 +129,21 @@ unfolding NestsTests NestsTestList
 list_nests [] t d h k = (k, tt)
 list_nests (s ∷ ts) t d h k = (h.0, each_nests (ts ++ t ∷ []) d (before_nest ts t d h.1 k))
 
-texts_words : (ts : List Text) (t : Text) → written_texts (ts ++ t ∷ []) ≡ texts_before ts ++ string_word t.string t.line ∷ []
-texts_words [] t = refl
-texts_words (s ∷ ts) t = ap (λ x. string_word s.string s.line ∷ x) (more_words ts t)
+texts_symbols : (ts : List Text) (t : Text) → written_texts (ts ++ t ∷ []) ≡ texts_before ts ++ string_symbol t.string t.line ∷ []
+texts_symbols [] t = refl
+texts_symbols (s ∷ ts) t = ap (λ x. string_symbol s.string s.line ∷ x) (more_symbols ts t)
   where
-    more_words : (us : List Text) (u : Text) → written_more (us ++ u ∷ []) ≡ comma ∷ (texts_before us ++ string_word u.string u.line ∷ [])
-    more_words [] u = refl
-    more_words (v ∷ us) u = ap (λ x. comma ∷ string_word v.string v.line ∷ x) (more_words us u)
+    more_symbols : (us : List Text) (u : Text) → written_more (us ++ u ∷ []) ≡ comma ∷ (texts_before us ++ string_symbol u.string u.line ∷ [])
+    more_symbols [] u = refl
+    more_symbols (v ∷ us) u = ap (λ x. comma ∷ string_symbol v.string v.line ∷ x) (more_symbols us u)
 
 texts_comma : (ts : List Text) → HasText ts → texts_before ts ≡ written_texts ts ++ comma ∷ []
 texts_comma [] h = absurd h
-texts_comma (s ∷ ts) h = ap (λ x. string_word s.string s.line ∷ x) (more_comma ts)
+texts_comma (s ∷ ts) h = ap (λ x. string_symbol s.string s.line ∷ x) (more_comma ts)
   where
     more_comma : (us : List Text) → comma ∷ texts_before us ≡ written_more us ++ comma ∷ []
     more_comma [] = refl
-    more_comma (v ∷ us) = ap (λ x. comma ∷ string_word v.string v.line ∷ x) (more_comma us)
+    more_comma (v ∷ us) = ap (λ x. comma ∷ string_symbol v.string v.line ∷ x) (more_comma us)
 
 texts_some : (ts : List Text) (t : Text) → HasText (ts ++ t ∷ [])
 texts_some [] t = tt
@@ -156,25 +156,25 @@ strings_are (t ∷ s ∷ ts) h = tt
 
 -- ONE STEP
 
--- the state is reached, and one more word is read
-pub record Takes (depth room : ℕ) (front : List Word) (w : Word) (s : ParserState) : Type 0 where
+-- the state is reached, and one more symbol is read
+pub record Takes (depth room : ℕ) (front : List Symbol) (w : Symbol) (s : ParserState) : Type 0 where
   pub reached : IsReached depth room s
-  pub words : state_words s ≡ front ++ w ∷ []
+  pub symbols : state_symbols s ≡ front ++ w ∷ []
 
-block_end : (a b c d e : List Word) → a ++ (b ++ ((c ++ d) ++ (open_brace ∷ (e ++ close_brace ∷ [])))) ≡ ((a ++ (b ++ (c ++ (d ++ open_brace ∷ [])))) ++ e) ++ close_brace ∷ []
+block_end : (a b c d e : List Symbol) → a ++ (b ++ ((c ++ d) ++ (open_brace ∷ (e ++ close_brace ∷ [])))) ≡ ((a ++ (b ++ (c ++ (d ++ open_brace ∷ [])))) ++ e) ++ close_brace ∷ []
 block_end a b c d e = simp append_assoc
 
 -- the head of a command or a test with one more argument
-argument_end : (a b c d : List Word) (w : Word) → a ++ (b ++ (w ∷ (c ++ d))) ≡ (a ++ (b ++ w ∷ c)) ++ d
+argument_end : (a b c d : List Symbol) (w : Symbol) → a ++ (b ++ (w ∷ (c ++ d))) ≡ (a ++ (b ++ w ∷ c)) ++ d
 argument_end a b c d w = simp append_assoc
 
-one_end : (a b c : List Word) (w : Word) → a ++ (b ++ (c ++ w ∷ [])) ≡ (a ++ (b ++ c)) ++ w ∷ []
+one_end : (a b c : List Symbol) (w : Symbol) → a ++ (b ++ (c ++ w ∷ [])) ≡ (a ++ (b ++ c)) ++ w ∷ []
 one_end a b c w = simp append_assoc
 
-level_end : (a b c : List Word) (w : Word) → a ++ ((b ++ c) ++ w ∷ []) ≡ (a ++ (b ++ c)) ++ w ∷ []
+level_end : (a b c : List Symbol) (w : Symbol) → a ++ ((b ++ c) ++ w ∷ []) ≡ (a ++ (b ++ c)) ++ w ∷ []
 level_end a b c w = simp append_assoc
 
-text_end : (a b c d : List Word) (v w : Word) → a ++ (b ++ (c ++ v ∷ (d ++ w ∷ []))) ≡ (a ++ (b ++ (c ++ v ∷ d))) ++ w ∷ []
+text_end : (a b c d : List Symbol) (v w : Symbol) → a ++ (b ++ (c ++ v ∷ (d ++ w ∷ []))) ≡ (a ++ (b ++ (c ++ v ∷ d))) ++ w ∷ []
 text_end a b c d v w = simp append_assoc
 
 module _ (depth room : ℕ) where
@@ -193,24 +193,24 @@ module _ (depth room : ℕ) where
   enter o h ts zero blocks done fits args nests = absurd (omega (arith, blocks_left o.blocks 0 blocks))
   enter o h ts (suc r) blocks done fits args nests = record { left = r; blocks = (done, args, nests, blocks); done = tt }
 
-  close_takes : (ls : List Level) (w : Word) (o : Outer) (h : Head) (ts : Tests) (s : ParserState) (d : ℕ) → IsOuter depth room o → IsLevels depth ls d → AreArguments h.args → NestsTests ts d → close room o ls h ts w ≡ Some s →
-      Takes depth room (outer_words o ++ (level_words ls ++ (head_words h ++ written_tests ts))) w s
+  close_takes : (ls : List Level) (w : Symbol) (o : Outer) (h : Head) (ts : Tests) (s : ParserState) (d : ℕ) → IsOuter depth room o → IsLevels depth ls d → AreArguments h.args → NestsTests ts d → close room o ls h ts w ≡ Some s →
+      Takes depth room (outer_symbols o ++ (level_symbols ls ++ (head_symbols h ++ written_tests ts))) w s
   unfolding close after_command after_listed NestsTests NestsTest NestsNode NestsBlock written_tests written_test written_node written_block
   close_takes [] semicolon o h ts s d outer levels args nests e =
-      subst (Takes depth room (outer_words o ++ (head_words h ++ written_tests ts)) semicolon) (same_Some _ s e) record {
+      subst (Takes depth room (outer_symbols o ++ (head_symbols h ++ written_tests ts)) semicolon) (same_Some _ s e) record {
         reached = record {
           left = outer.left;
           blocks = outer.blocks;
           done = nodes_nest depth outer.left o.done (node_with h ts no_block) outer.done (args, subst (NestsTests ts) levels nests, tt);
         };
-        words = simp (nodes_words, append_assoc);
+        symbols = simp (nodes_symbols, append_assoc);
       }
   close_takes [] open_brace o h ts s d outer levels args nests e =
       by_cases (nat_lt (length o.blocks) room)
-      (λ b. (if b then Some (between (inside_block o h ts)) else None) ≡ Some s → Takes depth room (outer_words o ++ (head_words h ++ written_tests ts)) open_brace s)
-      (λ q f. subst (Takes depth room (outer_words o ++ (head_words h ++ written_tests ts)) open_brace) (same_Some _ s f) record {
+      (λ b. (if b then Some (between (inside_block o h ts)) else None) ≡ Some s → Takes depth room (outer_symbols o ++ (head_symbols h ++ written_tests ts)) open_brace s)
+      (λ q f. subst (Takes depth room (outer_symbols o ++ (head_symbols h ++ written_tests ts)) open_brace) (same_Some _ s f) record {
         reached = enter o h ts outer.left outer.blocks outer.done (ltb-true (length o.blocks) room q) args (subst (NestsTests ts) levels nests);
-        words = simp (append_assoc, append-nil);
+        symbols = simp (append_assoc, append-nil);
       })
       (λ q f. cc) e
   close_takes [] _ o h ts s d outer levels args nests e = cc
@@ -218,47 +218,47 @@ module _ (depth room : ℕ) where
       subst (λ ws. Takes depth room ws w s) (simp append_assoc)
       (close_takes ls w o g (one_test (test_with h ts)) s (suc d) outer levels.1 levels.0 (args, nests) e)
   close_takes (for_list g before ∷ ls) comma o h ts s d outer levels args nests e =
-      subst (Takes depth room (outer_words o ++ ((level_words ls ++ (head_words g ++ open_parenthesis ∷ tests_before before)) ++ (head_words h ++ written_tests ts))) comma) (same_Some _ s e) record {
+      subst (Takes depth room (outer_symbols o ++ ((level_symbols ls ++ (head_symbols g ++ open_parenthesis ∷ tests_before before)) ++ (head_symbols h ++ written_tests ts))) comma) (same_Some _ s e) record {
         reached = (outer, (d, (levels.0, before_nest before (test_with h ts) d levels.1 (args, nests), levels.2)));
-        words = simp (before_words, append_assoc);
+        symbols = simp (before_symbols, append_assoc);
       }
   close_takes (for_list g before ∷ ls) close_parenthesis o h ts s d outer levels args nests e =
-      subst (Takes depth room (outer_words o ++ ((level_words ls ++ (head_words g ++ open_parenthesis ∷ tests_before before)) ++ (head_words h ++ written_tests ts))) close_parenthesis) (same_Some _ s e) record {
+      subst (Takes depth room (outer_symbols o ++ ((level_symbols ls ++ (head_symbols g ++ open_parenthesis ∷ tests_before before)) ++ (head_symbols h ++ written_tests ts))) close_parenthesis) (same_Some _ s e) record {
         reached = (record { outer = outer; left = suc d; levels = levels.2; args = levels.0 }, list_nests before (test_with h ts) d levels.1 (args, nests));
-        words = simp (list_words, append_assoc);
+        symbols = simp (list_symbols, append_assoc);
       }
   close_takes (for_list g before ∷ ls) _ o h ts s d outer levels args nests e = cc
 
   close_block_takes : (bs : List Open) (done : List Node) (s : ParserState) (r : ℕ) → IsBlocks depth room bs r → NestsNodes depth (nodes done) r → close_block bs done ≡ Some s →
-      Takes depth room (block_words bs ++ written_nodes (nodes done)) close_brace s
+      Takes depth room (block_symbols bs ++ written_nodes (nodes done)) close_brace s
   unfolding close_block written_node written_block NestsNode NestsBlock
   close_block_takes [] done s r blocks nest e = cc
   close_block_takes (b ∷ bs) done s r blocks nest e =
-      subst (Takes depth room (block_words (b ∷ bs) ++ written_nodes (nodes done)) close_brace) (same_Some _ s e) record {
+      subst (Takes depth room (block_symbols (b ∷ bs) ++ written_nodes (nodes done)) close_brace) (same_Some _ s e) record {
         reached = record {
           left = suc r;
           blocks = blocks.3;
           done = nodes_nest depth (suc r) b.done (node_with b.head b.tests (block (nodes done))) blocks.0 (blocks.1, blocks.2, nest);
         };
-        words = ap (λ x. block_words bs ++ x) (nodes_words b.done (node_with b.head b.tests (block (nodes done))))
-            ∙ block_end (block_words bs) (written_nodes (nodes b.done)) (head_words b.head) (written_tests b.tests) (written_nodes (nodes done));
+        symbols = ap (λ x. block_symbols bs ++ x) (nodes_symbols b.done (node_with b.head b.tests (block (nodes done))))
+            ∙ block_end (block_symbols bs) (written_nodes (nodes b.done)) (head_symbols b.head) (written_tests b.tests) (written_nodes (nodes done));
       }
 
   -- an argument is read
   argument_takes : (o : Outer) (ls : List Level) (h : Head) (a : Argument) → IsOpen depth room o ls h → IsArgument a → IsOpen depth room o ls (with_argument h a)
   argument_takes o ls h a is k = record { outer = is.outer; left = is.left; levels = is.levels; args = arguments_are h.args a is.args k }
 
-  argument_words : (o : Outer) (ls : List Level) (h : Head) (a : Argument) → outer_words o ++ (level_words ls ++ head_words (with_argument h a)) ≡ (outer_words o ++ (level_words ls ++ head_words h)) ++ written_argument a
-  argument_words o ls h a =
-      ap (λ x. outer_words o ++ (level_words ls ++ (identifier h.name h.line ∷ x))) (arguments_words h.args a)
-      ∙ argument_end (outer_words o) (level_words ls) (written_arguments h.args) (written_argument a) (identifier h.name h.line)
+  argument_symbols : (o : Outer) (ls : List Level) (h : Head) (a : Argument) → outer_symbols o ++ (level_symbols ls ++ head_symbols (with_argument h a)) ≡ (outer_symbols o ++ (level_symbols ls ++ head_symbols h)) ++ written_argument a
+  argument_symbols o ls h a =
+      ap (λ x. outer_symbols o ++ (level_symbols ls ++ (identifier h.name h.line ∷ x))) (arguments_symbols h.args a)
+      ∙ argument_end (outer_symbols o) (level_symbols ls) (written_arguments h.args) (written_argument a) (identifier h.name h.line)
 
-  -- an argument of one word is read
-  word_takes : (o : Outer) (ls : List Level) (h : Head) (a : Argument) (w : Word) → IsOpen depth room o ls h → IsArgument a → written_argument a ≡ w ∷ [] →
-      Takes depth room (outer_words o ++ (level_words ls ++ head_words h)) w (in_arguments o ls (with_argument h a))
-  word_takes o ls h a w is k e = record {
+  -- an argument of one symbol is read
+  symbol_takes : (o : Outer) (ls : List Level) (h : Head) (a : Argument) (w : Symbol) → IsOpen depth room o ls h → IsArgument a → written_argument a ≡ w ∷ [] →
+      Takes depth room (outer_symbols o ++ (level_symbols ls ++ head_symbols h)) w (in_arguments o ls (with_argument h a))
+  symbol_takes o ls h a w is k e = record {
     reached = argument_takes o ls h a is k;
-    words = argument_words o ls h a ∙ ap (λ x. (outer_words o ++ (level_words ls ++ head_words h)) ++ x) e;
+    symbols = argument_symbols o ls h a ∙ ap (λ x. (outer_symbols o ++ (level_symbols ls ++ head_symbols h)) ++ x) e;
   }
 
   -- where there is depth for a test, it is what the innermost one may use and one more
@@ -267,63 +267,63 @@ module _ (depth room : ℕ) where
   deeper ls (suc n) is fits = (n, refl)
 
   one_takes : (o : Outer) (ls : List Level) (h : Head) (name : List ℕ) (line : ℕ) → IsOpen depth room o ls h → length ls < depth →
-      Takes depth room (outer_words o ++ (level_words ls ++ head_words h)) (identifier name line) (in_arguments o (for_one h ∷ ls) (bare_head name line))
+      Takes depth room (outer_symbols o ++ (level_symbols ls ++ head_symbols h)) (identifier name line) (in_arguments o (for_one h ∷ ls) (bare_head name line))
   one_takes o ls h name line is fits =
       let below = deeper ls is.left is.levels fits in
       record {
         reached = record { outer = is.outer; left = below.0; levels = (is.args, subst (IsLevels depth ls) below.1 is.levels); args = tt };
-        words = level_end (outer_words o) (level_words ls) (head_words h) (identifier name line);
+        symbols = level_end (outer_symbols o) (level_symbols ls) (head_symbols h) (identifier name line);
       }
 
   list_takes : (o : Outer) (ls : List Level) (h : Head) → IsOpen depth room o ls h → length ls < depth →
-      Takes depth room (outer_words o ++ (level_words ls ++ head_words h)) open_parenthesis (before_test o (for_list h [] ∷ ls))
+      Takes depth room (outer_symbols o ++ (level_symbols ls ++ head_symbols h)) open_parenthesis (before_test o (for_list h [] ∷ ls))
   list_takes o ls h is fits =
       let below = deeper ls is.left is.levels fits in
       record {
         reached = (is.outer, (below.0, (is.args, tt, subst (IsLevels depth ls) below.1 is.levels)));
-        words = one_end (outer_words o) (level_words ls) (head_words h) open_parenthesis;
+        symbols = one_end (outer_symbols o) (level_symbols ls) (head_symbols h) open_parenthesis;
       }
 
-  no_tests_takes : (o : Outer) (ls : List Level) (h : Head) (w : Word) (t : ParserState) → IsOpen depth room o ls h → close room o ls h no_tests w ≡ Some t →
-      Takes depth room (outer_words o ++ (level_words ls ++ head_words h)) w t
+  no_tests_takes : (o : Outer) (ls : List Level) (h : Head) (w : Symbol) (t : ParserState) → IsOpen depth room o ls h → close room o ls h no_tests w ≡ Some t →
+      Takes depth room (outer_symbols o ++ (level_symbols ls ++ head_symbols h)) w t
   unfolding written_tests NestsTests
   no_tests_takes o ls h w t is e =
-      subst (λ x. Takes depth room (outer_words o ++ (level_words ls ++ x)) w t) (append-nil (head_words h))
+      subst (λ x. Takes depth room (outer_symbols o ++ (level_symbols ls ++ x)) w t) (append-nil (head_symbols h))
       (close_takes ls w o h no_tests t is.left is.outer is.levels is.args tt e)
 
-  pub step_takes : (s : ParserState) (w : Word) (t : ParserState) → IsReached depth room s → step depth room s w ≡ Some t → Takes depth room (state_words s) w t
+  pub step_takes : (s : ParserState) (w : Symbol) (t : ParserState) → IsReached depth room s → step depth room s w ≡ Some t → Takes depth room (state_symbols s) w t
   unfolding step
   step_takes (between o) (identifier name line) t is e =
-      subst (Takes depth room (outer_words o) (identifier name line)) (same_Some _ t e) record {
+      subst (Takes depth room (outer_symbols o) (identifier name line)) (same_Some _ t e) record {
         reached = record { outer = is; left = depth; levels = refl; args = tt };
-        words = refl;
+        symbols = refl;
       }
   step_takes (between o) close_brace t is e = close_block_takes o.blocks o.done t is.left is.blocks is.done e
   step_takes (between o) _ t is e = cc
-  step_takes (in_arguments o ls h) (string_word octets line) t is e =
+  step_takes (in_arguments o ls h) (string_symbol octets line) t is e =
       let text : Text = record { string = octets; line = line } in
-      subst (Takes depth room (outer_words o ++ (level_words ls ++ head_words h)) (string_word octets line)) (same_Some _ t e)
-      (word_takes o ls h (strings (text ∷ []) false) (string_word octets line) is tt refl)
-  step_takes (in_arguments o ls h) (number_word value line) t is e =
-      subst (Takes depth room (outer_words o ++ (level_words ls ++ head_words h)) (number_word value line)) (same_Some _ t e)
-      (word_takes o ls h (number value line) (number_word value line) is tt refl)
-  step_takes (in_arguments o ls h) (tag_word name line) t is e =
-      subst (Takes depth room (outer_words o ++ (level_words ls ++ head_words h)) (tag_word name line)) (same_Some _ t e)
-      (word_takes o ls h (tag name line) (tag_word name line) is tt refl)
+      subst (Takes depth room (outer_symbols o ++ (level_symbols ls ++ head_symbols h)) (string_symbol octets line)) (same_Some _ t e)
+      (symbol_takes o ls h (strings (text ∷ []) false) (string_symbol octets line) is tt refl)
+  step_takes (in_arguments o ls h) (number_symbol value line) t is e =
+      subst (Takes depth room (outer_symbols o ++ (level_symbols ls ++ head_symbols h)) (number_symbol value line)) (same_Some _ t e)
+      (symbol_takes o ls h (number value line) (number_symbol value line) is tt refl)
+  step_takes (in_arguments o ls h) (tag_symbol name line) t is e =
+      subst (Takes depth room (outer_symbols o ++ (level_symbols ls ++ head_symbols h)) (tag_symbol name line)) (same_Some _ t e)
+      (symbol_takes o ls h (tag name line) (tag_symbol name line) is tt refl)
   step_takes (in_arguments o ls h) open_bracket t is e =
-      subst (Takes depth room (outer_words o ++ (level_words ls ++ head_words h)) open_bracket) (same_Some _ t e) record {
+      subst (Takes depth room (outer_symbols o ++ (level_symbols ls ++ head_symbols h)) open_bracket) (same_Some _ t e) record {
         reached = is;
-        words = one_end (outer_words o) (level_words ls) (head_words h) open_bracket;
+        symbols = one_end (outer_symbols o) (level_symbols ls) (head_symbols h) open_bracket;
       }
   step_takes (in_arguments o ls h) (identifier name line) t is e =
       by_cases (nat_lt (length ls) depth)
-      (λ b. (if b then Some (in_arguments o (for_one h ∷ ls) (bare_head name line)) else None) ≡ Some t → Takes depth room (outer_words o ++ (level_words ls ++ head_words h)) (identifier name line) t)
-      (λ q f. subst (Takes depth room (outer_words o ++ (level_words ls ++ head_words h)) (identifier name line)) (same_Some _ t f) (one_takes o ls h name line is (ltb-true (length ls) depth q)))
+      (λ b. (if b then Some (in_arguments o (for_one h ∷ ls) (bare_head name line)) else None) ≡ Some t → Takes depth room (outer_symbols o ++ (level_symbols ls ++ head_symbols h)) (identifier name line) t)
+      (λ q f. subst (Takes depth room (outer_symbols o ++ (level_symbols ls ++ head_symbols h)) (identifier name line)) (same_Some _ t f) (one_takes o ls h name line is (ltb-true (length ls) depth q)))
       (λ q f. cc) e
   step_takes (in_arguments o ls h) open_parenthesis t is e =
       by_cases (nat_lt (length ls) depth)
-      (λ b. (if b then Some (before_test o (for_list h [] ∷ ls)) else None) ≡ Some t → Takes depth room (outer_words o ++ (level_words ls ++ head_words h)) open_parenthesis t)
-      (λ q f. subst (Takes depth room (outer_words o ++ (level_words ls ++ head_words h)) open_parenthesis) (same_Some _ t f) (list_takes o ls h is (ltb-true (length ls) depth q)))
+      (λ b. (if b then Some (before_test o (for_list h [] ∷ ls)) else None) ≡ Some t → Takes depth room (outer_symbols o ++ (level_symbols ls ++ head_symbols h)) open_parenthesis t)
+      (λ q f. subst (Takes depth room (outer_symbols o ++ (level_symbols ls ++ head_symbols h)) open_parenthesis) (same_Some _ t f) (list_takes o ls h is (ltb-true (length ls) depth q)))
       (λ q f. cc) e
   step_takes (in_arguments o ls h) semicolon t is e = no_tests_takes o ls h semicolon t is e
   step_takes (in_arguments o ls h) open_brace t is e = no_tests_takes o ls h open_brace t is e
@@ -332,31 +332,31 @@ module _ (depth room : ℕ) where
   step_takes (in_arguments o ls h) close_bracket t is e = no_tests_takes o ls h close_bracket t is e
   step_takes (in_arguments o ls h) comma t is e = no_tests_takes o ls h comma t is e
   step_takes (in_arguments o ls h) bad t is e = no_tests_takes o ls h bad t is e
-  step_takes (before_string o ls h before) (string_word octets line) t is e =
+  step_takes (before_string o ls h before) (string_symbol octets line) t is e =
       let text : Text = record { string = octets; line = line } in
-      subst (Takes depth room (outer_words o ++ (level_words ls ++ (head_words h ++ open_bracket ∷ texts_before before))) (string_word octets line)) (same_Some _ t e) record {
+      subst (Takes depth room (outer_symbols o ++ (level_symbols ls ++ (head_symbols h ++ open_bracket ∷ texts_before before))) (string_symbol octets line)) (same_Some _ t e) record {
         reached = (is, texts_some before text);
-        words = ap (λ x. outer_words o ++ (level_words ls ++ (head_words h ++ open_bracket ∷ x))) (texts_words before text)
-            ∙ text_end (outer_words o) (level_words ls) (head_words h) (texts_before before) open_bracket (string_word octets line);
+        symbols = ap (λ x. outer_symbols o ++ (level_symbols ls ++ (head_symbols h ++ open_bracket ∷ x))) (texts_symbols before text)
+            ∙ text_end (outer_symbols o) (level_symbols ls) (head_symbols h) (texts_before before) open_bracket (string_symbol octets line);
       }
   step_takes (before_string o ls h before) _ t is e = cc
   step_takes (after_string o ls h before) comma t is e =
-      subst (Takes depth room (outer_words o ++ (level_words ls ++ (head_words h ++ open_bracket ∷ written_texts before))) comma) (same_Some _ t e) record {
+      subst (Takes depth room (outer_symbols o ++ (level_symbols ls ++ (head_symbols h ++ open_bracket ∷ written_texts before))) comma) (same_Some _ t e) record {
         reached = is.0;
-        words = ap (λ x. outer_words o ++ (level_words ls ++ (head_words h ++ open_bracket ∷ x))) (texts_comma before is.1)
-            ∙ text_end (outer_words o) (level_words ls) (head_words h) (written_texts before) open_bracket comma;
+        symbols = ap (λ x. outer_symbols o ++ (level_symbols ls ++ (head_symbols h ++ open_bracket ∷ x))) (texts_comma before is.1)
+            ∙ text_end (outer_symbols o) (level_symbols ls) (head_symbols h) (written_texts before) open_bracket comma;
       }
   step_takes (after_string o ls h before) close_bracket t is e =
-      subst (Takes depth room (outer_words o ++ (level_words ls ++ (head_words h ++ open_bracket ∷ written_texts before))) close_bracket) (same_Some _ t e) record {
+      subst (Takes depth room (outer_symbols o ++ (level_symbols ls ++ (head_symbols h ++ open_bracket ∷ written_texts before))) close_bracket) (same_Some _ t e) record {
         reached = argument_takes o ls h (strings before true) is.0 (strings_are before is.1);
-        words = ap (λ x. outer_words o ++ (level_words ls ++ (identifier h.name h.line ∷ x))) (arguments_words h.args (strings before true))
-            ∙ text_end (outer_words o) (level_words ls) (head_words h) (written_texts before) open_bracket close_bracket;
+        symbols = ap (λ x. outer_symbols o ++ (level_symbols ls ++ (identifier h.name h.line ∷ x))) (arguments_symbols h.args (strings before true))
+            ∙ text_end (outer_symbols o) (level_symbols ls) (head_symbols h) (written_texts before) open_bracket close_bracket;
       }
   step_takes (after_string o ls h before) _ t is e = cc
   step_takes (before_test o ls) (identifier name line) t is e =
-      subst (Takes depth room (outer_words o ++ level_words ls) (identifier name line)) (same_Some _ t e) record {
+      subst (Takes depth room (outer_symbols o ++ level_symbols ls) (identifier name line)) (same_Some _ t e) record {
         reached = record { outer = is.0; left = is.1.0; levels = is.1.1; args = tt };
-        words = sym (append_assoc (outer_words o) (level_words ls) (identifier name line ∷ []));
+        symbols = sym (append_assoc (outer_symbols o) (level_symbols ls) (identifier name line ∷ []));
       }
   step_takes (before_test o ls) _ t is e = cc
   step_takes (after_tests o ls h ts) w t is e = close_takes ls w o h ts t is.0.left is.0.outer is.0.levels is.0.args is.1 e

@@ -2,64 +2,64 @@
 use Rattle.std.specs.Prelude.{◌≡◌, ℕ, true, false, List, [], ◌∷◌, ◌++◌}
 use Rattle.std.proofs.Common.{zero, suc}
 use Rattle.sieve_syntax.specs.Tree.{Text, Argument, strings, number, tag, Test, test, Tests, no_tests, one_test, test_list, TestList, end_tests, more_tests, Node, node, Block, no_block, block, Nodes, end_nodes, more_nodes, nodes}
-use Rattle.sieve_syntax.specs.Word.{Word, identifier, tag_word, number_word, string_word, semicolon, open_brace, close_brace, open_parenthesis, close_parenthesis, open_bracket, close_bracket, comma}
+use Rattle.sieve_syntax.specs.Symbol.{Symbol, identifier, tag_symbol, number_symbol, string_symbol, semicolon, open_brace, close_brace, open_parenthesis, close_parenthesis, open_bracket, close_bracket, comma}
 
 -- WHAT A TREE WRITES
 
 -- strings with a comma before each
-abbrev pub written_more : List Text → List Word
+abbrev pub written_more : List Text → List Symbol
 written_more [] = []
-written_more (t ∷ ts) = comma ∷ string_word t.string t.line ∷ written_more ts
+written_more (t ∷ ts) = comma ∷ string_symbol t.string t.line ∷ written_more ts
 
 -- strings with a comma between each two
-abbrev pub written_texts : List Text → List Word
+abbrev pub written_texts : List Text → List Symbol
 written_texts [] = []
-written_texts (t ∷ ts) = string_word t.string t.line ∷ written_more ts
+written_texts (t ∷ ts) = string_symbol t.string t.line ∷ written_more ts
 
 -- argument = string-list | number | tag, string-list = string | "[" string ("," string)* "]" (RFC 5228, section 8.2)
-abbrev pub written_argument : Argument → List Word
+abbrev pub written_argument : Argument → List Symbol
 written_argument (strings items true) = open_bracket ∷ written_texts items ++ close_bracket ∷ []
 written_argument (strings items false) = written_texts items
-written_argument (number value line) = number_word value line ∷ []
-written_argument (tag name line) = tag_word name line ∷ []
+written_argument (number value line) = number_symbol value line ∷ []
+written_argument (tag name line) = tag_symbol name line ∷ []
 
-abbrev pub written_arguments : List Argument → List Word
+abbrev pub written_arguments : List Argument → List Symbol
 written_arguments [] = []
 written_arguments (a ∷ rest) = written_argument a ++ written_arguments rest
 
 unfoldable mutual
   -- test = identifier arguments (RFC 5228, section 8.2)
-  pub written_test : Test → List Word
+  pub written_test : Test → List Symbol
   written_test (test name line args ts) = identifier name line ∷ written_arguments args ++ written_tests ts
 
   -- [ test | test-list ]
-  pub written_tests : Tests → List Word
+  pub written_tests : Tests → List Symbol
   written_tests no_tests = []
   written_tests (one_test t) = written_test t
   written_tests (test_list ts) = open_parenthesis ∷ written_test_list ts
 
   -- the first test of a list in parentheses, and what follows it
-  pub written_test_list : TestList → List Word
+  pub written_test_list : TestList → List Symbol
   written_test_list end_tests = close_parenthesis ∷ []
   written_test_list (more_tests t ts) = written_test t ++ written_test_rest ts
 
   -- the other tests of such a list, each behind a comma
-  pub written_test_rest : TestList → List Word
+  pub written_test_rest : TestList → List Symbol
   written_test_rest end_tests = close_parenthesis ∷ []
   written_test_rest (more_tests t ts) = comma ∷ written_test t ++ written_test_rest ts
 
 unfoldable mutual
   -- command = identifier arguments ( ";" | block ) (RFC 5228, section 8.2)
-  pub written_node : Node → List Word
+  pub written_node : Node → List Symbol
   written_node (node name line args ts ending) = identifier name line ∷ written_arguments args ++ written_tests ts ++ written_block ending
 
   -- block = "{" commands "}" (RFC 5228, section 8.2)
-  pub written_block : Block → List Word
+  pub written_block : Block → List Symbol
   written_block no_block = semicolon ∷ []
   written_block (block ns) = open_brace ∷ written_nodes ns ++ close_brace ∷ []
 
   -- commands = command* (RFC 5228, section 8.2)
-  pub written_nodes : Nodes → List Word
+  pub written_nodes : Nodes → List Symbol
   written_nodes end_nodes = []
   written_nodes (more_nodes n ns) = written_node n ++ written_nodes ns
 
@@ -110,10 +110,10 @@ unfoldable mutual
   NestsNodes depth end_nodes room = Unit {0}
   NestsNodes depth (more_nodes n ns) room = NestsNode depth n room × NestsNodes depth ns room
 
--- The tree writes the words, with tests no deeper than depth and no more than room blocks open at once.
-abbrev pub Writes : ℕ → ℕ → List Node → List Word → Type 0
-Writes depth room tree words = NestsNodes depth (nodes tree) room × (words ≡ written_nodes (nodes tree))
+-- The tree writes the symbols, with tests no deeper than depth and no more than room blocks open at once.
+abbrev pub Writes : ℕ → ℕ → List Node → List Symbol → Type 0
+Writes depth room tree symbols = NestsNodes depth (nodes tree) room × (symbols ≡ written_nodes (nodes tree))
 
--- the words begin what a tree writes
-abbrev pub Begins : ℕ → ℕ → List Word → Type 0
-Begins depth room words = (more : List Word) × (tree : List Node) × Writes depth room tree (words ++ more)
+-- the symbols begin what a tree writes
+abbrev pub Begins : ℕ → ℕ → List Symbol → Type 0
+Begins depth room symbols = (more : List Symbol) × (tree : List Node) × Writes depth room tree (symbols ++ more)

@@ -10,5 +10,5 @@ pub mod Tree
 pub mod TreeOf
 pub mod Value
 pub mod White
-pub mod Word
+pub mod Symbol
 pub mod view

@@ -1,8 +1,8 @@
--- A reader of words, one after another: its states, and what each word does to them.
+-- A reader of symbols, one after another: its states, and what each symbol does to them.
 use Rattle.std.specs.Prelude.{ℕ, nat_lt, if◌then◌else◌, true, false, List, [], ◌∷◌, ◌++◌, length, Option, Some, None, Result, Ok, Err}
 use Rattle.sieve_syntax.specs.Tree.{Text, Argument, strings, number, tag, Test, test, Tests, no_tests, one_test, test_list, tests, Node, node, Block, no_block, block, nodes}
 use Rattle.sieve_syntax.specs.Token.{line_at}
-use Rattle.sieve_syntax.specs.Word.{Word, identifier, tag_word, number_word, string_word, semicolon, open_brace, close_brace, open_parenthesis, close_parenthesis, open_bracket, close_bracket, comma, word_of}
+use Rattle.sieve_syntax.specs.Symbol.{Symbol, identifier, tag_symbol, number_symbol, string_symbol, semicolon, open_brace, close_brace, open_parenthesis, close_parenthesis, open_bracket, close_bracket, comma, symbol_of}
 use Rattle.sieve_syntax.specs.declared.token.Token.{Token}
 
 -- a command or a test whose arguments are being read
@@ -59,20 +59,20 @@ after_node o n = record { blocks = o.blocks; done = o.done ++ n ∷ [] }
 abbrev pub inside_block : Outer → Head → Tests → Outer
 inside_block o h ts = record { blocks = record { done = o.done; head = h; tests = ts } ∷ o.blocks; done = [] }
 
--- a word behind a command with all its arguments and tests
-unfoldable pub after_command : ℕ → Outer → Head → Tests → Word → Option ParserState
+-- a symbol behind a command with all its arguments and tests
+unfoldable pub after_command : ℕ → Outer → Head → Tests → Symbol → Option ParserState
 after_command room o h ts semicolon = Some (between (after_node o (node_with h ts no_block)))
 after_command room o h ts open_brace = if nat_lt (length o.blocks) room then Some (between (inside_block o h ts)) else None
 after_command room o h ts _ = None
 
--- a word behind a test in a list of tests
-unfoldable pub after_listed : Outer → List Level → Head → List Test → Word → Option ParserState
+-- a symbol behind a test in a list of tests
+unfoldable pub after_listed : Outer → List Level → Head → List Test → Symbol → Option ParserState
 after_listed o ls h listed comma = Some (before_test o (for_list h listed ∷ ls))
 after_listed o ls h listed close_parenthesis = Some (after_tests o ls h (test_list (tests listed)))
 after_listed o ls h listed _ = None
 
--- a word behind a command or a test with all its arguments and tests: a test that stands alone ends with what it is in
-unfoldable pub close : ℕ → Outer → List Level → Head → Tests → Word → Option ParserState
+-- a symbol behind a command or a test with all its arguments and tests: a test that stands alone ends with what it is in
+unfoldable pub close : ℕ → Outer → List Level → Head → Tests → Symbol → Option ParserState
 close room o [] h ts w = after_command room o h ts w
 close room o (for_one g ∷ ls) h ts w = close room o ls g (one_test (test_with h ts)) w
 close room o (for_list g before ∷ ls) h ts w = after_listed o ls g (before ++ test_with h ts ∷ []) w
@@ -82,18 +82,18 @@ unfoldable pub close_block : List Open → List Node → Option ParserState
 close_block [] done = None
 close_block (b ∷ bs) done = Some (between (record { blocks = bs; done = b.done ++ node_with b.head b.tests (block (nodes done)) ∷ [] }))
 
-unfoldable pub step : ℕ → ℕ → ParserState → Word → Option ParserState
+unfoldable pub step : ℕ → ℕ → ParserState → Symbol → Option ParserState
 step depth room (between o) (identifier name line) = Some (in_arguments o [] (bare_head name line))
 step depth room (between o) close_brace = close_block o.blocks o.done
 step depth room (between o) _ = None
-step depth room (in_arguments o ls h) (string_word octets line) = Some (in_arguments o ls (with_argument h (strings (record { string = octets; line = line } ∷ []) false)))
-step depth room (in_arguments o ls h) (number_word value line) = Some (in_arguments o ls (with_argument h (number value line)))
-step depth room (in_arguments o ls h) (tag_word name line) = Some (in_arguments o ls (with_argument h (tag name line)))
+step depth room (in_arguments o ls h) (string_symbol octets line) = Some (in_arguments o ls (with_argument h (strings (record { string = octets; line = line } ∷ []) false)))
+step depth room (in_arguments o ls h) (number_symbol value line) = Some (in_arguments o ls (with_argument h (number value line)))
+step depth room (in_arguments o ls h) (tag_symbol name line) = Some (in_arguments o ls (with_argument h (tag name line)))
 step depth room (in_arguments o ls h) open_bracket = Some (before_string o ls h [])
 step depth room (in_arguments o ls h) (identifier name line) = if nat_lt (length ls) depth then Some (in_arguments o (for_one h ∷ ls) (bare_head name line)) else None
 step depth room (in_arguments o ls h) open_parenthesis = if nat_lt (length ls) depth then Some (before_test o (for_list h [] ∷ ls)) else None
 step depth room (in_arguments o ls h) w = close room o ls h no_tests w
-step depth room (before_string o ls h items) (string_word octets line) = Some (after_string o ls h (items ++ record { string = octets; line = line } ∷ []))
+step depth room (before_string o ls h items) (string_symbol octets line) = Some (after_string o ls h (items ++ record { string = octets; line = line } ∷ []))
 step depth room (before_string o ls h items) _ = None
 step depth room (after_string o ls h items) comma = Some (before_string o ls h items)
 step depth room (after_string o ls h items) close_bracket = Some (in_arguments o ls (with_argument h (strings items true)))
@@ -117,4 +117,4 @@ whole _ = None
 -- the tree, or the line of the first token that no state takes, or of the end
 unfoldable pub read : ℕ → ℕ → List ℕ → ParserState → List Token → Result (List Node) ℕ
 read depth room text s [] = elim (whole s) [ Some tree ↦ Ok tree | None ↦ Err (line_at text (length text)) ]
-read depth room text s (token ∷ tokens) = elim (step depth room s (word_of text token)) [ Some next ↦ read depth room text next tokens | None ↦ Err token.line ]
+read depth room text s (token ∷ tokens) = elim (step depth room s (symbol_of text token)) [ Some next ↦ read depth room text next tokens | None ↦ Err token.line ]

@@ -72,7 +72,7 @@ are_multi_line (line ∷ lines) = is_opening line && end_at_dot lines
 
 -- multi-line string (RFC 5228, sections 2.4.2 and 8.1)
 unfoldable pub is_multi_line : List ℕ → Bool
-is_multi_line word = are_multi_line (lines_of word)
+is_multi_line symbol = are_multi_line (lines_of symbol)
 
 -- one octet alone
 unfoldable pub is_one : ℕ → List ℕ → Bool
@@ -81,17 +81,17 @@ is_one octet (c ∷ []) = c == octet
 is_one octet (c ∷ d ∷ ds) = false
 
 unfoldable pub spells : TokenKind → List ℕ → Bool
-spells kinds.Identifier word = is_identifier word
-spells kinds.Tag word = is_tag word
-spells kinds.Number word = is_number word
-spells kinds.Quoted word = is_quoted word
-spells kinds.MultiLine word = is_multi_line word
-spells kinds.Semicolon word = is_one (octet_of ";") word
-spells kinds.OpenBrace word = is_one (octet_of "{") word
-spells kinds.CloseBrace word = is_one (octet_of "}") word
-spells kinds.OpenParenthesis word = is_one (octet_of "(") word
-spells kinds.CloseParenthesis word = is_one (octet_of ")") word
-spells kinds.OpenBracket word = is_one (octet_of "[") word
-spells kinds.CloseBracket word = is_one (octet_of "]") word
-spells kinds.Comma word = is_one (octet_of ",") word
-spells kinds.Bad word = false
+spells kinds.Identifier symbol = is_identifier symbol
+spells kinds.Tag symbol = is_tag symbol
+spells kinds.Number symbol = is_number symbol
+spells kinds.Quoted symbol = is_quoted symbol
+spells kinds.MultiLine symbol = is_multi_line symbol
+spells kinds.Semicolon symbol = is_one (octet_of ";") symbol
+spells kinds.OpenBrace symbol = is_one (octet_of "{") symbol
+spells kinds.CloseBrace symbol = is_one (octet_of "}") symbol
+spells kinds.OpenParenthesis symbol = is_one (octet_of "(") symbol
+spells kinds.CloseParenthesis symbol = is_one (octet_of ")") symbol
+spells kinds.OpenBracket symbol = is_one (octet_of "[") symbol
+spells kinds.CloseBracket symbol = is_one (octet_of "]") symbol
+spells kinds.Comma symbol = is_one (octet_of ",") symbol
+spells kinds.Bad symbol = false

@@ -6,7 +6,7 @@ use Rattle.sieve_syntax.specs.Machine.{start, read}
 use Rattle.sieve_syntax.specs.Scan.{tokens_of}
 use Rattle.sieve_syntax.specs.Token.{Spells, line_at}
 use Rattle.sieve_syntax.specs.Tree.{Node}
-use Rattle.sieve_syntax.specs.Word.{words_of}
+use Rattle.sieve_syntax.specs.Symbol.{symbols_of}
 use Rattle.sieve_syntax.specs.declared.token.Token.{Token}
 
 -- The line is that of the first token with which the tokens begin nothing that a tree writes.
@@ -15,21 +15,21 @@ pub record IsFaultAt (depth room : ℕ) (text : List ℕ) (tokens : List Token) 
   pub token : Token
   pub rest : List Token
   pub split : tokens ≡ front ++ token ∷ rest
-  pub begins : Begins depth room (words_of text front)
-  pub stops : Begins depth room (words_of text (front ++ token ∷ [])) → ⊥
+  pub begins : Begins depth room (symbols_of text front)
+  pub stops : Begins depth room (symbols_of text (front ++ token ∷ [])) → ⊥
   pub line_is : line ≡ token.line
 
 -- The tokens begin what a tree writes, but no tree writes them alone, and the line is that of the end.
 pub record IsFaultAtEnd (depth room : ℕ) (text : List ℕ) (tokens : List Token) (line : ℕ) : Type 0 where
-  pub begins : Begins depth room (words_of text tokens)
-  pub stops : (tree : List Node) → Writes depth room tree (words_of text tokens) → ⊥
+  pub begins : Begins depth room (symbols_of text tokens)
+  pub stops : (tree : List Node) → Writes depth room tree (symbols_of text tokens) → ⊥
   pub line_is : line ≡ line_at text (length text)
 
 -- the tree writes the text: it writes the tokens that spell it
 pub record WritesText (tree : List Node) (text : List ℕ) : Type 0 where
   pub tokens : List Token
   pub spelled : Spells tokens text
-  pub written : Writes test_depth block_room tree (words_of text tokens)
+  pub written : Writes test_depth block_room tree (symbols_of text tokens)
 
 -- the line of the first token, or of the end, with which the tokens begin no list that a tree writes
 pub record IsFaultLine (text : List ℕ) (line : ℕ) : Type 0 where

@@ -1,4 +1,4 @@
--- What the words of a text stand for (RFC 5228, section 2.4).
+-- What the symbols of a text stand for (RFC 5228, section 2.4).
 use Rattle.std.specs.Prelude.{ℕ, ◌+◌, ◌-◌, ◌*◌, ◌^◌, ◌==◌, ◌&&◌, ◌||◌, Bool, false, not, nat_lt, if◌then◌else◌, List, [], ◌∷◌, ◌++◌, length, drop, Option, Some, None}
 use Rattle.std.specs.List.{slice_range}
 use Rattle.sieve_base.specs.Octet.{octet_of, is_digit}
@@ -15,7 +15,7 @@ number_from n (c ∷ cs) = if is_digit c then number_from (10 * n + (c - octet_o
 
 -- a number (RFC 5228, section 2.4.1), or none past 64 bits
 abbrev pub number_of : List ℕ → Option ℕ
-number_of word = if nat_lt (number_from 0 word) (2 ^ 64) then Some (number_from 0 word) else None
+number_of symbol = if nat_lt (number_from 0 symbol) (2 ^ 64) then Some (number_from 0 symbol) else None
 
 -- an octet, and a CR before an LF that has none
 abbrev pub line_end : Bool → ℕ → List ℕ
@@ -50,11 +50,11 @@ is_changed c = (c == octet_of "\n") || (c == octet_of "\\")
 
 -- a quoted string without its quotation marks
 abbrev pub between_quotes : List ℕ → List ℕ
-between_quotes word = slice_range word 1 (length word - 1)
+between_quotes symbol = slice_range symbol 1 (length symbol - 1)
 
 -- a quoted string (RFC 5228, section 2.4.2)
 unfoldable pub quoted_octets : List ℕ → List ℕ
-quoted_octets word = unprotected (with_cr false (between_quotes word))
+quoted_octets symbol = unprotected (with_cr false (between_quotes symbol))
 
 -- a dot in front of a line that begins with two is removed (RFC 5228, section 2.4.2)
 unfoldable pub without_dot : List ℕ → List ℕ
@@ -69,4 +69,4 @@ dot_lines (line ∷ lines) = if is_dot_line line then [] else with_cr false (wit
 
 -- a multi-line string: its lines behind the first (RFC 5228, section 2.4.2)
 unfoldable pub multi_line_octets : List ℕ → List ℕ
-multi_line_octets word = dot_lines (drop 1 (lines_of word))
+multi_line_octets symbol = dot_lines (drop 1 (lines_of symbol))

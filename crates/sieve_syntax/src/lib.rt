@@ -15,8 +15,8 @@ pub mod token;
 pub mod tree;
 mod value;
 mod white;
-mod word;
+mod symbol;
 
 pub use parser::{SyntaxFault, parse};
 pub use token::{Token, TokenKind, tokens};
-pub use tree::{Argument, Command, Script, Test, Tests, Text};
+pub use tree::{Argument, Command, ParsedScript, Test, Tests, Text};

@@ -10,15 +10,15 @@ ghost use Rattle.sieve_syntax.specs.Syntax.{IsFaultLine, WritesText, syntax_of};
 ghost use Rattle.sieve_syntax.specs.Token.{IsInside, line_at};
 ghost use Rattle.sieve_syntax.specs.Tree.{Node};
 ghost use Rattle.sieve_syntax.specs.view.Tree.{nodes_of};
-ghost use Rattle.sieve_syntax.specs.Word.{word_of};
+ghost use Rattle.sieve_syntax.specs.Symbol.{symbol_of};
 ghost use Rattle.sieve_syntax.specs.declared.parser.SyntaxFault.TheVariants.{NoMemory};
 
 use crate::cursor::{Cursor, next_token};
 use crate::reader::{Outer, ParserState};
 use crate::step::{Stop, step};
 use crate::token::{Token, last_line};
-use crate::tree::Script;
-use crate::word::read_word;
+use crate::tree::ParsedScript;
+use crate::symbol::read_symbol;
 use sieve_base::limits::MAX_TEXT;
 use std::alloc::{AllocError, Global};
 use thiserror::Error;
@@ -52,7 +52,7 @@ impl From<AllocError> for SyntaxFault {
 /// `TooLarge` is the answer exactly where the text has more than [`MAX_TEXT`] octets. Else `Syntax` is the answer only
 /// where no script writes the text. `NoMemory` is the answer where memory runs out. The time that it takes grows with the
 /// length of the text, and the memory with the tree.
-pub fn parse(alloc: Global, text: &[u8]) -> Result<Script, SyntaxFault>
+pub fn parse(alloc: Global, text: &[u8]) -> Result<ParsedScript, SyntaxFault>
     ensures large { IsErrOf result SyntaxFault.TooLarge ↔ text_limit < length text.now }
     // The tree writes the text.
     ensures tree { IfOk result (λ script. WritesText (nodes_of script) text.now) }
@@ -68,7 +68,7 @@ pub fn parse(alloc: Global, text: &[u8]) -> Result<Script, SyntaxFault>
 }
 
 /// The tree of a text, which is read token by token.
-fn read_script(alloc: Global, text: &[u8]) -> Result<Script, SyntaxFault>
+fn read_script(alloc: Global, text: &[u8]) -> Result<ParsedScript, SyntaxFault>
     requires { length text.now ≤ text_limit }
     ensures small { IsErrOf result SyntaxFault.TooLarge → ⊥ }
     ensures exact { Parses result (syntax_of text.now) }
@@ -102,10 +102,10 @@ fn read_token(
     state: ParserState,
 ) -> Result<ParserState, SyntaxFault>
     requires { IsInside text.now token }
-    ensures { Goes outer.new result (Machine.step test_depth block_room (state_value outer.old state) (word_of text.now token)) token.line }
+    ensures { Goes outer.new result (Machine.step test_depth block_room (state_value outer.old state) (symbol_of text.now token)) token.line }
 {
-    let word = read_word(alloc, text, token)?;
-    match step(alloc, outer, state, word) {
+    let symbol = read_symbol(alloc, text, token)?;
+    match step(alloc, outer, state, symbol) {
         Ok(next) => Ok(next),
         Err(Stop::Fault) => Err(SyntaxFault::Syntax { line: token.line }),
         Err(Stop::NoMemory) => Err(SyntaxFault::NoMemory),
@@ -114,13 +114,13 @@ fn read_token(
 
 /// The script, where all that was begun is ended.
 #[tactic(auto, unfolding(crate::specs::Machine::whole))]
-fn finish(text: &[u8], outer: Outer, state: ParserState) -> Result<Script, SyntaxFault>
+fn finish(text: &[u8], outer: Outer, state: ParserState) -> Result<ParsedScript, SyntaxFault>
     requires { length text.now ≤ text_limit }
     ensures { Finishes result (whole (state_value outer state)) (line_at text.now (length text.now)) }
 {
     if let ParserState::Between = state {
         if outer.blocks.is_empty() {
-            return Ok(Script {
+            return Ok(ParsedScript {
                 commands: outer.done,
             });
         }

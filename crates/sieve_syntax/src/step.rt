@@ -4,14 +4,14 @@ ghost use Rattle.std.specs.Prelude.{◌≡◌, ◌∷◌, [], if◌then◌else�
 ghost use Rattle.sieve_base.specs.Limits.{block_room, test_depth};
 ghost use Rattle.sieve_syntax.specs.Machine;
 ghost use Rattle.sieve_syntax.specs.Machine.{after_command, after_listed, bare_head, close, close_block, for_list, for_one, step, with_argument};
-ghost use Rattle.sieve_syntax.specs.view.Reader.{Advances, head_value, levels_value, outer_value, state_value, word_as};
+ghost use Rattle.sieve_syntax.specs.view.Reader.{Advances, head_value, levels_value, outer_value, state_value, symbol_as};
 ghost use Rattle.sieve_syntax.specs.view.Tree.{argument_of, test_of, tests_of, text_of};
 ghost use Rattle.sieve_syntax.specs.declared.reader.Outer.{Outer};
 ghost use Rattle.sieve_syntax.specs.declared.step.Stop.TheVariants.{NoMemory};
 
 use crate::reader::{Head, Level, Open, Outer, ParserState, command_with, finished_test};
 use crate::tree::{Argument, Test, Tests, Text};
-use crate::word::Word;
+use crate::symbol::Symbol;
 use sieve_base::SmallOctets;
 use sieve_base::limits::{MAX_OPEN_BLOCKS, MAX_TEST_DEPTH};
 use std::alloc::{AllocError, AllocFailed, Global};
@@ -41,17 +41,17 @@ impl From<AllocError> for Stop {
     }
 }
 
-/// The state behind a word that stands between commands.
+/// The state behind a symbol that stands between commands.
 #[tactic(auto, unfolding(crate::specs::Machine::step))]
-fn between(alloc: Global, outer: &mut Outer, word: Word) -> Result<ParserState, Stop>
-    ensures { Advances outer.new result (step test_depth block_room (Machine.between (outer_value outer.old)) (word_as word)) }
+fn between(alloc: Global, outer: &mut Outer, symbol: Symbol) -> Result<ParserState, Stop>
+    ensures { Advances outer.new result (step test_depth block_room (Machine.between (outer_value outer.old)) (symbol_as symbol)) }
 {
-    match word {
-        Word::Identifier { name, line } => {
+    match symbol {
+        Symbol::Identifier { name, line } => {
             outer.levels.clear();
             Ok(ParserState::Arguments(make_head(alloc, name, line)))
         }
-        Word::CloseBrace => close_block(outer),
+        Symbol::CloseBrace => close_block(outer),
         _ => Err(Stop::Fault),
     }
 }
@@ -98,12 +98,12 @@ fn in_arguments(
     alloc: Global,
     outer: &mut Outer,
     head: Head,
-    word: Word,
+    symbol: Symbol,
 ) -> Result<ParserState, Stop>
-    ensures { Advances outer.new result (step test_depth block_room (Machine.in_arguments (outer_value outer.old) (levels_value outer.old.levels.items) (head_value head)) (word_as word)) }
+    ensures { Advances outer.new result (step test_depth block_room (Machine.in_arguments (outer_value outer.old) (levels_value outer.old.levels.items) (head_value head)) (symbol_as symbol)) }
 {
-    match word {
-        Word::String { octets, line } => {
+    match symbol {
+        Symbol::String { octets, line } => {
             let mut items = Vec::with_capacity(alloc, 1)?;
             items.push(Text {
                 string: octets,
@@ -115,18 +115,18 @@ fn in_arguments(
             };
             behind_argument(head, argument)
         }
-        Word::Number { value, line } => {
+        Symbol::Number { value, line } => {
             let argument = Argument::Number { value, line };
             behind_argument(head, argument)
         }
-        Word::Tag { name, line } => {
+        Symbol::Tag { name, line } => {
             let argument = Argument::Tag { name, line };
             behind_argument(head, argument)
         }
-        Word::OpenBracket => Ok(ParserState::BeforeString(head, Vec::new(alloc))),
-        Word::Identifier { name, line } => open_test(alloc, outer, head, name, line),
-        Word::OpenParenthesis => open_list(alloc, outer, head),
-        _ => close(alloc, outer, head, Tests::None, word),
+        Symbol::OpenBracket => Ok(ParserState::BeforeString(head, Vec::new(alloc))),
+        Symbol::Identifier { name, line } => open_test(alloc, outer, head, name, line),
+        Symbol::OpenParenthesis => open_list(alloc, outer, head),
+        _ => close(alloc, outer, head, Tests::None, symbol),
     }
 }
 
@@ -160,11 +160,11 @@ fn open_list(alloc: Global, outer: &mut Outer, head: Head) -> Result<ParserState
 
 /// In a list of strings, where a string has to come.
 #[tactic(auto, unfolding(crate::specs::Machine::step))]
-fn before_string(head: Head, items: Vec<Text>, word: Word) -> Result<ParserState, Stop>
-    ensures { (outer : Outer) → Advances outer result (step test_depth block_room (Machine.before_string (outer_value outer) (levels_value outer.levels.items) (head_value head) (map text_of items.items)) (word_as word)) }
+fn before_string(head: Head, items: Vec<Text>, symbol: Symbol) -> Result<ParserState, Stop>
+    ensures { (outer : Outer) → Advances outer result (step test_depth block_room (Machine.before_string (outer_value outer) (levels_value outer.levels.items) (head_value head) (map text_of items.items)) (symbol_as symbol)) }
 {
-    match word {
-        Word::String { octets, line } => {
+    match symbol {
+        Symbol::String { octets, line } => {
             let mut items = items;
             items.push(Text {
                 string: octets,
@@ -178,12 +178,12 @@ fn before_string(head: Head, items: Vec<Text>, word: Word) -> Result<ParserState
 
 /// In a list of strings, behind a string: a comma or the end of the list.
 #[tactic(auto, unfolding(crate::specs::Machine::step))]
-fn after_string(head: Head, items: Vec<Text>, word: Word) -> Result<ParserState, Stop>
-    ensures { (outer : Outer) → Advances outer result (step test_depth block_room (Machine.after_string (outer_value outer) (levels_value outer.levels.items) (head_value head) (map text_of items.items)) (word_as word)) }
+fn after_string(head: Head, items: Vec<Text>, symbol: Symbol) -> Result<ParserState, Stop>
+    ensures { (outer : Outer) → Advances outer result (step test_depth block_room (Machine.after_string (outer_value outer) (levels_value outer.levels.items) (head_value head) (map text_of items.items)) (symbol_as symbol)) }
 {
-    match word {
-        Word::Comma => Ok(ParserState::BeforeString(head, items)),
-        Word::CloseBracket => {
+    match symbol {
+        Symbol::Comma => Ok(ParserState::BeforeString(head, items)),
+        Symbol::CloseBracket => {
             let argument = Argument::Strings {
                 items,
                 bracketed: true,
@@ -196,11 +196,11 @@ fn after_string(head: Head, items: Vec<Text>, word: Word) -> Result<ParserState,
 
 /// In a list of tests, where a test has to come.
 #[tactic(auto, unfolding(crate::specs::Machine::step))]
-fn before_test(alloc: Global, word: Word) -> Result<ParserState, Stop>
-    ensures { (outer : Outer) → Advances outer result (step test_depth block_room (Machine.before_test (outer_value outer) (levels_value outer.levels.items)) (word_as word)) }
+fn before_test(alloc: Global, symbol: Symbol) -> Result<ParserState, Stop>
+    ensures { (outer : Outer) → Advances outer result (step test_depth block_room (Machine.before_test (outer_value outer) (levels_value outer.levels.items)) (symbol_as symbol)) }
 {
-    match word {
-        Word::Identifier { name, line } => Ok(ParserState::Arguments(make_head(alloc, name, line))),
+    match symbol {
+        Symbol::Identifier { name, line } => Ok(ParserState::Arguments(make_head(alloc, name, line))),
         _ => Err(Stop::Fault),
     }
 }
@@ -212,20 +212,20 @@ fn close(
     outer: &mut Outer,
     head: Head,
     tests: Tests,
-    word: Word,
+    symbol: Symbol,
 ) -> Result<ParserState, Stop>
-    ensures { Advances outer.new result (close block_room (outer_value outer.old) (levels_value outer.old.levels.items) (head_value head) (tests_of tests) (word_as word)) }
+    ensures { Advances outer.new result (close block_room (outer_value outer.old) (levels_value outer.old.levels.items) (head_value head) (tests_of tests) (symbol_as symbol)) }
 {
     match outer.levels.pop() {
-        None => close_command(alloc, outer, head, tests, word),
+        None => close_command(alloc, outer, head, tests, symbol),
         Some(Level::One(owner)) => {
             let test = Box::new(alloc, finished_test(head, tests))?;
-            close(alloc, outer, owner, Tests::One(test), word)
+            close(alloc, outer, owner, Tests::One(test), symbol)
         }
         Some(Level::List(owner, before)) => {
             let mut before = before;
             before.push(finished_test(head, tests))?;
-            close_in_list(outer, owner, before, word)
+            close_in_list(outer, owner, before, symbol)
         }
     }
 }
@@ -236,16 +236,16 @@ fn close_in_list(
     outer: &mut Outer,
     owner: Head,
     before: Vec<Test>,
-    word: Word,
+    symbol: Symbol,
 ) -> Result<ParserState, Stop>
-    ensures { Advances outer.new result (after_listed (outer_value outer.old) (levels_value outer.old.levels.items) (head_value owner) (map test_of before.items) (word_as word)) }
+    ensures { Advances outer.new result (after_listed (outer_value outer.old) (levels_value outer.old.levels.items) (head_value owner) (map test_of before.items) (symbol_as symbol)) }
 {
-    match word {
-        Word::Comma => {
+    match symbol {
+        Symbol::Comma => {
             outer.levels.push(Level::List(owner, before))?;
             Ok(ParserState::BeforeTest)
         }
-        Word::CloseParenthesis => Ok(ParserState::AfterTests(owner, Tests::List(before))),
+        Symbol::CloseParenthesis => Ok(ParserState::AfterTests(owner, Tests::List(before))),
         _ => Err(Stop::Fault),
     }
 }
@@ -257,16 +257,16 @@ fn close_command(
     outer: &mut Outer,
     head: Head,
     tests: Tests,
-    word: Word,
+    symbol: Symbol,
 ) -> Result<ParserState, Stop>
-    ensures { Advances outer.new result (after_command block_room (outer_value outer.old) (head_value head) (tests_of tests) (word_as word)) }
+    ensures { Advances outer.new result (after_command block_room (outer_value outer.old) (head_value head) (tests_of tests) (symbol_as symbol)) }
 {
-    match word {
-        Word::Semicolon => {
+    match symbol {
+        Symbol::Semicolon => {
             outer.done.push(command_with(head, tests, None))?;
             Ok(ParserState::Between)
         }
-        Word::OpenBrace => {
+        Symbol::OpenBrace => {
             if outer.blocks.len() >= MAX_OPEN_BLOCKS {
                 return Err(Stop::Fault);
             }
@@ -286,16 +286,16 @@ pub(crate) fn step(
     alloc: Global,
     outer: &mut Outer,
     state: ParserState,
-    word: Word,
+    symbol: Symbol,
 ) -> Result<ParserState, Stop>
-    ensures { Advances outer.new result (step test_depth block_room (state_value outer.old state) (word_as word)) }
+    ensures { Advances outer.new result (step test_depth block_room (state_value outer.old state) (symbol_as symbol)) }
 {
     match state {
-        ParserState::Between => between(alloc, outer, word),
-        ParserState::Arguments(head) => in_arguments(alloc, outer, head, word),
-        ParserState::BeforeString(head, items) => before_string(head, items, word),
-        ParserState::AfterString(head, items) => after_string(head, items, word),
-        ParserState::BeforeTest => before_test(alloc, word),
-        ParserState::AfterTests(head, tests) => close(alloc, outer, head, tests, word),
+        ParserState::Between => between(alloc, outer, symbol),
+        ParserState::Arguments(head) => in_arguments(alloc, outer, head, symbol),
+        ParserState::BeforeString(head, items) => before_string(head, items, symbol),
+        ParserState::AfterString(head, items) => after_string(head, items, symbol),
+        ParserState::BeforeTest => before_test(alloc, symbol),
+        ParserState::AfterTests(head, tests) => close(alloc, outer, head, tests, symbol),
     }
 }

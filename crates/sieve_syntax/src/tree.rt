@@ -5,7 +5,7 @@ use sieve_base::SmallOctets;
 
 /// A whole script of a text: its commands in the order of the text.
 #[derive(Drop)]
-pub struct Script {
+pub struct ParsedScript {
     pub commands: Vec<Command>,
 }
 

@@ -38,11 +38,11 @@ fn with_unit(number: u64, unit: u8) -> Option<u64>
 
 /// The value of a number, or `None` past 64 bits.
 #[tactic(auto, using(crate::proofs::Values::number_steps))]
-pub(crate) fn number_of(word: &[u8]) -> Option<u64>
-    ensures { result ≡ number_of word.now }
+pub(crate) fn number_of(symbol: &[u8]) -> Option<u64>
+    ensures { result ≡ number_of symbol.now }
 {
     let mut number = 0;
-    for octet in word {
+    for octet in symbol {
         if !is_digit(*octet) {
             return with_unit(number, *octet);
         }
@@ -110,13 +110,13 @@ fn has_changed(octets: &[u8]) -> bool
 
 /// What a quoted string stands for: each LF that lacks a CR gets one, and then a backslash and an octet give that octet.
 #[tactic(auto, unfolding(crate::specs::Value::quoted_octets), using(crate::proofs::Values::quoted_steps))]
-pub(crate) fn quoted_octets(alloc: Global, word: &[u8]) -> Result<SmallOctets, AllocError>
-    ensures { IfOk result (λ octets. octets.items ≡ quoted_octets word.now) }
+pub(crate) fn quoted_octets(alloc: Global, symbol: &[u8]) -> Result<SmallOctets, AllocError>
+    ensures { IfOk result (λ octets. octets.items ≡ quoted_octets symbol.now) }
 {
-    if word.len() < 2 {
+    if symbol.len() < 2 {
         return Ok(SmallOctets::new(alloc));
     }
-    let octets = &word[1..word.len() - 1];
+    let octets = &symbol[1..symbol.len() - 1];
     if !has_changed(octets) {
         return SmallOctets::from_slice(alloc, octets);
     }
@@ -139,14 +139,14 @@ fn without_dot(line: &[u8]) -> &[u8]
 /// What a multi-line string stands for: its lines between the first and the last, without the first of two dots that
 /// begin a line, and with CR and LF at the end of each.
 #[tactic(auto, using(crate::proofs::Values::line_steps))]
-pub(crate) fn multi_line_octets(alloc: Global, word: &[u8]) -> Result<Vec<u8>, AllocError>
-    ensures { IfOk result (λ octets. octets.items ≡ multi_line_octets word.now) }
+pub(crate) fn multi_line_octets(alloc: Global, symbol: &[u8]) -> Result<Vec<u8>, AllocError>
+    ensures { IfOk result (λ octets. octets.items ≡ multi_line_octets symbol.now) }
 {
     let mut octets = Vec::new(alloc);
-    let mut place = line_length(word);
-    while place < word.len() {
-        let end = place + line_length(&word[place..]);
-        let line = &word[place..end];
+    let mut place = line_length(symbol);
+    while place < symbol.len() {
+        let end = place + line_length(&symbol[place..]);
+        let line = &symbol[place..end];
         if is_dot_line(line) {
             return Ok(octets);
         }

@@ -3,7 +3,7 @@ use Rattle.std.proofs.Common.{◌≡◌, ℕ, zero, suc, ◌+◌, Bool, true, fa
 use Rattle.std.specs.List.{list_all}
 use Rattle.std.specs.Option.{option_map}
 use Rattle.std.proofs.lemmas.Bool.{eqb-true}
-use Rattle.sieve_variables.specs.Reference.{Begins, Cuts, Piece, dotted, is_legal, octet, reference, written}
+use Rattle.sieve_variables.specs.Reference.{BeginsWithReference, Cuts, TextPiece, dotted, is_legal, octet, reference, written}
 use Rattle.sieve_variables.specs.Scan.{before_brace, first_piece, further_octets, if_legal, inside_at, is_inside, pieces_from, words_of}
 use Rattle.sieve_variables.proofs.Words.{dotted-words_of, dotted_inside, legal_octets, legal_some, not_brace, words_of-dotted}
 use Rattle.sieve_base.proofs.Both.{first_of_both, last_of_both}
@@ -103,7 +103,7 @@ written_at text inside begins =
     ∙ ap (λ one. 36 ∷ 123 ∷ (one ++ 125 ∷ behind inside text)) (sym (dotted-words_of inside))
     ∙ sym (written-is (words_of inside) (behind inside text))
 
-begins_at : (text inside : List ℕ) → BeginsWith text inside → Begins text
+begins_at : (text inside : List ℕ) → BeginsWith text inside → BeginsWithReference text
 begins_at text inside begins = record {
   words = words_of inside;
   rest = behind inside text;
@@ -111,14 +111,14 @@ begins_at text inside begins = record {
   is = written_at text inside begins;
 }
 
-none_step : (text : List ℕ) (found : Option (List ℕ)) → inside_at text ≡ found → (Begins text → ⊥) → found ≡ None
+none_step : (text : List ℕ) (found : Option (List ℕ)) → inside_at text ≡ found → (BeginsWithReference text → ⊥) → found ≡ None
 none_step text None is nowhere = refl
 none_step text (Some inside) is nowhere = absurd (nowhere (begins_at text inside (inside_at-begins text inside is)))
 
-inside_at-none : (text : List ℕ) → (Begins text → ⊥) → inside_at text ≡ None
+inside_at-none : (text : List ℕ) → (BeginsWithReference text → ⊥) → inside_at text ≡ None
 inside_at-none text nowhere = none_step text (inside_at text) refl nowhere
 
-no_reference : (text : List ℕ) → inside_at text ≡ None → Begins text → ⊥
+no_reference : (text : List ℕ) → inside_at text ≡ None → BeginsWithReference text → ⊥
 no_reference text none begins =
     let found = inside_at-written begins.words begins.rest begins.legal in
     let same = begins.is ∙ written-is begins.words begins.rest in
@@ -162,7 +162,7 @@ pieces-written words rest legal =
 
 -- each cut is the computed one
 
-pub cut_is : (pieces : List Piece) (text : List ℕ) → Cuts pieces text → pieces ≡ pieces_from 0 text
+pub cut_is : (pieces : List TextPiece) (text : List ℕ) → Cuts pieces text → pieces ≡ pieces_from 0 text
 unfolding pieces_from
 cut_is [] text is = ap (pieces_from 0) (sym is)
 cut_is (reference words ∷ pieces) text (legal, rest, is, cut) =

@@ -3,34 +3,34 @@ use Rattle.std.specs.Prelude.{◌≡◌, true, false, [], ◌∷◌, codes, refl
 use Rattle.sieve_base.specs.Octet.{octet_of}
 use Rattle.sieve_variables.specs.Part.{global_part, literal, local_part, match_part, scoped_part}
 use Rattle.sieve_variables.specs.Reference.{octet, reference}
-use Rattle.sieve_variables.specs.Scan.{before_brace, has_far_index, has_foreign_namespace, has_namespace, has_reference, inside_at, parts_of, pieces_from, pieces_of}
+use Rattle.sieve_variables.specs.Scan.{before_brace, has_far_index, has_foreign_namespace, has_namespace, has_reference, inside_at, parts_of_text, pieces_from, pieces_of}
 use Rattle.sieve_variables.specs.Variable.{global_variable, local_variable, scoped, variable_named, with_name}
 
 company_row : pieces_of (codes "${company}") ≡ reference (codes "company" ∷ []) ∷ []
 unfolding before_brace inside_at pieces_from
 company_row = refl
 
-company_parts_row : parts_of (codes "${Company}") ≡ local_part (codes "company") ∷ []
+company_parts_row : parts_of_text (codes "${Company}") ≡ local_part (codes "company") ∷ []
 unfolding before_brace inside_at pieces_from
 company_parts_row = refl
 
-bad_row : parts_of (codes "${BAD${Company}") ≡ literal (codes "${BAD") ∷ local_part (codes "company") ∷ []
+bad_row : parts_of_text (codes "${BAD${Company}") ≡ literal (codes "${BAD") ∷ local_part (codes "company") ∷ []
 unfolding before_brace inside_at pieces_from
 bad_row = refl
 
-doh_row : parts_of (codes "${doh!}") ≡ literal (codes "${doh!}") ∷ []
+doh_row : parts_of_text (codes "${doh!}") ≡ literal (codes "${doh!}") ∷ []
 unfolding before_brace inside_at pieces_from
 doh_row = refl
 
-nested_row : parts_of (codes "${${a}") ≡ literal (codes "${") ∷ local_part (codes "a") ∷ []
+nested_row : parts_of_text (codes "${${a}") ≡ literal (codes "${") ∷ local_part (codes "a") ∷ []
 unfolding before_brace inside_at pieces_from
 nested_row = refl
 
-zeros_row : parts_of (codes "${007}") ≡ match_part 7 ∷ []
+zeros_row : parts_of_text (codes "${007}") ≡ match_part 7 ∷ []
 unfolding before_brace inside_at pieces_from
 zeros_row = refl
 
-far_row : parts_of (codes "${123456}") ≡ match_part 100 ∷ []
+far_row : parts_of_text (codes "${123456}") ≡ match_part 100 ∷ []
 unfolding before_brace inside_at pieces_from
 far_row = refl
 
@@ -66,26 +66,26 @@ dollar_row : pieces_of (codes "$") ≡ octet (octet_of "$") ∷ []
 unfolding before_brace inside_at pieces_from
 dollar_row = refl
 
-not_closed_row : parts_of (codes "${a") ≡ literal (codes "${a") ∷ []
+not_closed_row : parts_of_text (codes "${a") ≡ literal (codes "${a") ∷ []
 unfolding before_brace inside_at pieces_from
 not_closed_row = refl
 
-mixed_row : parts_of (codes "x${a}y${0}") ≡ literal (codes "x") ∷ local_part (codes "a") ∷ literal (codes "y") ∷ match_part 0 ∷ []
+mixed_row : parts_of_text (codes "x${a}y${0}") ≡ literal (codes "x") ∷ local_part (codes "a") ∷ literal (codes "y") ∷ match_part 0 ∷ []
 unfolding before_brace inside_at pieces_from
 mixed_row = refl
 
 -- VARIABLES THAT SCRIPTS SHARE
 
-global_row : parts_of (codes "${Global.Box}") ≡ global_part (codes "box") ∷ []
+global_row : parts_of_text (codes "${Global.Box}") ≡ global_part (codes "box") ∷ []
 unfolding before_brace inside_at pieces_from
 global_row = refl
 
 -- a reference in another namespace joins what stands in front of it, and not what stands behind it
-kept_row : parts_of (codes "x${a.b}y") ≡ literal (codes "x${a.b}") ∷ literal (codes "y") ∷ []
+kept_row : parts_of_text (codes "x${a.b}y") ≡ literal (codes "x${a.b}") ∷ literal (codes "y") ∷ []
 unfolding before_brace inside_at pieces_from
 kept_row = refl
 
-global_number_row : parts_of (codes "${global.1}") ≡ literal (codes "${global.1}") ∷ []
+global_number_row : parts_of_text (codes "${global.1}") ≡ literal (codes "${global.1}") ∷ []
 unfolding before_brace inside_at pieces_from
 global_number_row = refl
 

@@ -6,8 +6,8 @@ use Rattle.std.proofs.lemmas.Bool.{false≢true}
 use Rattle.std.proofs.lemmas.List.{drop-drop}
 use Rattle.sieve_variables.specs.Name.{folded_name, index_of, is_identifier}
 use Rattle.sieve_variables.specs.Part.{Part, global_part, grouped, is_shared, literal, local_part, match_part, octet_before, part_of_words, variable_part}
-use Rattle.sieve_variables.specs.Reference.{Piece, octet, reference, written}
-use Rattle.sieve_variables.specs.Scan.{inside_at, is_foreign, parts_of, pieces_from, words_of}
+use Rattle.sieve_variables.specs.Reference.{TextPiece, octet, reference, written}
+use Rattle.sieve_variables.specs.Scan.{inside_at, is_foreign, parts_of_text, pieces_from, words_of}
 use Rattle.sieve_variables.specs.Variable.{Variable, global_variable, local_variable}
 use Rattle.sieve_variables.specs.view.Part.{added, literal_part}
 use Rattle.sieve_variables.proofs.Cut.{inside_written, length-written, pieces-octet, pieces-reference}
@@ -27,12 +27,12 @@ pub true_once : (a more all : Bool) → ((a || true) || more) ≡ all → true �
 true_once true more all is = is
 true_once false more all is = is
 
-any_octet : (p : Piece → Bool) → ((c : ℕ) → p (octet c) ≡ false) → (text : List ℕ) → 0 < length text → None ≡ inside_at text → list_any p (pieces_from 0 text) ≡ list_any p (pieces_from 0 (drop 1 text))
+any_octet : (p : TextPiece → Bool) → ((c : ℕ) → p (octet c) ≡ false) → (text : List ℕ) → 0 < length text → None ≡ inside_at text → list_any p (pieces_from 0 text) ≡ list_any p (pieces_from 0 (drop 1 text))
 any_octet p never [] some none = absurd (omega arith)
 any_octet p never (c ∷ rest) some none =
     ap (list_any p) (pieces-octet c rest (sym none)) ∙ ap (λ b. b || list_any p (pieces_from 0 rest)) (never c)
 
-any_reference : (p : Piece → Bool) (text inside : List ℕ) → Some inside ≡ inside_at text → list_any p (pieces_from 0 text) ≡ (p (reference (words_of inside)) || list_any p (pieces_from 0 (drop (3 + length inside) text)))
+any_reference : (p : TextPiece → Bool) (text inside : List ℕ) → Some inside ≡ inside_at text → list_any p (pieces_from 0 text) ≡ (p (reference (words_of inside)) || list_any p (pieces_from 0 (drop (3 + length inside) text)))
 any_reference p [] inside found =
     let none = none_at_end in absurd cc
 any_reference p (c ∷ rest) inside found =
@@ -40,13 +40,13 @@ any_reference p (c ∷ rest) inside found =
     ap (list_any p) (pieces-reference c rest inside (sym found))
     ∙ ap (λ n. p (reference (words_of inside)) || list_any p (pieces_from 0 (drop n (c ∷ rest)))) (sym same)
 
-pub passed_octet : (p : Piece → Bool) → ((c : ℕ) → p (octet c) ≡ false) → (text behind : List ℕ) (found all : Bool) → 0 < length text → None ≡ inside_at text → behind ≡ drop 1 text → (found || list_any p (pieces_from 0 text)) ≡ all → (found || list_any p (pieces_from 0 behind)) ≡ all
+pub passed_octet : (p : TextPiece → Bool) → ((c : ℕ) → p (octet c) ≡ false) → (text behind : List ℕ) (found all : Bool) → 0 < length text → None ≡ inside_at text → behind ≡ drop 1 text → (found || list_any p (pieces_from 0 text)) ≡ all → (found || list_any p (pieces_from 0 behind)) ≡ all
 passed_octet p never text behind found all some none is so_far =
     ap (λ one. found || list_any p (pieces_from 0 one)) is
     ∙ ap (λ b. found || b) (sym (any_octet p never text some none))
     ∙ so_far
 
-pub passed_reference : (p : Piece → Bool) (text inside behind : List ℕ) (found said all : Bool) → Some inside ≡ inside_at text → said ≡ p (reference (words_of inside)) → behind ≡ drop (3 + length inside) text → (found || list_any p (pieces_from 0 text)) ≡ all → ((found || said) || list_any p (pieces_from 0 behind)) ≡ all
+pub passed_reference : (p : TextPiece → Bool) (text inside behind : List ℕ) (found said all : Bool) → Some inside ≡ inside_at text → said ≡ p (reference (words_of inside)) → behind ≡ drop (3 + length inside) text → (found || list_any p (pieces_from 0 text)) ≡ all → ((found || said) || list_any p (pieces_from 0 behind)) ≡ all
 passed_reference p text inside behind found said all reads says is so_far =
     ap (λ b. (found || b) || list_any p (pieces_from 0 behind)) says
     ∙ ap (λ one. (found || p (reference (words_of inside))) || list_any p (pieces_from 0 one)) is
@@ -57,7 +57,7 @@ or_false : (a all : Bool) → (a || false) ≡ all → a ≡ all
 or_false true all is = is
 or_false false all is = is
 
-pub passed_all : (p : Piece → Bool) (rest : List ℕ) (found all : Bool) → length rest ≡ 0 → (found || list_any p (pieces_from 0 rest)) ≡ all → found ≡ all
+pub passed_all : (p : TextPiece → Bool) (rest : List ℕ) (found all : Bool) → length rest ≡ 0 → (found || list_any p (pieces_from 0 rest)) ≡ all → found ≡ all
 unfolding pieces_from
 passed_all p [] found all ended is = or_false found all is
 passed_all p (c ∷ rest) found all ended is = absurd (omega arith)
@@ -67,7 +67,7 @@ abbrev pub in_front : List ℕ → List Part → List Part
 in_front [] parts = parts
 in_front (c ∷ octets) parts = octet_before c (in_front octets parts)
 
-pub plain_step : (left : List ℕ) (plain : ℕ) → plain < length left → None ≡ inside_at (drop plain left) → in_front (take (suc plain) left) (parts_of (drop (suc plain) left)) ≡ in_front (take plain left) (parts_of (drop plain left))
+pub plain_step : (left : List ℕ) (plain : ℕ) → plain < length left → None ≡ inside_at (drop plain left) → in_front (take (suc plain) left) (parts_of_text (drop (suc plain) left)) ≡ in_front (take plain left) (parts_of_text (drop plain left))
 plain_step [] plain within none = absurd (omega arith)
 plain_step (c ∷ rest) zero within none = ap grouped (sym (pieces-octet c rest (sym none)))
 plain_step (c ∷ rest) (suc plain) within none = ap (octet_before c) (plain_step rest plain (omega arith) none)
@@ -76,11 +76,11 @@ literal_more : (c : ℕ) (octets : List ℕ) → octet_before c (literal_part oc
 literal_more c [] = refl
 literal_more c (d ∷ octets) = refl
 
-none_left : parts_of [] ≡ []
+none_left : parts_of_text [] ≡ []
 unfolding pieces_from
 none_left = refl
 
-pub last_step : (left : List ℕ) (plain : ℕ) → length left ≤ plain → in_front (take plain left) (parts_of (drop plain left)) ≡ literal_part left
+pub last_step : (left : List ℕ) (plain : ℕ) → length left ≤ plain → in_front (take plain left) (parts_of_text (drop plain left)) ≡ literal_part left
 last_step [] zero ended = none_left
 last_step [] (suc plain) ended = none_left
 last_step (c ∷ rest) zero ended = absurd (omega arith)
@@ -141,7 +141,7 @@ take_more left plain n further rest is same =
     ∙ ap (λ text. take plain left ++ take (length further) text) is
     ∙ ap (λ text. take plain left ++ text) (take-append_seam further rest)
 
-reference_at : (text inside : List ℕ) → Some inside ≡ inside_at text → parts_of text ≡ part_of_words (words_of inside) ∷ parts_of (drop (suc (length inside + 2)) text)
+reference_at : (text inside : List ℕ) → Some inside ≡ inside_at text → parts_of_text text ≡ part_of_words (words_of inside) ∷ parts_of_text (drop (suc (length inside + 2)) text)
 reference_at [] inside found = let none = none_at_end in absurd cc
 reference_at (c ∷ rest) inside found = ap grouped (pieces-reference c rest inside (sym found))
 
@@ -155,7 +155,7 @@ added_step octets all inside parts false own is =
     own_in_front octets (words_of inside) parts (some_words inside) own
     ∙ sym (append_assoc (literal_part octets) (part_of_words (words_of inside) ∷ []) parts)
 
-pub reference_step : (left : List ℕ) (plain n : ℕ) (inside : List ℕ) → Some inside ≡ inside_at (drop plain left) → n ≡ plain + (length inside + 3) → in_front (take plain left) (parts_of (drop plain left)) ≡ added inside (take plain left) (take n left) ++ parts_of (drop n left)
+pub reference_step : (left : List ℕ) (plain n : ℕ) (inside : List ℕ) → Some inside ≡ inside_at (drop plain left) → n ≡ plain + (length inside + 3) → in_front (take plain left) (parts_of_text (drop plain left)) ≡ added inside (take plain left) (take n left) ++ parts_of_text (drop n left)
 reference_step left plain n inside found same =
     let text = drop plain left in
     let sum : n ≡ plain + length (written (words_of inside)) = omega (arith, length-written inside) in
@@ -165,15 +165,15 @@ reference_step left plain n inside found same =
     let behind : drop (suc (length inside + 2)) text ≡ drop n left =
     drop-drop (suc (length inside + 2)) plain left ∙ ap (λ m. drop m left) count in
     ap (in_front (take plain left)) (reference_at text inside found)
-    ∙ added_step (take plain left) (take n left) inside (parts_of (drop (suc (length inside + 2)) text)) (is_foreign (reference (words_of inside))) refl all
-    ∙ ap (λ one. added inside (take plain left) (take n left) ++ parts_of one) behind
+    ∙ added_step (take plain left) (take n left) inside (parts_of_text (drop (suc (length inside + 2)) text)) (is_foreign (reference (words_of inside))) refl all
+    ∙ ap (λ one. added inside (take plain left) (take n left) ++ parts_of_text one) behind
 
-pub parts_step : (done next : List Part) (left : List ℕ) (plain n : ℕ) (inside octets all behind : List ℕ) (whole : List Part) → Some inside ≡ inside_at (drop plain left) → n ≡ plain + (length inside + 3) → next ≡ done ++ added inside octets all → octets ≡ take plain left → all ≡ take n left → behind ≡ drop n left → done ++ in_front (take plain left) (parts_of (drop plain left)) ≡ whole → next ++ parts_of behind ≡ whole
+pub parts_step : (done next : List Part) (left : List ℕ) (plain n : ℕ) (inside octets all behind : List ℕ) (whole : List Part) → Some inside ≡ inside_at (drop plain left) → n ≡ plain + (length inside + 3) → next ≡ done ++ added inside octets all → octets ≡ take plain left → all ≡ take n left → behind ≡ drop n left → done ++ in_front (take plain left) (parts_of_text (drop plain left)) ≡ whole → next ++ parts_of_text behind ≡ whole
 parts_step done next left plain n inside octets all behind whole found same next_is octets_is all_is behind_is so_far =
-    ap (λ one. one ++ parts_of behind) next_is
-    ∙ ap (λ one. (done ++ added inside one all) ++ parts_of behind) octets_is
-    ∙ ap (λ one. (done ++ added inside (take plain left) one) ++ parts_of behind) all_is
-    ∙ ap (λ one. (done ++ added inside (take plain left) (take n left)) ++ parts_of one) behind_is
-    ∙ append_assoc done (added inside (take plain left) (take n left)) (parts_of (drop n left))
+    ap (λ one. one ++ parts_of_text behind) next_is
+    ∙ ap (λ one. (done ++ added inside one all) ++ parts_of_text behind) octets_is
+    ∙ ap (λ one. (done ++ added inside (take plain left) one) ++ parts_of_text behind) all_is
+    ∙ ap (λ one. (done ++ added inside (take plain left) (take n left)) ++ parts_of_text one) behind_is
+    ∙ append_assoc done (added inside (take plain left) (take n left)) (parts_of_text (drop n left))
     ∙ ap (λ further. done ++ further) (sym (reference_step left plain n inside found same))
     ∙ so_far

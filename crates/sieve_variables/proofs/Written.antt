@@ -3,7 +3,7 @@ use Rattle.std.proofs.Common.{◌≡◌, ℕ, Bool, true, false, ◌||◌, cond,
 use Rattle.std.proofs.lemmas.Bool.{false≢true}
 use Rattle.sieve_variables.specs.Name.{folded_name, index_of, is_identifier, is_number}
 use Rattle.sieve_variables.specs.Part.{AreWritten, Part, global_part, grouped, is_shared, literal, local_part, match_part, octet_before, part_of_words, variable_part}
-use Rattle.sieve_variables.specs.Reference.{Cuts, Piece, is_legal, octet, reference, written}
+use Rattle.sieve_variables.specs.Reference.{Cuts, TextPiece, is_legal, octet, reference, written}
 use Rattle.sieve_variables.specs.Variable.{global_variable, local_variable}
 
 octet_written : (c : ℕ) (parts : List Part) (rest : List ℕ) → AreWritten parts rest → AreWritten (octet_before c parts) (c ∷ rest)
@@ -29,7 +29,7 @@ reference_written (namespace ∷ name ∷ []) parts text rest legal is behind =
     shared_written namespace name parts text rest (is_shared namespace name) refl is behind
 reference_written (namespace ∷ word ∷ next ∷ words) parts text rest legal is behind = (rest, is, behind)
 
-pub grouped-written : (pieces : List Piece) (text : List ℕ) → Cuts pieces text → AreWritten (grouped pieces) text
+pub grouped-written : (pieces : List TextPiece) (text : List ℕ) → Cuts pieces text → AreWritten (grouped pieces) text
 grouped-written [] text is = is
 grouped-written (reference words ∷ pieces) text (legal, rest, is, cut) =
     reference_written words (grouped pieces) text rest legal is (grouped-written pieces rest cut)

@@ -26,20 +26,20 @@ abbrev pub written : List (List ℕ) → List ℕ
 written words = codes "${" ++ dotted words ++ codes "}"
 
 -- a text that begins with a reference
-pub record Begins (text : List ℕ) : Type 0 where
+pub record BeginsWithReference (text : List ℕ) : Type 0 where
   pub words : List (List ℕ)
   pub rest : List ℕ
   pub legal : is_legal words ≡ true
   pub is : text ≡ written words ++ rest
 
 -- a piece of a text: a reference, by its words, or an octet
-pub data Piece : Type 0 where
-  reference : (words : List (List ℕ)) → Piece
-  octet : (octet : ℕ) → Piece
+pub data TextPiece : Type 0 where
+  reference : (words : List (List ℕ)) → TextPiece
+  octet : (octet : ℕ) → TextPiece
 
 -- A text is cut from the left into references and single octets, and no reference begins where an octet stands alone (RFC 5229,
 -- section 3: what isn't a reference stands as it is).
-abbrev pub Cuts : List Piece → List ℕ → Type 0
+abbrev pub Cuts : List TextPiece → List ℕ → Type 0
 Cuts [] text = text ≡ []
 Cuts (reference words ∷ pieces) text = (is_legal words ≡ true) × (rest : List ℕ) × (text ≡ written words ++ rest) × Cuts pieces rest
-Cuts (octet c ∷ pieces) text = (Begins text → ⊥) × (rest : List ℕ) × (text ≡ c ∷ rest) × Cuts pieces rest
+Cuts (octet c ∷ pieces) text = (BeginsWithReference text → ⊥) × (rest : List ℕ) × (text ≡ c ∷ rest) × Cuts pieces rest

@@ -5,7 +5,7 @@ use Rattle.std.specs.Option.{option_map}
 use Rattle.sieve_base.specs.Limits.{match_limit}
 use Rattle.sieve_base.specs.Octet.{octet_of, is_name_octet}
 use Rattle.sieve_variables.specs.Name.{is_number, index_of}
-use Rattle.sieve_variables.specs.Reference.{is_legal, Piece, reference, octet}
+use Rattle.sieve_variables.specs.Reference.{is_legal, TextPiece, reference, octet}
 use Rattle.sieve_variables.specs.Part.{Part, grouped, is_shared}
 
 -- what stands between the words of a reference
@@ -37,7 +37,7 @@ inside_at (c ∷ []) = None
 inside_at (c ∷ d ∷ rest) = if c == octet_of "$" && d == octet_of "{" then if_legal (before_brace rest) else None
 
 -- the piece with which a text begins, by its first octet and by the reference with which it begins, if it does
-abbrev pub first_piece : ℕ → Option (List ℕ) → Piece
+abbrev pub first_piece : ℕ → Option (List ℕ) → TextPiece
 first_piece c None = octet c
 first_piece c (Some inside) = reference (words_of inside)
 
@@ -47,31 +47,31 @@ further_octets None = 0
 further_octets (Some inside) = length inside + 2
 
 -- the pieces of a text, of which the first octets, as many as `skip`, belong to the piece before
-unfoldable pub pieces_from : (skip : ℕ) → List ℕ → List Piece
+unfoldable pub pieces_from : (skip : ℕ) → List ℕ → List TextPiece
 pieces_from skip [] = []
 pieces_from zero (c ∷ rest) = first_piece c (inside_at (c ∷ rest)) ∷ pieces_from (further_octets (inside_at (c ∷ rest))) rest
 pieces_from (suc skip) (c ∷ rest) = pieces_from skip rest
 
 -- the pieces of a text
-abbrev pub pieces_of : List ℕ → List Piece
+abbrev pub pieces_of : List ℕ → List TextPiece
 pieces_of text = pieces_from 0 text
 
 -- the parts of a text
-abbrev pub parts_of : List ℕ → List Part
-parts_of text = grouped (pieces_of text)
+abbrev pub parts_of_text : List ℕ → List Part
+parts_of_text text = grouped (pieces_of text)
 
 -- whether a piece is a reference
-abbrev pub is_reference : Piece → Bool
+abbrev pub is_reference : TextPiece → Bool
 is_reference (octet c) = false
 is_reference (reference words) = true
 
 -- whether it is one with a namespace: of more than one word
-abbrev pub is_namespaced : Piece → Bool
+abbrev pub is_namespaced : TextPiece → Bool
 is_namespaced (octet c) = false
 is_namespaced (reference words) = nat_lt 1 (length words)
 
 -- whether it is one in another namespace than that of the variables that scripts share (RFC 6609, section 3.4.2)
-abbrev pub is_foreign : Piece → Bool
+abbrev pub is_foreign : TextPiece → Bool
 is_foreign (octet c) = false
 is_foreign (reference []) = false
 is_foreign (reference (name ∷ [])) = false
@@ -79,7 +79,7 @@ is_foreign (reference (namespace ∷ name ∷ [])) = not (is_shared namespace na
 is_foreign (reference (namespace ∷ word ∷ next ∷ words)) = true
 
 -- whether it is one to a match variable whose number is past the limit (RFC 5229, section 6)
-abbrev pub is_far : Piece → Bool
+abbrev pub is_far : TextPiece → Bool
 is_far (octet c) = false
 is_far (reference []) = false
 is_far (reference (name ∷ [])) = is_number name && nat_lt match_limit (index_of name)

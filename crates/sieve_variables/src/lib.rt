@@ -15,6 +15,6 @@ mod variables;
 pub use modifier::{LetterCase, Modifiers};
 pub use name::{folded, is_global_name, is_identifier};
 pub use part::{Part, Parts, Strings, scoped_parts};
-pub use references::{References, parts_of, references_in};
+pub use references::{References, parts_of_text, references_in};
 pub use values::{Own, Values};
 pub use variable::{Names, Variable};

@@ -4,7 +4,7 @@ ghost use Rattle.std.specs.List.{list_all};
 ghost use Rattle.std.specs.Option.{option_map};
 ghost use Rattle.sieve_variables.specs.Part.{part_of_words};
 ghost use Rattle.sieve_variables.specs.Reference.{is_legal, is_name, reference};
-ghost use Rattle.sieve_variables.specs.Scan.{before_brace, has_far_index, has_foreign_namespace, has_namespace, has_reference, inside_at, is_dot, is_far, is_foreign, is_inside, is_namespaced, parts_of, words_of};
+ghost use Rattle.sieve_variables.specs.Scan.{before_brace, has_far_index, has_foreign_namespace, has_namespace, has_reference, inside_at, is_dot, is_far, is_foreign, is_inside, is_namespaced, parts_of_text, words_of};
 ghost use Rattle.sieve_variables.specs.view.Part.{added, literal_part, part_of};
 
 use crate::name::{folded, index_of, is_identifier, is_name, is_number, is_shared};
@@ -32,8 +32,8 @@ pub struct References {
 const SIGN_COUNT: usize = 3;
 
 /// The parts of a text.
-pub fn parts_of(alloc: Global, text: &[u8]) -> Result<Parts, AllocError>
-    ensures { IfOk result (λ parts. map part_of parts.items ≡ parts_of text.now) }
+pub fn parts_of_text(alloc: Global, text: &[u8]) -> Result<Parts, AllocError>
+    ensures { IfOk result (λ parts. map part_of parts.items ≡ parts_of_text text.now) }
 {
     let mut parts = Parts::new(alloc);
     // What isn't yet in the parts, and how many of its octets are known to stand for themselves.

@@ -6,7 +6,7 @@ use sieve_reading::{
     Ask, Command, CommandKind, CommandReading, Leaf, MatchType, Part, Test, TestReading, Tests,
     Text, ValueSource, kind_of, read_command, read_test,
 };
-use sieve_syntax::{Script, parse};
+use sieve_syntax::{ParsedScript, parse};
 use std::alloc::Global;
 use std::process::Abort;
 use std::test::Fail;
@@ -101,7 +101,7 @@ fn check_both(rt: &impl Abort, commands: &[Command]) {
 }
 
 /// The tree of a script that breaks no rule.
-fn checked_script(alloc: Global, script: &Script) -> Result<Checked, Fail> {
+fn checked_script(alloc: Global, script: &ParsedScript) -> Result<Checked, Fail> {
     Ok(check(alloc, script)?)
 }
 
@@ -171,7 +171,7 @@ fn a_header_test_has_its_strings(rt: HostRuntime) -> Result<(), Fail> {
 }
 
 /// Compares the rule that a script breaks first, and its line.
-fn check_breach(rt: &(impl AllocGlobal + Abort), script: &Script, line: u64, rule: Rule) {
+fn check_breach(rt: &(impl AllocGlobal + Abort), script: &ParsedScript, line: u64, rule: Rule) {
     match check(rt.alloc(), script) {
         Err(fault) => holds(rt, "a breach", fault == CheckFault::Breach { line, rule }),
         Ok(_) => panic!(rt; "no breach"),

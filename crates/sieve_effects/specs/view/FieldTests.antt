@@ -2,7 +2,7 @@
 use Rattle.std.specs.Prelude.{ℕ, Bool, true, false, List, map, Option, None, Some, if◌then◌else◌}
 use Rattle.std.specs.Option.{option_and_then}
 use Rattle.encoded_words.specs.Scan.{decoded_of}
-use Rattle.message_text.specs.Addresses.{AddrSpec, addresses_of, envelope_address_of, part_of}
+use Rattle.message_text.specs.Addresses.{AddrSpec, addresses_of, envelope_address_of, part_of_address}
 use Rattle.message_text.specs.Fields.{Field, is_field_named}
 use Rattle.message_text.specs.declared.addressing.AddressPart.{AddressPart}
 use Rattle.sieve_reading.specs.Reading.{ValueSource, address_values, envelope_values, flag_values, header_values, string_values}
@@ -49,7 +49,7 @@ is_looked_at (Some part) name = is_address_field name
 module _ (find : List ℕ → Option (List (List ℕ))) where
   -- a part of an address that is there
   abbrev pub part_found : AddressPart → AddrSpec → Option (List (List ℕ))
-  part_found part address = option_and_then find (part_of part address)
+  part_found part address = option_and_then find (part_of_address part address)
 
   -- that part of an envelope's address, and of the address in the envelope's part of a name
   abbrev pub path_found : AddressPart → List ℕ → Option (List (List ℕ))

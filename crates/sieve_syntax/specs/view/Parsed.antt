@@ -6,12 +6,12 @@ use Rattle.sieve_syntax.specs.Tree.{Node}
 use Rattle.sieve_syntax.specs.view.Tree.{nodes_of}
 use Rattle.sieve_syntax.specs.declared.parser.SyntaxFault.{SyntaxFault}
 use Rattle.sieve_syntax.specs.declared.parser.SyntaxFault.TheVariants.{Syntax, TooLarge, NoMemory}
-use Rattle.sieve_syntax.specs.declared.tree.Script as scripts
+use Rattle.sieve_syntax.specs.declared.tree.ParsedScript as scripts
 use Rattle.sieve_syntax.specs.declared.reader.Outer as outers
 use Rattle.sieve_syntax.specs.declared.reader.ParserState as states
 
 -- the tree is what the text means, or the line of the fault is
-abbrev pub Parses : Result scripts.Script SyntaxFault → Result (List Node) ℕ → Type 0
+abbrev pub Parses : Result scripts.ParsedScript SyntaxFault → Result (List Node) ℕ → Type 0
 Parses (Ok script) meaning = meaning ≡ Ok (nodes_of script)
 Parses (Err (Syntax line)) meaning = meaning ≡ Err line
 Parses (Err TooLarge) meaning = Unit {0}
@@ -25,7 +25,7 @@ Goes o (Err TooLarge) next line = ⊥
 Goes o (Err NoMemory) next line = Unit {0}
 
 -- the script is the whole tree, or there is none and the line is that of the end
-abbrev pub Finishes : Result scripts.Script SyntaxFault → Option (List Node) → ℕ → Type 0
+abbrev pub Finishes : Result scripts.ParsedScript SyntaxFault → Option (List Node) → ℕ → Type 0
 Finishes (Ok script) tree line = tree ≡ Some (nodes_of script)
 Finishes (Err (Syntax at)) tree line = (tree ≡ None) × (at ≡ line)
 Finishes (Err TooLarge) tree line = ⊥

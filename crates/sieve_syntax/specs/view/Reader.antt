@@ -1,10 +1,10 @@
 -- The view of the program's reader as a state of the machine.
 use Rattle.std.specs.Prelude.{◌≡◌, List, Option, Some, None, Result, Ok, Err, map, reverse}
 use Rattle.sieve_syntax.specs.view.Tree.{node_of, test_of, tests_of, text_of, argument_of}
-use Rattle.sieve_syntax.specs.Word.{Word, identifier, tag_word, number_word, string_word, semicolon, open_brace, close_brace, open_parenthesis, close_parenthesis, open_bracket, close_bracket, comma, bad}
+use Rattle.sieve_syntax.specs.Symbol.{Symbol, identifier, tag_symbol, number_symbol, string_symbol, semicolon, open_brace, close_brace, open_parenthesis, close_parenthesis, open_bracket, close_bracket, comma, bad}
 use Rattle.sieve_syntax.specs.Machine.{Head, Level, for_one, for_list, Open, Outer, ParserState, between, in_arguments, before_string, after_string, before_test, after_tests}
-use Rattle.sieve_syntax.specs.declared.word.Word as words
-use Rattle.sieve_syntax.specs.declared.word.Word.TheVariants as word_variants
+use Rattle.sieve_syntax.specs.declared.symbol.Symbol as symbols
+use Rattle.sieve_syntax.specs.declared.symbol.Symbol.TheVariants as symbol_variants
 use Rattle.sieve_syntax.specs.declared.reader.Head as heads
 use Rattle.sieve_syntax.specs.declared.reader.Level as levels
 use Rattle.sieve_syntax.specs.declared.reader.Level.TheVariants as level_variants
@@ -15,20 +15,20 @@ use Rattle.sieve_syntax.specs.declared.reader.ParserState.TheVariants as state_v
 use Rattle.sieve_syntax.specs.declared.step.Stop as stops
 use Rattle.sieve_syntax.specs.declared.step.Stop.TheVariants as stop_variants
 
-abbrev pub word_as : words.Word → Word
-word_as (word_variants.Identifier name line) = identifier name.items line
-word_as (word_variants.Tag name line) = tag_word name.items line
-word_as (word_variants.Number value line) = number_word value line
-word_as (word_variants.String octets line) = string_word octets.items line
-word_as word_variants.Semicolon = semicolon
-word_as word_variants.OpenBrace = open_brace
-word_as word_variants.CloseBrace = close_brace
-word_as word_variants.OpenParenthesis = open_parenthesis
-word_as word_variants.CloseParenthesis = close_parenthesis
-word_as word_variants.OpenBracket = open_bracket
-word_as word_variants.CloseBracket = close_bracket
-word_as word_variants.Comma = comma
-word_as word_variants.Bad = bad
+abbrev pub symbol_as : symbols.Symbol → Symbol
+symbol_as (symbol_variants.Identifier name line) = identifier name.items line
+symbol_as (symbol_variants.Tag name line) = tag_symbol name.items line
+symbol_as (symbol_variants.Number value line) = number_symbol value line
+symbol_as (symbol_variants.String octets line) = string_symbol octets.items line
+symbol_as symbol_variants.Semicolon = semicolon
+symbol_as symbol_variants.OpenBrace = open_brace
+symbol_as symbol_variants.CloseBrace = close_brace
+symbol_as symbol_variants.OpenParenthesis = open_parenthesis
+symbol_as symbol_variants.CloseParenthesis = close_parenthesis
+symbol_as symbol_variants.OpenBracket = open_bracket
+symbol_as symbol_variants.CloseBracket = close_bracket
+symbol_as symbol_variants.Comma = comma
+symbol_as symbol_variants.Bad = bad
 
 abbrev pub head_value : heads.Head → Head
 head_value h = record { name = h.name.items; line = h.line; args = map argument_of h.args.items }

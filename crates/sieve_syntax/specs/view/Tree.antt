@@ -6,7 +6,7 @@ use Rattle.smallvec.specs.SmallVec.{SmallVec}
 use Rattle.sieve_syntax.specs.Tree.{Text, Argument, Test, Tests, Node, Block}
 use Rattle.sieve_syntax.specs.declared.tree.Argument as arguments
 use Rattle.sieve_syntax.specs.declared.tree.Command as commands
-use Rattle.sieve_syntax.specs.declared.tree.Script as scripts
+use Rattle.sieve_syntax.specs.declared.tree.ParsedScript as scripts
 use Rattle.sieve_syntax.specs.declared.tree.Test as one_tests
 use Rattle.sieve_syntax.specs.declared.tree.Tests as some_tests
 use Rattle.sieve_syntax.specs.declared.tree.Text as texts
@@ -30,7 +30,7 @@ test_of = by.test_of octets_of
 abbrev pub node_of : commands.Command (SmallVec ℕ) → Node
 node_of = by.node_of octets_of
 
-abbrev pub nodes_of : scripts.Script → List Node
+abbrev pub nodes_of : scripts.ParsedScript → List Node
 nodes_of s = map node_of s.commands.items
 
 abbrev pub block_of : Option (Vec (commands.Command (SmallVec ℕ)) Global) → Block

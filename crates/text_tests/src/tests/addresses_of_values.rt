@@ -5,15 +5,15 @@ use std::alloc::{AllocError, Global};
 use std::process::Abort;
 
 /// A part of an address, or a hyphen where it hasn't one.
-fn part_of(address: &Address, part: AddressPart) -> &[u8] {
+fn part_of_address(address: &Address, part: AddressPart) -> &[u8] {
     address.part(part).unwrap_or(b"-")
 }
 
 /// Adds the parts of an address, and a hyphen for each that it hasn't, on one line.
 fn push_line(text: &mut Vec<u8>, address: &Address) -> Result<(), AllocError> {
-    push_ended(text, part_of(address, AddressPart::All), b'|')?;
-    push_ended(text, part_of(address, AddressPart::Local), b'|')?;
-    push_ended(text, part_of(address, AddressPart::Domain), b'\n')
+    push_ended(text, part_of_address(address, AddressPart::All), b'|')?;
+    push_ended(text, part_of_address(address, AddressPart::Local), b'|')?;
+    push_ended(text, part_of_address(address, AddressPart::Domain), b'\n')
 }
 
 /// Adds each address of the value on a line of its own.

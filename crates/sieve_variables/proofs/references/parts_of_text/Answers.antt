@@ -2,7 +2,7 @@ use Rattle.std.proofs.Common.{◌≡◌, ◌+◌, ◌++◌, length, add-one, map
 use Rattle.sieve_variables.specs.Scan.{inside_at}
 use Rattle.sieve_variables.specs.view.Part.{part_of}
 use Rattle.sieve_variables.proofs.Steps.{last_step, parts_step, plain_step}
-use Rattle.sieve_variables.proofs.references.parts_of.Goals as goal
+use Rattle.sieve_variables.proofs.references.parts_of_text.Goals as goal
 
 pub loop-plain-preserved-in-None : goal.loop-plain-preserved-in-None
 loop-plain-preserved-in-None c = record {

@@ -1,9 +1,9 @@
 //! Tokens as the grammar sees them, with what the tree keeps of them.
 
 ghost use Rattle.std.specs.Prelude.{◌≡◌, IfOk};
-ghost use Rattle.sieve_syntax.specs.view.Reader.{word_as};
+ghost use Rattle.sieve_syntax.specs.view.Reader.{symbol_as};
 ghost use Rattle.sieve_syntax.specs.Token.{IsInside};
-ghost use Rattle.sieve_syntax.specs.Word.{word_of};
+ghost use Rattle.sieve_syntax.specs.Symbol.{symbol_of};
 
 use crate::token::{Token, TokenKind};
 use crate::value::{multi_line_octets, number_of, quoted_octets};
@@ -12,7 +12,7 @@ use std::alloc::{AllocError, Global};
 
 /// A token without its place.
 #[derive(Drop)]
-pub(crate) enum Word {
+pub(crate) enum Symbol {
     Identifier { name: SmallOctets, line: u64 },
     Tag { name: SmallOctets, line: u64 },
     Number { value: Option<u64>, line: u64 },
@@ -28,43 +28,43 @@ pub(crate) enum Word {
     Bad,
 }
 
-/// The word of a token of a text. The only refusal is want of memory.
-#[tactic(auto, unfolding(crate::specs::Word::word_at))]
-pub(crate) fn read_word(alloc: Global, text: &[u8], token: Token) -> Result<Word, AllocError>
+/// The symbol of a token of a text. The only refusal is want of memory.
+#[tactic(auto, unfolding(crate::specs::Symbol::symbol_at))]
+pub(crate) fn read_symbol(alloc: Global, text: &[u8], token: Token) -> Result<Symbol, AllocError>
     requires { IsInside text.now token }
-    ensures { IfOk result (λ word. word_as word ≡ word_of text.now token) }
+    ensures { IfOk result (λ symbol. symbol_as symbol ≡ symbol_of text.now token) }
 {
     let octets = &text[token.start..token.end];
     let line = token.line;
     match token.kind {
-        TokenKind::Identifier => Ok(Word::Identifier {
+        TokenKind::Identifier => Ok(Symbol::Identifier {
             name: SmallOctets::from_slice(alloc, octets)?,
             line,
         }),
-        TokenKind::Tag => Ok(Word::Tag {
+        TokenKind::Tag => Ok(Symbol::Tag {
             name: SmallOctets::from_slice(alloc, &octets[1..])?,
             line,
         }),
-        TokenKind::Number => Ok(Word::Number {
+        TokenKind::Number => Ok(Symbol::Number {
             value: number_of(octets),
             line,
         }),
-        TokenKind::Quoted => Ok(Word::String {
+        TokenKind::Quoted => Ok(Symbol::String {
             octets: quoted_octets(alloc, octets)?,
             line,
         }),
-        TokenKind::MultiLine => Ok(Word::String {
+        TokenKind::MultiLine => Ok(Symbol::String {
             octets: SmallOctets::from_vec(multi_line_octets(alloc, octets)?),
             line,
         }),
-        TokenKind::Semicolon => Ok(Word::Semicolon),
-        TokenKind::OpenBrace => Ok(Word::OpenBrace),
-        TokenKind::CloseBrace => Ok(Word::CloseBrace),
-        TokenKind::OpenParenthesis => Ok(Word::OpenParenthesis),
-        TokenKind::CloseParenthesis => Ok(Word::CloseParenthesis),
-        TokenKind::OpenBracket => Ok(Word::OpenBracket),
-        TokenKind::CloseBracket => Ok(Word::CloseBracket),
-        TokenKind::Comma => Ok(Word::Comma),
-        TokenKind::Bad => Ok(Word::Bad),
+        TokenKind::Semicolon => Ok(Symbol::Semicolon),
+        TokenKind::OpenBrace => Ok(Symbol::OpenBrace),
+        TokenKind::CloseBrace => Ok(Symbol::CloseBrace),
+        TokenKind::OpenParenthesis => Ok(Symbol::OpenParenthesis),
+        TokenKind::CloseParenthesis => Ok(Symbol::CloseParenthesis),
+        TokenKind::OpenBracket => Ok(Symbol::OpenBracket),
+        TokenKind::CloseBracket => Ok(Symbol::CloseBracket),
+        TokenKind::Comma => Ok(Symbol::Comma),
+        TokenKind::Bad => Ok(Symbol::Bad),
     }
 }
