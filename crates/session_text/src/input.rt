@@ -165,7 +165,7 @@ impl Input {
 
     /// Reads more octets behind those that are not used, of which there must be room for one more. A read that was
     /// interrupted is tried again, at most 1,000 times in a row, and each try counts as a read. None is
-    /// made where one has come to the end.
+    /// made, and nothing changes, where one has come to the end.
     #[tactic(auto, using(crate::proofs::Reading::reading))]
     pub(crate) fn fill<R: Source>(&mut self, reader: &mut R) -> Filled
         requires room { length self.old.pending < capacity }
@@ -174,6 +174,7 @@ impl Input {
         ensures keeps { Keeps (unused self.old (R.remaining reader.old)) (unused self.new (R.remaining reader.new)) }
         ensures fuel { fuel self.new ≤ fuel self.old }
         ensures reads { Reads R.remaining R.fault_count R.call_count self.old self.new reader.old reader.new }
+        ensures past_end { self.old.ended ≡ true → (self.new ≡ self.old) × (reader.new ≡ reader.old) }
         ensures filled { MatchFilled result
             ((fuel self.new < fuel self.old) × (0 < length self.new.pending))
             ((self.new.pending ≡ self.old.pending) × (self.new.ended ≡ true) × IsAtEnd (R.remaining reader.new))
@@ -203,7 +204,8 @@ impl Input {
         Filled::Failed
     }
 
-    /// Reads more octets if all are used.
+    /// Reads more octets if all are used. Where there are some, or a read has come to the end, none is made, and nothing
+    /// changes.
     #[tactic(auto, using(crate::proofs::Reading::reading))]
     pub(crate) fn refresh<R: Source>(&mut self, reader: &mut R) -> Filled
         requires known { Knows self.old (R.remaining reader.old) }
@@ -211,6 +213,8 @@ impl Input {
         ensures keeps { Keeps (unused self.old (R.remaining reader.old)) (unused self.new (R.remaining reader.new)) }
         ensures fuel { fuel self.new ≤ fuel self.old }
         ensures reads { Reads R.remaining R.fault_count R.call_count self.old self.new reader.old reader.new }
+        ensures still { 0 < length self.old.pending → (self.new ≡ self.old) × (reader.new ≡ reader.old) }
+        ensures past_end { self.old.ended ≡ true → (self.new ≡ self.old) × (reader.new ≡ reader.old) }
         ensures filled { MatchFilled result
             (0 < length self.new.pending)
             ((self.new.pending ≡ []) × IsAtEnd (R.remaining reader.new))

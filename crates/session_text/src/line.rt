@@ -1,5 +1,5 @@
 //! The lines of a session's input.
-ghost use Rattle.std.specs.Prelude.{◌≡◌, ◌<◌, ◌≤◌, ◌+◌, ◌++◌, ℕ, List, [], None, Some, length, take, drop, false, ⊤, MatchOption, IfSome, IsTrue};
+ghost use Rattle.std.specs.Prelude.{◌≡◌, ◌<◌, ◌≤◌, ◌+◌, ◌++◌, ℕ, List, [], None, Some, length, take, drop, false, ⊤, MatchOption, IfSome, IsTrue, true};
 ghost use Rattle.std.specs.Io.KnownBytes.{Keeps, IsAtEnd};
 ghost use Rattle.sieve_base.specs.Devices.{HasRisen};
 ghost use Rattle.sieve_base.specs.Limits.{line_limit};
@@ -106,7 +106,8 @@ impl Line {
 
     /// The next line of the input, which reads as much as it takes to find its end, and uses nothing. An LF ends a
     /// line, and so does the end of the input; a CR before the LF is no part of the line. A line that is too long is
-    /// told as soon as that is known, whether its end has been read or not.
+    /// told as soon as that is known, whether its end has been read or not. Nothing is read where the octets that are
+    /// read and not used tell the line already, by its LF or by being too many, nor behind the end of the input.
     #[tactic(auto, using(crate::proofs::Reading::reading))]
     pub fn next<R: Source>(input: &mut Input, reader: &mut R) -> Line
         requires known { Knows input.old (R.remaining reader.old) }
@@ -117,6 +118,8 @@ impl Line {
         ensures ended { input.new.ended ≡ false → IsEnded result input.new.pending }
         ensures within { IsWithin result input.new.pending }
         ensures reads { Reads R.remaining R.fault_count R.call_count input.old input.new reader.old reader.new }
+        ensures still { (IsCutOff input.old.pending → ⊥) → (input.new ≡ input.old) × (reader.new ≡ reader.old) }
+        ensures past_end { input.old.ended ≡ true → (input.new ≡ input.old) × (reader.new ≡ reader.old) }
         ensures end { MatchEnd result (IsAtEnd (R.remaining reader.new))
             ((input.new.ended ≡ false) × HasRisen (R.fault_count reader.old) (R.fault_count reader.new))
             ((input.new.ended ≡ false) × (input.new.turns ≡ 0)) }

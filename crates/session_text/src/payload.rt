@@ -1,5 +1,5 @@
 //! The counted octets of a session's input.
-ghost use Rattle.std.specs.Prelude.{◌≡◌, ⊤, false, ◌≤◌, ◌++◌, [], None, IfSome};
+ghost use Rattle.std.specs.Prelude.{◌≡◌, ⊤, false, true, ◌≤◌, ◌++◌, [], None, IfSome, length};
 ghost use Rattle.std.specs.Option.{option_map};
 ghost use Rattle.sieve_base.specs.Devices.{HasRisen};
 ghost use Rattle.session_text.specs.view.Input.{unused, fuel, Knows, Reads};
@@ -47,7 +47,8 @@ fn room_for(alloc: Global, count: usize, keep: bool) -> Option<Vec<u8>>
 }
 
 /// Uses the next `count` octets of the input, and keeps a copy of them where `keep` is true. Where memory is refused for
-/// the copy, the octets are used all the same, and none are kept; nor are they where it is false.
+/// the copy, the octets are used all the same, and none are kept; nor are they where it is false. Nothing is read where
+/// all of them are read already, nor behind the end of the input.
 #[tactic(auto, using(crate::proofs::Taking::taking, crate::proofs::Reading::reading))]
 pub fn take_octets<R: Source>(
     alloc: Global,
@@ -66,6 +67,8 @@ pub fn take_octets<R: Source>(
         (BreaksOff count (unused input.old (R.remaining reader.old)) (R.remaining reader.new) × (input.new.ended ≡ false) × (input.new.turns ≡ 0)) }
     ensures unkept { keep ≡ false → MatchTaken result (λ kept. kept ≡ None) ⊤ ⊤ ⊤ }
     ensures reads { Reads R.remaining R.fault_count R.call_count input.old input.new reader.old reader.new }
+    ensures still { count ≤ length input.old.pending → (input.new.turns ≡ input.old.turns) × (input.new.ended ≡ input.old.ended) × (reader.new ≡ reader.old) }
+    ensures past_end { input.old.ended ≡ true → (input.new.turns ≡ input.old.turns) × (input.new.ended ≡ true) × (reader.new ≡ reader.old) }
 {
     let mut kept = room_for(alloc, count, keep);
     let mut left = count;
