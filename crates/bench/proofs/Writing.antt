@@ -2,7 +2,7 @@
 use Rattle.std.proofs.Common.{◌≡◌, ℕ, List, [], ◌++◌, sym, ap, ◌∙◌, append_assoc, append-nil, refl, Option, Result, Ok, Err, IsErr, ◌<◌, ◌+◌, length, get_or, drop, subst}
 use Rattle.std.specs.List.{flat_map}
 use Rattle.std.proofs.lemmas.List.{drop_more}
-use Rattle.sieve_base.proofs.Writing.{last_of_three, wrote_nothing, wrote_both, wrote_then_front, wrote_front_of, writes_failed}
+use Rattle.sieve_base.proofs.Writing.{last_of_three, middle_failed, wrote_nothing, wrote_both, wrote_then_front, wrote_front_of, writes_failed}
 use Rattle.sieve_base.specs.Writers.{Wrote, WroteFront, Writes}
 
 -- Between two states of a device all of a text was written, but for what is left.
@@ -75,13 +75,6 @@ pub stops_at : {S T E X : Type 0} (contents : S → Option (List ℕ)) (fault_co
     → i < length xs → x ≡ get_or xs i x → Writing contents fault_count a b (flat_map f (drop i xs)) all → WroteFront contents fault_count b c (f x) → Writes contents fault_count r a c all
 stops_at contents fault_count r is_err a b c f xs i x all within is so_far step =
     stops contents fault_count r is_err a b c (f x) (flat_map f (drop (i + 1) xs)) _ all so_far (flat_map-drop f xs i x within is) step
-
--- of three texts the first was written, and the second failed
-pub middle_failed : {S T E : Type 0} (contents : S → Option (List ℕ)) (fault_count : S → ℕ) (r : Result T E) (a b c : S) (s t u : List ℕ)
-    → IsErr r → Wrote contents fault_count a b s → WroteFront contents fault_count b c t → Writes contents fault_count r a c ((s ++ t) ++ u)
-middle_failed contents fault_count r a b c s t u is_err first second =
-    writes_failed contents fault_count r a c ((s ++ t) ++ u) is_err
-    (wrote_front_of contents fault_count a c (s ++ t) u (wrote_then_front contents fault_count a b c s t first second))
 
 -- For `using(..)` on a function that writes what stands before a line, the line, and its end.
 pub ruleset lines = (last_of_three, middle_failed, writes_failed, wrote_front_of)

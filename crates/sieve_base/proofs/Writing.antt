@@ -74,6 +74,30 @@ pub writes_failed : {S T E : Type 0} (contents : S → Option (List ℕ)) (fault
     → IsErr r → WroteFront contents fault_count a b s → Writes contents fault_count r a b s
 writes_failed contents fault_count r a b s is_err front = MatchResult-from_err r _ _ is_err (λ _. front)
 
+-- what was written may be said otherwise
+pub writes_as : {S T E : Type 0} (contents : S → Option (List ℕ)) (fault_count : S → ℕ) (r : Result T E) (a b : S) (s t : List ℕ)
+    → s ≡ t → Writes contents fault_count r a b s → Writes contents fault_count r a b t
+writes_as contents fault_count r a b s t same writes = subst (Writes contents fault_count r a b) same writes
+
+-- the first of two texts was tried, and failed
+pub first_failed : {S T E : Type 0} (contents : S → Option (List ℕ)) (fault_count : S → ℕ) (r : Result T E) (a b : S) (s t u : List ℕ)
+    → s ++ t ≡ u → IsErr r → WroteFront contents fault_count a b s → Writes contents fault_count r a b u
+first_failed contents fault_count r a b s t u same is_err front =
+    writes_as contents fault_count r a b (s ++ t) u same (writes_failed contents fault_count r a b (s ++ t) is_err (wrote_front_of contents fault_count a b s t front))
+
+-- the first was written, and the second tried
+pub then_last : {S T E : Type 0} (contents : S → Option (List ℕ)) (fault_count : S → ℕ) (r : Result T E) (a b c : S) (s t u : List ℕ)
+    → s ++ t ≡ u → Wrote contents fault_count a b s → Writes contents fault_count r b c t → Writes contents fault_count r a c u
+then_last contents fault_count r a b c s t u same first second =
+    writes_as contents fault_count r a c (s ++ t) u same (last_of_two contents fault_count r a b c s t first second)
+
+-- of three texts the first was written, and the second failed
+pub middle_failed : {S T E : Type 0} (contents : S → Option (List ℕ)) (fault_count : S → ℕ) (r : Result T E) (a b c : S) (s t u : List ℕ)
+    → IsErr r → Wrote contents fault_count a b s → WroteFront contents fault_count b c t → Writes contents fault_count r a c ((s ++ t) ++ u)
+middle_failed contents fault_count r a b c s t u is_err first second =
+    writes_failed contents fault_count r a c ((s ++ t) ++ u) is_err
+    (wrote_front_of contents fault_count a c (s ++ t) u (wrote_then_front contents fault_count a b c s t first second))
+
 -- a front of some items' texts is a front of all their texts
 pub wrote_front_of_items : {S X : Type 0} (contents : S → Option (List ℕ)) (fault_count : S → ℕ) (a b : S) (f : X → List ℕ) (xs : List X) (n : ℕ)
     → WroteFront contents fault_count a b (flat_map f (take n xs)) → WroteFront contents fault_count a b (flat_map f xs)

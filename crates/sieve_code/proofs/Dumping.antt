@@ -1,9 +1,7 @@
 -- What the dump writes of parts and strings.
-use Rattle.std.proofs.Common.{◌≡◌, ℕ, ◌-◌, ◌<◌, ◌≤◌, Option, Result, IsErr, List, [], ◌∷◌, ◌++◌, length, map, get_or, take, drop, codes, refl, sym, ap, subst, ◌∙◌, arith, append_assoc}
+use Rattle.std.proofs.Common.{◌≡◌, ℕ, ◌-◌, ◌<◌, ◌≤◌, List, [], ◌∷◌, ◌++◌, length, map, get_or, take, drop, codes, refl, sym, ap, ◌∙◌, arith, append_assoc}
 use Rattle.std.specs.List.{flat_map}
 use Rattle.std.proofs.lemmas.List.{take_rest}
-use Rattle.sieve_base.specs.Writers.{Wrote, WroteFront, Writes}
-use Rattle.sieve_base.proofs.Writing.{last_of_two, writes_failed, wrote_front_of}
 use Rattle.smallvec.specs.SmallVec.{SmallVec}
 use Rattle.sieve_variables.specs.Part as part
 use Rattle.sieve_variables.specs.view.Part.{part_of}
@@ -43,22 +41,6 @@ strings_some (s ∷ ss) string parts some same is =
     ap (λ ps. string_text (map part_of ps) ++ flat_map marked_string ss) same
     ∙ ap (λ x. string_text (held_parts x) ++ flat_map marked_string ss) is
     ∙ ap (λ t. string_text (held_parts s) ++ t) (sym (strings_marked ss))
-
--- FRONTS
-
--- what was written may be said otherwise
-pub writes_as : {S T E : Type 0} (contents : S → Option (List ℕ)) (fault_count : S → ℕ) (r : Result T E) (a b : S) (s t : List ℕ) → s ≡ t → Writes contents fault_count r a b s → Writes contents fault_count r a b t
-writes_as contents fault_count r a b s t same writes = subst (Writes contents fault_count r a b) same writes
-
--- the first of two texts was tried, and failed
-pub first_failed : {S T E : Type 0} (contents : S → Option (List ℕ)) (fault_count : S → ℕ) (r : Result T E) (a b : S) (s t u : List ℕ) → s ++ t ≡ u → IsErr r → WroteFront contents fault_count a b s → Writes contents fault_count r a b u
-first_failed contents fault_count r a b s t u same is_err front =
-    writes_as contents fault_count r a b (s ++ t) u same (writes_failed contents fault_count r a b (s ++ t) is_err (wrote_front_of contents fault_count a b s t front))
-
--- the first was written, and the second tried
-pub then_last : {S T E : Type 0} (contents : S → Option (List ℕ)) (fault_count : S → ℕ) (r : Result T E) (a b c : S) (s t u : List ℕ) → s ++ t ≡ u → Wrote contents fault_count a b s → Writes contents fault_count r b c t → Writes contents fault_count r a c u
-then_last contents fault_count r a b c s t u same first second =
-    writes_as contents fault_count r a c (s ++ t) u same (last_of_two contents fault_count r a b c s t first second)
 
 -- all but the first
 abbrev pub others_of : {X : Type 0} → List X → List X

@@ -1,6 +1,6 @@
-use Rattle.sieve_base.proofs.Writing.{wrote_both, wrote_then_front}
+use Rattle.sieve_base.proofs.Writing.{first_failed, then_last, wrote_both, wrote_then_front}
 use Rattle.sieve_variables.specs.view.Part.{strings_of}
-use Rattle.sieve_code.proofs.Dumping.{first_failed, list_whole, then_last}
+use Rattle.sieve_code.proofs.Dumping.{list_whole}
 use Rattle.sieve_code.proofs.dump_strings.write_list.Goals as goal
 
 pub returns-in_err-write_strings : goal.returns-in_err-write_strings

@@ -1,5 +1,6 @@
 use Rattle.std.proofs.Common.{◌≤◌, ◌++◌, length, ap, arith}
-use Rattle.sieve_code.proofs.Dumping.{first_failed, string_front, string_none, then_last, writes_as}
+use Rattle.sieve_base.proofs.Writing.{first_failed, then_last, writes_as}
+use Rattle.sieve_code.proofs.Dumping.{string_front, string_none}
 use Rattle.sieve_code.proofs.dump_strings.write_string.Goals as goal
 
 pub returns-in_err-write_part-in-len1-up : goal.returns-in_err-write_part-in-len1-up

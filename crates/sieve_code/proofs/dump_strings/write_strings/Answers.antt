@@ -1,4 +1,5 @@
-use Rattle.sieve_code.proofs.Dumping.{first_failed, strings_front, then_last}
+use Rattle.sieve_base.proofs.Writing.{first_failed, then_last}
+use Rattle.sieve_code.proofs.Dumping.{strings_front}
 use Rattle.sieve_code.proofs.dump_strings.write_strings.Goals as goal
 
 pub returns-in_err-write_string-in-len1-up : goal.returns-in_err-write_string-in-len1-up
