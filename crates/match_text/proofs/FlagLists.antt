@@ -1,7 +1,8 @@
 -- Lists of flags that are joined, filtered and taken once each.
-use Rattle.std.proofs.Common.{◌≡◌, ℕ, zero, suc, ◌-◌, arith, ◌+◌, ◌<◌, ◌≤◌, length, drop, get_or, take, Bool, true, false, not, cond, ◌&&◌, ◌||◌, List, [], ◌∷◌, ◌++◌, filter, if◌then◌else◌, refl, sym, ap, subst, ◌∙◌, append-nil, append_assoc, true≢false}
+use Rattle.std.proofs.Common.{◌≡◌, ℕ, SomeIndex, zero, suc, ◌-◌, arith, ◌+◌, ◌<◌, ◌≤◌, length, drop, get_or, take, Bool, true, false, not, cond, ◌&&◌, ◌||◌, List, [], ◌∷◌, ◌++◌, filter, if◌then◌else◌, refl, sym, ap, subst, ◌∙◌, append-nil, append_assoc, true≢false}
 use Rattle.std.specs.List.{All, AllByRecursion, IsDistinct, flat_map}
-use Rattle.std.proofs.lemmas.List.{at_drop_more, drop_all, length-drop, take_all}
+use Rattle.std.proofs.lemmas.List.{at_drop_more, drop_all, length-drop, take_all, take_more, take_rest}
+use Rattle.std.proofs.Math.Seq.{take-add}
 use Rattle.std.proofs.lemmas.List.Elements.{All-cons, All-filter, All-head, All-nil, All-tail, filter-append, filter_agree, filter_passes}
 use Rattle.std.proofs.lemmas.List.Folds.{list_any-append}
 use Rattle.std.proofs.lemmas.Map.Steps.{list_any_congr}
@@ -107,6 +108,13 @@ union_append a (flag ∷ b) c =
     ap (λ l. flag_union l c) (sym (union_step a flag b))
     ∙ union_append (flag_union a (flag ∷ [])) b c ∙ union_step a flag (b ++ c)
 
+-- one flag more of those in front
+pub union_so_far : (a flags : List (List ℕ)) (i : ℕ) (d : List ℕ) (old new : List (List ℕ)) → i < length flags → new ≡ flag_union old (get_or flags i d ∷ [])
+    → old ≡ flag_union a (take i flags) → new ≡ flag_union a (take (i + 1) flags)
+union_so_far a flags i d old new below made is =
+    made ∙ ap (λ l. flag_union l (get_or flags i d ∷ [])) is ∙ union_append a (take i flags) (get_or flags i d ∷ [])
+    ∙ ap (flag_union a) (sym (take_more flags i d below))
+
 -- FLAGS THAT ARE THERE
 
 union_present : (a : List (List ℕ)) (flag : List ℕ) → has_flag a flag ≡ true → flag_union a (flag ∷ []) ≡ a
@@ -133,6 +141,19 @@ pub union_slice : (a flags items : List (List ℕ)) (n : ℕ) → items ≡ flag
 union_slice a flags items n are within known =
     let long = length-drop n flags in
     ap (λ l. flag_union a (take (length l - n) (drop n l))) are ∙ ap (flag_union a) (take_all (length flags - n) (drop n flags) (omega arith)) ∙ union_behind a flags n within known
+
+-- what was added of a slice of the flags, from the n-th on, was added of the flags
+pub union_behind_some : (a flags items : List (List ℕ)) (n : ℕ) (new : List (List ℕ)) → items ≡ flags → n ≤ length flags → All (λ flag. has_flag a flag ≡ true) (take n flags)
+    → SomeIndex (take (length items - n) (drop n items)) (λ i. new ≡ flag_union a (take i (take (length items - n) (drop n items))))
+    → SomeIndex flags (λ i. (n ≤ i) × (new ≡ flag_union a (take i flags)))
+union_behind_some a flags items n new are within known some =
+    let is = ap (λ l. take (length l - n) (drop n l)) are ∙ take_rest flags n in
+    behind (subst (λ l. SomeIndex l (λ i. new ≡ flag_union a (take i l))) is some)
+  where
+    behind : SomeIndex (drop n flags) (λ i. new ≡ flag_union a (take i (drop n flags))) → SomeIndex flags (λ i. (n ≤ i) × (new ≡ flag_union a (take i flags)))
+    behind (i, below, made) =
+        let long = length-drop n flags in
+        (n + i, omega arith, (omega arith, made ∙ sym (union_known a (take n flags) (take i (drop n flags)) known) ∙ ap (flag_union a) (sym (take-add n i flags))))
 
 -- what is there stays there
 union_keeps : (a b : List (List ℕ)) (x : List ℕ) → has_flag a x ≡ true → has_flag (flag_union a b) x ≡ true

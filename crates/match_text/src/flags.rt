@@ -1,5 +1,5 @@
 //! Lists of flags (RFC 5232, sections 2 and 3).
-ghost use Rattle.std.specs.Prelude.{◌≡◌, ◌<◌, ◌≤◌, ◌↔◌, ◌++◌, [], ◌∷◌, IfNone, IfOk, IfSome, IsTrue, OnOk, Some, filter, fold, length, remove, slice_get, take, true};
+ghost use Rattle.std.specs.Prelude.{◌≡◌, ◌<◌, ◌≤◌, ◌↔◌, ◌++◌, [], ◌∷◌, IfNone, IfOk, IfSome, IsTrue, OnErr, OnOk, Some, SomeIndex, filter, fold, length, remove, slice_get, take, true};
 ghost use Rattle.std.specs.List.{All};
 ghost use Rattle.match_text.specs.Comparator.{ascii_casemap, fold_of, same};
 ghost use Rattle.match_text.specs.Flags.{AreDistinct, has_flag, has_key, flag_list, flag_text, flag_union, flags_in};
@@ -189,12 +189,13 @@ impl FlagList {
     }
 
     /// Adds the flags of another list that aren't there yet (RFC 5232, section 3.2). The first of them, as many as `known`, are there
-    /// and aren't looked at. Where memory is refused, some may have been added.
+    /// and aren't looked at. Where memory is refused, those in front of some place have been added.
     pub fn add(&mut self, alloc: Global, flags: &FlagList, known: usize) -> Result<(), AllocError>
         requires within { known ≤ length flags.now }
         requires known { All (λ flag. has_flag self.old flag ≡ true) (take known flags.now) }
         ensures union { OnOk result (self.new ≡ flag_union self.old flags.now) }
         ensures there { OnOk result (All (λ flag. has_flag self.new flag ≡ true) flags.now) }
+        ensures err { OnErr result (SomeIndex flags.now (λ i. (known ≤ i) × (self.new ≡ flag_union self.old (take i flags.now)))) }
     {
         let added = insert_each(alloc, &mut self.flags, &flags.flags.as_slice()[known..]);
         // The set tells here that no two of them are the same.
@@ -236,7 +237,8 @@ fn list_of(flags: IndexSet<Flag>) -> FlagList
 
 // Adds a flag at the end, where it isn't there yet.
 fn insert(alloc: Global, flags: &mut IndexSet<Flag>, flag: &[u8]) -> Result<(), AllocError>
-    ensures { OnOk result (flags.new.keys ≡ flag_union flags.old.keys (flag.now ∷ [])) }
+    ensures ok { OnOk result (flags.new.keys ≡ flag_union flags.old.keys (flag.now ∷ [])) }
+    ensures err { OnErr result (flags.new.keys ≡ flags.old.keys) }
 {
     match flags.insert(Flag::copied(alloc, flag)?) {
         Ok(_) => Ok(()),
@@ -246,7 +248,8 @@ fn insert(alloc: Global, flags: &mut IndexSet<Flag>, flag: &[u8]) -> Result<(), 
 
 // Adds each of some flags that isn't there yet.
 fn insert_each(alloc: Global, flags: &mut IndexSet<Flag>, list: &[Flag]) -> Result<(), AllocError>
-    ensures { OnOk result (flags.new.keys ≡ flag_union flags.old.keys list.now) }
+    ensures ok { OnOk result (flags.new.keys ≡ flag_union flags.old.keys list.now) }
+    ensures err { OnErr result (SomeIndex list.now (λ i. flags.new.keys ≡ flag_union flags.old.keys (take i list.now))) }
 {
     for flag in list {
         insert(alloc, flags, flag.as_slice())?;

@@ -6,7 +6,7 @@ use Rattle.std.specs.Map.{lookup, set_value}
 use Rattle.indexmap.specs.IndexMap as ordered
 use lib.Pointwise.{pointwise}
 use Rattle.sieve_variables.specs.view.Value.{held_of}
-use Rattle.sieve_variables.specs.Value.{has_room_under, with_held}
+use Rattle.sieve_variables.specs.Value.{has_room_under, is_set_under, with_held}
 
 -- a name is found where its entry is
 pub lookup_held : (name : List ℕ) (es : List (Vec ℕ Global × List ℕ)) → lookup (pointwise nat_eq name) (held_of es) ≡ lookup (λ k. pointwise nat_eq name k.items) es
@@ -60,8 +60,9 @@ pub set_held : (variables : List (List ℕ × List ℕ)) (es new : List (Vec ℕ
 set_held variables es new name value held is found made =
     ap held_of made ∙ held-set es name value held found ∙ ap (with_held name value) is
 
-found_held : (variables : List (List ℕ × List ℕ)) (es : List (Vec ℕ Global × List ℕ)) (name : List ℕ) (found : Bool) → held_of es ≡ variables
-    → found ≡ is_some (lookup (λ k. pointwise nat_eq name k.items) es) → is_some (lookup (pointwise nat_eq name) variables) ≡ found
+-- a name is set where its entry is
+pub found_held : (variables : List (List ℕ × List ℕ)) (es : List (Vec ℕ Global × List ℕ)) (name : List ℕ) (found : Bool) → held_of es ≡ variables
+    → found ≡ is_some (lookup (λ k. pointwise nat_eq name k.items) es) → is_set_under name variables ≡ found
 found_held variables es name found is says =
     ap (λ l. is_some (lookup (pointwise nat_eq name) l)) (sym is) ∙ ap is_some (lookup_held name es) ∙ sym says
 

@@ -63,9 +63,18 @@ part_value values (match_part index) = or_empty (slice_get values.matched index)
 abbrev pub text_value : Values → List Part → List ℕ
 text_value values parts = flat_map (part_value values) parts
 
+-- whether there is a variable of that name
+abbrev pub is_set_under : List ℕ → List (List ℕ × List ℕ) → Bool
+is_set_under name variables = is_some (lookup (pointwise nat_eq name) variables)
+
+-- whether a variable is set
+abbrev pub is_set : Variable → Values → Bool
+is_set (local_variable name) values = is_set_under name values.locals
+is_set (global_variable name) values = is_set_under name values.globals
+
 -- whether there is a variable of that name, or room for one more (RFC 5229, section 6)
 abbrev pub has_room_under : List ℕ → List (List ℕ × List ℕ) → Bool
-has_room_under name variables = is_some (lookup (pointwise nat_eq name) variables) || nat_lt (length variables) global_limit
+has_room_under name variables = is_set_under name variables || nat_lt (length variables) global_limit
 
 -- whether a variable can be set: those of a script have been counted before it runs
 abbrev pub has_room_for : Variable → Values → Bool

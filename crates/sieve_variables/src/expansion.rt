@@ -1,6 +1,6 @@
 //! What strings stand for while a script runs (RFC 5229, section 3).
-ghost use Rattle.std.specs.Prelude.{◌≡◌, length, map, IfOk, OnOk};
-ghost use Rattle.std.specs.Cow.{cow_slice_items};
+ghost use Rattle.std.specs.Prelude.{◌≡◌, length, map, IfOk, IsOk, IsOkAnd, OnOk};
+ghost use Rattle.std.specs.Cow.{IsBorrowedSlice, cow_slice_items};
 ghost use Rattle.sieve_variables.specs.Value.{text_value};
 ghost use Rattle.sieve_variables.specs.view.Part.{part_of, strings_of};
 ghost use Rattle.sieve_base.specs.view.Texts.{octets_of_each};
@@ -45,7 +45,8 @@ impl Values {
         alloc: Global,
         parts: &'a [Part],
     ) -> Result<CowSlice<'a, u8>, AllocError>
-        ensures { IfOk result (λ octets. cow_slice_items octets ≡ text_value self.now (map part_of parts.now)) }
+        ensures octets { IfOk result (λ octets. cow_slice_items octets ≡ text_value self.now (map part_of parts.now)) }
+        ensures one_part { length parts.now ≡ 1 → IsOkAnd result IsBorrowedSlice }
     {
         match parts {
             [part] => Ok(CowSlice::Borrowed(self.part(part))),
@@ -64,7 +65,8 @@ impl Values {
         parts: &'a [Part],
         buffer: &'a mut Vec<u8>,
     ) -> Result<&'a [u8], AllocError>
-        ensures { IfOk result (λ octets. octets.now ≡ text_value self.now (map part_of parts.now)) }
+        ensures octets { IfOk result (λ octets. octets.now ≡ text_value self.now (map part_of parts.now)) }
+        ensures one_part { length parts.now ≡ 1 → IsOk result }
     {
         if let [part] = parts {
             return Ok(self.part(part));

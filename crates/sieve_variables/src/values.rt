@@ -1,6 +1,6 @@
 //! What variables hold while a script runs (RFC 5229, section 3).
-ghost use Rattle.std.specs.Prelude.{◌≡◌, OnErr, OnOk, slice_get};
-ghost use Rattle.sieve_variables.specs.Value.{begun_values, has_room_for, no_values, or_empty, own_of, part_value, variable_value, with_matched, with_own, with_variable};
+ghost use Rattle.std.specs.Prelude.{◌≡◌, IsOk, OnErr, OnOk, slice_get, true};
+ghost use Rattle.sieve_variables.specs.Value.{begun_values, has_room_for, is_set, no_values, or_empty, own_of, part_value, variable_value, with_matched, with_own, with_variable};
 ghost use Rattle.sieve_variables.specs.view.Part.{part_of, variable_of};
 
 use crate::part::Part;
@@ -96,6 +96,7 @@ impl Values {
     ) -> Result<(), AllocError>
         ensures ok { OnOk result (self.new ≡ with_variable (variable_of variable.now) value self.old) }
         ensures err { OnErr result (self.new ≡ self.old) }
+        ensures held { is_set (variable_of variable.now) self.old ≡ true → IsOk result }
     {
         match variable {
             Variable::Local(name) => self.locals.set(alloc, name.as_slice(), value),

@@ -1,6 +1,6 @@
 //! Names with what is held under them.
-ghost use Rattle.std.specs.Prelude.{◌≡◌, [], IfErr, OnErr, OnOk};
-ghost use Rattle.sieve_variables.specs.Value.{has_room_under, held_under, with_held};
+ghost use Rattle.std.specs.Prelude.{◌≡◌, [], IfErr, IsOk, OnErr, OnOk, is_ok, true};
+ghost use Rattle.sieve_variables.specs.Value.{has_room_under, held_under, is_set_under, with_held};
 
 use indexmap::IndexMap;
 use sieve_base::Octets;
@@ -58,6 +58,7 @@ impl Variables {
         ensures ok { OnOk result (self.new ≡ with_held name.now value self.old) }
         ensures err { OnErr result (self.new ≡ self.old) }
         ensures given_back { IfErr result (λ other. other ≡ value) }
+        ensures held { is_ok result ≡ is_set_under name.now self.old }
     {
         match self.entries.get_mut(name) {
             Some(held) => {
@@ -90,6 +91,7 @@ impl Variables {
     ) -> Result<(), AllocError>
         ensures ok { OnOk result (self.new ≡ with_held name.now value self.old) }
         ensures err { OnErr result (self.new ≡ self.old) }
+        ensures held { is_set_under name.now self.old ≡ true → IsOk result }
     {
         match self.assign(name, value) {
             Ok(()) => Ok(()),

@@ -5,11 +5,18 @@ use Rattle.match_text.proofs.FlagLists.{union_one}
 use Rattle.match_text.proofs.flags.insert.Goals as goal
 use Rattle.match_text.proofs.flags.insert.Goals.{in-Ok, in-Err}
 
-pub returns : goal.returns
-returns c =
+pub returns-clause-ok : goal.returns-clause-ok
+returns-clause-ok c =
     elim c.match-insert.branch [
       | in-Ok w ↦
           rw w.result-is (w.in-Ok.ensures.keys ∙ ap (insert_key (same ascii_casemap) c.args.flags.now.keys) c.in_ok-copied.ensures
           ∙ union_one c.args.flags.now.keys c.args.flag.now)
       | in-Err w ↦ rw w.result-is tt
+    ]
+
+pub returns-clause-err : goal.returns-clause-err
+returns-clause-err c =
+    elim c.match-insert.branch [
+      | in-Ok w ↦ rw w.result-is tt
+      | in-Err w ↦ rw w.result-is w.in-Err.ensures.err
     ]

@@ -12,4 +12,4 @@ returns-then-contains c =
 pub returns-else-contains : goal.returns-else-contains
 returns-else-contains c =
     rw (without_absent c.args.flag.now c.args.others.now.keys (sym c.contains.ensures ∙ c.if-contains.false), ← c.as_slice.ensures)
-    c.insert.ensures
+    c.insert.ensures.ok

@@ -1,8 +1,8 @@
-use Rattle.std.proofs.Common.{◌≡◌, ◌∙◌, ◌-◌, ℕ, List, ap, drop, length, subst, sym, take, true}
+use Rattle.std.proofs.Common.{◌≡◌, ◌∙◌, ◌-◌, ℕ, List, SomeIndex, ap, drop, length, subst, sym, take, true}
 use Rattle.std.specs.List.{All}
-use Rattle.std.proofs.lemmas.Result.{on_ok_weaker}
+use Rattle.std.proofs.lemmas.Result.{on_err_weaker, on_ok_weaker}
 use Rattle.match_text.specs.Flags.{flag_union, has_flag}
-use Rattle.match_text.proofs.FlagLists.{union_has, union_slice}
+use Rattle.match_text.proofs.FlagLists.{union_behind_some, union_has, union_slice}
 use Rattle.match_text.proofs.flags.FlagList.add.Goals as goal
 
 joined : (c : goal.After-len-count) → flag_union c.self.inside.flags.keys (take (length c.as_slice.result.now - c.args.known) (drop c.args.known c.as_slice.result.now)) ≡ flag_union c.args.self.now c.args.flags.now
@@ -11,10 +11,17 @@ joined c =
     ∙ union_slice c.args.self.now c.args.flags.now c.as_slice.result.now c.args.known (c.as_slice.ensures.keys ∙ c.flags.view_is) c.requires.within c.requires.known
 
 pub returns-clause-union : goal.returns-clause-union
-returns-clause-union c = on_ok_weaker c.insert_each-added.result (λ keys. keys ∙ joined c) c.insert_each-added.ensures
+returns-clause-union c = on_ok_weaker c.insert_each-added.result (λ keys. keys ∙ joined c) c.insert_each-added.ensures.ok
 
 pub returns-clause-there : goal.returns-clause-there
 returns-clause-there c =
     on_ok_weaker c.insert_each-added.result
     (λ keys. subst (λ (l : List (List ℕ)). All (λ (flag : List ℕ). has_flag l flag ≡ true) c.args.flags.now) (sym (keys ∙ joined c)) (union_has c.args.self.now c.args.flags.now))
-    c.insert_each-added.ensures
+    c.insert_each-added.ensures.ok
+
+pub returns-clause-err : goal.returns-clause-err
+returns-clause-err c =
+    on_err_weaker c.insert_each-added.result
+    (λ some. union_behind_some c.args.self.now c.args.flags.now c.as_slice.result.now c.args.known _ (c.as_slice.ensures.keys ∙ c.flags.view_is) c.requires.within c.requires.known
+    (subst (λ (l : List (List ℕ)). SomeIndex (take (length c.as_slice.result.now - c.args.known) (drop c.args.known c.as_slice.result.now)) (λ i. c.insert_each-added.new.flags.keys ≡ flag_union l (take i (take (length c.as_slice.result.now - c.args.known) (drop c.args.known c.as_slice.result.now))))) c.self.view_is some))
+    c.insert_each-added.ensures.err
