@@ -8,7 +8,7 @@ use Rattle.std.specs.List.Sorted.{IsNonDecreasing}
 use Rattle.std.specs.Prelude.{◌==◌, IsTrue}
 use Rattle.sieve_base.specs.Limits.{test_depth, block_room}
 use Rattle.sieve_base.specs.Octet.{octet_of}
-use Rattle.sieve_syntax.specs.Grammar.{Writes}
+use Rattle.sieve_syntax.specs.Grammar.{WritesSymbols}
 use Rattle.sieve_syntax.specs.Line.{lines_of}
 use Rattle.sieve_syntax.specs.Spelling.{are_multi_line, is_identifier, is_multi_line, is_number, is_one, is_quoted, is_tag, spells}
 use Rattle.sieve_syntax.specs.Token.{IsBad, IsInside, IsLongest, Spells, SpellsFrom, White, line_at, line_feeds, nothing, white}
@@ -194,7 +194,7 @@ module _ (text : List ℕ) where
       by_token true is below = ap (λ n. n ∷ map symbol_line (map (symbol_of text) (filter writes tokens))) (token_line token.kind (slice_range text token.start token.end) token.line is) ∙ ap (λ l. token.line ∷ l) below
       by_token false is below = below
 
-pub in_text_order : (tree : List Node) (text : List ℕ) (tokens : List Token) → Spells tokens text → Writes test_depth block_room tree (symbols_of text tokens) → IsInTextOrder tree text tokens
+pub in_text_order : (tree : List Node) (text : List ℕ) (tokens : List Token) → Spells tokens text → WritesSymbols test_depth block_room tree (symbols_of text tokens) → IsInTextOrder tree text tokens
 in_text_order tree text tokens spelled written =
     let stand = stand_from text tokens 0 spelled in
     let same = elements_written tree text tokens test_depth block_room written in

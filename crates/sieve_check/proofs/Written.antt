@@ -3,7 +3,7 @@ use Rattle.std.proofs.Common.{◌≡◌, ℕ, Bool, true, false, cond, List, [],
 use Rattle.std.proofs.lemmas.List.{map-append}
 use Rattle.std.proofs.lemmas.List.Elements.{filter-append}
 use Rattle.std.specs.List.{filter}
-use Rattle.sieve_syntax.specs.Grammar.{Writes, written_argument, written_arguments, written_block, written_more, written_node, written_nodes, written_test, written_test_list, written_test_rest, written_tests, written_texts}
+use Rattle.sieve_syntax.specs.Grammar.{WritesSymbols, written_argument, written_arguments, written_block, written_more, written_node, written_nodes, written_test, written_test_list, written_test_rest, written_tests, written_texts}
 use Rattle.sieve_syntax.specs.Tree.{Node, node, Nodes, end_nodes, more_nodes, nodes, Block, no_block, block, Test, test, Tests, no_tests, one_test, test_list, TestList, end_tests, more_tests, Text, Argument, strings, number, tag}
 use Rattle.sieve_syntax.specs.Symbol.{Symbol, close_bracket, identifier, string_symbol, symbol_of, symbols_of}
 use Rattle.sieve_syntax.specs.declared.token.Token.{Token}
@@ -132,7 +132,7 @@ filtered view (x ∷ xs) = by_first (writes_element (view x)) (filtered view xs)
     by_first false same = same
 
 -- the elements of a tree are written by those of its tokens that write elements
-pub elements_written : (tree : List Node) (text : List ℕ) (tokens : List Token) (depth room : ℕ) → Writes depth room tree (symbols_of text tokens)
+pub elements_written : (tree : List Node) (text : List ℕ) (tokens : List Token) (depth room : ℕ) → WritesSymbols depth room tree (symbols_of text tokens)
     → map written_by (elements_of tree) ≡ map (symbol_of text) (filter (λ token. writes_element (symbol_of text token)) tokens)
 elements_written tree text tokens depth room writes =
     nodes_written (nodes tree) script_start

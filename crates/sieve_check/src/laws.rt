@@ -2,7 +2,7 @@
 ghost use Rattle.std.specs.Prelude.{◌≡◌, ◌-◌, ◌||◌, ◌∷◌, ℕ, true, false, filter, map, slice_get, take, All, List, [], Option, None, Some};
 ghost use Rattle.std.specs.List.{flat_map};
 ghost use Rattle.sieve_base.specs.Limits.{test_depth, block_room};
-ghost use Rattle.sieve_syntax.specs.Grammar.{Writes};
+ghost use Rattle.sieve_syntax.specs.Grammar.{WritesSymbols};
 ghost use Rattle.sieve_syntax.specs.Token.{Spells};
 ghost use Rattle.sieve_syntax.specs.Tree.{Node, Nodes};
 ghost use Rattle.sieve_syntax.specs.Symbol.{symbols_of};
@@ -117,5 +117,5 @@ pub fn faultless_scripts_are_readable()
 /// The elements of a tree that writes a text are, one by one and in order, the text's identifiers, strings and numbers. These
 /// aren't empty, they stand apart and in order in the text, and the lines of the elements never fall.
 pub fn elements_are_in_text_order()
-    ensures { (tree : List Node) (text : List ℕ) (tokens : List Token) → Spells tokens text → Writes test_depth block_room tree (symbols_of text tokens) → IsInTextOrder tree text tokens }
+    ensures { (tree : List Node) (text : List ℕ) (tokens : List Token) → Spells tokens text → WritesSymbols test_depth block_room tree (symbols_of text tokens) → IsInTextOrder tree text tokens }
 {}

@@ -4,7 +4,7 @@ use Rattle.std.proofs.lemmas.Option.{same_Some}
 use Rattle.sieve_syntax.specs.Tree.{Tests, no_tests, one_test, test_list, tests, Node, no_block, block, nodes}
 use Rattle.sieve_syntax.specs.Token.{line_at}
 use Rattle.sieve_syntax.specs.Symbol.{Symbol, identifier, string_symbol, semicolon, close_brace, close_parenthesis, close_bracket, symbol_of, symbols_of}
-use Rattle.sieve_syntax.specs.Grammar.{written_nodes, NestsNodes, Writes, Begins}
+use Rattle.sieve_syntax.specs.Grammar.{written_nodes, NestsNodes, WritesSymbols, Begins}
 use Rattle.sieve_syntax.specs.Machine.{Head, Level, for_one, for_list, Open, Outer, ParserState, between, in_arguments, before_string, after_string, before_test, after_tests, bare_head, test_with, node_with, close_block, step, start, whole, whole_outer, read}
 use Rattle.sieve_syntax.specs.Syntax.{IsFaultAt, IsFaultAtEnd}
 use Rattle.sieve_syntax.specs.declared.token.Token.{Token}
@@ -94,7 +94,7 @@ module _ (depth room : ℕ) where
   unfolding NestsNodes
   start_reached = record { left = room; blocks = refl; done = tt }
 
-  ended_writes : (tree : List Node) (ws : List Symbol) → run depth room start ws ≡ Some (ended tree) → Writes depth room tree ws
+  ended_writes : (tree : List Node) (ws : List Symbol) → run depth room start ws ≡ Some (ended tree) → WritesSymbols depth room tree ws
   unfolding written_nodes
   ended_writes tree ws e =
       let t = run_takes ws start (ended tree) start_reached e in
@@ -114,7 +114,7 @@ module _ (depth room : ℕ) where
       by_option (step depth room s w) (λ o. elim o as (λ x. Option ParserState) [ Some next ↦ run depth room next xs | None ↦ None ] ≡ None → elim o as (λ x. Option ParserState) [ Some next ↦ run depth room next (xs ++ ys) | None ↦ None ] ≡ None)
       (λ next p f. run-none xs ys next f) (λ p f. refl) e
 
-  pub writes_runs : (tree : List Node) (ws : List Symbol) → Writes depth room tree ws → run depth room start ws ≡ Some (ended tree)
+  pub writes_runs : (tree : List Node) (ws : List Symbol) → WritesSymbols depth room tree ws → run depth room start ws ≡ Some (ended tree)
   unfolding run
   writes_runs tree ws h =
       ap (run depth room start) (h.1 ∙ sym (append-nil (written_nodes (nodes tree))))
@@ -181,7 +181,7 @@ module _ (depth room : ℕ) where
         cc
 
     -- what has no whole state is no tree
-    part_stops : (tokens : List Token) (s : ParserState) → run depth room start (symbols_of text tokens) ≡ Some s → whole s ≡ None → (tree : List Node) → Writes depth room tree (symbols_of text tokens) → ⊥
+    part_stops : (tokens : List Token) (s : ParserState) → run depth room start (symbols_of text tokens) ≡ Some s → whole s ≡ None → (tree : List Node) → WritesSymbols depth room tree (symbols_of text tokens) → ⊥
     unfolding whole
     part_stops tokens s e f tree h =
         let p = writes_runs tree _ h in
@@ -204,17 +204,17 @@ module _ (depth room : ℕ) where
 
     -- what is read, in the symbols of the grammar
     abbrev pub IsRead : List Token → Result (List Node) ℕ → Type 0
-    IsRead tokens (Ok tree) = Writes depth room tree (symbols_of text tokens)
+    IsRead tokens (Ok tree) = WritesSymbols depth room tree (symbols_of text tokens)
     IsRead tokens (Err line) = IsFaultAt depth room text tokens line ⊎ IsFaultAtEnd depth room text tokens line
 
     read_is_from : (rest front : List Token) (s : ParserState) → run depth room start (symbols_of text front) ≡ Some s → IsRead (front ++ rest) (read depth room text s rest)
     unfolding read
     read_is_from [] front s e =
         by_option (whole s) (λ o. whole s ≡ o → IsRead (front ++ []) (elim o as (λ z. Result (List Node) ℕ) [ Some tree ↦ Ok tree | None ↦ Err (line_at text (length text)) ]))
-        (λ tree q p. subst (λ x. Writes depth room tree (symbols_of text x)) (sym (append-nil front)) (ended_writes tree (symbols_of text front) (e ∙ ap (λ x. Some x) (whole_ended s tree p))))
+        (λ tree q p. subst (λ x. WritesSymbols depth room tree (symbols_of text x)) (sym (append-nil front)) (ended_writes tree (symbols_of text front) (e ∙ ap (λ x. Some x) (whole_ended s tree p))))
         (λ q p. inr (record {
           begins = subst (λ x. Begins depth room (symbols_of text x)) (sym (append-nil front)) (runs_begin _ s e);
-          stops = subst (λ x. (tree : List Node) → Writes depth room tree (symbols_of text x) → ⊥) (sym (append-nil front)) (part_stops front s e p);
+          stops = subst (λ x. (tree : List Node) → WritesSymbols depth room tree (symbols_of text x) → ⊥) (sym (append-nil front)) (part_stops front s e p);
           line_is = refl;
         })) refl
     read_is_from (token ∷ rest) front s e =
@@ -235,7 +235,7 @@ module _ (depth room : ℕ) where
     read_is tokens = read_is_from tokens [] start refl
 
     -- a tree that writes the tokens is what is read
-    pub read_ok : (tokens : List Token) (tree : List Node) → Writes depth room tree (symbols_of text tokens) → read depth room text start tokens ≡ Ok tree
+    pub read_ok : (tokens : List Token) (tree : List Node) → WritesSymbols depth room tree (symbols_of text tokens) → read depth room text start tokens ≡ Ok tree
     unfolding whole
     read_ok tokens tree h =
         ap (read depth room text start) (sym (append-nil tokens))

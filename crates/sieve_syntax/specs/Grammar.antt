@@ -111,9 +111,9 @@ unfoldable mutual
   NestsNodes depth (more_nodes n ns) room = NestsNode depth n room × NestsNodes depth ns room
 
 -- The tree writes the symbols, with tests no deeper than depth and no more than room blocks open at once.
-abbrev pub Writes : ℕ → ℕ → List Node → List Symbol → Type 0
-Writes depth room tree symbols = NestsNodes depth (nodes tree) room × (symbols ≡ written_nodes (nodes tree))
+abbrev pub WritesSymbols : ℕ → ℕ → List Node → List Symbol → Type 0
+WritesSymbols depth room tree symbols = NestsNodes depth (nodes tree) room × (symbols ≡ written_nodes (nodes tree))
 
 -- the symbols begin what a tree writes
 abbrev pub Begins : ℕ → ℕ → List Symbol → Type 0
-Begins depth room symbols = (more : List Symbol) × (tree : List Node) × Writes depth room tree (symbols ++ more)
+Begins depth room symbols = (more : List Symbol) × (tree : List Node) × WritesSymbols depth room tree (symbols ++ more)

@@ -1,7 +1,7 @@
 -- What a text means: the one tree that writes it, or the line of its first fault.
 use Rattle.std.specs.Prelude.{◌≡◌, ℕ, ◌⊎◌, List, [], ◌∷◌, ◌++◌, length, Result}
 use Rattle.sieve_base.specs.Limits.{test_depth, block_room}
-use Rattle.sieve_syntax.specs.Grammar.{Writes, Begins}
+use Rattle.sieve_syntax.specs.Grammar.{WritesSymbols, Begins}
 use Rattle.sieve_syntax.specs.Machine.{start, read}
 use Rattle.sieve_syntax.specs.Scan.{tokens_of}
 use Rattle.sieve_syntax.specs.Token.{Spells, line_at}
@@ -22,14 +22,14 @@ pub record IsFaultAt (depth room : ℕ) (text : List ℕ) (tokens : List Token) 
 -- The tokens begin what a tree writes, but no tree writes them alone, and the line is that of the end.
 pub record IsFaultAtEnd (depth room : ℕ) (text : List ℕ) (tokens : List Token) (line : ℕ) : Type 0 where
   pub begins : Begins depth room (symbols_of text tokens)
-  pub stops : (tree : List Node) → Writes depth room tree (symbols_of text tokens) → ⊥
+  pub stops : (tree : List Node) → WritesSymbols depth room tree (symbols_of text tokens) → ⊥
   pub line_is : line ≡ line_at text (length text)
 
 -- the tree writes the text: it writes the tokens that spell it
 pub record WritesText (tree : List Node) (text : List ℕ) : Type 0 where
   pub tokens : List Token
   pub spelled : Spells tokens text
-  pub written : Writes test_depth block_room tree (symbols_of text tokens)
+  pub written : WritesSymbols test_depth block_room tree (symbols_of text tokens)
 
 -- the line of the first token, or of the end, with which the tokens begin no list that a tree writes
 pub record IsFaultLine (text : List ℕ) (line : ℕ) : Type 0 where

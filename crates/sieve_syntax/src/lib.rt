@@ -11,11 +11,11 @@ mod parser;
 mod reader;
 mod scan;
 mod step;
+mod symbol;
 pub mod token;
 pub mod tree;
 mod value;
 mod white;
-mod symbol;
 
 pub use parser::{SyntaxFault, parse};
 pub use token::{Token, TokenKind, tokens};

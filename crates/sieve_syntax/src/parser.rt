@@ -16,9 +16,9 @@ ghost use Rattle.sieve_syntax.specs.declared.parser.SyntaxFault.TheVariants.{NoM
 use crate::cursor::{Cursor, next_token};
 use crate::reader::{Outer, ParserState};
 use crate::step::{Stop, step};
+use crate::symbol::read_symbol;
 use crate::token::{Token, last_line};
 use crate::tree::ParsedScript;
-use crate::symbol::read_symbol;
 use sieve_base::limits::MAX_TEXT;
 use std::alloc::{AllocError, Global};
 use thiserror::Error;

@@ -10,8 +10,8 @@ ghost use Rattle.sieve_syntax.specs.declared.reader.Outer.{Outer};
 ghost use Rattle.sieve_syntax.specs.declared.step.Stop.TheVariants.{NoMemory};
 
 use crate::reader::{Head, Level, Open, Outer, ParserState, command_with, finished_test};
-use crate::tree::{Argument, Test, Tests, Text};
 use crate::symbol::Symbol;
+use crate::tree::{Argument, Test, Tests, Text};
 use sieve_base::SmallOctets;
 use sieve_base::limits::{MAX_OPEN_BLOCKS, MAX_TEST_DEPTH};
 use std::alloc::{AllocError, AllocFailed, Global};
@@ -200,7 +200,9 @@ fn before_test(alloc: Global, symbol: Symbol) -> Result<ParserState, Stop>
     ensures { (outer : Outer) → Advances outer result (step test_depth block_room (Machine.before_test (outer_value outer) (levels_value outer.levels.items)) (symbol_as symbol)) }
 {
     match symbol {
-        Symbol::Identifier { name, line } => Ok(ParserState::Arguments(make_head(alloc, name, line))),
+        Symbol::Identifier { name, line } => Ok(ParserState::Arguments(make_head(
+            alloc, name, line,
+        ))),
         _ => Err(Stop::Fault),
     }
 }
