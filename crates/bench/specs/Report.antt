@@ -5,7 +5,7 @@ use Rattle.sieve_base.specs.Writers.{name_text, quoted}
 use Rattle.sieve_check.specs.Judgement.{Judgement, judgement_of, sound, faulty, fault_word}
 use Rattle.sieve_base.specs.declared.name.ScriptName.{ScriptName}
 use Rattle.sieve_effects.specs.declared.envelope.Envelope.{Envelope}
-use Rattle.sieve_run.specs.Library.{lookup_of}
+use Rattle.sieve_run.specs.Library.{library_of}
 use Rattle.sieve_run.specs.Lines.{agrees, read_lines, verdict_lines}
 use Rattle.sieve_run.specs.Run.{outcome_of}
 use Rattle.sieve_run.specs.Verdict.{Verdict}
@@ -67,7 +67,7 @@ message_lines mailbox judged = message_line judged.id ++ (verdict_text mailbox j
 
 -- the verdict on a message
 abbrev pub verdict_by : Option ScriptName → Envelope → List (ScriptName × List ℕ) → List ℕ → Verdict
-verdict_by main envelope scripts bytes = outcome_of (λ name. lookup_of (text_at scripts name)) main envelope bytes
+verdict_by main envelope scripts bytes = outcome_of (library_of (text_at scripts)) main envelope bytes
 
 -- each message, judged
 unfoldable pub verdicts : Option ScriptName → Envelope → List (ScriptName × List ℕ) → List (List ℕ × Sample) → List Judged

@@ -4,7 +4,7 @@ ghost use Rattle.std.specs.Option.{option_copied};
 ghost use Rattle.bench.specs.Bench.{RefusedAmong, verdict_at};
 ghost use Rattle.bench.specs.Stale.{ids_where, is_among, stale_after};
 ghost use Rattle.sieve_base.specs.Writers.{Wrote, WroteFront};
-ghost use Rattle.sieve_run.specs.Library.{found_at, lookup_of};
+ghost use Rattle.sieve_run.specs.Library.{found_at, library_of};
 ghost use Rattle.sieve_run.specs.Meter.{runs_after};
 ghost use Rattle.sieve_run.specs.view.Found.{FoundAs};
 ghost use Rattle.bench.specs.Report.{report_text};
@@ -367,7 +367,7 @@ impl Bench {
 
     /// The code of a script, as an `include` of that name finds it: a name of more than 1,024 octets has none.
     pub fn code(&self, name: &ScriptName) -> Found<'_>
-        ensures { FoundAs result (found_at (λ other. lookup_of (text_at self.now.content.scripts other)) name.now) }
+        ensures { FoundAs result (found_at (library_of (text_at self.now.content.scripts)) name.now) }
     {
         if is_long(&name.name) {
             Found::Missing

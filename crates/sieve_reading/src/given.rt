@@ -2,10 +2,9 @@
 ghost use Rattle.std.specs.Prelude.{◌≡◌, Some, None, map};
 ghost use Rattle.std.specs.Option.{option_map};
 ghost use Rattle.sieve_reading.specs.Given.{address_part_of, collation_by, given_texts, given_variable, has_tag, literal_in, literal_in_parts, match_type_of, number_in, text_in, texts_in, variable_in, variable_in_parts};
-ghost use Rattle.sieve_reading.specs.Shape.{row_labels};
+ghost use Rattle.sieve_reading.specs.view.Labels.{labels_in};
 ghost use Rattle.match_text.specs.Comparator.{collation_named};
 ghost use Rattle.sieve_reading.specs.view.Reading.{texts_as};
-ghost use Rattle.sieve_table.specs.view.Row.{row_as};
 ghost use Rattle.sieve_reading.specs.view.Tree.{argument_of};
 ghost use Rattle.sieve_variables.specs.view.Part.{part_of, variable_of};
 
@@ -128,7 +127,7 @@ pub(crate) fn number_in(argument: Option<&Argument>) -> Option<u64>
 
 /// The match type of a test, which is `:is` where no other is given.
 pub(crate) fn match_type_of(row: &Row, args: &[Argument]) -> MatchType
-    ensures { result ≡ match_type_of (row_labels (row_as row.now) (map argument_of args.now)) }
+    ensures { result ≡ match_type_of (labels_in row.now args.now) }
 {
     if has_tag(row, Tag::Matches, args) {
         MatchType::Matches
@@ -151,7 +150,7 @@ pub(crate) fn collation_by(argument: Option<&Argument>) -> Option<Collation>
 
 /// The part of an address that a test names, which is all of it where none is named.
 pub(crate) fn address_part_of(row: &Row, args: &[Argument]) -> AddressPart
-    ensures { result ≡ address_part_of (row_labels (row_as row.now) (map argument_of args.now)) }
+    ensures { result ≡ address_part_of (labels_in row.now args.now) }
 {
     if has_tag(row, Tag::LocalPart, args) {
         AddressPart::Local

@@ -2,9 +2,9 @@
 ghost use Rattle.std.specs.Prelude.{◌≡◌, map};
 ghost use Rattle.std.specs.Option.{option_map};
 ghost use Rattle.sieve_reading.specs.Given.{has_tag, in_role};
-ghost use Rattle.sieve_reading.specs.Shape.{row_labels, shape_of};
+ghost use Rattle.sieve_reading.specs.Shape.{shape_of};
+ghost use Rattle.sieve_reading.specs.view.Labels.{labels_in};
 ghost use Rattle.sieve_reading.specs.view.Expected.{shows_tag};
-ghost use Rattle.sieve_table.specs.view.Row.{row_as};
 ghost use Rattle.sieve_reading.specs.view.Tree.{argument_of};
 
 use crate::role::role_of;
@@ -14,7 +14,7 @@ use sieve_table::{Role, Row, Tag, has_role, same_tag, tag_named};
 
 /// The first argument in a role.
 pub(crate) fn argument_in<'a>(row: &Row, wanted: Role, args: &'a [Argument]) -> Option<&'a Argument>
-    ensures { option_map (λ a. argument_of a.now) result ≡ in_role wanted (row_labels (row_as row.now) (map argument_of args.now)) (map argument_of args.now) }
+    ensures { option_map (λ a. argument_of a.now) result ≡ in_role wanted (labels_in row.now args.now) (map argument_of args.now) }
 {
     let mut expected = row_expected(row, args);
     for argument in args {
@@ -42,7 +42,7 @@ fn is_tag(taken: &[Tag], wanted: Tag, argument: &Argument) -> bool
 
 /// Whether this tag is among the arguments. It is one whatever stands before it, so no labels are made.
 pub(crate) fn has_tag(row: &Row, wanted: Tag, args: &[Argument]) -> bool
-    ensures { result ≡ has_tag wanted (row_labels (row_as row.now) (map argument_of args.now)) }
+    ensures { result ≡ has_tag wanted (labels_in row.now args.now) }
 {
     for argument in args {
         if is_tag(row.tags, wanted, argument) {

@@ -15,7 +15,7 @@ use Rattle.sieve_reading.specs.Script.{Condition, Commands, no_commands, stops, 
 use Rattle.sieve_reading.specs.Tree.{Node}
 use Rattle.sieve_effects.specs.Delivery.{Delivery, inside}
 use Rattle.sieve_run.specs.Frame.{Agree, Texts, outcome_over}
-use Rattle.sieve_run.specs.Library.{Lookup, missing, invalid, present, found_at, lookup_of}
+use Rattle.sieve_run.specs.Library.{Lookup, found_at, invalid, library_of, lookup_of, missing, present}
 use Rattle.sieve_base.specs.Name.{name_eq, place_eq}
 use Rattle.sieve_effects.specs.Act.{deed_of, store_deed, Ending, goes_on, returned, stopped, failed, performed, one_too_many, same_action, joined_with, changes, changed_flags, ends_with, flags_named, held_flags, performs, fails_at, is_mailbox, only_address, redirects, act_by, state_behind}
 use Rattle.sieve_run.specs.Run.{entering, included, include_of, includes, is_read, is_running, is_script, is_there, looked_up, act_of, and_then, answer_of, begun, chosen, decide, delivery_to, exec, resumed, run_of, running, verdict_at, verdict_of, outcome_of, with_found_script, with_read}
@@ -334,4 +334,4 @@ module _ (find other : ScriptName → Lookup) where
 -- the frame
 pub frame : (texts others : Texts) (main : Option ScriptName) (envelope : Envelope) (message : List ℕ) → Agree texts others (outcome_over texts main envelope message).reads → outcome_over others main envelope message ≡ outcome_over texts main envelope message
 frame texts others main envelope message agree =
-    outcome_same (λ name. lookup_of (texts name)) (λ name. lookup_of (others name)) main envelope message (λ name r. ap lookup_of (agree name r))
+    outcome_same (library_of texts) (library_of others) main envelope message (λ name r. ap lookup_of (agree name r))

@@ -1,6 +1,6 @@
 -- What a verdict depends on: of a library, the texts at the names that it looked up, and that there are none at those that were missing.
 use Rattle.std.specs.Prelude.{◌≡◌, ℕ, Bool, true, List, Option}
-use Rattle.sieve_run.specs.Library.{lookup_of}
+use Rattle.sieve_run.specs.Library.{library_of}
 use Rattle.sieve_run.specs.Run.{is_read, outcome_of}
 use Rattle.sieve_run.specs.Verdict.{Verdict}
 use Rattle.sieve_effects.specs.declared.envelope.Envelope.{Envelope}
@@ -16,4 +16,4 @@ Agree texts others reads = (name : ScriptName) → is_read name reads ≡ true �
 
 -- the verdict over a library
 abbrev pub outcome_over : Texts → Option ScriptName → Envelope → List ℕ → Verdict
-outcome_over texts main envelope message = outcome_of (λ name. lookup_of (texts name)) main envelope message
+outcome_over texts main envelope message = outcome_of (library_of texts) main envelope message

@@ -29,6 +29,10 @@ abbrev pub lookup_of : Option (List ℕ) → Lookup
 lookup_of None = missing
 lookup_of (Some text) = if nat_lt text_limit (length text) then invalid else lookup_of_judgement (judgement_of text)
 
+-- what a library has at each name, by the texts there
+abbrev pub library_of : (ScriptName → Option (List ℕ)) → ScriptName → Lookup
+library_of texts = λ name. lookup_of (texts name)
+
 -- what a run finds: a name past the limit is missing, whatever a library has there
 abbrev pub found_at : (ScriptName → Lookup) → ScriptName → Lookup
 found_at find name = if nat_lt name_limit (length name.name) then missing else find name

@@ -1,6 +1,6 @@
 //! What an include looks at and looks up (RFC 6609, section 3).
 ghost use Rattle.std.specs.Prelude.{◌≡◌, ◌++◌, [], ◌∷◌, map, IfOk, OnOk};
-ghost use Rattle.sieve_run.specs.Library.{found_at, lookup_of};
+ghost use Rattle.sieve_run.specs.Library.{found_at, library_of};
 ghost use Rattle.sieve_run.specs.Run.{entering, is_running, is_script};
 ghost use Rattle.sieve_effects.specs.view.Delivery.{delivery_as};
 ghost use Rattle.sieve_effects.specs.view.State.{state_of};
@@ -17,7 +17,7 @@ use std::alloc::{AllocError, Global};
 
 /// What a library has at a name, where that isn't too long.
 pub(crate) fn find<'a, L: Library>(lib: &'a L, name: &ScriptName) -> Found<'a>
-    ensures { FoundAs result (found_at (λ name. lookup_of (L.texts lib.now name)) name.now) }
+    ensures { FoundAs result (found_at (library_of (L.texts lib.now)) name.now) }
 {
     if name.name.as_slice().len() > MAX_NAME {
         Found::Missing

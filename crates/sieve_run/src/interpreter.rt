@@ -1,7 +1,7 @@
 //! Runs the main script on a message.
 ghost use Rattle.std.specs.Prelude.{◌≡◌, ◌≤◌, [], ◌∷◌, true, None, Some, IfOk, if◌then◌else◌, length};
 ghost use Rattle.std.specs.Option.{option_copied};
-ghost use Rattle.sieve_run.specs.Library.{lookup_of};
+ghost use Rattle.sieve_run.specs.Library.{library_of};
 ghost use Rattle.sieve_run.specs.Meter.{next_run};
 ghost use Rattle.sieve_run.specs.Run.{act_of, begun, delivery_to, outcome_of, verdict_of};
 ghost use Rattle.sieve_code.specs.Walk.{code_walk};
@@ -133,7 +133,7 @@ fn execute_main<L: Library>(
 ) -> Result<Flow, AllocError>
     requires { fields.old ≡ message.now }
     ensures { IfOk result (λ flow.
-        doing (act_of (λ name. lookup_of (L.texts lib.now name)) include_depth (delivery_to envelope.now message.now main.now)) (delivery_to envelope.now message.now main.now) (code_walk (ops_of code.now) (length (ops_of code.now))) (state_of state.old)
+        doing (act_of (library_of (L.texts lib.now)) include_depth (delivery_to envelope.now message.now main.now)) (delivery_to envelope.now message.now main.now) (code_walk (ops_of code.now) (length (ops_of code.now))) (state_of state.old)
         ≡ ending_by flow (state_of state.new)) }
 {
     let delivery = Delivery {
@@ -155,7 +155,7 @@ fn run_main<L: Library>(
     envelope: &Envelope,
     message: &Message,
 ) -> Result<Outcome, AllocError>
-    ensures { IfOk result (λ outcome. outcome ≡ verdict_of (doing (act_of (λ name. lookup_of (L.texts lib.now name)) include_depth (delivery_to envelope.now message.now main.now)) (delivery_to envelope.now message.now main.now) (code_walk (ops_of code.now) (length (ops_of code.now))) (begun main.now))) }
+    ensures { IfOk result (λ outcome. outcome ≡ verdict_of (doing (act_of (library_of (L.texts lib.now)) include_depth (delivery_to envelope.now message.now main.now)) (delivery_to envelope.now message.now main.now) (code_walk (ops_of code.now) (length (ops_of code.now))) (begun main.now))) }
 {
     let mut state = begun(alloc, main)?;
     let mut fields = FieldReads::new(alloc, message);
@@ -195,7 +195,7 @@ pub fn run<L: Library>(
     meter: &mut Meter,
 ) -> Result<Outcome, AllocError>
     ensures outcome { IfOk result (λ outcome. outcome ≡
-        outcome_of (λ name. lookup_of (L.texts lib.now name)) (option_copied main.entry) envelope.now message.now) }
+        outcome_of (library_of (L.texts lib.now)) (option_copied main.entry) envelope.now message.now) }
     ensures meter { meter.new ≡ next_run meter.old }
 {
     meter.count();

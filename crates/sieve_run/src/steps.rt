@@ -3,7 +3,7 @@ ghost use Rattle.std.specs.Prelude.{◌≡◌, if◌then◌else◌, length, IfOk
 ghost use Rattle.sieve_code.specs.Walk.{code_walk};
 ghost use Rattle.sieve_code.specs.view.Code.{ops_of};
 ghost use Rattle.sieve_code.specs.view.Op.{op_as};
-ghost use Rattle.sieve_run.specs.Library.{lookup_of};
+ghost use Rattle.sieve_run.specs.Library.{library_of};
 ghost use Rattle.sieve_run.specs.Run.{act_of, included};
 ghost use Rattle.sieve_effects.specs.Delivery.{inside};
 ghost use Rattle.sieve_effects.specs.view.Delivery.{delivery_as};
@@ -51,7 +51,7 @@ pub(crate) fn execute<L: Library>(
     requires { fields.old ≡ (delivery_as delivery.now).message }
     ensures message { fields.new ≡ fields.old }
     ensures ending { IfOk result (λ flow.
-        doing (act_of (λ name. lookup_of (L.texts lib.now name)) depth (delivery_as delivery.now)) (delivery_as delivery.now) (code_walk (ops_of code.now) (length (ops_of code.now))) (state_of state.old)
+        doing (act_of (library_of (L.texts lib.now)) depth (delivery_as delivery.now)) (delivery_as delivery.now) (code_walk (ops_of code.now) (length (ops_of code.now))) (state_of state.old)
         ≡ ending_by flow (state_of state.new)) }
 {
     let mut place = 0;
@@ -99,7 +99,7 @@ fn carry_out<L: Library>(
     requires { fields.old ≡ (delivery_as delivery.now).message }
     ensures message { fields.new ≡ fields.old }
     ensures step { IfOk result (λ step.
-        StepsTo (act_of (λ name. lookup_of (L.texts lib.now name)) depth (delivery_as delivery.now)) (delivery_as delivery.now) (op_as op.now) behind register (state_of state.old) step (state_of state.new)) }
+        StepsTo (act_of (library_of (L.texts lib.now)) depth (delivery_as delivery.now)) (delivery_as delivery.now) (op_as op.now) behind register (state_of state.old) step (state_of state.new)) }
 {
     match op {
         Op::True => Ok(proceed(true, behind)),
@@ -134,7 +134,7 @@ fn act<L: Library>(
 ) -> Result<Flow, AllocError>
     requires { fields.old ≡ (delivery_as delivery.now).message }
     ensures message { fields.new ≡ fields.old }
-    ensures ending { IfOk result (λ flow. ending_by flow (state_of state.new) ≡ act_of (λ name. lookup_of (L.texts lib.now name)) depth (delivery_as delivery.now) (command_op_as command.now) line (state_of state.old)) }
+    ensures ending { IfOk result (λ flow. ending_by flow (state_of state.new) ≡ act_of (library_of (L.texts lib.now)) depth (delivery_as delivery.now) (command_op_as command.now) line (state_of state.old)) }
 {
     match command {
         CommandOp::Keep(settings) => keep(delivery, settings, line, state),
@@ -177,7 +177,7 @@ fn execute_inside<L: Library>(
     requires { fields.old ≡ (delivery_as delivery.now).message }
     ensures message { fields.new ≡ fields.old }
     ensures ending { IfOk result (λ flow.
-        doing (act_of (λ name. lookup_of (L.texts lib.now name)) depth (inside name.now (delivery_as delivery.now))) (inside name.now (delivery_as delivery.now)) (code_walk (ops_of code.now) (length (ops_of code.now))) (state_of state.old)
+        doing (act_of (library_of (L.texts lib.now)) depth (inside name.now (delivery_as delivery.now))) (inside name.now (delivery_as delivery.now)) (code_walk (ops_of code.now) (length (ops_of code.now))) (state_of state.old)
         ≡ ending_by flow (state_of state.new)) }
 {
     let including = including_next(delivery)?;
@@ -204,7 +204,7 @@ fn enter<L: Library>(
 ) -> Result<Flow, AllocError>
     requires { fields.old ≡ (delivery_as delivery.now).message }
     ensures message { fields.new ≡ fields.old }
-    ensures ending { IfOk result (λ flow. ending_by flow (state_of state.new) ≡ enters (λ name. lookup_of (L.texts lib.now name)) depth (delivery_as delivery.now) name.now (ops_of code.now) (state_of state.old)) }
+    ensures ending { IfOk result (λ flow. ending_by flow (state_of state.new) ≡ enters (library_of (L.texts lib.now)) depth (delivery_as delivery.now) name.now (ops_of code.now) (state_of state.old)) }
 {
     let own = begin_included(delivery.alloc, name, state)?;
     let flow = execute_inside(lib, depth, delivery, name, code, fields, state)?;
@@ -226,7 +226,7 @@ fn look_up<L: Library>(
 ) -> Result<Flow, AllocError>
     requires { fields.old ≡ (delivery_as delivery.now).message }
     ensures message { fields.new ≡ fields.old }
-    ensures ending { IfOk result (λ flow. ending_by flow (state_of state.new) ≡ looks_up (λ name. lookup_of (L.texts lib.now name)) depth (delivery_as delivery.now) name.now optional line (state_of state.old)) }
+    ensures ending { IfOk result (λ flow. ending_by flow (state_of state.new) ≡ looks_up (library_of (L.texts lib.now)) depth (delivery_as delivery.now) name.now optional line (state_of state.old)) }
 {
     let found = find(lib, name);
     note_read(delivery.alloc, &mut state.reads, name, is_there(&found))?;
@@ -258,7 +258,7 @@ fn include<L: Library>(
 ) -> Result<Flow, AllocError>
     requires { fields.old ≡ (delivery_as delivery.now).message }
     ensures message { fields.new ≡ fields.old }
-    ensures ending { IfOk result (λ flow. ending_by flow (state_of state.new) ≡ included (λ name. lookup_of (L.texts lib.now name)) depth (delivery_as delivery.now) name.now once optional line (state_of state.old)) }
+    ensures ending { IfOk result (λ flow. ending_by flow (state_of state.new) ≡ included (library_of (L.texts lib.now)) depth (delivery_as delivery.now) name.now once optional line (state_of state.old)) }
 {
     if once && is_script(name, state.entered.as_slice()) {
         return Ok(Flow::GoesOn);

@@ -3,7 +3,7 @@ use Rattle.std.specs.Prelude.{◌≡◌, ⊤, ℕ, ◌+◌, ◌-◌, ◌^◌, �
 use Rattle.std.specs.Io.KnownBytes.{Appends}
 use Rattle.std.specs.Option.{option_map}
 use Rattle.sieve_base.specs.Limits.{line_limit}
-use Rattle.sieve_run.specs.Library.{Lookup, missing, invalid, present, found_at, lookup_of}
+use Rattle.sieve_run.specs.Library.{Lookup, missing, invalid, present, found_at, library_of}
 use Rattle.sieve_run.specs.Meter.{runs_after}
 use Rattle.bench.specs.Bench.{BenchState, RefusedAmong}
 use Rattle.bench.specs.Content.{Content, Edit, put_script, put_message, set_main, rename_script, remove_script, remove_message, clear_main, set_envelope, set_mailbox, set_expected, clear_expected, after, text_at}
@@ -108,7 +108,7 @@ dump_reply (present tree) = script_code tree ++ codes "ok\n"
 
 -- the same for a script of a bench, as an `include` of that name finds it
 abbrev pub dump_of : Content → ScriptName → List ℕ
-dump_of content name = dump_reply (found_at (λ other. lookup_of (text_at content.scripts other)) name)
+dump_of content name = dump_reply (found_at (library_of (text_at content.scripts)) name)
 
 -- whether memory may be refused to an edit of a session; three take none
 abbrev pub takes_memory : Edit → Bool

@@ -2,7 +2,7 @@
 
 ghost use Rattle.std.specs.Prelude.{◌≡◌, ◌≤◌, [], ◌∷◌, IfOk, Some, length};
 ghost use Rattle.sieve_base.specs.Limits.{name_limit};
-ghost use Rattle.sieve_run.specs.Library.{lookup_of};
+ghost use Rattle.sieve_run.specs.Library.{library_of};
 ghost use Rattle.sieve_run.specs.Run.{outcome_of};
 ghost use Rattle.sieve_run.specs.Shelf.{text_on};
 
@@ -21,7 +21,7 @@ pub(crate) fn verdict_of(
     meter: &mut Meter,
 ) -> Result<Outcome, AllocError>
     requires { length name.now.name ≤ name_limit }
-    ensures { IfOk result (λ verdict. verdict ≡ outcome_of (λ other. lookup_of (text_on ((name.now, text.now) ∷ []) other)) (Some name.now) envelope.now mail.now) }
+    ensures { IfOk result (λ verdict. verdict ≡ outcome_of (library_of (text_on ((name.now, text.now) ∷ []))) (Some name.now) envelope.now mail.now) }
 {
     let mut shelf = Shelf::new(alloc);
     shelf.add(name, text)?;

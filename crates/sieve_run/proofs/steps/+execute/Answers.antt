@@ -10,7 +10,7 @@ use Rattle.sieve_variables.specs.view.Part.{part_of, strings_of, variable_of}
 use Rattle.std.specs.Option.{option_map}
 use Rattle.sieve_base.specs.Limits.{include_limit}
 use Rattle.sieve_reading.specs.Reading.{discard_leaf, fileinto_leaf, flag_leaf, include_leaf, keep_leaf, redirect_leaf, set_leaf}
-use Rattle.sieve_run.specs.Library.{Lookup, found_at, lookup_of}
+use Rattle.sieve_run.specs.Library.{Lookup, found_at, library_of}
 use Rattle.sieve_run.specs.Run.{act_of, included, is_script}
 use Rattle.sieve_effects.specs.declared.flow.Flow.{Flow}
 use Rattle.sieve_effects.specs.declared.flow.Flow.TheVariants.{Failed}
@@ -31,21 +31,21 @@ use Rattle.sieve_run.proofs.steps.+execute.Goals.{include-else-once-via-then-onc
 
 pub carry_out-returns-in-Test-clause-step : goal.carry_out-returns-in-Test-clause-step
 carry_out-returns-in-Test-clause-step g t c =
-    let find : ScriptName → Lookup = λ name. lookup_of (g.L.Library.texts c.args.lib.now name) in
+    let find : ScriptName → Lookup = library_of (g.L.Library.texts c.args.lib.now) in
     let d = delivery_as c.args.delivery.now in
     let test = c.deref.result.now in
     asks_follow (act_of find c.args.depth d) d (test_op_as test) _ _ _ _ _ _ _ (ap op_as c.in-Test.is ∙ ap (λ test. test_op (test_op_as test)) (sym c.deref.ensures)) c.holds-truth.ensures.truth c.holds-truth.ensures.behind c.tested.ensures
 
 pub carry_out-returns-in-Command-clause-step : goal.carry_out-returns-in-Command-clause-step
 carry_out-returns-in-Command-clause-step g t c =
-    let find : ScriptName → Lookup = λ name. lookup_of (g.L.Library.texts c.args.lib.now name) in
+    let find : ScriptName → Lookup = library_of (g.L.Library.texts c.args.lib.now) in
     let d = delivery_as c.args.delivery.now in
     let i = c.in-Command in
     acts_follow (act_of find c.args.depth d) d (command_op_as i.command) i.line _ _ _ _ _ _ _ (ap op_as i.is) c.act-flow.ensures.ending c.acted.ensures
 
 pub act-returns-in-Keep-clause-ending : goal.act-returns-in-Keep-clause-ending
 act-returns-in-Keep-clause-ending g t c =
-    let find : ScriptName → Lookup = λ name. lookup_of (g.L.Library.texts c.args.lib.now name) in
+    let find : ScriptName → Lookup = library_of (g.L.Library.texts c.args.lib.now) in
     let d = delivery_as c.args.delivery.now in
     does_so c.keep.result (state_of c.keep.new.state) (act_of find c.args.depth d) (keep_leaf (settings_op_as c.in-Keep.settings)) _ c.args.line (state_of c.args.state.now)
     (ap command_op_as (sym c.in-Keep.is))
@@ -53,7 +53,7 @@ act-returns-in-Keep-clause-ending g t c =
 
 pub act-returns-in-Fileinto-clause-ending : goal.act-returns-in-Fileinto-clause-ending
 act-returns-in-Fileinto-clause-ending g t c =
-    let find : ScriptName → Lookup = λ name. lookup_of (g.L.Library.texts c.args.lib.now name) in
+    let find : ScriptName → Lookup = library_of (g.L.Library.texts c.args.lib.now) in
     let d = delivery_as c.args.delivery.now in
     does_so c.file_into.result (state_of c.file_into.new.state) (act_of find c.args.depth d) (fileinto_leaf (map part_of c.deref-in-Fileinto.result.now) (settings_op_as c.deref-in-Fileinto-2.result.now.settings)) (command_op_as c.args.command.now) c.args.line (state_of c.args.state.now)
     (rw (c.deref-in-Fileinto.ensures, c.deref-in-Fileinto-2.ensures, c.deref.ensures) (ap command_op_as (sym c.in-Fileinto.is)))
@@ -61,7 +61,7 @@ act-returns-in-Fileinto-clause-ending g t c =
 
 pub act-returns-in-Redirect-clause-ending : goal.act-returns-in-Redirect-clause-ending
 act-returns-in-Redirect-clause-ending g t c =
-    let find : ScriptName → Lookup = λ name. lookup_of (g.L.Library.texts c.args.lib.now name) in
+    let find : ScriptName → Lookup = library_of (g.L.Library.texts c.args.lib.now) in
     let d = delivery_as c.args.delivery.now in
     does_so c.redirect.result (state_of c.redirect.new.state) (act_of find c.args.depth d) (redirect_leaf (map part_of c.deref-in-Redirect-2.result.now) (settings_op_as c.deref-in-Redirect-3.result.now.settings)) (command_op_as c.args.command.now) c.args.line (state_of c.args.state.now)
     (rw (c.deref-in-Redirect-2.ensures, c.deref-in-Redirect-3.ensures, c.deref-in-Redirect.ensures) (ap command_op_as (sym c.in-Redirect.is)))
@@ -69,7 +69,7 @@ act-returns-in-Redirect-clause-ending g t c =
 
 pub act-returns-in-Discard-clause-ending : goal.act-returns-in-Discard-clause-ending
 act-returns-in-Discard-clause-ending g t c =
-    let find : ScriptName → Lookup = λ name. lookup_of (g.L.Library.texts c.args.lib.now name) in
+    let find : ScriptName → Lookup = library_of (g.L.Library.texts c.args.lib.now) in
     let d = delivery_as c.args.delivery.now in
     does_so c.discard.result (state_of c.discard.new.state) (act_of find c.args.depth d) (discard_leaf) _ c.args.line (state_of c.args.state.now)
     (ap command_op_as (sym c.in-Discard.is))
@@ -77,7 +77,7 @@ act-returns-in-Discard-clause-ending g t c =
 
 pub act-returns-in-Set-clause-ending : goal.act-returns-in-Set-clause-ending
 act-returns-in-Set-clause-ending g t c =
-    let find : ScriptName → Lookup = λ name. lookup_of (g.L.Library.texts c.args.lib.now name) in
+    let find : ScriptName → Lookup = library_of (g.L.Library.texts c.args.lib.now) in
     let d = delivery_as c.args.delivery.now in
     does_so c.set.result (state_of c.set.new.state) (act_of find c.args.depth d) (set_leaf (variable_of c.deref-in-Set.result.now.variable) c.deref-in-Set-2.result.now.modifiers (map part_of c.deref-in-Set-4.result.now)) (command_op_as c.args.command.now) c.args.line (state_of c.args.state.now)
     (rw (c.deref-in-Set-4.ensures, c.deref-in-Set-3.ensures, c.deref-in-Set-2.ensures, c.deref-in-Set.ensures) (ap command_op_as (sym c.in-Set.is)))
@@ -85,7 +85,7 @@ act-returns-in-Set-clause-ending g t c =
 
 pub act-returns-in-Flags-clause-ending : goal.act-returns-in-Flags-clause-ending
 act-returns-in-Flags-clause-ending g t c =
-    let find : ScriptName → Lookup = λ name. lookup_of (g.L.Library.texts c.args.lib.now name) in
+    let find : ScriptName → Lookup = library_of (g.L.Library.texts c.args.lib.now) in
     let d = delivery_as c.args.delivery.now in
     does_so c.change.result (state_of c.change.new.state) (act_of find c.args.depth d) (flag_leaf c.deref-in-Flags.result.now.change (option_map variable_of c.deref-in-Flags-2.result.now.variable) (strings_of c.deref-in-Flags-4.result.now)) (command_op_as c.args.command.now) c.args.line (state_of c.args.state.now)
     (rw (c.deref-in-Flags-4.ensures, c.deref-in-Flags-3.ensures, c.deref-in-Flags-2.ensures, c.deref-in-Flags.ensures) (ap command_op_as (sym c.in-Flags.is)))
@@ -93,7 +93,7 @@ act-returns-in-Flags-clause-ending g t c =
 
 pub act-returns-in_ok-copied-in-Include-clause-ending : goal.act-returns-in_ok-copied-in-Include-clause-ending
 act-returns-in_ok-copied-in-Include-clause-ending g t c =
-    let find : ScriptName → Lookup = λ name. lookup_of (g.L.Library.texts c.args.lib.now name) in
+    let find : ScriptName → Lookup = library_of (g.L.Library.texts c.args.lib.now) in
     let d = delivery_as c.args.delivery.now in
     does_so c.include.result (state_of c.include.new.state) (act_of find c.args.depth d) (include_leaf c.deref-in-Include.result.now.place c.deref-in-Include-4.result.now.once c.deref-in-Include-5.result.now.optional c.in_ok-copied-in-Include.field-0) (command_op_as c.args.command.now) c.args.line (state_of c.args.state.now)
     (rw (c.in_ok-copied-in-Include.ensures, c.deref-in-Include-5.ensures, c.deref-in-Include-4.ensures, c.deref-in-Include-3.ensures, c.deref-in-Include-2.ensures, c.deref-in-Include.ensures) (ap command_op_as (sym c.in-Include.is)))
@@ -101,7 +101,7 @@ act-returns-in_ok-copied-in-Include-clause-ending g t c =
 
 pub execute_inside-returns-clause-ending : goal.execute_inside-returns-clause-ending
 execute_inside-returns-clause-ending g t c =
-    let find : ScriptName → Lookup = λ name. lookup_of (g.L.Library.texts c.args.lib.now name) in
+    let find : ScriptName → Lookup = library_of (g.L.Library.texts c.args.lib.now) in
     let d = delivery_as c.args.delivery.now in
     let ops = ops_of c.args.code.now in
     subst (λ (inner : Delivery). IfOk c.execute.result (λ (flow : Flow). doing (act_of find c.args.depth inner) inner (code_walk ops (length ops)) (state_of c.args.state.now) ≡ ending_by flow (state_of c.execute.new.state)))
@@ -110,7 +110,7 @@ execute_inside-returns-clause-ending g t c =
 
 pub enter-returns-clause-ending : goal.enter-returns-clause-ending
 enter-returns-clause-ending g t c =
-    let find : ScriptName → Lookup = λ name. lookup_of (g.L.Library.texts c.args.lib.now name) in
+    let find : ScriptName → Lookup = library_of (g.L.Library.texts c.args.lib.now) in
     let d = delivery_as c.args.delivery.now in
     let s = state_of c.args.state.now in
     let ended = state_of c.execute_inside.new.state in
@@ -123,7 +123,7 @@ enter-returns-clause-ending g t c =
 pub execute-returns-then-place-len-clause-ending : goal.execute-returns-then-place-len-clause-ending
 execute-returns-then-place-len-clause-ending g t c =
     let d = delivery_as c.args.delivery.now in
-    let act = act_of (λ name. lookup_of (g.L.Library.texts c.args.lib.now name)) c.args.depth d in
+    let act = act_of (library_of (g.L.Library.texts c.args.lib.now)) c.args.depth d in
     let ops = ops_of c.args.code.now in
     sym c.loop-turn.invariant.1
     ∙ past_end act d ops (length ops - c.loop-turn._turn) c.loop-turn.place c.loop-turn.register (state_of c.loop-turn.state) (subst (λ n. n ≤ c.loop-turn.place) c.len.ensures c.if-place-len.true)
@@ -131,7 +131,7 @@ execute-returns-then-place-len-clause-ending g t c =
 pub execute-returns-in-Ended-clause-ending : goal.execute-returns-in-Ended-clause-ending
 execute-returns-in-Ended-clause-ending g t c =
     let d = delivery_as c.args.delivery.now in
-    let act = act_of (λ name. lookup_of (g.L.Library.texts c.args.lib.now name)) c.args.depth d in
+    let act = act_of (library_of (g.L.Library.texts c.args.lib.now)) c.args.depth d in
     let ops = ops_of c.args.code.now in
     sym c.loop-turn.invariant.1
     ∙ turns act d ops c.loop-turn._turn c.loop-turn.place c.loop-turn.register (op_as c.op.result.now) (state_of c.loop-turn.state) c.in_ok-next.field-0 (state_of c.carry_out.new.state) (subst (λ n. c.loop-turn._turn < n) c.len-turn-end.ensures c.loop-turn-test.true) c.op.ensures c.in_ok-next.ensures.step
@@ -140,7 +140,7 @@ execute-returns-in-Ended-clause-ending g t c =
 pub execute-loop-turn-preserved : goal.execute-loop-turn-preserved
 execute-loop-turn-preserved g t c =
     let d = delivery_as c.args.delivery.now in
-    let act = act_of (λ name. lookup_of (g.L.Library.texts c.args.lib.now name)) c.args.depth d in
+    let act = act_of (library_of (g.L.Library.texts c.args.lib.now)) c.args.depth d in
     let ops = ops_of c.args.code.now in (
       c.carry_out.ensures.message ∙ c.loop-turn.invariant.0,
       sym (turns act d ops c.loop-turn._turn c.loop-turn.place c.loop-turn.register (op_as c.op.result.now) (state_of c.loop-turn.state) c.in_ok-next.field-0 (state_of c.carry_out.new.state) (subst (λ n. c.loop-turn._turn < n) c.len-turn-end.ensures c.loop-turn-test.true) c.op.ensures c.in_ok-next.ensures.step
@@ -151,19 +151,19 @@ execute-loop-turn-preserved g t c =
 pub execute-returns-clause-ending : goal.execute-returns-clause-ending
 execute-returns-clause-ending g t c =
     let d = delivery_as c.args.delivery.now in
-    let act = act_of (λ name. lookup_of (g.L.Library.texts c.args.lib.now name)) c.args.depth d in
+    let act = act_of (library_of (g.L.Library.texts c.args.lib.now)) c.args.depth d in
     sym c.loop-turn.invariant.1
     ∙ runs_out act d (ops_of c.args.code.now) c.loop-turn._turn c.loop-turn.place c.loop-turn.register (state_of c.loop-turn.state) (subst (λ n. n ≤ c.loop-turn._turn) c.len-turn-end.ensures c.loop-turn-test.false)
 
 pub include-returns-then-is_script-clause-ending : goal.include-returns-then-is_script-clause-ending
 include-returns-then-is_script-clause-ending g t c =
-    let find : ScriptName → Lookup = λ name. lookup_of (g.L.Library.texts c.args.lib.now name) in
+    let find : ScriptName → Lookup = library_of (g.L.Library.texts c.args.lib.now) in
     skips_included find (delivery_as c.args.delivery.now) c.args.name.now c.args.once c.args.optional c.args.line (state_of c.args.state.now) c.args.depth c.if-once.true
     (sym (c.is_script.ensures ∙ ap (is_script c.args.name.now) c.as_slice.ensures.value) ∙ c.if-is_script.true)
 
 pub include-returns-then-is_running-clause-ending : goal.include-returns-then-is_running-clause-ending
 include-returns-then-is_running-clause-ending g t c =
-    let find : ScriptName → Lookup = λ name. lookup_of (g.L.Library.texts c.args.lib.now name) in
+    let find : ScriptName → Lookup = library_of (g.L.Library.texts c.args.lib.now) in
     let d = delivery_as c.args.delivery.now in
     let s = state_of c.args.state.now in
     let first : (c.args.once && is_script c.args.name.now s.entered) ≡ false = elim c.else-once.branch [
@@ -177,7 +177,7 @@ include-returns-then-is_running-clause-ending g t c =
 
 pub include-returns-then-depth-eq0-clause-ending : goal.include-returns-then-depth-eq0-clause-ending
 include-returns-then-depth-eq0-clause-ending g t c =
-    let find : ScriptName → Lookup = λ name. lookup_of (g.L.Library.texts c.args.lib.now name) in
+    let find : ScriptName → Lookup = library_of (g.L.Library.texts c.args.lib.now) in
     let d = delivery_as c.args.delivery.now in
     let s = state_of c.args.state.now in
     let first : (c.args.once && is_script c.args.name.now s.entered) ≡ false = elim c.else-once.branch [
@@ -191,7 +191,7 @@ include-returns-then-depth-eq0-clause-ending g t c =
 
 pub include-returns-then-len-gt-MAX_INCLUDES-clause-ending : goal.include-returns-then-len-gt-MAX_INCLUDES-clause-ending
 include-returns-then-len-gt-MAX_INCLUDES-clause-ending g t c =
-    let find : ScriptName → Lookup = λ name. lookup_of (g.L.Library.texts c.args.lib.now name) in
+    let find : ScriptName → Lookup = library_of (g.L.Library.texts c.args.lib.now) in
     let d = delivery_as c.args.delivery.now in
     let s = state_of c.args.state.now in
     let first : (c.args.once && is_script c.args.name.now s.entered) ≡ false = elim c.else-once.branch [
@@ -206,7 +206,7 @@ include-returns-then-len-gt-MAX_INCLUDES-clause-ending g t c =
 
 pub include-returns-clause-ending : goal.include-returns-clause-ending
 include-returns-clause-ending g t c =
-    let find : ScriptName → Lookup = λ name. lookup_of (g.L.Library.texts c.args.lib.now name) in
+    let find : ScriptName → Lookup = library_of (g.L.Library.texts c.args.lib.now) in
     let d = delivery_as c.args.delivery.now in
     let s = state_of c.args.state.now in
     let first : (c.args.once && is_script c.args.name.now s.entered) ≡ false = elim c.else-once.branch [
@@ -221,7 +221,7 @@ include-returns-clause-ending g t c =
 
 pub look_up-returns-in-Present-clause-ending : goal.look_up-returns-in-Present-clause-ending
 look_up-returns-in-Present-clause-ending g t c =
-    let find : ScriptName → Lookup = λ name. lookup_of (g.L.Library.texts c.args.lib.now name) in
+    let find : ScriptName → Lookup = library_of (g.L.Library.texts c.args.lib.now) in
     let d = delivery_as c.args.delivery.now in
     let s = state_of c.args.state.now in
     let ops = ops_of c.in-Present.code.now in

@@ -1,7 +1,7 @@
 use Rattle.std.proofs.Common.{◌≡◌, ◌-◌, ◌+◌, ◌*◌, length}
 use Rattle.sieve_code.specs.Walk.{code_walk, walk_from}
 use Rattle.sieve_code.specs.view.Code.{ops_of}
-use Rattle.sieve_run.specs.Library.{lookup_of}
+use Rattle.sieve_run.specs.Library.{library_of}
 use Rattle.sieve_run.specs.Run.{act_of}
 use Rattle.sieve_effects.specs.view.Delivery.{delivery_as}
 use Rattle.sieve_effects.specs.view.State.{state_of}
@@ -13,7 +13,7 @@ abbrev pub invariant-execute-loop-turn : goal.invariant-execute-loop-turn
 invariant-execute-loop-turn g l =
     let ops = ops_of l.code in
     let d = delivery_as l.delivery in
-    let act = act_of (λ name. lookup_of (g.L.Library.texts l.lib name)) l.depth d in
+    let act = act_of (library_of (g.L.Library.texts l.lib)) l.depth d in
     (l.fields ≡ l.initial.fields) × (doing act d (walk_from ops (length ops - l._turn) l.place l.register) (state_of l.state) ≡ doing act d (code_walk ops (length ops)) (state_of l.fn.state))
 
 -- how deep scripts may still be included, and within one depth the way from a script's code to the script that it includes
