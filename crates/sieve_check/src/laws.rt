@@ -28,7 +28,7 @@ ghost use Rattle.sieve_table.specs.declared.table.CommandKind.{CommandKind};
 ghost use Rattle.sieve_table.specs.declared.table.Tag.{Tag};
 ghost use Rattle.sieve_table.specs.declared.table.TestKind.{TestKind};
 ghost use Rattle.sieve_variables.specs.Part.{grouped, literal, scoped_part, variable_part};
-ghost use Rattle.sieve_variables.specs.Reference.{Cuts, Piece};
+ghost use Rattle.sieve_variables.specs.Reference.{Cuts, TextPiece};
 ghost use Rattle.sieve_variables.specs.Variable.{scoped, variable_named};
 
 /// The breaches of a script are those of its elements (its commands, tests, strings and numbers in the order of the text),
@@ -50,7 +50,7 @@ pub fn what_is_named_is_required()
 /// name of a variable is that variable alone (RFC 5229, section 4; RFC 5232, sections 3 and 4); and any other stands for
 /// itself.
 pub fn parts_go_by_the_role()
-    ensures expanded { (cutting : Cutting) (role : Option Role) (octets : List ℕ) → takes_references cutting.required role ≡ true → (pieces : List Piece) × Cuts pieces octets × (parts_in cutting role octets ≡ map (scoped_part cutting.declared) (grouped pieces)) }
+    ensures expanded { (cutting : Cutting) (role : Option Role) (octets : List ℕ) → takes_references cutting.required role ≡ true → (pieces : List TextPiece) × Cuts pieces octets × (parts_in cutting role octets ≡ map (scoped_part cutting.declared) (grouped pieces)) }
     ensures name { (cutting : Cutting) (role : Option Role) (octets : List ℕ) → names_variable role ≡ true → parts_in cutting role octets ≡ variable_part (scoped cutting.declared (variable_named octets)) ∷ [] }
     ensures plain { (cutting : Cutting) (role : Option Role) (octets : List ℕ) → names_variable role ≡ false → takes_references cutting.required role ≡ false → parts_in cutting role octets ≡ literal octets ∷ [] }
 {}
