@@ -1,4 +1,4 @@
-"""Sessions whose commands are written all at once, and whose replies must come before more is written or the input is closed."""
+"""Sessions whose replies must come before more is written or the input is closed."""
 import os
 import select
 import subprocess
@@ -6,18 +6,23 @@ import time
 
 from .runs import SECONDS, lines, put
 
+# Between two writes, so that each is most likely a read of its own. Where two make one read, the replies are the same.
+PAUSE = 0.1
+
 
 class Waiting:
     """A session whose replies must come while its input stays open, and behind whose end nothing more may."""
 
-    def __init__(self, title, octets, replies, status=0):
-        self.title, self.command, self.octets, self.wanted = f"an input that stays open: {title}", "sievebench session", octets, (replies, b"", status)
+    def __init__(self, title, writes, replies, status=0):
+        self.title, self.command, self.writes, self.wanted = f"an input that stays open: {title}", "sievebench session", writes, (replies, b"", status)
 
     def differences(self, path):
         pipe, env, got, end = subprocess.PIPE, {**os.environ, "PATH": path}, b"", time.monotonic() + SECONDS
         with subprocess.Popen(["sievebench", "session"], stdin=pipe, stdout=pipe, env=env, bufsize=0) as served:
             try:
-                served.stdin.write(self.octets)
+                for octets in self.writes:
+                    served.stdin.write(octets)
+                    time.sleep(PAUSE)
                 while len(got) < len(self.wanted[0]) and select.select([served.stdout], [], [], max(0, end - time.monotonic()))[0]:
                     if not (part := served.stdout.read(65_536)):
                         break
@@ -32,6 +37,9 @@ class Waiting:
 
 def of_sessions():
     """All of them."""
-    yield Waiting("two commands", b"mailbox INBOX\nno-main\n", lines("ok", "ok"))
-    yield Waiting("a script with its octets", put(b"script personal main", b"discard;\n"), lines("ok"))
-    yield Waiting("a line that is too long already", b"no-main\n" + b" " * 16_386, lines("ok", "no syntax"), 2)
+    script = put(b"script personal main", b"discard;\n")
+    yield Waiting("two commands", [b"mailbox INBOX\nno-main\n"], lines("ok", "ok"))
+    yield Waiting("a script with its octets", [script], lines("ok"))
+    yield Waiting("a script whose octets come behind its line, in two parts", [script[:-9], script[-9:-4], script[-4:]], lines("ok"))
+    yield Waiting("a command in two parts, and another", [b"no-", b"main\n", b"no-main\n"], lines("ok", "ok"))
+    yield Waiting("a line that is too long already", [b"no-main\n" + b" " * 16_386], lines("ok", "no syntax"), 2)
