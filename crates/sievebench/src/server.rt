@@ -309,7 +309,7 @@ pub fn session<R: Source, W: Sink>(
     ensures moves { Moved (served bench.old meter.old) (served bench.new meter.new) }
     // At the end of the input none of the octets is unread.
     ensures end { AtLastEnd result (IsAtEnd (R.remaining reader.new)) }
-    // A fault is told only where the device counted one, and the end of the turns only where all were taken, each for an octet or a fault.
+    // A fault is told only where the device counted one, and the end of the turns only where all were taken, no more than octets were given and faults counted.
     ensures faults { MatchFault result
         (HasRisen (R.fault_count reader.old) (R.fault_count reader.new))
         (HasRisen (W.fault_count writer.old) (W.fault_count writer.new))
