@@ -21,8 +21,42 @@ class Without:
         return found
 
 
+class OneName:
+    """A name of a definition is one within its crate, and no file brings two definitions of one name. The tree that is generic in its
+    strings, and the tree of a text that is one of it, have the same names."""
+
+    title = "a name is one within its crate, and where it is used"
+    command = "specs of all crates"
+    told = re.compile(r"^(?:abbrev |unfoldable )?pub (?:data |record )?(?!mod )([A-Za-z_][\w-]*)", re.M)
+    brought = re.compile(r"^(?:ghost )?use Rattle\.(\w+\.specs\.[\w.]+)\.\{([^}]*)\}", re.M)
+
+    def differences(self, path):
+        """The names that stand twice."""
+        found, modules = [], {}
+        for crate in sorted(it for it in (TOP / "crates").iterdir() if (it / "specs").is_dir()):
+            places = {}
+            for file in sorted((crate / "specs").rglob("*.antt")):
+                module = f"{crate.name}.{'.'.join(file.relative_to(crate).with_suffix('').parts)}"
+                modules[module] = set(self.told.findall(file.read_text(encoding="utf-8")))
+                for name in modules[module]:
+                    places.setdefault(name, []).append(module)
+            for name, where in places.items():
+                apart = [it for it in where if not it.endswith("TreeOf")]
+                found += [f"{name} stands in {' and '.join(apart)}"] if len(apart) > 1 else []
+        found += [] if modules else ["no definitions"]
+        for file in sorted(it for kind in ("rt", "antt") for it in (TOP / "crates").rglob(f"*.{kind}") if "out" not in it.parts):
+            seen = {}
+            for module, names in self.brought.findall(file.read_text(encoding="utf-8")):
+                for name in (it.strip() for it in names.split(",")):
+                    if " as " not in name and name in modules.get(module, ()):
+                        seen.setdefault(name, set()).add(module)
+            found += [f"{file.relative_to(TOP)} brings {name} of {' and '.join(sorted(of))}" for name, of in seen.items() if len(of) > 1]
+        return found
+
+
 def of_libraries():
     """Reports and sessions count their runs with the meter that they are handed, and nothing evaluates but `run`: no library above it makes a
     meter, looks at an operation, or names what operations do, outside of contracts. And a session reads by `session_text` alone."""
     yield Without("no library runs by itself", ["bench", "sievebench", "session_text", "command_line"], r"Meter::new|\.op\(|^(?!ghost ).*\bsieve_effects::")
     yield Without("no library reads by itself", ["bench", "sievebench", "command_line"], r"\bread_some\(")
+    yield OneName()

@@ -1,10 +1,11 @@
 -- What edits in turn make of a content, and what is known of the edits of a job.
+use Rattle.sieve_base.specs.Octet.{is_among}
 use Rattle.std.proofs.Common.{◌≡◌, ℕ, ◌+◌, ◌<◌, Bool, true, false, ◌||◌, if◌then◌else◌, List, [], ◌∷◌, length, drop, get_or, map, fold, Option, None, Some, Result, Ok, Err, IfOk, OnOk, refl, sym, ap, ◌∙◌, subst}
 use Rattle.std.proofs.lemmas.List.{drop_more}
 use Rattle.sieve_base.specs.declared.name.ScriptName.{ScriptName}
 use Rattle.bench.specs.Bench.{BenchState}
 use Rattle.bench.specs.Content.{Content, Edit, Sample, after, put_message, set_main, set_envelope, set_mailbox, Refuses, unless, script_refusal, message_refusal, main_refusal, envelope_refusal, mailbox_refusal, with_message}
-use Rattle.bench.specs.Stale.{ids_where, is_among, stale_after, touches}
+use Rattle.bench.specs.Stale.{ids_where, stale_after, touches}
 use Rattle.bench.specs.Test.{after_all, put_of, then_edit}
 use Rattle.bench.specs.declared.fault.EditFault.{EditFault}
 use Rattle.bench.specs.declared.fault.EditFault.TheVariants.{TooLarge, NoSuchScript, NameTaken, NoSuchMessage, Full, NoMemory}

@@ -1,4 +1,5 @@
 -- What the marks of the entries say of the stale messages, and which verdicts stay due.
+use Rattle.sieve_base.specs.Octet.{is_among}
 use Rattle.std.proofs.Common.{◌≡◌, ℕ, List, [], ◌∷◌, map, filter, Bool, true, false, cond, ◌||◌, if◌then◌else◌, Option, None, Some, IfSome, is_none, nat_eq, refl, sym, ap, ◌∙◌}
 use Rattle.std.proofs.lemmas.Map.Keys.{IsDistinct-head, IsDistinct-tail}
 use Rattle.std.specs.List.{AllByRecursion, IsDistinct}
@@ -13,7 +14,7 @@ use Rattle.sieve_run.specs.Frame.{Agree, Texts, outcome_over}
 use Rattle.sieve_run.specs.Run.{is_read}
 use Rattle.sieve_run.specs.Verdict.{Verdict}
 use Rattle.bench.specs.Content.{Sample}
-use Rattle.bench.specs.Stale.{ids_where, is_among}
+use Rattle.bench.specs.Stale.{ids_where}
 use Rattle.bench.specs.declared.entry.Entry.{Entry}
 use Rattle.bench.specs.view.Entry.{is_stale, messages_of, sample_of, stale_of, KeepsDue, changed, expecting, forgotten, fresh_entry, kept_without, unread}
 use Rattle.bench.proofs.Names.{is_id, is_name, other_id, same_id}

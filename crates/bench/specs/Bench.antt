@@ -1,10 +1,11 @@
 -- What a bench is.
+use Rattle.sieve_base.specs.Octet.{is_among}
 use Rattle.std.specs.Prelude.{◌≡◌, ℕ, suc, ◌<◌, List, ◌++◌, length, Option, None, if◌then◌else◌}
 use Rattle.std.specs.Option.{option_map}
 use Rattle.sieve_run.specs.Meter.{runs_after}
 use Rattle.sieve_run.specs.Verdict.{Verdict}
 use Rattle.bench.specs.Content.{Content, message_at}
-use Rattle.bench.specs.Stale.{is_among, verdict_on}
+use Rattle.bench.specs.Stale.{verdict_on}
 
 -- what it holds, and the ids of the messages that the next report runs, in the list's order
 pub record BenchState : Type 0 where

@@ -1,6 +1,6 @@
 -- Which messages are stale: the next report runs these. An edit makes those stale whose verdict it may change.
+use Rattle.sieve_base.specs.Octet.{is_among}
 use Rattle.std.specs.Prelude.{ℕ, Bool, true, false, ◌||◌, List, map, filter, nat_eq}
-use Rattle.std.specs.List.{list_any}
 use lib.Pointwise.{pointwise}
 use Rattle.sieve_base.specs.declared.name.ScriptName.{ScriptName}
 use Rattle.sieve_run.specs.Run.{is_read}
@@ -29,10 +29,6 @@ touches content (set_envelope from to) message = true
 touches content (set_mailbox mailbox) message = true
 touches content (set_expected id text) message = false
 touches content (clear_expected id) message = false
-
--- whether an id is among some
-abbrev pub is_among : List ℕ → List (List ℕ) → Bool
-is_among id ids = list_any (pointwise nat_eq id) ids
 
 -- the ids of the messages that pass a test, in their order
 unfoldable pub ids_where : (List ℕ × Sample → Bool) → List (List ℕ × Sample) → List (List ℕ)

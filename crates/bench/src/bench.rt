@@ -1,8 +1,9 @@
 //! The bench: its edits, its report and the verdicts that it keeps.
+ghost use Rattle.sieve_base.specs.Octet.{is_among};
 ghost use Rattle.std.specs.Prelude.{◌≡◌, ⊤, [], IfOk, OnOk, OnErr, IfErr, Ok, length};
 ghost use Rattle.std.specs.Option.{option_copied};
 ghost use Rattle.bench.specs.Bench.{RefusedAmong, verdict_at};
-ghost use Rattle.bench.specs.Stale.{ids_where, is_among, stale_after};
+ghost use Rattle.bench.specs.Stale.{ids_where, stale_after};
 ghost use Rattle.sieve_base.specs.Writers.{Wrote, WroteFront};
 ghost use Rattle.sieve_run.specs.Library.{found_at, library_of};
 ghost use Rattle.sieve_run.specs.Meter.{runs_after};

@@ -72,7 +72,7 @@ unmet_is false c waiting position word h = long_is c waiting word (long_of word)
 other_is : (s : Shape) (met : Option Text) (waiting : Waiting) (position : ℕ) (word : Text) (h : Held) → s.disable_help_subcommand ≡ false
     → other_fault s met word h ≡ [] → IsNotHelp (subcommand_or_other s.rules met waiting position word h).1
 other_is s (Some name) waiting position word h e none = no_fault (bytes_eq name (codes "help")) s.disable_help_subcommand _ _ e none
-other_is s None waiting position word h e none = unmet_is (bytes_eq word (45 ∷ 45 ∷ [])) s.rules waiting position word h
+other_is s None waiting position word h e none = unmet_is (bytes_eq word (codes "--")) s.rules waiting position word h
 
 met_is : (s : Shape) (names : Names) (is_trailing : Bool) (waiting : Waiting) (position : ℕ) (word : Text) (h : Held)
     → s.disable_help_subcommand ≡ false → word_fault s names is_trailing waiting word h ≡ []

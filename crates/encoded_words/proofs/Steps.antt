@@ -11,7 +11,7 @@ use Rattle.std.proofs.Math.ListN.{drop_of_length-le}
 use Rattle.std.proofs.lemmas.Str.{encodes-append, IsUtf8-from_is_utf8, is_utf8-from_IsUtf8}
 use Rattle.encoded_words.specs.Encoding.{octet_before}
 use Rattle.encoded_words.specs.Cut.{Cuts, ValuePiece, joined, kept, leads_to_word, octet, replaced}
-use Rattle.sieve_base.specs.Octet.{is_blank}
+use Rattle.sieve_base.specs.Octet.{is_blank, octet_of}
 use Rattle.encoded_words.specs.Charset.{meaning}
 use Rattle.encoded_words.specs.Scan.{decoded_of, first_piece, has_word, replaced_of, has_written, further_octets, is_word, piece_by, pieces_from, pieces_of, run, word_at}
 use Rattle.encoded_words.specs.Word.{EncodedWord, is_word_octet}
@@ -103,25 +103,25 @@ all_alone left plain ended is =
 
 -- in front of the first sign
 
-sign_here : (c : ℕ) (rest : List ℕ) → (c == 61) ≡ false → None ≡ word_at (c ∷ rest)
+sign_here : (c : ℕ) (rest : List ℕ) → (c == octet_of "=") ≡ false → None ≡ word_at (c ∷ rest)
 unfolding word_at
 sign_here c [] other = refl
 sign_here c (d ∷ rest) other = rw other refl
 
-sign_behind : (c : ℕ) (rest : List ℕ) (n : ℕ) → Nowhere (Passes (is_byte 61) (c ∷ rest)) 0 (suc n) → Nowhere (Passes (is_byte 61) rest) 0 n
+sign_behind : (c : ℕ) (rest : List ℕ) (n : ℕ) → Nowhere (Passes (is_byte (octet_of "=")) (c ∷ rest)) 0 (suc n) → Nowhere (Passes (is_byte (octet_of "=")) rest) 0 n
 sign_behind c rest n nowhere k low high passes = nowhere (suc k) (omega arith) (omega arith) passes
 
-pub signs_alone : (value : List ℕ) (n : ℕ) → n ≤ length value → Nowhere (Passes (is_byte 61) value) 0 n → in_front (take n value) (pieces_of (drop n value)) ≡ pieces_of value
+pub signs_alone : (value : List ℕ) (n : ℕ) → n ≤ length value → Nowhere (Passes (is_byte (octet_of "=")) value) 0 n → in_front (take n value) (pieces_of (drop n value)) ≡ pieces_of value
 signs_alone [] zero within nowhere = refl
 signs_alone [] (suc n) within nowhere = absurd (omega arith)
 signs_alone (c ∷ rest) zero within nowhere = refl
 signs_alone (c ∷ rest) (suc n) within nowhere =
-    let other : (c == 61) ≡ false = false_from_ne_true (c == 61) (λ is. nowhere 0 (omega arith) (omega arith) is) in
+    let other : (c == octet_of "=") ≡ false = false_from_ne_true (c == octet_of "=") (λ is. nowhere 0 (omega arith) (omega arith) is) in
     ap (λ pieces. octet c ∷ pieces) (signs_alone rest n (omega arith) (sign_behind c rest n nowhere))
     ∙ sym (none_at (c ∷ rest) (omega arith) (sign_here c rest other))
 
 -- how many octets stand in front of what a search found
-pub front_of : (value : List ℕ) (found : Option ℕ) → IsFirstByte (is_byte 61) value found → (unwrap_or found (length value) ≤ length value) × Nowhere (Passes (is_byte 61) value) 0 (unwrap_or found (length value))
+pub front_of : (value : List ℕ) (found : Option ℕ) → IsFirstByte (is_byte (octet_of "=")) value found → (unwrap_or found (length value) ≤ length value) × Nowhere (Passes (is_byte (octet_of "=")) value) 0 (unwrap_or found (length value))
 front_of value None nowhere = (omega arith, nowhere)
 front_of value (Some n) (first, here) = (omega (arith, first.high), first.before)
 

@@ -3,8 +3,8 @@ use Rattle.std.specs.Prelude.{ℕ, zero, suc, ◌+◌, Bool, true, false, ◌==�
 use Rattle.std.specs.List.{list_any, prefix_len, take_while}
 use Rattle.encoded_words.specs.Charset.{meaning}
 use Rattle.encoded_words.specs.Cut.{ValuePiece, joined, octet, replaced}
-use Rattle.sieve_base.specs.Octet.{octet_of}
-use Rattle.encoded_words.specs.Word.{EncodedWord, is_filled, is_letter, is_word_octet}
+use Rattle.sieve_base.specs.Octet.{is_filled, octet_of}
+use Rattle.encoded_words.specs.Word.{EncodedWord, is_letter, is_word_octet}
 
 -- the octets of a charset or a text that stand in front
 abbrev pub run : List ℕ → List ℕ

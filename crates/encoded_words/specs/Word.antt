@@ -1,8 +1,8 @@
 -- Encoded words (RFC 2047, section 2): `=?`, a charset, `?`, the letter of an encoding, `?`, a text, and `?=`. Charset and text
 -- have no limit of length, and may have each visible octet but `?`.
-use Rattle.std.specs.Prelude.{ℕ, Bool, not, ◌&&◌, ◌||◌, ◌==◌, nat_lt, List, ◌∷◌, ◌++◌, codes, length}
+use Rattle.std.specs.Prelude.{ℕ, Bool, not, ◌&&◌, ◌||◌, ◌==◌, List, ◌∷◌, ◌++◌, codes, length}
 use Rattle.std.specs.List.{list_all}
-use Rattle.sieve_base.specs.Octet.{octet_of, is_visible}
+use Rattle.sieve_base.specs.Octet.{is_filled, is_visible, octet_of}
 
 -- an encoded word
 pub record EncodedWord : Type 0 where
@@ -25,10 +25,6 @@ is_q letter = letter == octet_of "Q" || letter == octet_of "q"
 -- the letter of an encoding
 abbrev pub is_letter : ℕ → Bool
 is_letter letter = is_b letter || is_q letter
-
--- one or more octets
-abbrev pub is_filled : List ℕ → Bool
-is_filled octets = nat_lt 0 (length octets)
 
 -- whether parts are those of a word
 abbrev pub is_legal : EncodedWord → Bool

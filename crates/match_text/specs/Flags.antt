@@ -1,8 +1,8 @@
 -- Flags of messages (RFC 5232, sections 2 and 3): which texts are flags, how texts are cut into them, and lists of flags.
 -- A flag is known by its spelling: two are the same where they are equal under i;ascii-casemap.
-use Rattle.std.specs.Prelude.{ℕ, Bool, true, false, not, ◌&&◌, ◌||◌, ◌==◌, List, [], ◌∷◌, ◌++◌, filter, codes}
+use Rattle.std.specs.Prelude.{ℕ, Bool, not, ◌&&◌, ◌||◌, ◌==◌, List, [], ◌∷◌, ◌++◌, filter, codes}
 use Rattle.std.specs.List.{IsDistinct, flat_map, list_all, list_any, slice_split}
-use Rattle.sieve_base.specs.Octet.{is_visible, octet_of}
+use Rattle.sieve_base.specs.Octet.{is_filled, is_visible, octet_of}
 use Rattle.match_text.specs.Comparator.{ascii_casemap, same}
 
 -- FLAGS (RFC 3501, section 9: flag, without flag-extension)
@@ -16,11 +16,6 @@ is_special b =
 -- an octet of an atom: ATOM-CHAR
 abbrev pub is_flag_octet : ℕ → Bool
 is_flag_octet b = is_visible b && not (is_special b)
-
--- whether it has octets
-abbrev pub is_filled : List ℕ → Bool
-is_filled [] = false
-is_filled (b ∷ rest) = true
 
 -- a keyword: an atom
 abbrev pub is_keyword : List ℕ → Bool

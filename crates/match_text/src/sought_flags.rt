@@ -1,6 +1,7 @@
 //! Flags to look for (RFC 5232, section 4).
+ghost use Rattle.sieve_base.specs.Octet.{is_filled};
 ghost use Rattle.std.specs.Prelude.{◌≡◌, ◌++◌, ◌∷◌, [], IfOk, OnOk, filter};
-ghost use Rattle.match_text.specs.Flags.{flag_keys, flag_keys_of_texts, is_filled};
+ghost use Rattle.match_text.specs.Flags.{flag_keys, flag_keys_of_texts};
 ghost use Rattle.sieve_base.specs.view.Texts.{octets_of_each};
 
 use crate::flag_spelling::pieces;

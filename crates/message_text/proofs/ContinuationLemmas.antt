@@ -5,7 +5,7 @@ use Rattle.std.specs.Str.Lines.{lines, lines_of_parts, strip_carriage_return}
 use Rattle.std.proofs.lemmas.Bool.{cond_both, cond-false, cond-true, eqb-true, ne_eqb}
 use Rattle.std.proofs.lemmas.List.{drop_all, drop_more}
 use Rattle.std.proofs.lemmas.List.Sums.{take_while-cons}
-use Rattle.sieve_base.specs.Octet.{is_blank}
+use Rattle.sieve_base.specs.Octet.{is_blank, octet_of}
 use Rattle.message_text.specs.Fields.{is_continuation}
 use Rattle.message_text.specs.view.Spans.{continues}
 
@@ -17,10 +17,10 @@ continues-empty (part ∷ parts) = refl
 -- a part loses no space or tab at its front
 continues-strip : (b : ℕ) (part : List ℕ) → is_continuation (strip_carriage_return (b ∷ part)) ≡ is_blank b
 continues-strip b [] =
-    cond_both (b == 13) [] (b ∷ []) (λ line. is_continuation line ≡ is_blank b)
-    (λ is. sym (ap is_blank (eqb-true b 13 is))) (λ _. refl)
+    cond_both (b == octet_of "\r") [] (b ∷ []) (λ line. is_continuation line ≡ is_blank b)
+    (λ is. sym (ap is_blank (eqb-true b (octet_of "\r") is))) (λ _. refl)
 continues-strip b (c ∷ part) =
-    cond_both (slice_index (b ∷ c ∷ part) (length (b ∷ c ∷ part) - 1) == 13) (take (length (b ∷ c ∷ part) - 1) (b ∷ c ∷ part)) (b ∷ c ∷ part)
+    cond_both (slice_index (b ∷ c ∷ part) (length (b ∷ c ∷ part) - 1) == octet_of "\r") (take (length (b ∷ c ∷ part) - 1) (b ∷ c ∷ part)) (b ∷ c ∷ part)
     (λ line. is_continuation line ≡ is_blank b)
     (λ _. ap (λ n. is_continuation (take n (b ∷ c ∷ part))) (let e : length (b ∷ c ∷ part) - 1 ≡ suc (length part) = omega arith in e))
     (λ _. refl)
@@ -33,9 +33,9 @@ continues-onto b (part ∷ next ∷ parts) = continues-strip b part
 
 pub continues-lines : (b : ℕ) (text : List ℕ) → continues (lines (b ∷ text)) ≡ is_blank b
 continues-lines b text =
-    let parts = slice_split (λ x. x == 10) text in
-    cond_both (b == 10) ([] ∷ parts) (onto_first b parts) (λ cut. continues (lines_of_parts cut) ≡ is_blank b)
-    (λ is. continues-empty parts ∙ sym (ap is_blank (eqb-true b 10 is)))
+    let parts = slice_split (λ x. x == octet_of "\n") text in
+    cond_both (b == octet_of "\n") ([] ∷ parts) (onto_first b parts) (λ cut. continues (lines_of_parts cut) ≡ is_blank b)
+    (λ is. continues-empty parts ∙ sym (ap is_blank (eqb-true b (octet_of "\n") is)))
     (λ _. continues-onto b parts)
 
 pub continues-drop : (octets : List ℕ) (start : ℕ) → start < length octets → continues (lines (drop start octets)) ≡ is_blank (slice_index octets start)

@@ -1,11 +1,12 @@
 -- Groups of lines, one line at a time.
+use Rattle.sieve_base.specs.Octet.{is_filled}
 use Rattle.std.proofs.Common.{◌≡◌, ℕ, ◌+◌, ◌-◌, ◌<◌, ◌≤◌, Bool, not, true, false, cond, List, [], ◌∷◌, ◌++◌, length, take, drop, filter, map, slice_range, refl, sym, ap, ◌∙◌, arith}
 use Rattle.std.specs.List.{All, take_while}
 use Rattle.std.specs.Str.Lines.{lines}
 use Rattle.std.proofs.lemmas.Bool.{cond-true, cond-false, lt-ltb}
 use Rattle.std.proofs.lemmas.List.{append-nil, drop-drop, drop-take, length-drop, length-take-le, take-take}
 use Rattle.std.proofs.lemmas.List.Sums.{take_while-cons}
-use Rattle.message_text.specs.Fields.{Group, field_groups, groups_of, is_continuation, is_field, is_filled}
+use Rattle.message_text.specs.Fields.{Group, field_groups, groups_of, is_continuation, is_field}
 use Rattle.message_text.specs.view.Heads.{IsHead}
 use Rattle.message_text.specs.view.NameHash.{name_hash}
 use Rattle.message_text.proofs.ContinuationLemmas.{none_continues}

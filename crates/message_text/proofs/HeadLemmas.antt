@@ -6,13 +6,13 @@ use Rattle.std.proofs.lemmas.List.{get_or_default, length-take-le, take-take}
 use Rattle.std.proofs.lemmas.List.Folds.{list_any_at, list_any_none}
 use Rattle.std.proofs.lemmas.List.Sums.{position_or_len_is}
 use Rattle.memchr.specs.Find.{NoneBefore, Nowhere, Passes, is_byte}
-use Rattle.sieve_base.specs.Octet.{is_blank}
+use Rattle.sieve_base.specs.Octet.{is_blank, octet_of}
 use Rattle.message_text.specs.Blanks.{trim_end}
 use Rattle.message_text.specs.Fields.{begins_field, is_colon, is_name, name_in}
 use Rattle.message_text.specs.view.Heads.{IsHead}
 
 abbrev pub Colon : List ℕ → ℕ → Type 0
-Colon line = Passes (is_byte 58) line
+Colon line = Passes (is_byte (octet_of ":")) line
 
 pub no_colon : (line : List ℕ) → Nowhere (Colon line) 0 (length line) → begins_field line ≡ false
 no_colon line nowhere =

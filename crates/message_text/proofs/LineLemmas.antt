@@ -1,4 +1,5 @@
 -- The first line of a text.
+use Rattle.sieve_base.specs.Octet.{octet_of}
 use Rattle.std.proofs.Common.{◌≡◌, ℕ, ◌+◌, ◌-◌, ◌<◌, ◌≤◌, true, false, ◌==◌, List, [], ◌∷◌, ◌++◌, length, take, drop, slice_index, slice_range, get_or, refl, sym, ap, subst, ◌∙◌, arith}
 use Rattle.std.specs.List.{All, slice_split, onto_first}
 use Rattle.std.specs.Str.Lines.{lines, lines_of_parts, strip_carriage_return}
@@ -13,50 +14,50 @@ line_onto : (part : List ℕ) (b : ℕ) (parts : List (List ℕ)) → lines_of_p
 line_onto part b [] = refl
 line_onto part b (next ∷ parts) = refl
 
-line_before : (part text : List ℕ) → lines_of_parts (part ∷ slice_split (λ b. b == 10) text) ≡ strip_carriage_return part ∷ lines text
+line_before : (part text : List ℕ) → lines_of_parts (part ∷ slice_split (λ b. b == octet_of "\n") text) ≡ strip_carriage_return part ∷ lines text
 line_before part [] = refl
 line_before part (b ∷ text) =
-    cond_both (b == 10) ([] ∷ slice_split (λ b. b == 10) text) (onto_first b (slice_split (λ b. b == 10) text))
+    cond_both (b == octet_of "\n") ([] ∷ slice_split (λ b. b == octet_of "\n") text) (onto_first b (slice_split (λ b. b == octet_of "\n") text))
     (λ parts. lines_of_parts (part ∷ parts) ≡ strip_carriage_return part ∷ lines_of_parts parts)
-    (λ _. refl) (λ _. line_onto part b (slice_split (λ b. b == 10) text))
+    (λ _. refl) (λ _. line_onto part b (slice_split (λ b. b == octet_of "\n") text))
 
 -- up to the first line feed
-pub lines-feed : (line rest : List ℕ) → All (λ b. (b == 10) ≡ false) line → lines (line ++ 10 ∷ rest) ≡ strip_carriage_return line ∷ lines rest
-lines-feed line rest plain = ap lines_of_parts (slice_split_at (λ b. b == 10) line 10 rest plain refl) ∙ line_before line rest
+pub lines-feed : (line rest : List ℕ) → All (λ b. (b == octet_of "\n") ≡ false) line → lines (line ++ octet_of "\n" ∷ rest) ≡ strip_carriage_return line ∷ lines rest
+lines-feed line rest plain = ap lines_of_parts (slice_split_at (λ b. b == octet_of "\n") line (octet_of "\n") rest plain refl) ∙ line_before line rest
 
 -- with no line feed
-pub lines-last : (line : List ℕ) → 0 < length line → All (λ b. (b == 10) ≡ false) line → lines line ≡ line ∷ []
+pub lines-last : (line : List ℕ) → 0 < length line → All (λ b. (b == octet_of "\n") ≡ false) line → lines line ≡ line ∷ []
 lines-last line some plain =
-    ap lines_of_parts (slice_split_none (λ b. b == 10) line plain)
+    ap lines_of_parts (slice_split_none (λ b. b == octet_of "\n") line plain)
     ∙ cond-false (length line == 0) [] (line ∷ []) (ne_eqb (length line) 0 (omega arith))
 
 -- no feed stands where a search found none
-pub plain_before : (hay : List ℕ) (len : ℕ) → len ≤ length hay → Nowhere (Passes (is_byte 10) hay) 0 len → All (λ b. (b == 10) ≡ false) (take len hay)
+pub plain_before : (hay : List ℕ) (len : ℕ) → len ≤ length hay → Nowhere (Passes (is_byte (octet_of "\n")) hay) 0 len → All (λ b. (b == octet_of "\n") ≡ false) (take len hay)
 plain_before hay len within nowhere k d below =
     let short : k < len = omega (arith, length-take-le len hay within) in
-    let P : ℕ → Type 0 = λ b. (b == 10) ≡ true in
+    let P : ℕ → Type 0 = λ b. (b == octet_of "\n") ≡ true in
     rw get_or-take
-    (false_from_ne_true (get_or hay k d == 10) (λ is. nowhere k (omega arith) short (subst P (get_or_default hay k d 0 (omega arith)) is)))
+    (false_from_ne_true (get_or hay k d == octet_of "\n") (λ is. nowhere k (omega arith) short (subst P (get_or_default hay k d 0 (omega arith)) is)))
 
 -- a line is a front of its piece
 front_of_piece : (piece : List ℕ) → strip_carriage_return piece ≡ take (length (strip_carriage_return piece)) piece
 front_of_piece piece =
-    cond_both (slice_index piece (length piece - 1) == 13) (take (length piece - 1) piece) piece (λ line. line ≡ take (length line) piece)
+    cond_both (slice_index piece (length piece - 1) == octet_of "\r") (take (length piece - 1) piece) piece (λ line. line ≡ take (length line) piece)
     (λ _. ap (λ n. take n piece) (sym (length-take-le (length piece - 1) piece (omega arith))))
     (λ _. sym (take_all (length piece) piece (omega arith)))
 
 line_le_piece : (piece : List ℕ) → length (strip_carriage_return piece) ≤ length piece
 line_le_piece piece =
-    cond_both (slice_index piece (length piece - 1) == 13) (take (length piece - 1) piece) piece (λ line. length line ≤ length piece)
+    cond_both (slice_index piece (length piece - 1) == octet_of "\r") (take (length piece - 1) piece) piece (λ line. length line ≤ length piece)
     (λ _. omega (arith, length-take (length piece - 1) piece)) (λ _. omega arith)
 
-pub line_to_end : (text : List ℕ) (start : ℕ) → start < length text → Nowhere (Passes (is_byte 10) (slice_range text start (length text))) 0 (length (slice_range text start (length text))) → IsLineAt text start (length text) (length text)
+pub line_to_end : (text : List ℕ) (start : ℕ) → start < length text → Nowhere (Passes (is_byte (octet_of "\n")) (slice_range text start (length text))) 0 (length (slice_range text start (length text))) → IsLineAt text start (length text) (length text)
 line_to_end text start some nowhere =
     let rest = slice_range text start (length text) in
     let is : rest ≡ drop start text = take_rest text start in
     let len : length rest ≡ length text - start = ap length is ∙ length-drop start text in
-    let plain : All (λ b. (b == 10) ≡ false) rest =
-    subst (All (λ b. (b == 10) ≡ false)) (take_all (length rest) rest (omega arith)) (plain_before rest (length rest) (omega arith) nowhere) in
+    let plain : All (λ b. (b == octet_of "\n") ≡ false) rest =
+    subst (All (λ b. (b == octet_of "\n") ≡ false)) (take_all (length rest) rest (omega arith)) (plain_before rest (length rest) (omega arith) nowhere) in
     record {
       ordered = omega arith;
       forward = some;
@@ -65,18 +66,18 @@ line_to_end text start some nowhere =
       first = ap lines (sym is) ∙ lines-last rest (omega arith) plain ∙ ap (λ (end : List ℕ). rest ∷ lines end) (sym (drop_all (length text) text (omega arith)));
     }
 
-pub line_to_feed : (text : List ℕ) (start len : ℕ) (line : List ℕ) → start ≤ length text → Nowhere (Passes (is_byte 10) (slice_range text start (length text))) 0 len → len < length (slice_range text start (length text)) → Passes (is_byte 10) (slice_range text start (length text)) len → line ≡ strip_carriage_return (slice_range text start (start + len)) → IsLineAt text start (start + length line) (start + len + 1)
+pub line_to_feed : (text : List ℕ) (start len : ℕ) (line : List ℕ) → start ≤ length text → Nowhere (Passes (is_byte (octet_of "\n")) (slice_range text start (length text))) 0 len → len < length (slice_range text start (length text)) → Passes (is_byte (octet_of "\n")) (slice_range text start (length text)) len → line ≡ strip_carriage_return (slice_range text start (start + len)) → IsLineAt text start (start + length line) (start + len + 1)
 line_to_feed text start len line within nowhere short feed is_line =
     let rest = drop start text in
     let is : slice_range text start (length text) ≡ rest = take_rest text start in
     let all : length rest ≡ length text - start = length-drop start text in
     let room : len < length rest = omega (arith, ap length is) in
     let piece = take len rest in
-    let Quiet : List ℕ → Type 0 = λ hay. Nowhere (Passes (is_byte 10) hay) 0 len in
+    let Quiet : List ℕ → Type 0 = λ hay. Nowhere (Passes (is_byte (octet_of "\n")) hay) 0 len in
     let plain = plain_before rest len (omega arith) (subst Quiet is nowhere) in
-    let Fed : List ℕ → Type 0 = λ hay. Passes (is_byte 10) hay len in
-    let at_feed : get_or rest len 0 ≡ 10 = eqb-true (get_or rest len 0) 10 (subst Fed is feed) in
-    let cut : rest ≡ piece ++ 10 ∷ drop (len + 1) rest =
+    let Fed : List ℕ → Type 0 = λ hay. Passes (is_byte (octet_of "\n")) hay len in
+    let at_feed : get_or rest len 0 ≡ octet_of "\n" = eqb-true (get_or rest len 0) (octet_of "\n") (subst Fed is feed) in
+    let cut : rest ≡ piece ++ octet_of "\n" ∷ drop (len + 1) rest =
     sym (take-append-drop len rest) ∙ ap (λ (end : List ℕ). piece ++ end) (drop_more rest len 0 room)
     ∙ ap (λ b. piece ++ b ∷ drop (len + 1) rest) at_feed in
     let same_piece : slice_range text start (start + len) ≡ piece = ap (λ n. take n rest) (omega arith) in

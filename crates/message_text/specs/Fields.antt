@@ -4,7 +4,7 @@ use Rattle.std.specs.List.{after_first, before_first, concat, list_all, list_any
 use Rattle.std.specs.Str.Lines.{lines}
 use Rattle.encoded_words.specs.Scan.{decoded_of, has_word, has_written}
 use Rattle.match_text.specs.Comparator.{ascii_casemap, same}
-use Rattle.sieve_base.specs.Octet.{octet_of, is_blank, is_visible}
+use Rattle.sieve_base.specs.Octet.{is_blank, is_filled, is_visible, octet_of}
 use Rattle.message_text.specs.Blanks.{trim, trim_end}
 
 -- a field: its name, and its value on one line
@@ -21,10 +21,6 @@ pub record Group : Type 0 where
 abbrev pub is_continuation : List ℕ → Bool
 is_continuation [] = false
 is_continuation (b ∷ bs) = is_blank b
-
--- the line has octets
-abbrev pub is_filled : List ℕ → Bool
-is_filled line = nat_lt 0 (length line)
 
 -- A line is a piece of the message up to a line feed, without it and the carriage return directly before it; so is what
 -- follows the last line feed, where a carriage return at its end is an octet like any other. The header section is the

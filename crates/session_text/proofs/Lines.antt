@@ -1,4 +1,5 @@
 -- Where lines end.
+use Rattle.sieve_base.specs.Octet.{octet_of}
 use Rattle.std.proofs.Common.{◌≡◌, ◌≢◌, ℕ, ◌+◌, ◌<◌, ◌≤◌, List, [], ◌∷◌, ◌++◌, length, get_or, take, drop, sym, ap, ◌∙◌, refl, arith, Option, None, Some, Bool, true, false, eqb, suc, cond, take-append-drop, length-take, get_or-take, append_assoc, append-nil, length-append, ◌⊎◌, inl, inr}
 use Rattle.std.specs.Option.{option_map}
 use Rattle.std.proofs.lemmas.Bool.Decides.{nat_tests}
@@ -40,7 +41,7 @@ none_at b bs more false later none =
 -- where no LF is found, what follows decides
 pub cut_line-none : (bs more : List ℕ) → cut_line bs ≡ None → cut_line (bs ++ more) ≡ option_map (behind bs) (cut_line more)
 cut_line-none [] more none = behind_nothing (cut_line more)
-cut_line-none (b ∷ bs) more none = none_at b bs more (eqb b 10) (cut_line-none bs more) none
+cut_line-none (b ∷ bs) more none = none_at b bs more (eqb b (octet_of "\n")) (cut_line-none bs more) none
 
 mapped_some : (b : ℕ) (more : List ℕ) (r s : Option (List ℕ × List ℕ)) (line rest : List ℕ)
     → ((l t : List ℕ) → r ≡ Some (l, t) → s ≡ Some (l, t ++ more)) → option_map (in_front b) r ≡ Some (line, rest)
@@ -65,58 +66,58 @@ some_at b bs more false line rest later found = mapped_some b more (cut_line bs)
 -- where one is found, what follows the octets follows the line
 pub cut_line-some : (bs more line rest : List ℕ) → cut_line bs ≡ Some (line, rest) → cut_line (bs ++ more) ≡ Some (line, rest ++ more)
 cut_line-some [] more line rest found = absurd (apart _ _ found refl)
-cut_line-some (b ∷ bs) more line rest found = some_at b bs more (eqb b 10) line rest (cut_line-some bs more) found
+cut_line-some (b ∷ bs) more line rest found = some_at b bs more (eqb b (octet_of "\n")) line rest (cut_line-some bs more) found
 
 -- no LF
-pub cut_line-absent : (bs : List ℕ) → ((k : ℕ) → k < length bs → get_or bs k 0 ≢ 10) → cut_line bs ≡ None
+pub cut_line-absent : (bs : List ℕ) → ((k : ℕ) → k < length bs → get_or bs k 0 ≢ octet_of "\n") → cut_line bs ≡ None
 cut_line-absent [] none = refl
 cut_line-absent (b ∷ bs) none =
-    let here : b ≢ 10 = none 0 (omega arith) in
+    let here : b ≢ octet_of "\n" = none 0 (omega arith) in
     let later = cut_line-absent bs (λ k within. none (suc k) (omega arith)) in
     grind (arith, nat_tests, later)
 
 -- octets without an LF, and then one
-cut_line-front : (front rest : List ℕ) → ((k : ℕ) → k < length front → get_or front k 0 ≢ 10) → cut_line (front ++ 10 ∷ rest) ≡ Some (front, rest)
+cut_line-front : (front rest : List ℕ) → ((k : ℕ) → k < length front → get_or front k 0 ≢ octet_of "\n") → cut_line (front ++ octet_of "\n" ∷ rest) ≡ Some (front, rest)
 cut_line-front [] rest none = refl
 cut_line-front (b ∷ bs) rest none =
-    let here : b ≢ 10 = none 0 (omega arith) in
+    let here : b ≢ octet_of "\n" = none 0 (omega arith) in
     let later = cut_line-front bs rest (λ k within. none (suc k) (omega arith)) in
     grind (arith, nat_tests, later)
 
 -- the first LF
-pub cut_line-at : (bs : List ℕ) (i : ℕ) → i < length bs → ((k : ℕ) → k < i → get_or bs k 0 ≢ 10) → get_or bs i 0 ≡ 10 → cut_line bs ≡ Some (take i bs, drop (i + 1) bs)
+pub cut_line-at : (bs : List ℕ) (i : ℕ) → i < length bs → ((k : ℕ) → k < i → get_or bs k 0 ≢ octet_of "\n") → get_or bs i 0 ≡ octet_of "\n" → cut_line bs ≡ Some (take i bs, drop (i + 1) bs)
 cut_line-at bs i within before here =
     ap cut_line (sym (take-append-drop i bs) ∙ ap (λ l. take i bs ++ l) (drop_more bs i 0 within ∙ ap (λ b. b ∷ drop (i + 1) bs) here))
     ∙ cut_line-front (take i bs) (drop (i + 1) bs) (λ k below. let under : k < i = omega (arith, length-take i bs) in rw get_or-take (before k under))
 
 -- what follows the first LF doesn't matter to the line that it ends
-pub cut_line-within : (bs : List ℕ) (i : ℕ) → i < length bs → ((k : ℕ) → k < i → get_or bs k 0 ≢ 10) → get_or bs i 0 ≡ 10 → (more : List ℕ) → cut_line (take (i + 1) bs ++ more) ≡ Some (take i bs, more)
+pub cut_line-within : (bs : List ℕ) (i : ℕ) → i < length bs → ((k : ℕ) → k < i → get_or bs k 0 ≢ octet_of "\n") → get_or bs i 0 ≡ octet_of "\n" → (more : List ℕ) → cut_line (take (i + 1) bs ++ more) ≡ Some (take i bs, more)
 cut_line-within bs i within before here more =
     ap (λ l. cut_line (l ++ more)) (take_more bs i 0 within ∙ ap (λ b. take i bs ++ b ∷ []) here)
-    ∙ ap cut_line (append_assoc (take i bs) (10 ∷ []) more)
+    ∙ ap cut_line (append_assoc (take i bs) (octet_of "\n" ∷ []) more)
     ∙ cut_line-front (take i bs) more (λ k below. let under : k < i = omega (arith, length-take i bs) in rw get_or-take (before k under))
 
 -- a CR at the end is dropped, and no other octet
-pub without_cr-last : (bs : List ℕ) (b : ℕ) → without_cr (bs ++ b ∷ []) ≡ cond (eqb b 13) bs (bs ++ b ∷ [])
+pub without_cr-last : (bs : List ℕ) (b : ℕ) → without_cr (bs ++ b ∷ []) ≡ cond (eqb b (octet_of "\r")) bs (bs ++ b ∷ [])
 without_cr-last [] b = refl
-without_cr-last (a ∷ []) b = one (eqb b 13)
+without_cr-last (a ∷ []) b = one (eqb b (octet_of "\r"))
   where
     one : (v : Bool) → a ∷ cond v [] (b ∷ []) ≡ cond v (a ∷ []) (a ∷ b ∷ [])
     one true = refl
     one false = refl
-without_cr-last (a ∷ c ∷ bs) b = ap (λ l. a ∷ l) (without_cr-last (c ∷ bs) b) ∙ more (eqb b 13)
+without_cr-last (a ∷ c ∷ bs) b = ap (λ l. a ∷ l) (without_cr-last (c ∷ bs) b) ∙ more (eqb b (octet_of "\r"))
   where
     more : (v : Bool) → a ∷ cond v (c ∷ bs) ((c ∷ bs) ++ b ∷ []) ≡ cond v (a ∷ c ∷ bs) ((a ∷ c ∷ bs) ++ b ∷ [])
     more true = refl
     more false = refl
 
 -- the same, of the octets before a place
-pub without_cr-take : (bs : List ℕ) (i : ℕ) → i < length bs → without_cr (take (i + 1) bs) ≡ cond (eqb (get_or bs i 0) 13) (take i bs) (take (i + 1) bs)
+pub without_cr-take : (bs : List ℕ) (i : ℕ) → i < length bs → without_cr (take (i + 1) bs) ≡ cond (eqb (get_or bs i 0) (octet_of "\r")) (take i bs) (take (i + 1) bs)
 without_cr-take bs i within =
-    ap without_cr (take_more bs i 0 within) ∙ without_cr-last (take i bs) (get_or bs i 0) ∙ ap (cond (eqb (get_or bs i 0) 13) (take i bs)) (sym (take_more bs i 0 within))
+    ap without_cr (take_more bs i 0 within) ∙ without_cr-last (take i bs) (get_or bs i 0) ∙ ap (cond (eqb (get_or bs i 0) (octet_of "\r")) (take i bs)) (sym (take_more bs i 0 within))
 
 -- the last octet stays, where it is no CR
-pub without_cr-kept : (bs : List ℕ) (i : ℕ) → length bs ≡ i + 1 → get_or bs i 0 ≢ 13 → without_cr bs ≡ bs
+pub without_cr-kept : (bs : List ℕ) (i : ℕ) → length bs ≡ i + 1 → get_or bs i 0 ≢ octet_of "\r" → without_cr bs ≡ bs
 without_cr-kept bs i len is =
     let step = without_cr-take bs i (omega arith) in
     let whole : take (i + 1) bs ≡ bs = take_all (i + 1) bs (omega arith) in
@@ -125,7 +126,7 @@ without_cr-kept bs i len is =
 -- one octet is dropped at most
 pub length-without_cr : (bs : List ℕ) → length bs ≤ length (without_cr bs) + 1
 length-without_cr [] = omega arith
-length-without_cr (b ∷ []) = one (eqb b 13)
+length-without_cr (b ∷ []) = one (eqb b (octet_of "\r"))
   where
     one : (v : Bool) → length (b ∷ []) ≤ length (cond v [] (b ∷ [])) + 1
     one true = omega arith
@@ -135,7 +136,7 @@ length-without_cr (b ∷ c ∷ bs) = omega (arith, length-without_cr (c ∷ bs))
 -- nothing is added
 length-without_cr-le : (bs : List ℕ) → length (without_cr bs) ≤ length bs
 length-without_cr-le [] = omega arith
-length-without_cr-le (b ∷ []) = one (eqb b 13)
+length-without_cr-le (b ∷ []) = one (eqb b (octet_of "\r"))
   where
     one : (v : Bool) → length (cond v [] (b ∷ [])) ≤ length (b ∷ [])
     one true = omega arith
@@ -143,12 +144,12 @@ length-without_cr-le (b ∷ []) = one (eqb b 13)
 length-without_cr-le (b ∷ c ∷ bs) = omega (arith, length-without_cr-le (c ∷ bs))
 
 -- octets that may still become a line
-pub may_be_line : (bs : List ℕ) → (length bs ≤ line_limit) ⊎ ((length bs ≡ line_limit + 1) × (get_or bs line_limit 0 ≡ 13)) → is_long_so_far bs ≡ false
+pub may_be_line : (bs : List ℕ) → (length bs ≤ line_limit) ⊎ ((length bs ≡ line_limit + 1) × (get_or bs line_limit 0 ≡ octet_of "\r")) → is_long_so_far bs ≡ false
 may_be_line bs (inl few) =
     let less : length (without_cr bs) ≤ line_limit = omega (arith, length-without_cr-le bs, few) in
     grind (arith, nat_tests, less)
 may_be_line bs (inr h) =
-    let step : without_cr (take (line_limit + 1) bs) ≡ cond (eqb (get_or bs line_limit 0) 13) (take line_limit bs) (take (line_limit + 1) bs) = without_cr-take bs line_limit (omega (arith, h.0)) in
+    let step : without_cr (take (line_limit + 1) bs) ≡ cond (eqb (get_or bs line_limit 0) (octet_of "\r")) (take line_limit bs) (take (line_limit + 1) bs) = without_cr-take bs line_limit (omega (arith, h.0)) in
     let whole : take (line_limit + 1) bs ≡ bs = take_all (line_limit + 1) bs (omega (arith, h.0)) in
     let cut : without_cr bs ≡ take line_limit bs = ap without_cr (sym whole) ∙ step ∙ rw h.1 refl in
     let less : length (without_cr bs) ≤ line_limit = omega (arith, ap length cut, length-take line_limit bs) in
@@ -165,11 +166,11 @@ unfolding first_line
 first_line-last bs none = rw append-nil (ap (line_from bs) none)
 
 -- a line that isn't at its end and has too many octets
-pub first_line-long : (bs more : List ℕ) → cut_line bs ≡ None → (line_limit + 1 < length bs) ⊎ ((length bs ≡ line_limit + 1) × (get_or bs line_limit 0 ≢ 13)) → line_limit < length (first_line (bs ++ more)).0
+pub first_line-long : (bs more : List ℕ) → cut_line bs ≡ None → (line_limit + 1 < length bs) ⊎ ((length bs ≡ line_limit + 1) × (get_or bs line_limit 0 ≢ octet_of "\r")) → line_limit < length (first_line (bs ++ more)).0
 unfolding first_line
 first_line-long bs more none long = rw (cut_line-none bs more none) (by_cut (cut_line more))
   where
-    by_rest : (rest : List ℕ) → (line_limit + 1 < length bs) ⊎ ((length bs ≡ line_limit + 1) × (get_or bs line_limit 0 ≢ 13)) → line_limit < length (without_cr (bs ++ rest))
+    by_rest : (rest : List ℕ) → (line_limit + 1 < length bs) ⊎ ((length bs ≡ line_limit + 1) × (get_or bs line_limit 0 ≢ octet_of "\r")) → line_limit < length (without_cr (bs ++ rest))
     by_rest rest (inl h) = omega (arith, length-without_cr (bs ++ rest), length-append bs rest)
     by_rest [] (inr h) = rw append-nil (rw (without_cr-kept bs line_limit h.0 h.1) (omega (arith, h.0)))
     by_rest (b ∷ rest) (inr h) = omega (arith, length-without_cr (bs ++ b ∷ rest), length-append bs (b ∷ rest), h.0)

@@ -6,7 +6,7 @@ use Rattle.std.proofs.lemmas.List.Elements.{recursion_from_All}
 use Rattle.std.proofs.lemmas.List.Folds.{list_all-append}
 use Rattle.sieve_base.specs.Writers.{hex_digit, octet_spelling, quoted}
 use Rattle.session_text.specs.LineOf.{joined}
-use Rattle.sieve_base.specs.Octet.{is_printable}
+use Rattle.sieve_base.specs.Octet.{is_printable, octet_of}
 
 plain_both : (a b : List ℕ) → list_all is_printable a ≡ true → list_all is_printable b ≡ true → list_all is_printable (a ++ b) ≡ true
 plain_both a b first second = list_all-append is_printable a b ∙ rw first second
@@ -18,24 +18,24 @@ digit_plain : (n : ℕ) → n < 16 → is_printable (hex_digit n) ≡ true
 digit_plain n small = grind (arith, nat_tests)
 
 spelling_plain : (b : ℕ) → b < 256 → list_all is_printable (octet_spelling b) ≡ true
-spelling_plain b small = by_quote (eqb b 34 || eqb b 92) refl
+spelling_plain b small = by_quote (eqb b (octet_of "\"") || eqb b (octet_of "\\")) refl
   where
-    by_digits : (v : Bool) → (nat_lt b 32 || nat_lt 126 b) ≡ v → list_all is_printable (cond v (92 ∷ 120 ∷ hex_digit (b / 16) ∷ hex_digit (b % 16) ∷ []) (b ∷ [])) ≡ true
+    by_digits : (v : Bool) → (nat_lt b (octet_of " ") || nat_lt (octet_of "~") b) ≡ v → list_all is_printable (cond v (octet_of "\\" ∷ octet_of "x" ∷ hex_digit (b / 16) ∷ hex_digit (b % 16) ∷ []) (b ∷ [])) ≡ true
     by_digits true is =
         let high : b / 16 < 16 = omega arith in
         let low : b % 16 < 16 = omega arith in
         let digits : list_all is_printable (hex_digit (b / 16) ∷ hex_digit (b % 16) ∷ []) ≡ true =
         plain_next (hex_digit (b / 16)) (hex_digit (b % 16) ∷ []) (digit_plain (b / 16) high) (plain_next (hex_digit (b % 16)) [] (digit_plain (b % 16) low) refl) in
-        plain_both (92 ∷ 120 ∷ []) (hex_digit (b / 16) ∷ hex_digit (b % 16) ∷ []) refl digits
+        plain_both (octet_of "\\" ∷ octet_of "x" ∷ []) (hex_digit (b / 16) ∷ hex_digit (b % 16) ∷ []) refl digits
     by_digits false is =
         let plain : is_printable b ≡ true = grind (arith, nat_tests) in
         plain_next b [] plain refl
 
-    by_quote : (v : Bool) → (eqb b 34 || eqb b 92) ≡ v → list_all is_printable (cond v (92 ∷ b ∷ []) (cond (nat_lt b 32 || nat_lt 126 b) (92 ∷ 120 ∷ hex_digit (b / 16) ∷ hex_digit (b % 16) ∷ []) (b ∷ []))) ≡ true
+    by_quote : (v : Bool) → (eqb b (octet_of "\"") || eqb b (octet_of "\\")) ≡ v → list_all is_printable (cond v (octet_of "\\" ∷ b ∷ []) (cond (nat_lt b (octet_of " ") || nat_lt (octet_of "~") b) (octet_of "\\" ∷ octet_of "x" ∷ hex_digit (b / 16) ∷ hex_digit (b % 16) ∷ []) (b ∷ []))) ≡ true
     by_quote true is =
         let plain : is_printable b ≡ true = grind (arith, nat_tests) in
-        plain_next 92 (b ∷ []) refl (plain_next b [] plain refl)
-    by_quote false is = by_digits (nat_lt b 32 || nat_lt 126 b) refl
+        plain_next (octet_of "\\") (b ∷ []) refl (plain_next b [] plain refl)
+    by_quote false is = by_digits (nat_lt b (octet_of " ") || nat_lt (octet_of "~") b) refl
 
 spellings_plain : (octets : List ℕ) → AllByRecursion (λ b. b < 256) octets → list_all is_printable (flat_map octet_spelling octets) ≡ true
 spellings_plain [] small = refl
@@ -43,14 +43,14 @@ spellings_plain (b ∷ bs) small = plain_both (octet_spelling b) (flat_map octet
 
 quoted_plain : (octets : List ℕ) → AllByRecursion (λ b. b < 256) octets → list_all is_printable (quoted octets) ≡ true
 unfolding quoted
-quoted_plain octets small = plain_both ((34 ∷ []) ++ flat_map octet_spelling octets) (34 ∷ []) (plain_both (34 ∷ []) (flat_map octet_spelling octets) refl (spellings_plain octets small)) refl
+quoted_plain octets small = plain_both ((octet_of "\"" ∷ []) ++ flat_map octet_spelling octets) (octet_of "\"" ∷ []) (plain_both (octet_of "\"" ∷ []) (flat_map octet_spelling octets) refl (spellings_plain octets small)) refl
 
 joined_plain : (values : List (List ℕ)) → AllByRecursion (All (λ octet. octet < 256)) values → list_all is_printable (joined (map quoted values)) ≡ true
 joined_plain [] small = refl
 joined_plain (value ∷ []) small = quoted_plain value (recursion_from_All (λ b. b < 256) value small.0)
 joined_plain (value ∷ next ∷ values) small =
-    plain_both (quoted value) (32 ∷ joined (map quoted (next ∷ values))) (quoted_plain value (recursion_from_All (λ b. b < 256) value small.0))
-    (plain_next 32 (joined (map quoted (next ∷ values))) refl (joined_plain (next ∷ values) small.1))
+    plain_both (quoted value) (octet_of " " ∷ joined (map quoted (next ∷ values))) (quoted_plain value (recursion_from_All (λ b. b < 256) value small.0))
+    (plain_next (octet_of " ") (joined (map quoted (next ∷ values))) refl (joined_plain (next ∷ values) small.1))
 
 -- a line of quoted values is one that a session reads
 pub plain_line : (values : List (List ℕ)) → All (All (λ octet. octet < 256)) values → list_all is_printable (joined (map quoted values)) ≡ true

@@ -1,4 +1,5 @@
 -- What is quoted is read back.
+use Rattle.sieve_base.specs.Octet.{octet_of}
 use Rattle.std.proofs.Common.{◌≡◌, ℕ, ◌/◌, ◌%◌, ◌<◌, ◌||◌, Bool, true, false, eqb, cond, List, [], ◌∷◌, ◌++◌, append_assoc, nat_lt, Some, refl, ap, ◌∙◌, arith}
 use Rattle.std.specs.List.{All, AllByRecursion, flat_map}
 use Rattle.std.proofs.lemmas.Bool.Decides.{nat_tests}
@@ -18,42 +19,42 @@ octet_value b small =
     rw (digit_value (b / 16) high) (rw (digit_value (b % 16) low) (ap Some (omega arith)))
 
 -- a quote or a backslash behind a backslash
-escaped_back : (b : ℕ) (rest : List ℕ) → (eqb b 34 || eqb b 92) ≡ true → quoted_value (92 ∷ b ∷ rest) ≡ behind b (quoted_value rest)
+escaped_back : (b : ℕ) (rest : List ℕ) → (eqb b (octet_of "\"") || eqb b (octet_of "\\")) ≡ true → quoted_value (octet_of "\\" ∷ b ∷ rest) ≡ behind b (quoted_value rest)
 unfolding quoted_value escaped_value
 escaped_back b rest is = rw is refl
 
 -- an octet as \x and two digits
-hex_back : (b : ℕ) (rest : List ℕ) → b < 256 → quoted_value (92 ∷ 120 ∷ hex_digit (b / 16) ∷ hex_digit (b % 16) ∷ rest) ≡ behind b (quoted_value rest)
+hex_back : (b : ℕ) (rest : List ℕ) → b < 256 → quoted_value (octet_of "\\" ∷ octet_of "x" ∷ hex_digit (b / 16) ∷ hex_digit (b % 16) ∷ rest) ≡ behind b (quoted_value rest)
 unfolding quoted_value escaped_value hex_octets
 hex_back b rest small = rw (octet_value b small) refl
 
 -- an octet that stands for itself
-plain_back : (b : ℕ) (rest : List ℕ) → (eqb b 34 || eqb b 92) ≡ false → quoted_value (b ∷ rest) ≡ behind b (quoted_value rest)
+plain_back : (b : ℕ) (rest : List ℕ) → (eqb b (octet_of "\"") || eqb b (octet_of "\\")) ≡ false → quoted_value (b ∷ rest) ≡ behind b (quoted_value rest)
 unfolding quoted_value
 plain_back b rest is = grind (arith, nat_tests)
 
 -- what an octet is spelled like stands for it
 spelling_value : (b : ℕ) (rest : List ℕ) → b < 256 → quoted_value (octet_spelling b ++ rest) ≡ behind b (quoted_value rest)
-spelling_value b rest small = by_quote (eqb b 34 || eqb b 92) refl
+spelling_value b rest small = by_quote (eqb b (octet_of "\"") || eqb b (octet_of "\\")) refl
   where
-    by_digits : (v : Bool) → (eqb b 34 || eqb b 92) ≡ false → quoted_value (cond v (92 ∷ 120 ∷ hex_digit (b / 16) ∷ hex_digit (b % 16) ∷ []) (b ∷ []) ++ rest) ≡ behind b (quoted_value rest)
+    by_digits : (v : Bool) → (eqb b (octet_of "\"") || eqb b (octet_of "\\")) ≡ false → quoted_value (cond v (octet_of "\\" ∷ octet_of "x" ∷ hex_digit (b / 16) ∷ hex_digit (b % 16) ∷ []) (b ∷ []) ++ rest) ≡ behind b (quoted_value rest)
     by_digits true none = hex_back b rest small
     by_digits false none = plain_back b rest none
 
-    by_quote : (v : Bool) → (eqb b 34 || eqb b 92) ≡ v → quoted_value (cond v (92 ∷ b ∷ []) (cond (nat_lt b 32 || nat_lt 126 b) (92 ∷ 120 ∷ hex_digit (b / 16) ∷ hex_digit (b % 16) ∷ []) (b ∷ [])) ++ rest) ≡ behind b (quoted_value rest)
+    by_quote : (v : Bool) → (eqb b (octet_of "\"") || eqb b (octet_of "\\")) ≡ v → quoted_value (cond v (octet_of "\\" ∷ b ∷ []) (cond (nat_lt b (octet_of " ") || nat_lt (octet_of "~") b) (octet_of "\\" ∷ octet_of "x" ∷ hex_digit (b / 16) ∷ hex_digit (b % 16) ∷ []) (b ∷ [])) ++ rest) ≡ behind b (quoted_value rest)
     by_quote true is = escaped_back b rest is
-    by_quote false is = by_digits (nat_lt b 32 || nat_lt 126 b) is
+    by_quote false is = by_digits (nat_lt b (octet_of " ") || nat_lt (octet_of "~") b) is
 
-end_value : quoted_value (34 ∷ []) ≡ Some []
+end_value : quoted_value (octet_of "\"" ∷ []) ≡ Some []
 unfolding quoted_value
 end_value = refl
 
 -- so are some octets
-spellings_value : (octets : List ℕ) → AllByRecursion (λ b. b < 256) octets → quoted_value (flat_map octet_spelling octets ++ 34 ∷ []) ≡ Some octets
+spellings_value : (octets : List ℕ) → AllByRecursion (λ b. b < 256) octets → quoted_value (flat_map octet_spelling octets ++ octet_of "\"" ∷ []) ≡ Some octets
 spellings_value [] small = end_value
 spellings_value (b ∷ bs) small =
-    ap quoted_value (append_assoc (octet_spelling b) (flat_map octet_spelling bs) (34 ∷ []))
-    ∙ spelling_value b (flat_map octet_spelling bs ++ 34 ∷ []) small.0
+    ap quoted_value (append_assoc (octet_spelling b) (flat_map octet_spelling bs) (octet_of "\"" ∷ []))
+    ∙ spelling_value b (flat_map octet_spelling bs ++ octet_of "\"" ∷ []) small.0
     ∙ ap (behind b) (spellings_value bs small.1)
 
 -- a quoted word stands for its octets

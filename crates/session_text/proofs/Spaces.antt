@@ -1,4 +1,5 @@
 -- Words with spaces between them.
+use Rattle.sieve_base.specs.Octet.{octet_of}
 use Rattle.std.proofs.Common.{◌≡◌, ◌≢◌, ℕ, ◌+◌, ◌/◌, ◌%◌, ◌<◌, ◌||◌, Bool, true, false, eqb, cond, inl, inr, List, [], ◌∷◌, ◌++◌, length, map, drop, length-append, append-nil, append_assoc, nat_lt, Some, refl, sym, ap, ◌∙◌, arith}
 use Rattle.std.specs.List.{All, AllByRecursion, flat_map}
 use Rattle.std.proofs.Math.Seq.{drop-append_seam, take-append_seam}
@@ -33,44 +34,44 @@ bare_all [] bare = passes_nothing outside
 bare_all (b ∷ bs) bare = passes_both outside outside outside (b ∷ []) bs (bare_passes b bare.0) (bare_all bs bare.1)
 
 -- a quote
-opens : Passes outside (34 ∷ []) inside
+opens : Passes outside (octet_of "\"" ∷ []) inside
 opens rest = omega arith
 
-closes : Passes inside (34 ∷ []) outside
+closes : Passes inside (octet_of "\"" ∷ []) outside
 closes rest = omega arith
 
 -- a quote or a backslash behind a backslash
-escape_passes : (b : ℕ) → Passes inside (92 ∷ b ∷ []) inside
+escape_passes : (b : ℕ) → Passes inside (octet_of "\\" ∷ b ∷ []) inside
 escape_passes b rest = omega arith
 
 -- an octet between quotes
-inner_passes : (b : ℕ) → b ≢ 34 → b ≢ 92 → Passes inside (b ∷ []) inside
+inner_passes : (b : ℕ) → b ≢ octet_of "\"" → b ≢ octet_of "\\" → Passes inside (b ∷ []) inside
 inner_passes b no_quote no_backslash rest = grind (arith, nat_tests)
 
 digit_passes : (n : ℕ) → Passes inside (hex_digit n ∷ []) inside
 digit_passes n =
-    let no_quote : hex_digit n ≢ 34 = λ is. absurd (grind (arith, nat_tests)) in
-    let no_backslash : hex_digit n ≢ 92 = λ is. absurd (grind (arith, nat_tests)) in
+    let no_quote : hex_digit n ≢ octet_of "\"" = λ is. absurd (grind (arith, nat_tests)) in
+    let no_backslash : hex_digit n ≢ octet_of "\\" = λ is. absurd (grind (arith, nat_tests)) in
     inner_passes (hex_digit n) no_quote no_backslash
 
-digits_pass : (m n : ℕ) → Passes inside (92 ∷ 120 ∷ hex_digit m ∷ hex_digit n ∷ []) inside
+digits_pass : (m n : ℕ) → Passes inside (octet_of "\\" ∷ octet_of "x" ∷ hex_digit m ∷ hex_digit n ∷ []) inside
 digits_pass m n =
-    passes_both inside inside inside (92 ∷ 120 ∷ []) (hex_digit m ∷ hex_digit n ∷ []) (escape_passes 120)
+    passes_both inside inside inside (octet_of "\\" ∷ octet_of "x" ∷ []) (hex_digit m ∷ hex_digit n ∷ []) (escape_passes (octet_of "x"))
     (passes_both inside inside inside (hex_digit m ∷ []) (hex_digit n ∷ []) (digit_passes m) (digit_passes n))
 
 spelling_passes : (b : ℕ) → Passes inside (octet_spelling b) inside
-spelling_passes b = by_quote (eqb b 34 || eqb b 92) refl
+spelling_passes b = by_quote (eqb b (octet_of "\"") || eqb b (octet_of "\\")) refl
   where
-    by_digits : (v : Bool) → (eqb b 34 || eqb b 92) ≡ false → Passes inside (cond v (92 ∷ 120 ∷ hex_digit (b / 16) ∷ hex_digit (b % 16) ∷ []) (b ∷ [])) inside
+    by_digits : (v : Bool) → (eqb b (octet_of "\"") || eqb b (octet_of "\\")) ≡ false → Passes inside (cond v (octet_of "\\" ∷ octet_of "x" ∷ hex_digit (b / 16) ∷ hex_digit (b % 16) ∷ []) (b ∷ [])) inside
     by_digits true none = digits_pass (b / 16) (b % 16)
     by_digits false none =
-        let no_quote : b ≢ 34 = λ is. absurd (grind (arith, nat_tests)) in
-        let no_backslash : b ≢ 92 = λ is. absurd (grind (arith, nat_tests)) in
+        let no_quote : b ≢ octet_of "\"" = λ is. absurd (grind (arith, nat_tests)) in
+        let no_backslash : b ≢ octet_of "\\" = λ is. absurd (grind (arith, nat_tests)) in
         inner_passes b no_quote no_backslash
 
-    by_quote : (v : Bool) → (eqb b 34 || eqb b 92) ≡ v → Passes inside (cond v (92 ∷ b ∷ []) (cond (nat_lt b 32 || nat_lt 126 b) (92 ∷ 120 ∷ hex_digit (b / 16) ∷ hex_digit (b % 16) ∷ []) (b ∷ []))) inside
+    by_quote : (v : Bool) → (eqb b (octet_of "\"") || eqb b (octet_of "\\")) ≡ v → Passes inside (cond v (octet_of "\\" ∷ b ∷ []) (cond (nat_lt b (octet_of " ") || nat_lt (octet_of "~") b) (octet_of "\\" ∷ octet_of "x" ∷ hex_digit (b / 16) ∷ hex_digit (b % 16) ∷ []) (b ∷ []))) inside
     by_quote true is = escape_passes b
-    by_quote false is = by_digits (nat_lt b 32 || nat_lt 126 b) is
+    by_quote false is = by_digits (nat_lt b (octet_of " ") || nat_lt (octet_of "~") b) is
 
 spellings_pass : (octets : List ℕ) → Passes inside (flat_map octet_spelling octets) inside
 spellings_pass [] = passes_nothing inside
@@ -79,8 +80,8 @@ spellings_pass (b ∷ bs) = passes_both inside inside inside (octet_spelling b) 
 quoted_passes : (octets : List ℕ) → Passes outside (quoted octets) outside
 unfolding quoted
 quoted_passes octets =
-    passes_both outside inside outside ((34 ∷ []) ++ flat_map octet_spelling octets) (34 ∷ [])
-    (passes_both outside inside inside (34 ∷ []) (flat_map octet_spelling octets) opens (spellings_pass octets)) closes
+    passes_both outside inside outside ((octet_of "\"" ∷ []) ++ flat_map octet_spelling octets) (octet_of "\"" ∷ [])
+    (passes_both outside inside inside (octet_of "\"" ∷ []) (flat_map octet_spelling octets) opens (spellings_pass octets)) closes
 
 quoted_some : (octets : List ℕ) → 0 < length (quoted octets)
 unfolding quoted
@@ -113,7 +114,7 @@ words_of_line words line (last_word word is) =
     ap line_words (sym (append-nil word)) ∙ word_in_front word [] is refl ∙ ap (λ rest. word ∷ rest) no_line
 words_of_line words line (behind_space ws rest made) = line_words-space rest ∙ words_of_line ws rest made
 words_of_line words line (first_word word ws rest is made) =
-    word_in_front word (32 ∷ rest) is refl ∙ ap (λ left. word ∷ left) (line_words-space rest ∙ words_of_line ws rest made)
+    word_in_front word (octet_of " " ∷ rest) is refl ∙ ap (λ left. word ∷ left) (line_words-space rest ∙ words_of_line ws rest made)
 
 -- words that are joined by single spaces
 joined_line : (words : List (List ℕ)) → AllByRecursion IsWord words → IsLineOf words (joined words)

@@ -1,16 +1,17 @@
 -- How a line falls into words.
+use Rattle.sieve_base.specs.Octet.{octet_of}
 use Rattle.std.proofs.Common.{◌≡◌, ◌≢◌, ℕ, ◌+◌, ◌<◌, ◌≤◌, List, [], ◌∷◌, length, get_or, take, drop, sym, ap, ◌∙◌, refl, arith, filter, length-take, rules, Bool, true, false}
 use Rattle.std.proofs.lemmas.Bool.Decides.{nat_tests}
 use Rattle.std.proofs.lemmas.List.{drop_more}
 use Rattle.session_text.specs.SessionLine.{pieces_from, piece_length, line_words, grow_first, is_word, is_gap, quoting_behind, Quoting, outside, inside, escaped}
 
 -- a space in front changes no word
-pub line_words-space : (bs : List ℕ) → line_words (32 ∷ bs) ≡ line_words bs
+pub line_words-space : (bs : List ℕ) → line_words (octet_of " " ∷ bs) ≡ line_words bs
 unfolding line_words
 line_words-space bs = refl
 
 -- one space of those in front is passed over
-pub line_words-drop : (line : List ℕ) (i : ℕ) → i < length line → get_or line i 0 ≡ 32 → line_words (drop (i + 1) line) ≡ line_words (drop i line)
+pub line_words-drop : (line : List ℕ) (i : ℕ) → i < length line → get_or line i 0 ≡ octet_of " " → line_words (drop (i + 1) line) ≡ line_words (drop i line)
 line_words-drop line i within is =
     sym (ap line_words (drop_more line i 0 within) ∙ ap (λ b. line_words (b ∷ drop (i + 1) line)) is ∙ line_words-space (drop (i + 1) line))
 
@@ -67,7 +68,7 @@ line_words-word line n is some =
     ap (filter is_word) first ∙ (kept (take n line) (behind_space (drop n line)) (omega (arith, within, length-take n line)) ∙ ap (λ words. take n line ∷ words) (rw is (behind_piece outside line)))
 
 -- a line that begins with no space begins with a word
-pub piece_length-some : (line : List ℕ) → 0 < length line → get_or line 0 0 ≢ 32 → 0 < piece_length outside line
+pub piece_length-some : (line : List ℕ) → 0 < length line → get_or line 0 0 ≢ octet_of " " → 0 < piece_length outside line
 piece_length-some [] some none = absurd (omega arith)
 piece_length-some (b ∷ bs) some none = grind (arith, nat_tests)
 

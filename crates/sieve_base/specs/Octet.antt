@@ -1,6 +1,9 @@
--- Octets by the characters of ASCII that they stand for, and classes of octets (RFC 5234, appendix B.1; RFC 5228, section 8.1).
+-- Octets by the characters of ASCII that they stand for, classes of octets (RFC 5234, appendix B.1; RFC 5228, section 8.1), and lists
+-- of octets.
 use Prim.Native.Char.{Char, code}
-use Rattle.std.specs.Prelude.{ℕ, Bool, ◌&&◌, ◌||◌, ◌==◌, nat_le}
+use lib.Pointwise.{pointwise}
+use Rattle.std.specs.Prelude.{ℕ, Bool, ◌&&◌, ◌||◌, ◌==◌, nat_eq, nat_le, nat_lt, List, length}
+use Rattle.std.specs.List.{list_any}
 
 -- the octet of a character of ASCII
 abbrev pub octet_of : Char → ℕ
@@ -33,3 +36,13 @@ begins_name octet = is_between (octet_of "a") (octet_of "z") octet || (is_betwee
 -- a letter, a digit or `_`, of which it goes on (RFC 5228, section 8.1)
 abbrev pub is_name_octet : ℕ → Bool
 is_name_octet octet = begins_name octet || is_digit octet
+
+-- LISTS OF OCTETS
+
+-- one or more octets
+abbrev pub is_filled : List ℕ → Bool
+is_filled octets = nat_lt 0 (length octets)
+
+-- whether octets are among others
+abbrev pub is_among : List ℕ → List (List ℕ) → Bool
+is_among octets others = list_any (pointwise nat_eq octets) others

@@ -9,7 +9,7 @@ use Rattle.sieve_syntax.specs.Tree as syntax
 use Rattle.sieve_check.specs.Breach.{breaches_at, breaches_in}
 use Rattle.sieve_check.specs.Context.{Context}
 use Rattle.sieve_check.specs.Element.{argument_elements, judged_labels, labelled_elements, row_elements, text_elements, the_text, the_number}
-use Rattle.sieve_reading.specs.Label.{fits, is_filled, labels_of}
+use Rattle.sieve_reading.specs.Label.{fits, row_is_filled, labels_of}
 use Rattle.sieve_check.specs.Parted.{Cutting, parted_argument, parted_labelled, parted_text, parts_in}
 use Rattle.sieve_check.specs.Readable.{row_takes}
 use Rattle.sieve_reading.specs.Given.{collation_by, given_texts, given_variable, literal_in, literal_in_parts, number_in, text_in, texts_in, variable_in, variable_in_parts}
@@ -91,7 +91,7 @@ module _ (cutting : Cutting) (context : Context) where
 -- arguments of these shapes, with these tests, and a block or none, are as the row says
 pub record AsRowSays (row : Row) (shapes : List Shape) (args : List Argument) (ts : syntax.Tests) (ends_by_block : Bool) : Type 0 where
   pub tags : has_bad_tag (labels_of row shapes) ≡ false
-  pub filled : is_filled row shapes ≡ true
+  pub filled : row_is_filled row shapes ≡ true
   pub tests : tests_fit row.tests ts ≡ true
   pub block : block_fits row.has_block ends_by_block ≡ true
   pub own : lacks_own (labels_of row shapes) ≡ false
@@ -113,13 +113,13 @@ module _ (cutting : Cutting) (context : Context) (row : Row) (args : List syntax
   as_judged fine well none =
       let shapes = shapes_of row.tags args in
       let labels = labels_of row shapes in
-      let parts = or_parts (not (is_filled row shapes) || (not (tests_fit row.tests ts) || not (block_fits row.has_block b))) (lacks_own labels || lacks_kind row.one_of labels) well in
-      let first = or_parts (not (is_filled row shapes)) (not (tests_fit row.tests ts) || not (block_fits row.has_block b)) parts.0 in
+      let parts = or_parts (not (row_is_filled row shapes) || (not (tests_fit row.tests ts) || not (block_fits row.has_block b))) (lacks_own labels || lacks_kind row.one_of labels) well in
+      let first = or_parts (not (row_is_filled row shapes)) (not (tests_fit row.tests ts) || not (block_fits row.has_block b)) parts.0 in
       let second = or_parts (not (tests_fit row.tests ts)) (not (block_fits row.has_block b)) first.1 in
       let third = or_parts (lacks_own labels) (lacks_kind row.one_of labels) parts.1 in
       record {
         tags = fine;
-        filled = not_false (is_filled row shapes) first.0;
+        filled = not_false (row_is_filled row shapes) first.0;
         tests = not_false (tests_fit row.tests ts) second.0;
         block = not_false (block_fits row.has_block b) second.1;
         own = third.0;

@@ -1,4 +1,5 @@
 -- The variables that a text sets are those that the names written in it set.
+use Rattle.sieve_base.specs.Octet.{is_among}
 use Rattle.std.proofs.Common.{◌≡◌, ℕ, Bool, true, false, not, ◌&&◌, ◌||◌, List, [], ◌∷◌, ◌++◌, map, drop, Option, None, Some, refl, sym, ap, ◌∙◌, append-nil, append_assoc}
 use Rattle.std.proofs.lemmas.List.{map-append}
 use Rattle.std.proofs.lemmas.List.Elements.{filter_agree}
@@ -20,7 +21,7 @@ use Rattle.sieve_table.specs.declared.row.Role.{Role}
 use Rattle.sieve_table.specs.declared.row.Role.TheVariants.{NameToSet, NamesToDeclare}
 use Rattle.sieve_table.specs.declared.table.CommandKind.{CommandKind}
 use Rattle.sieve_variables.specs.Name.{folded_name, is_identifier}
-use Rattle.sieve_variables.specs.Variable.{is_among, with_name}
+use Rattle.sieve_variables.specs.Variable.{with_name}
 
 -- ONE NAME AFTER THE OTHER
 

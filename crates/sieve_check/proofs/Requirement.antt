@@ -11,7 +11,7 @@ use Rattle.sieve_check.specs.Element.{Element, argument_elements, block_elements
 use Rattle.sieve_check.specs.Parted.{cutting_at_start}
 use Rattle.sieve_check.specs.Requirement.{IsJudgedUnder, IsTextJudgedUnder, JudgesBehindRequires, is_require_command, leading_requires}
 use Rattle.sieve_check.specs.Use.{block_fits, has_bad_arguments, has_bad_tag, has_block, lacks_kind, lacks_own, tests_fit}
-use Rattle.sieve_reading.specs.Label.{expecting, fits, is_filled, is_unfit, labels_from, labels_of, no_slots, slot_label, slots_left}
+use Rattle.sieve_reading.specs.Label.{expecting, fits, row_is_filled, is_unfit, labels_from, labels_of, no_slots, slot_label, slots_left}
 use Rattle.sieve_reading.specs.Role.{first_role, role_of}
 use Rattle.sieve_reading.specs.Shape.{shapes_of}
 use Rattle.sieve_reading.specs.declared.label.Label.{Label}
@@ -315,10 +315,10 @@ module _ (r : Required) where
       let labels = labels_of row shapes in
       let fine = keeps_all BadTag in
       let well = keeps_all BadArguments in
-      let parts = or_parts (not (is_filled row shapes) || (not (tests_fit row.tests ts) || not (block_fits row.has_block (has_block ending)))) (lacks_own labels || lacks_kind row.one_of labels) well in
-      let first = or_parts (not (is_filled row shapes)) (not (tests_fit row.tests ts) || not (block_fits row.has_block (has_block ending))) parts.0 in
+      let parts = or_parts (not (row_is_filled row shapes) || (not (tests_fit row.tests ts) || not (block_fits row.has_block (has_block ending)))) (lacks_own labels || lacks_kind row.one_of labels) well in
+      let first = or_parts (not (row_is_filled row shapes)) (not (tests_fit row.tests ts) || not (block_fits row.has_block (has_block ending))) parts.0 in
       let second = or_parts (not (tests_fit row.tests ts)) (not (block_fits row.has_block (has_block ending))) first.1 in
-      let filled = first_true (not (list_any is_unfit labels)) (no_slots (slots_left (expecting row.slots) shapes)) (denied (is_filled row shapes) first.0) in (
+      let filled = first_true (not (list_any is_unfit labels)) (no_slots (slots_left (expecting row.slots) shapes)) (denied (row_is_filled row shapes) first.0) in (
         subst (λ w. All Cut (labelled_elements context (judged_labels w row args) args)) (sym (well_used (has_bad_tag labels) (has_bad_arguments row shapes ts (has_block ending)) fine well))
             (arguments_cut args context row.slots (refl, tt) (affirmed (list_any is_unfit labels) filled)),
         no_tests_there context ts (denied (tests_fit row.tests ts) second.0),

@@ -1,7 +1,7 @@
 -- A tree of which each command and each test is read as something: it has a row, its arguments are what the row says, and it
 -- stands where it may. Nothing of such a tree vanishes from the abstract script.
 use Rattle.std.specs.Prelude.{◌≡◌, ℕ, Bool, true, false, not, ◌&&◌, List, [], ◌∷◌, ◌++◌, map, Option, Some, None}
-use Rattle.sieve_reading.specs.Label.{labels_of, is_filled}
+use Rattle.sieve_reading.specs.Label.{labels_of, row_is_filled}
 use Rattle.sieve_reading.specs.Reading as reading
 use Rattle.sieve_reading.specs.Reading.{TestReading, reads_always, reads_never, reads_ask, reads_all, reads_any, reads_not, CommandReading, Leaf}
 use Rattle.sieve_reading.specs.CommandReading.{command_reading}
@@ -28,7 +28,7 @@ Joins (Some reads_not) ts = (t : Test) × (ts ≡ one_test t)
 -- the arguments are what the row says: the tags are its own, of each kind one at most, and stand before the positional
 -- arguments; these are there and no others; each tag has its own argument; and the kind that is needed is there
 abbrev pub are_in_order : Row → List Shape → Bool
-are_in_order row shapes = not (has_bad_tag (labels_of row shapes)) && (is_filled row shapes && (not (lacks_own (labels_of row shapes)) && not (lacks_kind row.one_of (labels_of row shapes))))
+are_in_order row shapes = not (has_bad_tag (labels_of row shapes)) && (row_is_filled row shapes && (not (lacks_own (labels_of row shapes)) && not (lacks_kind row.one_of (labels_of row shapes))))
 
 abbrev pub row_takes : Row → List Argument → Bool
 row_takes row args = are_in_order row (map (shape_of row.tags) args)

@@ -1,11 +1,12 @@
 -- The names of variables in a script's text up to a place: those of its own that it sets (RFC 5229, section 4), and those that it
 -- declares to be shared (RFC 6609, section 3.4.1).
+use Rattle.sieve_base.specs.Octet.{is_among}
 use Rattle.std.specs.Prelude.{ℕ, Bool, not, ◌&&◌, List, [], ◌∷◌, ◌++◌, Option, drop, if◌then◌else◌}
 use Rattle.std.specs.List.{list_any}
 use Rattle.std.specs.Str.{str_eq_ignore_ascii_case}
 use Rattle.sieve_syntax.specs.Tree.{Text, Argument, strings, number, tag}
 use Rattle.sieve_variables.specs.Name.{folded_name, is_identifier}
-use Rattle.sieve_variables.specs.Variable.{is_among, with_name}
+use Rattle.sieve_variables.specs.Variable.{with_name}
 use Rattle.sieve_reading.specs.Role.{first_role}
 use Rattle.sieve_table.specs.Role.{has_role}
 use Rattle.sieve_reading.specs.declared.label.Label.{Label}

@@ -4,7 +4,7 @@ use Rattle.std.specs.List.{list_any}
 use Rattle.sieve_syntax.specs.Tree.{Tests, no_tests, one_test, test_list, Block, no_block, block}
 use Rattle.sieve_check.specs.Context.{Required, is_required}
 use Rattle.sieve_reading.specs.Positional.{is_positional_label}
-use Rattle.sieve_reading.specs.Label.{labels_of, is_filled}
+use Rattle.sieve_reading.specs.Label.{labels_of, row_is_filled}
 use Rattle.sieve_table.specs.Table.{Row, same_kind, tag_row}
 use Rattle.sieve_reading.specs.declared.label.Label.{Label}
 use Rattle.sieve_reading.specs.declared.label.Label.TheVariants.{Tagged, OtherTag, Own, InSlot, Unfit}
@@ -139,7 +139,7 @@ are_bad filled row labels ts ends_by_block =
     (not filled || (not (tests_fit row.tests ts) || not (block_fits row.has_block ends_by_block))) || (lacks_own labels || lacks_kind row.one_of labels)
 
 abbrev pub has_bad_arguments : Row → List Shape → Tests → (ends_by_block : Bool) → Bool
-has_bad_arguments row shapes ts ends_by_block = are_bad (is_filled row shapes) row (labels_of row shapes) ts ends_by_block
+has_bad_arguments row shapes ts ends_by_block = are_bad (row_is_filled row shapes) row (labels_of row shapes) ts ends_by_block
 
 -- whether all is as the row says
 abbrev pub is_well_used : Row → List Shape → Tests → (ends_by_block : Bool) → Bool

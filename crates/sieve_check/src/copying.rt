@@ -2,7 +2,7 @@
 ghost use Rattle.std.specs.Prelude.{◌≡◌, [], ◌∷◌, map, IfOk, OnOk};
 ghost use Rattle.sieve_syntax.specs.Tree as syntax;
 ghost use Rattle.sieve_syntax.specs.view.Tree as seen;
-ghost use Rattle.sieve_check.specs.Parted.{command_labels, declared_behind, declared_behind_nodes, declaring_command, parted, parted_argument, parted_labelled, parted_node, parted_nodes, parted_test, parted_tests, parted_text, parts_in, test_labels};
+ghost use Rattle.sieve_check.specs.Parted.{command_labels, declared_behind, declared_behind_nodes, parted, parted_argument, parted_labelled, parted_node, parted_nodes, parted_test, parted_tests, parted_text, parts_in, test_labels};
 ghost use Rattle.sieve_check.specs.Scope.{declaring_arguments};
 ghost use Rattle.sieve_reading.specs.Shape.{row_labels};
 ghost use Rattle.sieve_table.specs.Table as table;
@@ -20,7 +20,7 @@ use crate::context::{Required, required_in, takes_references};
 use crate::scope::declare_argument;
 use sieve_base::SmallOctets;
 use sieve_reading::{Argument, Command, Test, Tests, Text, role_of, row_expected, shape_of};
-use sieve_table::{Role, Row, command_named, names_variable, test_named};
+use sieve_table::{CommandKind, Role, Row, command_named, names_variable, test_named};
 use sieve_variables::{Names, Part, Parts, Variable, parts_of_text, scoped_parts};
 use std::alloc::{AllocError, Global};
 
@@ -180,16 +180,16 @@ fn parted_test_arguments(
     }
 }
 
-/// The arguments of a command of that name, with their strings in parts.
+/// The arguments of a command of that kind, with their strings in parts.
 fn parted_command_arguments(
     alloc: Global,
     cutting: Cutting<'_>,
-    name: &[u8],
+    kind: Option<CommandKind>,
     args: &[sieve_syntax::Argument],
 ) -> Result<Vec<Argument>, AllocError>
-    ensures { IfOk result (λ copies. map argument_of copies.items ≡ parted_labelled (cutting_as cutting.entry) (command_labels (table.command_named name.now) (map seen.argument_of args.now)) (map seen.argument_of args.now)) }
+    ensures { IfOk result (λ copies. map argument_of copies.items ≡ parted_labelled (cutting_as cutting.entry) (command_labels kind (map seen.argument_of args.now)) (map seen.argument_of args.now)) }
 {
-    match command_named(name) {
+    match kind {
         None => parted_without_row(alloc, cutting, args),
         Some(kind) => parted_by_row(alloc, cutting, &kind.row(), args),
     }
@@ -272,16 +272,16 @@ fn declare_by_row(
     Ok(())
 }
 
-/// Declares what a command of that name declares.
+/// Declares what a command of that kind declares.
 fn declare_by_command(
     alloc: Global,
     declared: &mut Names,
-    name: &[u8],
+    kind: Option<CommandKind>,
     args: &[sieve_syntax::Argument],
 ) -> Result<(), AllocError>
-    ensures { OnOk result (declared.new ≡ declaring_command declared.old name.now (map seen.argument_of args.now)) }
+    ensures { OnOk result (declared.new ≡ declaring_arguments declared.old (command_labels kind (map seen.argument_of args.now)) (map seen.argument_of args.now)) }
 {
-    match command_named(name) {
+    match kind {
         None => Ok(()),
         Some(kind) => declare_by_row(alloc, declared, &kind.row(), args),
     }
@@ -308,10 +308,11 @@ fn parted_front(
         required,
         declared: &*declared,
     };
+    let kind = command_named(&command.name);
     let name = SmallOctets::from_slice(alloc, &command.name)?;
-    let args = parted_command_arguments(alloc, cutting, &command.name, &command.args)?;
+    let args = parted_command_arguments(alloc, cutting, kind, &command.args)?;
     let tests = parted_tests(alloc, cutting, &command.tests)?;
-    declare_by_command(alloc, declared, &command.name, &command.args)?;
+    declare_by_command(alloc, declared, kind, &command.args)?;
     Ok(Front { name, args, tests })
 }
 

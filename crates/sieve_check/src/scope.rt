@@ -1,8 +1,9 @@
 //! The names of variables in a script's text up to a place (RFC 5229, section 4; RFC 6609, section 3.4.1).
+ghost use Rattle.sieve_base.specs.Octet.{is_among};
 ghost use Rattle.std.specs.Prelude.{◌≡◌, map, IfOk, OnOk};
 ghost use Rattle.sieve_syntax.specs.view.Tree.{argument_of, text_of};
 ghost use Rattle.sieve_variables.specs.Name.{folded_name};
-ghost use Rattle.sieve_variables.specs.Variable.{is_among, with_name};
+ghost use Rattle.sieve_variables.specs.Variable.{with_name};
 ghost use Rattle.sieve_check.specs.Breach.{is_past_locals};
 ghost use Rattle.sieve_check.specs.Scope.{assigning, assigning_argument, assigning_arguments, assigning_texts, declaring_argument, declaring_arguments, declaring_texts, is_assigned, is_new_local, naming_arguments, no_names};
 
@@ -121,19 +122,22 @@ impl Scope {
     fn lacks(&self, alloc: Global, name: &[u8]) -> Result<bool, AllocError>
         ensures { IfOk result (λ lacks. lacks ≡ is_new_local name.now self.now) }
     {
-        if !is_identifier(name) {
+        if !is_identifier(name) || self.is_assigned(name) {
             return Ok(false);
         }
         let declared = is_declared(alloc, name, &self.declared)?;
-        Ok(!declared && !self.is_assigned(name))
+        Ok(!declared)
     }
 
     /// Whether it is the name of one variable of the script too many (RFC 5229, section 6).
     pub(crate) fn is_full_for(&self, alloc: Global, name: &[u8]) -> Result<bool, AllocError>
         ensures { IfOk result (λ full. full ≡ is_past_locals name.now self.now) }
     {
-        let lacks = self.lacks(alloc, name)?;
-        Ok(lacks && !(self.assigned.len() < MAX_LOCALS))
+        if self.assigned.len() < MAX_LOCALS {
+            Ok(false)
+        } else {
+            self.lacks(alloc, name)
+        }
     }
 
     /// Adds the variable that a string names where one is set.

@@ -2,7 +2,7 @@
 ghost use Rattle.std.specs.Prelude.{◌≡◌, map};
 ghost use Rattle.std.specs.List.{list_any};
 ghost use Rattle.sieve_syntax.specs.view.Tree.{argument_of, tests_of};
-ghost use Rattle.sieve_reading.specs.Label.{is_filled};
+ghost use Rattle.sieve_reading.specs.Label.{row_is_filled};
 ghost use Rattle.sieve_reading.specs.Shape.{shapes_of};
 ghost use Rattle.sieve_reading.specs.Positional.{is_positional_label};
 ghost use Rattle.sieve_check.specs.Use.{are_bad, awaits, begins_own, has_bad_tag, has_late_tag, has_repeated, is_of_kind, is_other_tag, is_repeated, is_tag, is_lacking, lacks_kind, lacks_needed, lacks_own, lacks_required, needed_by, tests_fit};
@@ -238,7 +238,7 @@ pub(crate) fn has_bad_arguments(
     tests: &Tests,
     ends_by_block: bool,
 ) -> bool
-    ensures { result ≡ are_bad (is_filled (row_as row.now) (shapes_of row.now.tags.now (map argument_of args.now))) (row_as row.now) labels.now (tests_of tests.now) ends_by_block }
+    ensures { result ≡ are_bad (row_is_filled (row_as row.now) (shapes_of row.now.tags.now (map argument_of args.now))) (row_as row.now) labels.now (tests_of tests.now) ends_by_block }
 {
     if !row_is_filled(row, args) || !tests_fit(row.tests, tests) || row.has_block != ends_by_block {
         return true;

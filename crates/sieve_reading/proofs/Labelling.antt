@@ -3,7 +3,7 @@ use Rattle.std.proofs.Common.{◌≡◌, ℕ, zero, suc, Bool, true, false, not,
 use Rattle.std.specs.List.{filter, list_any}
 use Rattle.std.specs.Option.{option_map}
 use Rattle.std.specs.Prelude.{if◌then◌else◌}
-use Rattle.sieve_reading.specs.Label.{Expected, expected_behind, fills, fits, is_filled, is_unfit, label_at, labels_from, labels_of, no_slots, slot_label, slots_left, slots_of, slots_with, value_label, value_slots}
+use Rattle.sieve_reading.specs.Label.{Expected, expected_behind, fills, fits, row_is_filled, is_unfit, label_at, labels_from, labels_of, no_slots, slot_label, slots_left, slots_of, slots_with, value_label, value_slots}
 use Rattle.sieve_reading.specs.Positional.{IsOwn, at_slot, before_at, fit_one_by_one, fits_taken, is_positional, is_positional_label, meant_slots, positional_behind, positional_of, taken_by}
 use Rattle.sieve_reading.specs.declared.label.Label.{Label}
 use Rattle.sieve_reading.specs.declared.label.Label.TheVariants.{Tagged, OtherTag, Own, InSlot, Unfit}
@@ -339,5 +339,5 @@ module _ (row : Row) (shapes : List Shape) where
   pub slots_meant : slots_of row shapes ≡ meant_slots row.front row.slots (positional_of shapes)
   slots_meant = with_front row.front
 
-  pub filled_one_by_one : is_filled row shapes ≡ fit_one_by_one (slots_of row shapes) (positional_of shapes)
+  pub filled_one_by_one : row_is_filled row shapes ≡ fit_one_by_one (slots_of row shapes) (positional_of shapes)
   filled_one_by_one = filled_from shapes None (slots_of row shapes)

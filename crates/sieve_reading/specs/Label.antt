@@ -103,5 +103,5 @@ abbrev pub labels_of : Row → List Shape → List Label
 labels_of row shapes = labels_from (expecting (slots_of row shapes)) shapes
 
 -- whether its positional arguments are there and no others
-abbrev pub is_filled : Row → List Shape → Bool
-is_filled row shapes = fills (expecting (slots_of row shapes)) shapes
+abbrev pub row_is_filled : Row → List Shape → Bool
+row_is_filled row shapes = fills (expecting (slots_of row shapes)) shapes

@@ -28,7 +28,7 @@ pub(crate) fn argument_in<'a>(row: &Row, wanted: Role, args: &'a [Argument]) -> 
 }
 
 /// Whether an argument is this tag, where these are taken.
-fn is_tag(taken: &[Tag], wanted: Tag, argument: &Argument) -> bool
+fn shows_tag(taken: &[Tag], wanted: Tag, argument: &Argument) -> bool
     ensures { result ≡ shows_tag wanted (shape_of taken.now (argument_of argument.now)) }
 {
     match argument {
@@ -45,7 +45,7 @@ pub(crate) fn has_tag(row: &Row, wanted: Tag, args: &[Argument]) -> bool
     ensures { result ≡ has_tag wanted (labels_in row.now args.now) }
 {
     for argument in args {
-        if is_tag(row.tags, wanted, argument) {
+        if shows_tag(row.tags, wanted, argument) {
             return true;
         }
     }

@@ -2,7 +2,7 @@
 ghost use Rattle.std.specs.Prelude.{◌≡◌, ◌↔◌, ℕ, List, slice_get};
 ghost use Rattle.std.specs.List.{filter};
 ghost use Rattle.std.specs.Option.{option_map};
-ghost use Rattle.sieve_reading.specs.Label.{is_filled, labels_of, slots_of};
+ghost use Rattle.sieve_reading.specs.Label.{row_is_filled, labels_of, slots_of};
 ghost use Rattle.sieve_reading.specs.Positional.{IsOwn, at_slot, before_at, fit_one_by_one, is_positional, is_positional_label, meant_slots, positional_of};
 ghost use Rattle.sieve_table.specs.Table.{Row};
 ghost use Rattle.sieve_reading.specs.declared.label.Label.TheVariants.{Own, Tagged};
@@ -22,5 +22,5 @@ pub fn arguments_are_tags_own_or_positional()
     ensures others { (row : Row) (shapes : List Shape) (place : ℕ) → option_map is_positional_label (slice_get (labels_of row shapes) place) ≡ option_map (is_positional (before_at shapes place)) (slice_get shapes place) }
     ensures positional { (row : Row) (shapes : List Shape) (i : ℕ) → slice_get (filter is_positional_label (labels_of row shapes)) i ≡ option_map (at_slot (slice_get (slots_of row shapes) i)) (slice_get (positional_of shapes) i) }
     ensures longer { (row : Row) (shapes : List Shape) → slots_of row shapes ≡ meant_slots row.front row.slots (positional_of shapes) }
-    ensures filled { (row : Row) (shapes : List Shape) → is_filled row shapes ≡ fit_one_by_one (slots_of row shapes) (positional_of shapes) }
+    ensures filled { (row : Row) (shapes : List Shape) → row_is_filled row shapes ≡ fit_one_by_one (slots_of row shapes) (positional_of shapes) }
 {}

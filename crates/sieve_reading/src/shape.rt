@@ -1,7 +1,7 @@
 //! What the arguments of a tree look like, whatever its strings are, and what they are by that.
 ghost use Rattle.std.specs.Prelude.{◌≡◌, IfOk, map};
 ghost use Rattle.sieve_syntax.specs.view.TreeOf.{argument_of};
-ghost use Rattle.sieve_reading.specs.Label.{expecting, fills, is_filled, labels_from, slots_of};
+ghost use Rattle.sieve_reading.specs.Label.{expecting, fills, row_is_filled, labels_from, slots_of};
 ghost use Rattle.sieve_reading.specs.Shape.{row_labels, shape_of, shapes_of, texts_shape};
 ghost use Rattle.sieve_reading.specs.view.Expected.{expected_as};
 ghost use Rattle.sieve_table.specs.view.Row.{row_as};
@@ -122,7 +122,7 @@ pub fn row_labels<S: TreeString>(
 
 /// Whether a row's positional arguments are there and no others (RFC 5228, section 2.6.1).
 pub fn row_is_filled<S: TreeString>(row: &Row, args: &[Argument<S>]) -> bool
-    ensures { result ≡ is_filled (row_as row.now) (shapes_of row.now.tags.now (map (argument_of S.seen) args.now)) }
+    ensures { result ≡ row_is_filled (row_as row.now) (shapes_of row.now.tags.now (map (argument_of S.seen) args.now)) }
 {
     fills(row_expected(row, args), row.tags, args)
 }

@@ -1,4 +1,5 @@
 -- What is left of a text behind a front, and what its lines say.
+use Rattle.sieve_base.specs.Octet.{octet_of}
 use Rattle.std.proofs.Common.{◌≡◌, ◌≢◌, ◌↔◌, ℕ, ◌+◌, ◌<◌, ◌≤◌, Bool, true, false, not, IsTrue, ◌==◌, ◌&&◌, if◌then◌else◌, nat_eq, List, [], ◌∷◌, ◌++◌, length, drop, take, get_or, map, Option, None, Some, MatchOption, refl, sym, ap, subst, ◌∙◌, arith}
 use Rattle.std.proofs.lemmas.Bool.{eq-eqb, eqb-true, ne_eqb}
 use Rattle.std.proofs.lemmas.Bool.Decides.{Decides-eqb}
@@ -183,16 +184,16 @@ agrees_where mailbox verdict (octet ∷ text) = let decides = says_is (octet ∷
 
 -- THE FIRST LINE
 
-pub line_to_end : (text : List ℕ) → 0 < length text → Nowhere (Passes (is_byte 10) text) 0 (length text) → lines text ≡ text ∷ lines (drop (length text) text)
+pub line_to_end : (text : List ℕ) → 0 < length text → Nowhere (Passes (is_byte (octet_of "\n")) text) 0 (length text) → lines text ≡ text ∷ lines (drop (length text) text)
 line_to_end text some nowhere =
-    let plain : All (λ b. (b == 10) ≡ false) text = subst (All (λ b. (b == 10) ≡ false)) (take_all (length text) text (omega arith)) (plain_before text (length text) (omega arith) nowhere) in
+    let plain : All (λ b. (b == octet_of "\n") ≡ false) text = subst (All (λ b. (b == octet_of "\n") ≡ false)) (take_all (length text) text (omega arith)) (plain_before text (length text) (omega arith) nowhere) in
     lines-last text some plain ∙ ap (λ (end : List ℕ). text ∷ lines end) (sym (drop_all (length text) text (omega arith)))
 
-pub line_to_feed : (text : List ℕ) (len : ℕ) (line : List ℕ) → Nowhere (Passes (is_byte 10) text) 0 len → len < length text → Passes (is_byte 10) text len → line ≡ strip_carriage_return (take len text)
+pub line_to_feed : (text : List ℕ) (len : ℕ) (line : List ℕ) → Nowhere (Passes (is_byte (octet_of "\n")) text) 0 len → len < length text → Passes (is_byte (octet_of "\n")) text len → line ≡ strip_carriage_return (take len text)
     → lines text ≡ line ∷ lines (drop (len + 1) text)
 line_to_feed text len line nowhere short feed is =
-    let at_feed : get_or text len 0 ≡ 10 = eqb-true (get_or text len 0) 10 feed in
-    let cut : text ≡ take len text ++ 10 ∷ drop (len + 1) text =
+    let at_feed : get_or text len 0 ≡ octet_of "\n" = eqb-true (get_or text len 0) (octet_of "\n") feed in
+    let cut : text ≡ take len text ++ octet_of "\n" ∷ drop (len + 1) text =
     sym (take-append-drop len text) ∙ ap (λ (end : List ℕ). take len text ++ end) (drop_more text len 0 short) ∙ ap (λ b. take len text ++ b ∷ drop (len + 1) text) at_feed in
     ap lines cut ∙ lines-feed (take len text) (drop (len + 1) text) (plain_before text len (omega arith) nowhere) ∙ ap (λ (l : List ℕ). l ∷ lines (drop (len + 1) text)) (sym is)
 

@@ -1,4 +1,5 @@
 -- Worked rows of what tests find.
+use Rattle.sieve_base.specs.Octet.{octet_of}
 use Rattle.std.proofs.Common.{◌≡◌, ℕ, true, false, List, [], ◌∷◌, ◌++◌, Some, refl, codes}
 use Rattle.encoded_words.specs.Charset.{in_utf8, meaning}
 use Rattle.encoded_words.specs.Encoding.{q_octets}
@@ -125,7 +126,7 @@ unfolding fields_of field_groups
 order_row = refl
 
 -- by names, then by fields, then by keys
-pairs_row : pairs_of (values_of (delivered (codes "A: 1" ++ (10 ∷ headed_twice (codes "B: 2") (codes "A: 3")))) (begun main) (header_values (text (codes "B") ∷ text (codes "A") ∷ []))) (codes "x" ∷ codes "y" ∷ [])
+pairs_row : pairs_of (values_of (delivered (codes "A: 1" ++ (octet_of "\n" ∷ headed_twice (codes "B: 2") (codes "A: 3")))) (begun main) (header_values (text (codes "B") ∷ text (codes "A") ∷ []))) (codes "x" ∷ codes "y" ∷ [])
     ≡ record { value = codes "2"; key = codes "x" } ∷ record { value = codes "2"; key = codes "y" }
     ∷ record { value = codes "1"; key = codes "x" } ∷ record { value = codes "1"; key = codes "y" }
     ∷ record { value = codes "3"; key = codes "x" } ∷ record { value = codes "3"; key = codes "y" } ∷ []
@@ -156,7 +157,7 @@ address_as_written_row = refl
 -- ADDRESSES
 
 -- by names, then by fields, then by addresses
-addresses_row : values_of (delivered (codes "To: a@x, b@y" ++ (10 ∷ headed_twice (codes "Cc: c@z") (codes "to: d@w")))) (begun main) (address_values part.All (text (codes "Cc") ∷ text (codes "To") ∷ []))
+addresses_row : values_of (delivered (codes "To: a@x, b@y" ++ (octet_of "\n" ∷ headed_twice (codes "Cc: c@z") (codes "to: d@w")))) (begun main) (address_values part.All (text (codes "Cc") ∷ text (codes "To") ∷ []))
     ≡ codes "c@z" ∷ codes "a@x" ∷ codes "b@y" ∷ codes "d@w" ∷ []
 unfolding fields_of field_groups addresses_of marks_from is_address_field
 addresses_row = refl

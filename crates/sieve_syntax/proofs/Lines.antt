@@ -6,7 +6,7 @@ use Rattle.std.specs.Option.{option_map}
 use Rattle.std.proofs.lemmas.Bool.{eqb-true, cases_lt}
 use Rattle.std.proofs.lemmas.List.{length-take-le, length-drop, take-take, drop-take, take_all, take-append-drop}
 use Rattle.sieve_syntax.specs.Line.{line_length, on_first, lines_of, is_line_end, is_dot_line}
-use Rattle.sieve_base.specs.Octet.{begins_name}
+use Rattle.sieve_base.specs.Octet.{begins_name, octet_of}
 use Rattle.sieve_syntax.specs.Spelling.{is_none, spells_text, is_opening, end_at_dot, are_multi_line, is_multi_line}
 use Rattle.sieve_syntax.specs.Scan.{dot_length, multi_line_length}
 use Rattle.sieve_syntax.proofs.Cases.{by_cases, and_left, and_right}
@@ -19,12 +19,12 @@ unfolding line_length
 line_bound [] = omega arith
 line_bound (c ∷ cs) =
     let more : line_length cs ≤ length cs = line_bound cs in
-    by_cases (c == 10) (λ b. (if b then 1 else suc (line_length cs)) ≤ suc (length cs)) (λ e. omega arith) (λ e. omega arith)
+    by_cases (c == octet_of "\n") (λ b. (if b then 1 else suc (line_length cs)) ≤ suc (length cs)) (λ e. omega arith) (λ e. omega arith)
 
 pub line_some : (cs : List ℕ) → 0 < length cs → 0 < line_length cs
 unfolding line_length
 line_some [] h = absurd (omega arith)
-line_some (c ∷ cs) h = by_cases (c == 10) (λ b. 0 < (if b then 1 else suc (line_length cs))) (λ e. omega arith) (λ e. omega arith)
+line_some (c ∷ cs) h = by_cases (c == octet_of "\n") (λ b. 0 < (if b then 1 else suc (line_length cs))) (λ e. omega arith) (λ e. omega arith)
 
 -- a front that has the whole first line has the same first line
 pub line_prefix : (xs : List ℕ) (n : ℕ) → line_length xs ≤ n → line_length (take n xs) ≡ line_length xs
@@ -33,7 +33,7 @@ line_prefix [] zero h = refl
 line_prefix [] (suc n) h = refl
 line_prefix (c ∷ cs) zero h = absurd (let some = line_some (c ∷ cs) (omega arith) in omega arith)
 line_prefix (c ∷ cs) (suc n) h =
-    by_cases (c == 10) (λ b. (if b then 1 else suc (line_length cs)) ≤ suc n → (if b then 1 else suc (line_length (take n cs))) ≡ (if b then 1 else suc (line_length cs)))
+    by_cases (c == octet_of "\n") (λ b. (if b then 1 else suc (line_length cs)) ≤ suc n → (if b then 1 else suc (line_length (take n cs))) ≡ (if b then 1 else suc (line_length cs)))
     (λ e less. refl) (λ e less. ap suc (line_prefix cs n (omega arith))) h
 
 -- a front inside the first line is one line
@@ -42,16 +42,16 @@ unfolding line_length
 line_short [] n h = absurd (omega arith)
 line_short (c ∷ cs) zero h = refl
 line_short (c ∷ cs) (suc n) h =
-    by_cases (c == 10) (λ b. suc n < (if b then 1 else suc (line_length cs)) → (if b then 1 else suc (line_length (take n cs))) ≡ suc n)
+    by_cases (c == octet_of "\n") (λ b. suc n < (if b then 1 else suc (line_length cs)) → (if b then 1 else suc (line_length (take n cs))) ≡ suc n)
     (λ e less. absurd (omega arith)) (λ e less. ap suc (line_short cs n (omega arith))) h
 
 -- and it has no LF
-line_bare : (xs : List ℕ) (n : ℕ) → n < line_length xs → list_any (λ c. c == 10) (take n xs) ≡ false
+line_bare : (xs : List ℕ) (n : ℕ) → n < line_length xs → list_any (λ c. c == octet_of "\n") (take n xs) ≡ false
 unfolding line_length
 line_bare [] n h = absurd (omega arith)
 line_bare (c ∷ cs) zero h = refl
 line_bare (c ∷ cs) (suc n) h =
-    by_cases (c == 10) (λ b. suc n < (if b then 1 else suc (line_length cs)) → (b || list_any (λ d. d == 10) (take n cs)) ≡ false)
+    by_cases (c == octet_of "\n") (λ b. suc n < (if b then 1 else suc (line_length cs)) → (b || list_any (λ d. d == octet_of "\n") (take n cs)) ≡ false)
     (λ e less. absurd (omega arith)) (λ e less. line_bare cs n (omega arith)) h
 
 -- THE LINES OF A TEXT
@@ -60,12 +60,12 @@ pub lines_some : (xs : List ℕ) → 0 < length xs → lines_of xs ≡ take (lin
 unfolding lines_of line_length
 lines_some [] h = absurd (omega arith)
 lines_some (c ∷ []) h =
-    by_cases (c == 10) (λ b. (c == 10) ≡ b → (if b then (10 ∷ []) ∷ [] else (c ∷ []) ∷ []) ≡ take (if b then 1 else 1) (c ∷ []) ∷ lines_of (drop (if b then 1 else 1) (c ∷ [])))
-    (λ e f. ap (λ x. (x ∷ []) ∷ []) (sym (eqb-true c 10 f))) (λ e f. refl) refl
+    by_cases (c == octet_of "\n") (λ b. (c == octet_of "\n") ≡ b → (if b then (octet_of "\n" ∷ []) ∷ [] else (c ∷ []) ∷ []) ≡ take (if b then 1 else 1) (c ∷ []) ∷ lines_of (drop (if b then 1 else 1) (c ∷ [])))
+    (λ e f. ap (λ x. (x ∷ []) ∷ []) (sym (eqb-true c (octet_of "\n") f))) (λ e f. refl) refl
 lines_some (c ∷ d ∷ ds) h =
     let below = lines_some (d ∷ ds) (omega arith) in
-    by_cases (c == 10) (λ b. (c == 10) ≡ b → (if b then (10 ∷ []) ∷ lines_of (d ∷ ds) else on_first c (lines_of (d ∷ ds))) ≡ take (if b then 1 else suc (line_length (d ∷ ds))) (c ∷ d ∷ ds) ∷ lines_of (drop (if b then 1 else suc (line_length (d ∷ ds))) (c ∷ d ∷ ds)))
-    (λ e f. ap (λ x. (x ∷ []) ∷ lines_of (d ∷ ds)) (sym (eqb-true c 10 f)))
+    by_cases (c == octet_of "\n") (λ b. (c == octet_of "\n") ≡ b → (if b then (octet_of "\n" ∷ []) ∷ lines_of (d ∷ ds) else on_first c (lines_of (d ∷ ds))) ≡ take (if b then 1 else suc (line_length (d ∷ ds))) (c ∷ d ∷ ds) ∷ lines_of (drop (if b then 1 else suc (line_length (d ∷ ds))) (c ∷ d ∷ ds)))
+    (λ e f. ap (λ x. (x ∷ []) ∷ lines_of (d ∷ ds)) (sym (eqb-true c (octet_of "\n") f)))
     (λ e f. ap (on_first c) below) refl
 
 -- the lines of a front that has the whole first line
@@ -116,13 +116,13 @@ lines_is_none (x ∷ xs) (suc m) h e =
     cc
 
 -- a line that is a dot alone has an LF
-dot_feed : (line : List ℕ) → is_dot_line line ≡ true → list_any (λ c. c == 10) line ≡ true
+dot_feed : (line : List ℕ) → is_dot_line line ≡ true → list_any (λ c. c == octet_of "\n") line ≡ true
 unfolding is_dot_line is_line_end
 dot_feed [] e = cc
-dot_feed (c ∷ []) e = absurd (let f = and_right (c == 46) false e in cc)
+dot_feed (c ∷ []) e = absurd (let f = and_right (c == octet_of ".") false e in cc)
 dot_feed (c ∷ d ∷ []) e = grind arith
 dot_feed (c ∷ d ∷ f ∷ []) e = grind arith
-dot_feed (c ∷ d ∷ f ∷ g ∷ gs) e = absurd (let f = and_right (c == 46) false e in cc)
+dot_feed (c ∷ d ∷ f ∷ g ∷ gs) e = absurd (let f = and_right (c == octet_of ".") false e in cc)
 
 -- LINES UP TO A DOT
 
@@ -290,7 +290,7 @@ pub record IsTextColon (xs : List ℕ) : Type 0 where
   pub x : ℕ
   pub u : ℕ
   pub rest : List ℕ
-  pub is : xs ≡ t ∷ e ∷ x ∷ u ∷ 58 ∷ rest
+  pub is : xs ≡ t ∷ e ∷ x ∷ u ∷ octet_of ":" ∷ rest
   pub letter_t : begins_name t ≡ true
   pub letter_e : begins_name e ≡ true
   pub letter_x : begins_name x ≡ true
@@ -300,22 +300,22 @@ opening_parts : (line : List ℕ) → is_opening line ≡ true → IsTextColon l
 unfolding is_opening
 opening_parts (t ∷ e ∷ x ∷ u ∷ c ∷ cs) h =
     let symbol = and_left (spells_text t e x u) _ h in
-    let first = and_left (t == 116 || (t == 84)) _ symbol in
-    let three = and_right (t == 116 || (t == 84)) _ symbol in
-    let second = and_left (e == 101 || (e == 69)) _ three in
-    let two = and_right (e == 101 || (e == 69)) _ three in
-    let colon = and_left (c == 58) _ (and_right (spells_text t e x u) _ h) in
+    let first = and_left (t == octet_of "t" || (t == octet_of "T")) _ symbol in
+    let three = and_right (t == octet_of "t" || (t == octet_of "T")) _ symbol in
+    let second = and_left (e == octet_of "e" || (e == octet_of "E")) _ three in
+    let two = and_right (e == octet_of "e" || (e == octet_of "E")) _ three in
+    let colon = and_left (c == octet_of ":") _ (and_right (spells_text t e x u) _ h) in
     record {
       t = t;
       e = e;
       x = x;
       u = u;
       rest = cs;
-      is = ap (λ d. t ∷ e ∷ x ∷ u ∷ d ∷ cs) (eqb-true c 58 colon);
-      letter_t = either_letter t 116 84 refl refl first;
-      letter_e = either_letter e 101 69 refl refl second;
-      letter_x = either_letter x 120 88 refl refl (and_left (x == 120 || (x == 88)) _ two);
-      letter_u = either_letter u 116 84 refl refl (and_right (x == 120 || (x == 88)) _ two);
+      is = ap (λ d. t ∷ e ∷ x ∷ u ∷ d ∷ cs) (eqb-true c (octet_of ":") colon);
+      letter_t = either_letter t (octet_of "t") (octet_of "T") refl refl first;
+      letter_e = either_letter e (octet_of "e") (octet_of "E") refl refl second;
+      letter_x = either_letter x (octet_of "x") (octet_of "X") refl refl (and_left (x == octet_of "x" || (x == octet_of "X")) _ two);
+      letter_u = either_letter u (octet_of "t") (octet_of "T") refl refl (and_right (x == octet_of "x" || (x == octet_of "X")) _ two);
     }
 opening_parts [] h = cc
 opening_parts (t ∷ []) h = cc

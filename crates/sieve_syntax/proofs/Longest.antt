@@ -5,7 +5,7 @@ use Rattle.std.specs.List.{list_all}
 use Rattle.std.specs.Option.{option_map}
 use Rattle.std.proofs.lemmas.Bool.{eqb-true}
 use Rattle.std.proofs.lemmas.Bool.Decides.{nat_tests}
-use Rattle.sieve_base.specs.Octet.{is_digit, begins_name, is_name_octet}
+use Rattle.sieve_base.specs.Octet.{begins_name, is_digit, is_name_octet, octet_of}
 use Rattle.sieve_syntax.specs.Line.{line_length, lines_of}
 use Rattle.sieve_syntax.specs.Octet.{is_white}
 use Rattle.sieve_syntax.specs.Scan.{name_length, number_length, quoted_length, multi_line_length, name_at, tag_at, quoted_token, mark_at, longest_at}
@@ -23,10 +23,10 @@ pub comment_bounds : (cs : List ℕ) (n : ℕ) → comment_length cs ≡ Some n 
 unfolding comment_length
 comment_bounds [] n = λ e. cc
 comment_bounds (c ∷ []) n =
-    by_cases ((c == 42) && false) (λ b. (if b then Some 2 else None) ≡ Some n → (0 < n) × (n ≤ 1))
-    (λ q e. absurd (let f = and_right (c == 42) false q in cc)) (λ q e. cc)
+    by_cases ((c == octet_of "*") && false) (λ b. (if b then Some 2 else None) ≡ Some n → (0 < n) × (n ≤ 1))
+    (λ q e. absurd (let f = and_right (c == octet_of "*") false q in cc)) (λ q e. cc)
 comment_bounds (c ∷ d ∷ ds) n =
-    by_cases ((c == 42) && (d == 47)) (λ b. (if b then Some 2 else option_map suc (comment_length (d ∷ ds))) ≡ Some n → (0 < n) × (n ≤ suc (suc (length ds))))
+    by_cases ((c == octet_of "*") && (d == octet_of "/")) (λ b. (if b then Some 2 else option_map suc (comment_length (d ∷ ds))) ≡ Some n → (0 < n) × (n ≤ suc (suc (length ds))))
     (λ q e. let same : 2 ≡ n = cc in (omega arith, omega arith))
     (λ q e.
     let m = one_more (comment_length (d ∷ ds)) n e in
@@ -38,7 +38,7 @@ pub bracket_bounds : (cs : List ℕ) (n : ℕ) → bracket_comment cs ≡ Some n
 unfolding bracket_comment
 bracket_bounds [] n = λ e. cc
 bracket_bounds (c ∷ cs) n =
-    by_cases (c == 42) (λ b. (if b then option_map suc (comment_length cs) else None) ≡ Some n → (0 < n) × (n ≤ suc (length cs)))
+    by_cases (c == octet_of "*") (λ b. (if b then option_map suc (comment_length cs) else None) ≡ Some n → (0 < n) × (n ≤ suc (length cs)))
     (λ q e.
     let m = one_more (comment_length cs) n e in
     let b = comment_bounds cs m.0 m.1 in
@@ -52,11 +52,11 @@ unfolding white_at
 white_at_bounds [] n = λ e. cc
 white_at_bounds (c ∷ cs) n =
     let line = line_bound cs in
-    by_cases (is_white c) (λ b. (if b then Some 1 else (if c == 35 then Some (suc (line_length cs)) else (if c == 47 then option_map suc (bracket_comment cs) else None))) ≡ Some n → (0 < n) × (n ≤ suc (length cs)))
+    by_cases (is_white c) (λ b. (if b then Some 1 else (if c == octet_of "#" then Some (suc (line_length cs)) else (if c == octet_of "/" then option_map suc (bracket_comment cs) else None))) ≡ Some n → (0 < n) × (n ≤ suc (length cs)))
     (λ q e. let f : 1 ≡ n = cc in (omega arith, omega arith))
-    (λ q. by_cases (c == 35) (λ b. (if b then Some (suc (line_length cs)) else (if c == 47 then option_map suc (bracket_comment cs) else None)) ≡ Some n → (0 < n) × (n ≤ suc (length cs)))
+    (λ q. by_cases (c == octet_of "#") (λ b. (if b then Some (suc (line_length cs)) else (if c == octet_of "/" then option_map suc (bracket_comment cs) else None)) ≡ Some n → (0 < n) × (n ≤ suc (length cs)))
     (λ r e. let f : suc (line_length cs) ≡ n = cc in (omega arith, omega arith))
-    (λ r. by_cases (c == 47) (λ b. (if b then option_map suc (bracket_comment cs) else None) ≡ Some n → (0 < n) × (n ≤ suc (length cs)))
+    (λ r. by_cases (c == octet_of "/") (λ b. (if b then option_map suc (bracket_comment cs) else None) ≡ Some n → (0 < n) × (n ≤ suc (length cs)))
     (λ s e.
     let m = one_more (bracket_comment cs) n e in
     let b = bracket_bounds cs m.0 m.1 in
@@ -92,7 +92,7 @@ name_found c cs found q =
       spelled = both_true (begins_name c) _ q (name_length-all cs);
     })
 
-tag_found : (c : ℕ) (cs : List ℕ) (found : TokenKind × ℕ) → (c == 58) ≡ true → tag_at cs ≡ Some found → IsFound (c ∷ cs) found
+tag_found : (c : ℕ) (cs : List ℕ) (found : TokenKind × ℕ) → (c == octet_of ":") ≡ true → tag_at cs ≡ Some found → IsFound (c ∷ cs) found
 unfolding tag_at spells is_tag is_identifier
 tag_found c [] found q = λ e. cc
 tag_found c (d ∷ ds) found q =
@@ -100,11 +100,11 @@ tag_found c (d ∷ ds) found q =
     (λ p e. subst (IsFound (c ∷ d ∷ ds)) (same_Some (Tag, suc (suc (name_length ds))) found e) record {
       some = omega arith;
       inside = omega (arith, name_bound ds);
-      spelled = both_true (c == 58) _ q (both_true (begins_name d) _ p (name_length-all ds));
+      spelled = both_true (c == octet_of ":") _ q (both_true (begins_name d) _ p (name_length-all ds));
     })
     (λ p e. cc)
 
-quoted_is_found : (c : ℕ) (cs : List ℕ) (found : TokenKind × ℕ) → (c == 34) ≡ true → option_map quoted_token (quoted_length cs) ≡ Some found → IsFound (c ∷ cs) found
+quoted_is_found : (c : ℕ) (cs : List ℕ) (found : TokenKind × ℕ) → (c == octet_of "\"") ≡ true → option_map quoted_token (quoted_length cs) ≡ Some found → IsFound (c ∷ cs) found
 unfolding spells is_quoted
 quoted_is_found c cs found q =
     by_option (quoted_length cs) (λ o. option_map quoted_token o ≡ Some found → IsFound (c ∷ cs) found)
@@ -114,7 +114,7 @@ quoted_is_found c cs found q =
     subst (IsFound (c ∷ cs)) (same_Some (Quoted, suc n) found e) record {
       some = omega arith;
       inside = omega arith;
-      spelled = both_true (c == 34) _ q f.ends_it;
+      spelled = both_true (c == octet_of "\"") _ q f.ends_it;
     })
     (λ p e. cc)
 
@@ -129,30 +129,30 @@ one_found c cs found kind others octet spelled below =
 mark_found : (c : ℕ) (cs : List ℕ) (found : TokenKind × ℕ) → mark_at c ≡ Some found → IsFound (c ∷ cs) found
 unfolding mark_at spells is_one
 mark_found c cs found =
-    one_found c cs found Semicolon _ 59 (λ q. q)
-    (one_found c cs found Comma _ 44 (λ q. q)
-    (one_found c cs found OpenBrace _ 123 (λ q. q)
-    (one_found c cs found CloseBrace _ 125 (λ q. q)
-    (one_found c cs found OpenParenthesis _ 40 (λ q. q)
-    (one_found c cs found CloseParenthesis _ 41 (λ q. q)
-    (one_found c cs found OpenBracket _ 91 (λ q. q)
-    (one_found c cs found CloseBracket _ 93 (λ q. q) (λ e. cc))))))))
+    one_found c cs found Semicolon _ (octet_of ";") (λ q. q)
+    (one_found c cs found Comma _ (octet_of ",") (λ q. q)
+    (one_found c cs found OpenBrace _ (octet_of "{") (λ q. q)
+    (one_found c cs found CloseBrace _ (octet_of "}") (λ q. q)
+    (one_found c cs found OpenParenthesis _ (octet_of "(") (λ q. q)
+    (one_found c cs found CloseParenthesis _ (octet_of ")") (λ q. q)
+    (one_found c cs found OpenBracket _ (octet_of "[") (λ q. q)
+    (one_found c cs found CloseBracket _ (octet_of "]") (λ q. q) (λ e. cc))))))))
 
 pub longest_at-found : (rest : List ℕ) (found : TokenKind × ℕ) → longest_at rest ≡ Some found → IsFound rest found
 unfolding longest_at spells is_number
 longest_at-found [] found = λ e. cc
 longest_at-found (c ∷ cs) found =
-    by_cases (begins_name c) (λ b. (if b then name_at (c ∷ cs) else (if is_digit c then Some (Number, suc (number_length cs)) else (if c == 58 then tag_at cs else (if c == 34 then option_map quoted_token (quoted_length cs) else mark_at c)))) ≡ Some found → IsFound (c ∷ cs) found)
+    by_cases (begins_name c) (λ b. (if b then name_at (c ∷ cs) else (if is_digit c then Some (Number, suc (number_length cs)) else (if c == octet_of ":" then tag_at cs else (if c == octet_of "\"" then option_map quoted_token (quoted_length cs) else mark_at c)))) ≡ Some found → IsFound (c ∷ cs) found)
     (λ q e. name_found c cs found q e)
-    (λ q. by_cases (is_digit c) (λ b. (if b then Some (Number, suc (number_length cs)) else (if c == 58 then tag_at cs else (if c == 34 then option_map quoted_token (quoted_length cs) else mark_at c))) ≡ Some found → IsFound (c ∷ cs) found)
+    (λ q. by_cases (is_digit c) (λ b. (if b then Some (Number, suc (number_length cs)) else (if c == octet_of ":" then tag_at cs else (if c == octet_of "\"" then option_map quoted_token (quoted_length cs) else mark_at c))) ≡ Some found → IsFound (c ∷ cs) found)
     (λ r e. subst (IsFound (c ∷ cs)) (same_Some (Number, suc (number_length cs)) found e) record {
       some = omega arith;
       inside = omega (arith, number_bound cs);
       spelled = both_true (is_digit c) _ r (number_length-ends cs);
     })
-    (λ r. by_cases (c == 58) (λ b. (if b then tag_at cs else (if c == 34 then option_map quoted_token (quoted_length cs) else mark_at c)) ≡ Some found → IsFound (c ∷ cs) found)
+    (λ r. by_cases (c == octet_of ":") (λ b. (if b then tag_at cs else (if c == octet_of "\"" then option_map quoted_token (quoted_length cs) else mark_at c)) ≡ Some found → IsFound (c ∷ cs) found)
     (λ s e. tag_found c cs found s e)
-    (λ s. by_cases (c == 34) (λ b. (if b then option_map quoted_token (quoted_length cs) else mark_at c) ≡ Some found → IsFound (c ∷ cs) found)
+    (λ s. by_cases (c == octet_of "\"") (λ b. (if b then option_map quoted_token (quoted_length cs) else mark_at c) ≡ Some found → IsFound (c ∷ cs) found)
     (λ t e. quoted_is_found c cs found t e)
     (λ t e. mark_found c cs found e))))
 
@@ -167,7 +167,7 @@ pub record IsAtMost (rest : List ℕ) (kind : TokenKind) (m : ℕ) : Type 0 wher
 
 at_name : (c : ℕ) (cs : List ℕ) → begins_name c ≡ true → longest_at (c ∷ cs) ≡ name_at (c ∷ cs)
 unfolding longest_at
-at_name c cs q = ap (λ b. if b then name_at (c ∷ cs) else (if is_digit c then Some (Number, suc (number_length cs)) else (if c == 58 then tag_at cs else (if c == 34 then option_map quoted_token (quoted_length cs) else mark_at c)))) q
+at_name c cs q = ap (λ b. if b then name_at (c ∷ cs) else (if is_digit c then Some (Number, suc (number_length cs)) else (if c == octet_of ":" then tag_at cs else (if c == octet_of "\"" then option_map quoted_token (quoted_length cs) else mark_at c)))) q
 
 digit_only : (c : ℕ) → is_digit c ≡ true → begins_name c ≡ false
 digit_only c q = grind (arith, nat_tests)
@@ -175,14 +175,14 @@ digit_only c q = grind (arith, nat_tests)
 at_digit : (c : ℕ) (cs : List ℕ) → is_digit c ≡ true → longest_at (c ∷ cs) ≡ Some (Number, suc (number_length cs))
 unfolding longest_at
 at_digit c cs q =
-    ap (λ b. if b then name_at (c ∷ cs) else (if is_digit c then Some (Number, suc (number_length cs)) else (if c == 58 then tag_at cs else (if c == 34 then option_map quoted_token (quoted_length cs) else mark_at c)))) (digit_only c q)
-    ∙ ap (λ b. if b then Some (Number, suc (number_length cs)) else (if c == 58 then tag_at cs else (if c == 34 then option_map quoted_token (quoted_length cs) else mark_at c))) q
+    ap (λ b. if b then name_at (c ∷ cs) else (if is_digit c then Some (Number, suc (number_length cs)) else (if c == octet_of ":" then tag_at cs else (if c == octet_of "\"" then option_map quoted_token (quoted_length cs) else mark_at c)))) (digit_only c q)
+    ∙ ap (λ b. if b then Some (Number, suc (number_length cs)) else (if c == octet_of ":" then tag_at cs else (if c == octet_of "\"" then option_map quoted_token (quoted_length cs) else mark_at c))) q
 
-at_colon : (cs : List ℕ) → longest_at (58 ∷ cs) ≡ tag_at cs
+at_colon : (cs : List ℕ) → longest_at (octet_of ":" ∷ cs) ≡ tag_at cs
 unfolding longest_at
 at_colon cs = refl
 
-at_quote : (cs : List ℕ) → longest_at (34 ∷ cs) ≡ option_map quoted_token (quoted_length cs)
+at_quote : (cs : List ℕ) → longest_at (octet_of "\"" ∷ cs) ≡ option_map quoted_token (quoted_length cs)
 unfolding longest_at
 at_quote cs = refl
 
@@ -197,14 +197,14 @@ name_more : (c : ℕ) (cs : List ℕ) → begins_name c ≡ true → name_length
 unfolding name_length
 name_more c cs q = ap (λ b. if b then suc (name_length cs) else 0) (name_letter c q)
 
-name_colon : (rest : List ℕ) → name_length (58 ∷ rest) ≡ 0
+name_colon : (rest : List ℕ) → name_length (octet_of ":" ∷ rest) ≡ 0
 unfolding name_length
 name_colon rest = refl
 
 -- the name in front of a colon has four letters
 text_name : (c : ℕ) (cs : List ℕ) → IsTextColon (c ∷ cs) → name_length cs ≡ 3
 text_name c cs h =
-    let tail : cs ≡ h.e ∷ h.x ∷ h.u ∷ 58 ∷ h.rest = (let is = h.is in cc) in
+    let tail : cs ≡ h.e ∷ h.x ∷ h.u ∷ octet_of ":" ∷ h.rest = (let is = h.is in cc) in
     ap name_length tail
     ∙ name_more h.e _ h.letter_e
     ∙ ap suc (name_more h.x _ h.letter_x ∙ ap suc (name_more h.u _ h.letter_u ∙ ap suc (name_colon h.rest)))
@@ -236,7 +236,7 @@ multi_line-most (c ∷ cs) m e =
     exactly (c ∷ cs) MultiLine m (at_name c cs (text_letter c cs colon.0)
     ∙ ap (λ o. elim o as (λ z. Option (TokenKind × ℕ)) [ Some n ↦ Some (MultiLine, n) | None ↦ Some (Identifier, suc (name_length cs)) ]) e)
 
-tag-most : (d : ℕ) (ds : List ℕ) (m : ℕ) → m ≤ length ds → begins_name d ≡ true → list_all is_name_octet (take m ds) ≡ true → IsAtMost (58 ∷ d ∷ ds) Tag (suc (suc m))
+tag-most : (d : ℕ) (ds : List ℕ) (m : ℕ) → m ≤ length ds → begins_name d ≡ true → list_all is_name_octet (take m ds) ≡ true → IsAtMost (octet_of ":" ∷ d ∷ ds) Tag (suc (suc m))
 unfolding tag_at
 tag-most d ds m h q all =
     let more : m ≤ name_length ds = name_length-most ds m h all in
@@ -252,8 +252,8 @@ number-most c cs m h q ends =
     let more : m ≤ number_length cs = number_length-most cs m h ends in
     record { found = (Number, suc (number_length cs)); is = at_digit c cs q; most = omega arith; only = λ s. refl }
 
-quoted-most : (cs : List ℕ) (m : ℕ) → m ≤ length cs → ends_quoted (take m cs) ≡ true → IsAtMost (34 ∷ cs) Quoted (suc m)
-quoted-most cs m h ends = exactly (34 ∷ cs) Quoted (suc m) (at_quote cs ∙ ap (option_map quoted_token) (quoted_only cs m h ends))
+quoted-most : (cs : List ℕ) (m : ℕ) → m ≤ length cs → ends_quoted (take m cs) ≡ true → IsAtMost (octet_of "\"" ∷ cs) Quoted (suc m)
+quoted-most cs m h ends = exactly (octet_of "\"" ∷ cs) Quoted (suc m) (at_quote cs ∙ ap (option_map quoted_token) (quoted_only cs m h ends))
 
 is_one-alone : (octet : ℕ) (symbol : List ℕ) → is_one octet symbol ≡ true → symbol ≡ octet ∷ []
 unfolding is_one
@@ -279,12 +279,12 @@ unfolding is_tag is_identifier
 tag-from [] zero h e = cc
 tag-from [] (suc m) h e = cc
 tag-from (c ∷ cs) zero h e = cc
-tag-from (c ∷ []) (suc zero) h e = absurd (let f = and_right (c == 58) false e in cc)
-tag-from (c ∷ d ∷ ds) (suc zero) h e = absurd (let f = and_right (c == 58) false e in cc)
+tag-from (c ∷ []) (suc zero) h e = absurd (let f = and_right (c == octet_of ":") false e in cc)
+tag-from (c ∷ d ∷ ds) (suc zero) h e = absurd (let f = and_right (c == octet_of ":") false e in cc)
 tag-from (c ∷ []) (suc (suc m)) h e = absurd (omega arith)
 tag-from (c ∷ d ∷ ds) (suc (suc m)) h e =
-    let name = and_right (c == 58) _ e in
-    subst (λ x. IsAtMost (x ∷ d ∷ ds) Tag (suc (suc m))) (sym (eqb-true c 58 (and_left (c == 58) _ e)))
+    let name = and_right (c == octet_of ":") _ e in
+    subst (λ x. IsAtMost (x ∷ d ∷ ds) Tag (suc (suc m))) (sym (eqb-true c (octet_of ":") (and_left (c == octet_of ":") _ e)))
     (tag-most d ds m (omega arith) (and_left (begins_name d) _ name) (and_right (begins_name d) _ name))
 
 pub longest_at-most : (rest : List ℕ) (kind : TokenKind) (m : ℕ) → m ≤ length rest → spells kind (take m rest) ≡ true → IsAtMost rest kind m
@@ -302,17 +302,17 @@ longest_at-most [] Quoted zero h e = cc
 longest_at-most [] Quoted (suc m) h e = cc
 longest_at-most (c ∷ cs) Quoted zero h e = cc
 longest_at-most (c ∷ cs) Quoted (suc m) h e =
-    subst (λ x. IsAtMost (x ∷ cs) Quoted (suc m)) (sym (eqb-true c 34 (and_left (c == 34) _ e)))
-    (quoted-most cs m (omega arith) (and_right (c == 34) _ e))
+    subst (λ x. IsAtMost (x ∷ cs) Quoted (suc m)) (sym (eqb-true c (octet_of "\"") (and_left (c == octet_of "\"") _ e)))
+    (quoted-most cs m (omega arith) (and_right (c == octet_of "\"") _ e))
 longest_at-most rest MultiLine m h e = multi_line-most rest m (multi_line_only rest m h e)
-longest_at-most rest Semicolon m h e = one-most rest Semicolon m 59 h e (λ cs. refl)
-longest_at-most rest OpenBrace m h e = one-most rest OpenBrace m 123 h e (λ cs. refl)
-longest_at-most rest CloseBrace m h e = one-most rest CloseBrace m 125 h e (λ cs. refl)
-longest_at-most rest OpenParenthesis m h e = one-most rest OpenParenthesis m 40 h e (λ cs. refl)
-longest_at-most rest CloseParenthesis m h e = one-most rest CloseParenthesis m 41 h e (λ cs. refl)
-longest_at-most rest OpenBracket m h e = one-most rest OpenBracket m 91 h e (λ cs. refl)
-longest_at-most rest CloseBracket m h e = one-most rest CloseBracket m 93 h e (λ cs. refl)
-longest_at-most rest Comma m h e = one-most rest Comma m 44 h e (λ cs. refl)
+longest_at-most rest Semicolon m h e = one-most rest Semicolon m (octet_of ";") h e (λ cs. refl)
+longest_at-most rest OpenBrace m h e = one-most rest OpenBrace m (octet_of "{") h e (λ cs. refl)
+longest_at-most rest CloseBrace m h e = one-most rest CloseBrace m (octet_of "}") h e (λ cs. refl)
+longest_at-most rest OpenParenthesis m h e = one-most rest OpenParenthesis m (octet_of "(") h e (λ cs. refl)
+longest_at-most rest CloseParenthesis m h e = one-most rest CloseParenthesis m (octet_of ")") h e (λ cs. refl)
+longest_at-most rest OpenBracket m h e = one-most rest OpenBracket m (octet_of "[") h e (λ cs. refl)
+longest_at-most rest CloseBracket m h e = one-most rest CloseBracket m (octet_of "]") h e (λ cs. refl)
+longest_at-most rest Comma m h e = one-most rest Comma m (octet_of ",") h e (λ cs. refl)
 longest_at-most rest Bad m h e = cc
 
 pub found_bounds : (rest : List ℕ) (found : TokenKind × ℕ) → longest_at rest ≡ Some found → (0 < found.1) × (found.1 ≤ length rest)

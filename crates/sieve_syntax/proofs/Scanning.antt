@@ -2,7 +2,7 @@
 use Rattle.std.proofs.Common.{◌≡◌, ℕ, zero, suc, ◌<◌, ◌≤◌, ◌==◌, ◌&&◌, Bool, true, false, if◌then◌else◌, List, [], ◌∷◌, length, take, Option, Some, None, refl, sym, ap, ◌∙◌, subst, arith}
 use Rattle.std.specs.List.{list_all}
 use Rattle.std.specs.Option.{option_map}
-use Rattle.sieve_base.specs.Octet.{is_digit, is_name_octet}
+use Rattle.sieve_base.specs.Octet.{is_digit, is_name_octet, octet_of}
 use Rattle.sieve_syntax.specs.Octet.{is_unit}
 use Rattle.sieve_syntax.specs.Spelling.{is_none, ends_number, ends_quoted, ends_protected}
 use Rattle.sieve_syntax.specs.Scan.{name_length, number_length, quoted_length, protected_length}
@@ -81,20 +81,20 @@ pub one_more : (o : Option ℕ) (n : ℕ) → option_map suc o ≡ Some n → (m
 one_more (Some m) n e = (m, refl, cc)
 one_more None n e = cc
 
-ends_backslash : (c : ℕ) (symbol : List ℕ) → (c == 92) ≡ true → ends_quoted (c ∷ symbol) ≡ ends_protected symbol
+ends_backslash : (c : ℕ) (symbol : List ℕ) → (c == octet_of "\\") ≡ true → ends_quoted (c ∷ symbol) ≡ ends_protected symbol
 unfolding ends_quoted
-ends_backslash c symbol e = ap (λ b. if b then ends_protected symbol else (if c == 34 then is_none symbol else ends_quoted symbol)) e
+ends_backslash c symbol e = ap (λ b. if b then ends_protected symbol else (if c == octet_of "\"" then is_none symbol else ends_quoted symbol)) e
 
-ends_mark : (c : ℕ) (symbol : List ℕ) → (c == 92) ≡ false → (c == 34) ≡ true → ends_quoted (c ∷ symbol) ≡ is_none symbol
+ends_mark : (c : ℕ) (symbol : List ℕ) → (c == octet_of "\\") ≡ false → (c == octet_of "\"") ≡ true → ends_quoted (c ∷ symbol) ≡ is_none symbol
 unfolding ends_quoted
 ends_mark c symbol e f =
-    ap (λ b. if b then ends_protected symbol else (if c == 34 then is_none symbol else ends_quoted symbol)) e
+    ap (λ b. if b then ends_protected symbol else (if c == octet_of "\"" then is_none symbol else ends_quoted symbol)) e
     ∙ ap (λ b. if b then is_none symbol else ends_quoted symbol) f
 
-ends_plain : (c : ℕ) (symbol : List ℕ) → (c == 92) ≡ false → (c == 34) ≡ false → ends_quoted (c ∷ symbol) ≡ ends_quoted symbol
+ends_plain : (c : ℕ) (symbol : List ℕ) → (c == octet_of "\\") ≡ false → (c == octet_of "\"") ≡ false → ends_quoted (c ∷ symbol) ≡ ends_quoted symbol
 unfolding ends_quoted
 ends_plain c symbol e f =
-    ap (λ b. if b then ends_protected symbol else (if c == 34 then is_none symbol else ends_quoted symbol)) e
+    ap (λ b. if b then ends_protected symbol else (if c == octet_of "\"" then is_none symbol else ends_quoted symbol)) e
     ∙ ap (λ b. if b then is_none symbol else ends_quoted symbol) f
 
 mutual
@@ -103,7 +103,7 @@ mutual
   pub quoted_found : (cs : List ℕ) (n : ℕ) → quoted_length cs ≡ Some n → IsEnd ends_quoted cs n
   quoted_found [] n = λ e. cc
   quoted_found (c ∷ cs) n =
-      by_cases (c == 92) (λ b. (if b then option_map suc (protected_length cs) else (if c == 34 then Some 1 else option_map suc (quoted_length cs))) ≡ Some n → IsEnd ends_quoted (c ∷ cs) n)
+      by_cases (c == octet_of "\\") (λ b. (if b then option_map suc (protected_length cs) else (if c == octet_of "\"" then Some 1 else option_map suc (quoted_length cs))) ≡ Some n → IsEnd ends_quoted (c ∷ cs) n)
       (λ q e.
       let m = one_more (protected_length cs) n e in
       let below = protected_found cs m.0 m.1 in
@@ -113,7 +113,7 @@ mutual
         inside = omega arith;
         ends_it = ends_backslash c (take m.0 cs) q ∙ below.ends_it;
       })
-      (λ q. by_cases (c == 34) (λ b. (if b then Some 1 else option_map suc (quoted_length cs)) ≡ Some n → IsEnd ends_quoted (c ∷ cs) n)
+      (λ q. by_cases (c == octet_of "\"") (λ b. (if b then Some 1 else option_map suc (quoted_length cs)) ≡ Some n → IsEnd ends_quoted (c ∷ cs) n)
       (λ r e.
       let same : 1 ≡ n = cc in
       subst (IsEnd ends_quoted (c ∷ cs)) same record {
@@ -151,9 +151,9 @@ mutual
   quoted_only [] (suc m) h = λ e. cc
   quoted_only (c ∷ cs) zero h = λ e. cc
   quoted_only (c ∷ cs) (suc m) h =
-      by_cases (c == 92) (λ b. (if b then ends_protected (take m cs) else (if c == 34 then is_none (take m cs) else ends_quoted (take m cs))) ≡ true → (if b then option_map suc (protected_length cs) else (if c == 34 then Some 1 else option_map suc (quoted_length cs))) ≡ Some (suc m))
+      by_cases (c == octet_of "\\") (λ b. (if b then ends_protected (take m cs) else (if c == octet_of "\"" then is_none (take m cs) else ends_quoted (take m cs))) ≡ true → (if b then option_map suc (protected_length cs) else (if c == octet_of "\"" then Some 1 else option_map suc (quoted_length cs))) ≡ Some (suc m))
       (λ q e. ap (option_map suc) (protected_only cs m (omega arith) e))
-      (λ q. by_cases (c == 34) (λ b. (if b then is_none (take m cs) else ends_quoted (take m cs)) ≡ true → (if b then Some 1 else option_map suc (quoted_length cs)) ≡ Some (suc m))
+      (λ q. by_cases (c == octet_of "\"") (λ b. (if b then is_none (take m cs) else ends_quoted (take m cs)) ≡ true → (if b then Some 1 else option_map suc (quoted_length cs)) ≡ Some (suc m))
       (λ r e. ap (λ k. Some (suc k)) (sym (none_taken m cs (omega arith) e)))
       (λ r e. ap (option_map suc) (quoted_only cs m (omega arith) e)))
 

@@ -4,7 +4,7 @@ use Rattle.std.specs.Option.{option_map}
 use Rattle.std.proofs.lemmas.List.{take_all, take_rest, at_drop_more, at_drop_all, take-take, drop-take, drop_more, drop_all, drop-drop, length-drop, length-take-le}
 use Rattle.std.proofs.lemmas.List.Sums.{sum_by-take-drop}
 use Rattle.std.proofs.Math.Numerals.{add-one}
-use Rattle.sieve_base.specs.Octet.{is_digit, is_blank, is_name_octet}
+use Rattle.sieve_base.specs.Octet.{is_blank, is_digit, is_name_octet, octet_of}
 use Rattle.sieve_syntax.specs.Line.{line_length, lines_of, is_dot_line}
 use Rattle.sieve_syntax.specs.Octet.{is_unit}
 use Rattle.sieve_syntax.specs.Scan.{shifted, opening_stop, opening_end, dot_length, name_length, number_length, quoted_length, protected_length}
@@ -26,7 +26,7 @@ pub shifted_zero : (o : Option ℕ) → shifted 0 o ≡ o
 shifted_zero None = refl
 shifted_zero (Some n) = ap (λ k. Some k) (omega arith)
 
-pub line_length-more : (xs : List ℕ) (i : ℕ) → i < length xs → line_length (drop i xs) ≡ (if get_or xs i 0 == 10 then 1 else line_length (drop (i + 1) xs) + 1)
+pub line_length-more : (xs : List ℕ) (i : ℕ) → i < length xs → line_length (drop i xs) ≡ (if get_or xs i 0 == octet_of "\n" then 1 else line_length (drop (i + 1) xs) + 1)
 unfolding line_length
 line_length-more xs i h = rw (add-one (line_length (drop (i + 1) xs))) (at_drop_more line_length xs i 0 h)
 
@@ -63,11 +63,11 @@ pub opening-none : (xs : List ℕ) (i : ℕ) → length xs ≤ i → shifted i (
 unfolding opening_end
 opening-none xs i h = ap (shifted i) (at_drop_all opening_end xs i h)
 
-pub comment-more : (xs : List ℕ) (i : ℕ) → i < length xs → shifted i (comment_length (drop i xs)) ≡ (if (get_or xs i 0 == 42) && begins_with 47 (drop (i + 1) xs) then Some (i + 2) else shifted (i + 1) (comment_length (drop (i + 1) xs)))
+pub comment-more : (xs : List ℕ) (i : ℕ) → i < length xs → shifted i (comment_length (drop i xs)) ≡ (if (get_or xs i 0 == octet_of "*") && begins_with (octet_of "/") (drop (i + 1) xs) then Some (i + 2) else shifted (i + 1) (comment_length (drop (i + 1) xs)))
 unfolding comment_length
 comment-more xs i h =
     ap (shifted i) (at_drop_more comment_length xs i 0 h)
-    ∙ by_cases ((get_or xs i 0 == 42) && begins_with 47 (drop (i + 1) xs))
+    ∙ by_cases ((get_or xs i 0 == octet_of "*") && begins_with (octet_of "/") (drop (i + 1) xs))
     (λ b. shifted i (if b then Some 2 else option_map suc (comment_length (drop (i + 1) xs))) ≡ (if b then Some (i + 2) else shifted (i + 1) (comment_length (drop (i + 1) xs))))
     (λ e. refl) (λ e. shifted_suc i (comment_length (drop (i + 1) xs)))
 
@@ -82,17 +82,17 @@ string_length false xs = quoted_length xs
 
 pub string-more : (xs : List ℕ) (i : ℕ) (protected : Bool) → i < length xs → shifted i (string_length protected (drop i xs)) ≡
     (if protected then shifted (i + 1) (string_length false (drop (i + 1) xs))
-    else (if get_or xs i 0 == 92 then shifted (i + 1) (string_length true (drop (i + 1) xs))
-    else (if get_or xs i 0 == 34 then Some (i + 1)
+    else (if get_or xs i 0 == octet_of "\\" then shifted (i + 1) (string_length true (drop (i + 1) xs))
+    else (if get_or xs i 0 == octet_of "\"" then Some (i + 1)
     else shifted (i + 1) (string_length false (drop (i + 1) xs)))))
 unfolding quoted_length
 string-more xs i true h = ap (shifted i) (at_drop_more protected_length xs i 0 h) ∙ shifted_suc i (quoted_length (drop (i + 1) xs))
 string-more xs i false h =
     ap (shifted i) (at_drop_more quoted_length xs i 0 h)
-    ∙ by_cases (get_or xs i 0 == 92)
-    (λ b. shifted i (if b then option_map suc (protected_length (drop (i + 1) xs)) else (if get_or xs i 0 == 34 then Some 1 else option_map suc (quoted_length (drop (i + 1) xs)))) ≡ (if b then shifted (i + 1) (protected_length (drop (i + 1) xs)) else (if get_or xs i 0 == 34 then Some (i + 1) else shifted (i + 1) (quoted_length (drop (i + 1) xs)))))
+    ∙ by_cases (get_or xs i 0 == octet_of "\\")
+    (λ b. shifted i (if b then option_map suc (protected_length (drop (i + 1) xs)) else (if get_or xs i 0 == octet_of "\"" then Some 1 else option_map suc (quoted_length (drop (i + 1) xs)))) ≡ (if b then shifted (i + 1) (protected_length (drop (i + 1) xs)) else (if get_or xs i 0 == octet_of "\"" then Some (i + 1) else shifted (i + 1) (quoted_length (drop (i + 1) xs)))))
     (λ e. shifted_suc i (protected_length (drop (i + 1) xs)))
-    (λ e. by_cases (get_or xs i 0 == 34)
+    (λ e. by_cases (get_or xs i 0 == octet_of "\"")
     (λ b. shifted i (if b then Some 1 else option_map suc (quoted_length (drop (i + 1) xs))) ≡ (if b then Some (i + 1) else shifted (i + 1) (quoted_length (drop (i + 1) xs))))
     (λ f. refl) (λ f. shifted_suc i (quoted_length (drop (i + 1) xs))))
 

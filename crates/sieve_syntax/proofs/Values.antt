@@ -3,7 +3,7 @@ use Rattle.std.proofs.Common.{◌≡◌, ℕ, ◌+◌, ◌-◌, ◌*◌, ◌^◌
 use Rattle.std.specs.List.{list_any, slice_range}
 use Rattle.std.proofs.lemmas.Bool.{lt-ltb}
 use Rattle.std.proofs.lemmas.List.{at_drop_more, at_drop_all, take_rest, drop_all, drop-drop, length-drop}
-use Rattle.sieve_base.specs.Octet.{is_digit}
+use Rattle.sieve_base.specs.Octet.{is_digit, octet_of}
 use Rattle.sieve_syntax.specs.Line.{line_length, lines_of, is_dot_line}
 use Rattle.sieve_syntax.specs.Value.{unit_of, number_from, number_of, line_end, with_cr, is_protector, kept_octet, unprotected, first_kept, is_changed, quoted_octets, without_dot, dot_lines, multi_line_octets}
 use Rattle.sieve_syntax.proofs.Cases.{by_cases, nor_left, nor_right}
@@ -11,7 +11,7 @@ use Rattle.sieve_syntax.proofs.Lines.{lines_some, lines_none}
 
 -- NUMBERS
 
-pub number_from-more : (xs : List ℕ) (i n : ℕ) → i < length xs → number_from n (drop i xs) ≡ (if is_digit (get_or xs i 0) then number_from (10 * n + (get_or xs i 0 - 48)) (drop (i + 1) xs) else n * unit_of (get_or xs i 0))
+pub number_from-more : (xs : List ℕ) (i n : ℕ) → i < length xs → number_from n (drop i xs) ≡ (if is_digit (get_or xs i 0) then number_from (10 * n + (get_or xs i 0 - octet_of "0")) (drop (i + 1) xs) else n * unit_of (get_or xs i 0))
 unfolding number_from
 number_from-more xs i n h = at_drop_more (number_from n) xs i 0 h
 
@@ -21,16 +21,16 @@ number_from-end xs i n h = at_drop_all (number_from n) xs i h
 
 unit_some : (c : ℕ) → 1 ≤ unit_of c
 unit_some c =
-    by_cases (c == 75 || (c == 107)) (λ b. 1 ≤ (if b then 1024 else (if c == 77 || (c == 109) then 1048576 else 1073741824))) (λ e. omega arith)
-    (λ e. by_cases (c == 77 || (c == 109)) (λ b. 1 ≤ (if b then 1048576 else 1073741824)) (λ f. omega arith) (λ f. omega arith))
+    by_cases (c == octet_of "K" || (c == octet_of "k")) (λ b. 1 ≤ (if b then 1024 else (if c == octet_of "M" || (c == octet_of "m") then 1048576 else 1073741824))) (λ e. omega arith)
+    (λ e. by_cases (c == octet_of "M" || (c == octet_of "m")) (λ b. 1 ≤ (if b then 1048576 else 1073741824)) (λ f. omega arith) (λ f. omega arith))
 
 -- the digits so far are no more than the number
 pub number_grows : (xs : List ℕ) (n : ℕ) → n ≤ number_from n xs
 unfolding number_from
 number_grows [] n = omega arith
 number_grows (c ∷ cs) n =
-    by_cases (is_digit c) (λ b. n ≤ (if b then number_from (10 * n + (c - 48)) cs else n * unit_of c))
-    (λ e. let more = number_grows cs (10 * n + (c - 48)) in omega arith)
+    by_cases (is_digit c) (λ b. n ≤ (if b then number_from (10 * n + (c - octet_of "0")) cs else n * unit_of c))
+    (λ e. let more = number_grows cs (10 * n + (c - octet_of "0")) in omega arith)
     (λ e. times n (unit_of c) (unit_some c))
   where
     times : (a b : ℕ) → 1 ≤ b → a ≤ a * b
@@ -45,7 +45,7 @@ pub ruleset number_steps = (number_from-more, number_from-end, number_grows, num
 
 -- LINE ENDS
 
-pub with_cr-more : (xs : List ℕ) (i : ℕ) (after_cr : Bool) → i < length xs → with_cr after_cr (drop i xs) ≡ line_end after_cr (get_or xs i 0) ++ with_cr (get_or xs i 0 == 13) (drop (i + 1) xs)
+pub with_cr-more : (xs : List ℕ) (i : ℕ) (after_cr : Bool) → i < length xs → with_cr after_cr (drop i xs) ≡ line_end after_cr (get_or xs i 0) ++ with_cr (get_or xs i 0 == octet_of "\r") (drop (i + 1) xs)
 unfolding with_cr
 with_cr-more xs i after_cr h = at_drop_more (with_cr after_cr) xs i 0 h
 
@@ -64,10 +64,10 @@ pub kept-more : (xs : List ℕ) (i : ℕ) (protected : Bool) → i < length xs �
 unfolding unprotected
 kept-more xs i true h =
     at_drop_more first_kept xs i 0 h
-    ∙ by_cases (get_or xs i 0 == 92) (λ b. get_or xs i 0 ∷ unprotected (drop (i + 1) xs) ≡ (if b && false then [] else get_or xs i 0 ∷ []) ++ kept_of (b && false) (drop (i + 1) xs)) (λ e. refl) (λ e. refl)
+    ∙ by_cases (get_or xs i 0 == octet_of "\\") (λ b. get_or xs i 0 ∷ unprotected (drop (i + 1) xs) ≡ (if b && false then [] else get_or xs i 0 ∷ []) ++ kept_of (b && false) (drop (i + 1) xs)) (λ e. refl) (λ e. refl)
 kept-more xs i false h =
     at_drop_more unprotected xs i 0 h
-    ∙ by_cases (get_or xs i 0 == 92) (λ b. (if b then first_kept (drop (i + 1) xs) else get_or xs i 0 ∷ unprotected (drop (i + 1) xs)) ≡ (if b && true then [] else get_or xs i 0 ∷ []) ++ kept_of (b && true) (drop (i + 1) xs)) (λ e. refl) (λ e. refl)
+    ∙ by_cases (get_or xs i 0 == octet_of "\\") (λ b. (if b then first_kept (drop (i + 1) xs) else get_or xs i 0 ∷ unprotected (drop (i + 1) xs)) ≡ (if b && true then [] else get_or xs i 0 ∷ []) ++ kept_of (b && true) (drop (i + 1) xs)) (λ e. refl) (λ e. refl)
 
 pub kept-end : (xs : List ℕ) (i : ℕ) (protected : Bool) → length xs ≤ i → kept_of protected (drop i xs) ≡ []
 unfolding unprotected
@@ -87,9 +87,9 @@ unfolding unprotected with_cr
 plain_kept [] after_cr e = refl
 plain_kept (c ∷ cs) after_cr e =
     let here = nor_left (is_changed c) (list_any is_changed cs) e in
-    ap (λ b. unprotected ((if b && not after_cr then 13 ∷ 10 ∷ [] else c ∷ []) ++ with_cr (c == 13) cs)) (nor_left (c == 10) (c == 92) here)
-    ∙ ap (λ b. if b then first_kept (with_cr (c == 13) cs) else c ∷ unprotected (with_cr (c == 13) cs)) (nor_right (c == 10) (c == 92) here)
-    ∙ ap (λ x. c ∷ x) (plain_kept cs (c == 13) (nor_right (is_changed c) (list_any is_changed cs) e))
+    ap (λ b. unprotected ((if b && not after_cr then octet_of "\r" ∷ octet_of "\n" ∷ [] else c ∷ []) ++ with_cr (c == octet_of "\r") cs)) (nor_left (c == octet_of "\n") (c == octet_of "\\") here)
+    ∙ ap (λ b. if b then first_kept (with_cr (c == octet_of "\r") cs) else c ∷ unprotected (with_cr (c == octet_of "\r") cs)) (nor_right (c == octet_of "\n") (c == octet_of "\\") here)
+    ∙ ap (λ x. c ∷ x) (plain_kept cs (c == octet_of "\r") (nor_right (is_changed c) (list_any is_changed cs) e))
 
 pub plain_string : (symbol : List ℕ) → list_any is_changed (slice_range symbol 1 (length symbol - 1)) ≡ false → quoted_octets symbol ≡ slice_range symbol 1 (length symbol - 1)
 unfolding quoted_octets

@@ -1,4 +1,5 @@
 -- The computed cut is the one cut.
+use Rattle.sieve_base.specs.Octet.{octet_of}
 use Rattle.std.proofs.Common.{◌≡◌, ℕ, zero, suc, ◌+◌, Bool, true, false, ◌&&◌, ◌==◌, cond, List, [], ◌∷◌, ◌++◌, length, drop, Option, None, Some, refl, sym, ◌∙◌, ap, subst, append_assoc, length-append, arith}
 use Rattle.std.specs.List.{list_all}
 use Rattle.std.specs.Option.{option_map}
@@ -10,24 +11,24 @@ use Rattle.sieve_base.proofs.Both.{first_of_both, last_of_both}
 
 -- in front of a brace
 
-pub before_brace-is : (inside rest : List ℕ) → list_all is_inside inside ≡ true → before_brace (inside ++ 125 ∷ rest) ≡ Some inside
+pub before_brace-is : (inside rest : List ℕ) → list_all is_inside inside ≡ true → before_brace (inside ++ octet_of "}" ∷ rest) ≡ Some inside
 unfolding before_brace
 before_brace-is [] rest is = refl
 before_brace-is (c ∷ cs) rest is =
     let here : is_inside c ≡ true = first_of_both (is_inside c) (list_all is_inside cs) is in
     let behind = before_brace-is cs rest (last_of_both (is_inside c) (list_all is_inside cs) is) in
-    ap (λ b. cond b (Some []) (cond (is_inside c) (option_map (λ inside. c ∷ inside) (before_brace (cs ++ 125 ∷ rest))) None)) (not_brace c here)
-    ∙ ap (λ b. cond b (option_map (λ inside. c ∷ inside) (before_brace (cs ++ 125 ∷ rest))) None) here
+    ap (λ b. cond b (Some []) (cond (is_inside c) (option_map (λ inside. c ∷ inside) (before_brace (cs ++ octet_of "}" ∷ rest))) None)) (not_brace c here)
+    ∙ ap (λ b. cond b (option_map (λ inside. c ∷ inside) (before_brace (cs ++ octet_of "}" ∷ rest))) None) here
     ∙ ap (option_map (λ inside. c ∷ inside)) behind
 
 -- a text with what stands before its brace
 abbrev EndsIn : List ℕ → List ℕ → Type 0
-EndsIn text inside = text ≡ inside ++ 125 ∷ drop (suc (length inside)) text
+EndsIn text inside = text ≡ inside ++ octet_of "}" ∷ drop (suc (length inside)) text
 
-brace_step : (c : ℕ) (cs inside : List ℕ) (b d : Bool) (found : Option (List ℕ)) → (c == 125) ≡ b → ((within : List ℕ) → found ≡ Some within → EndsIn cs within) → cond b (Some []) (cond d (option_map (λ within. c ∷ within) found) None) ≡ Some inside → EndsIn (c ∷ cs) inside
+brace_step : (c : ℕ) (cs inside : List ℕ) (b d : Bool) (found : Option (List ℕ)) → (c == octet_of "}") ≡ b → ((within : List ℕ) → found ≡ Some within → EndsIn cs within) → cond b (Some []) (cond d (option_map (λ within. c ∷ within) found) None) ≡ Some inside → EndsIn (c ∷ cs) inside
 brace_step c cs inside true d found brace behind is =
     let none : [] ≡ inside = cc in
-    let same : c ≡ 125 = eqb-true c 125 brace in
+    let same : c ≡ octet_of "}" = eqb-true c (octet_of "}") brace in
     subst (EndsIn (c ∷ cs)) none (ap (λ first. first ∷ cs) same)
 brace_step c cs inside false true None brace behind is = absurd cc
 brace_step c cs inside false true (Some within) brace behind is =
@@ -39,27 +40,27 @@ pub before_brace-ends : (text inside : List ℕ) → before_brace text ≡ Some 
 unfolding before_brace
 before_brace-ends [] inside is = absurd cc
 before_brace-ends (c ∷ cs) inside is =
-    brace_step c cs inside (c == 125) (is_inside c) (before_brace cs) refl (λ within found. before_brace-ends cs within found) is
+    brace_step c cs inside (c == octet_of "}") (is_inside c) (before_brace cs) refl (λ within found. before_brace-ends cs within found) is
 
 -- at the beginning of a text
 
 legal_is : (inside : List ℕ) → is_legal (words_of inside) ≡ true → if_legal (Some inside) ≡ Some inside
 legal_is inside legal = ap (λ b. cond b (Some inside) None) legal
 
-pub inside_at-written : (words : List (List ℕ)) (rest : List ℕ) → is_legal words ≡ true → inside_at (36 ∷ 123 ∷ (dotted words ++ 125 ∷ rest)) ≡ Some (dotted words)
+pub inside_at-written : (words : List (List ℕ)) (rest : List ℕ) → is_legal words ≡ true → inside_at (octet_of "$" ∷ octet_of "{" ∷ (dotted words ++ octet_of "}" ∷ rest)) ≡ Some (dotted words)
 unfolding inside_at
 inside_at-written words rest legal =
     let octets = legal_octets words legal in
     ap if_legal (before_brace-is (dotted words) rest (dotted_inside words octets))
     ∙ legal_is (dotted words) (ap is_legal (words_of-dotted words (legal_some words legal) octets) ∙ legal)
 
-pub written-is : (words : List (List ℕ)) (rest : List ℕ) → written words ++ rest ≡ 36 ∷ 123 ∷ (dotted words ++ 125 ∷ rest)
-written-is words rest = ap (λ text. 36 ∷ 123 ∷ text) (append_assoc (dotted words) (125 ∷ []) rest)
+pub written-is : (words : List (List ℕ)) (rest : List ℕ) → written words ++ rest ≡ octet_of "$" ∷ octet_of "{" ∷ (dotted words ++ octet_of "}" ∷ rest)
+written-is words rest = ap (λ text. 36 ∷ octet_of "{" ∷ text) (append_assoc (dotted words) (octet_of "}" ∷ []) rest)
 
 -- a text that begins with a reference, by what stands inside it
 record BeginsWith (text inside : List ℕ) : Type 0 where
   pub legal : is_legal (words_of inside) ≡ true
-  pub is : text ≡ 36 ∷ 123 ∷ (inside ++ 125 ∷ drop (suc (length inside)) (drop 2 text))
+  pub is : text ≡ octet_of "$" ∷ octet_of "{" ∷ (inside ++ octet_of "}" ∷ drop (suc (length inside)) (drop 2 text))
 
 legal_step : (inside within : List ℕ) (b : Bool) → is_legal (words_of within) ≡ b → cond b (Some within) None ≡ Some inside → (is_legal (words_of inside) ≡ true) × (within ≡ inside)
 legal_step inside within true legal is =
@@ -73,17 +74,17 @@ if_legal-is inside (Some within) is =
     let step = legal_step inside within (is_legal (words_of within)) refl is in
     (step.0, ap Some step.1)
 
-sign_step : (c d : ℕ) (rest inside : List ℕ) (b : Bool) → (c == 36 && d == 123) ≡ b → cond b (if_legal (before_brace rest)) None ≡ Some inside → BeginsWith (c ∷ d ∷ rest) inside
+sign_step : (c d : ℕ) (rest inside : List ℕ) (b : Bool) → (c == octet_of "$" && d == octet_of "{") ≡ b → cond b (if_legal (before_brace rest)) None ≡ Some inside → BeginsWith (c ∷ d ∷ rest) inside
 sign_step c d rest inside true signs is =
     let found = if_legal-is inside (before_brace rest) is in
-    let first = eqb-true c 36 (first_of_both (c == 36) (d == 123) signs) in
-    let second = eqb-true d 123 (last_of_both (c == 36) (d == 123) signs) in
+    let first = eqb-true c (octet_of "$") (first_of_both (c == octet_of "$") (d == octet_of "{") signs) in
+    let second = eqb-true d (octet_of "{") (last_of_both (c == octet_of "$") (d == octet_of "{") signs) in
     record {
       legal = found.0;
       is =
           ap (λ one. one ∷ d ∷ rest) first
           ∙ ap (λ one. 36 ∷ one ∷ rest) second
-          ∙ ap (λ text. 36 ∷ 123 ∷ text) (before_brace-ends rest inside found.1);
+          ∙ ap (λ text. 36 ∷ octet_of "{" ∷ text) (before_brace-ends rest inside found.1);
     }
 sign_step c d rest inside false signs is = absurd cc
 
@@ -91,7 +92,7 @@ inside_at-begins : (text inside : List ℕ) → inside_at text ≡ Some inside �
 unfolding inside_at
 inside_at-begins [] inside is = absurd cc
 inside_at-begins (c ∷ []) inside is = absurd cc
-inside_at-begins (c ∷ d ∷ rest) inside is = sign_step c d rest inside (c == 36 && d == 123) refl is
+inside_at-begins (c ∷ d ∷ rest) inside is = sign_step c d rest inside (c == octet_of "$" && d == octet_of "{") refl is
 
 -- what stands behind the reference with which a text begins
 abbrev behind : List ℕ → List ℕ → List ℕ
@@ -100,7 +101,7 @@ behind inside text = drop (suc (length inside)) (drop 2 text)
 written_at : (text inside : List ℕ) → BeginsWith text inside → text ≡ written (words_of inside) ++ behind inside text
 written_at text inside begins =
     begins.is
-    ∙ ap (λ one. 36 ∷ 123 ∷ (one ++ 125 ∷ behind inside text)) (sym (dotted-words_of inside))
+    ∙ ap (λ one. 36 ∷ octet_of "{" ∷ (one ++ octet_of "}" ∷ behind inside text)) (sym (dotted-words_of inside))
     ∙ sym (written-is (words_of inside) (behind inside text))
 
 begins_at : (text inside : List ℕ) → BeginsWith text inside → BeginsWithReference text
@@ -144,7 +145,7 @@ pieces-reference c rest inside is =
     ap (λ found. first_piece c found ∷ pieces_from (further_octets found) rest) is
     ∙ ap (λ pieces. reference (words_of inside) ∷ pieces) (pieces_from-drop (length inside + 2) rest)
 
-drop_inside : (inside rest : List ℕ) → drop (suc (length inside)) (inside ++ 125 ∷ rest) ≡ rest
+drop_inside : (inside rest : List ℕ) → drop (suc (length inside)) (inside ++ octet_of "}" ∷ rest) ≡ rest
 drop_inside [] rest = refl
 drop_inside (c ∷ cs) rest = drop_inside cs rest
 
@@ -155,8 +156,8 @@ pieces-written : (words : List (List ℕ)) (rest : List ℕ) → is_legal words 
 pieces-written words rest legal =
     let same : words_of (dotted words) ≡ words = words_of-dotted words (legal_some words legal) (legal_octets words legal) in
     ap (pieces_from 0) (written-is words rest)
-    ∙ pieces-reference 36 (123 ∷ (dotted words ++ 125 ∷ rest)) (dotted words) (inside_at-written words rest legal)
-    ∙ ap (λ n. reference (words_of (dotted words)) ∷ pieces_from 0 (drop n (123 ∷ (dotted words ++ 125 ∷ rest)))) (two_more (length (dotted words)))
+    ∙ pieces-reference (octet_of "$") (octet_of "{" ∷ (dotted words ++ octet_of "}" ∷ rest)) (dotted words) (inside_at-written words rest legal)
+    ∙ ap (λ n. reference (words_of (dotted words)) ∷ pieces_from 0 (drop n (octet_of "{" ∷ (dotted words ++ octet_of "}" ∷ rest)))) (two_more (length (dotted words)))
     ∙ ap (λ text. reference (words_of (dotted words)) ∷ pieces_from 0 text) (drop_inside (dotted words) rest)
     ∙ ap (λ one. reference one ∷ pieces_from 0 rest) same
 
@@ -202,5 +203,5 @@ inside_written text inside is = written_at text inside (inside_at-begins text in
 
 pub length-written : (inside : List ℕ) → length (written (words_of inside)) ≡ length inside + 3
 length-written inside =
-    let whole : length (dotted (words_of inside) ++ 125 ∷ []) ≡ length inside + 1 = omega (arith, length-append (dotted (words_of inside)) (125 ∷ []), ap length (dotted-words_of inside)) in
+    let whole : length (dotted (words_of inside) ++ octet_of "}" ∷ []) ≡ length inside + 1 = omega (arith, length-append (dotted (words_of inside)) (octet_of "}" ∷ []), ap length (dotted-words_of inside)) in
     omega arith

@@ -1,4 +1,5 @@
 -- What modifiers keep: the number of characters, and the octets of the front.
+use Rattle.sieve_base.specs.Octet.{octet_of}
 use Rattle.std.proofs.Common.{◌≡◌, ℕ, ◌+◌, ◌≤◌, ◌<◌, List, [], ◌∷◌, ◌++◌, Bool, true, false, not, Option, Some, None, cond, if◌then◌else◌, filter, length, map, take, set, get_or, decimal, zero, suc, ◌^◌, refl, ap, sym, ◌∙◌, arith}
 use Rattle.std.proofs.lemmas.Bool.Decides.{nat_tests}
 use Rattle.std.proofs.lemmas.Fmt.{length-decimal-le}
@@ -88,7 +89,7 @@ with_one false c a d n e = e
 
 -- an octet in front, which is quoted if it is wild: so does `\` begin a character, and is one
 quoted_one : (wild : Bool) (c : ℕ) (cs : List ℕ) → character_count (flat_map quoted_wildcard cs) ≡ character_count cs + length (filter is_wild cs)
-    → character_count ((if wild then 92 ∷ c ∷ [] else c ∷ []) ++ flat_map quoted_wildcard cs) ≡ character_count (c ∷ cs) + length (cond wild (c ∷ filter is_wild cs) (filter is_wild cs))
+    → character_count ((if wild then octet_of "\\" ∷ c ∷ [] else c ∷ []) ++ flat_map quoted_wildcard cs) ≡ character_count (c ∷ cs) + length (cond wild (c ∷ filter is_wild cs) (filter is_wild cs))
 quoted_one true c cs rest =
     let one = with_one (not (goes_on c)) c (filter (λ d. not (goes_on d)) (flat_map quoted_wildcard cs)) (filter (λ d. not (goes_on d)) cs) (length (filter is_wild cs)) rest in omega (arith, one)
 quoted_one false c cs rest = with_one (not (goes_on c)) c (filter (λ d. not (goes_on d)) (flat_map quoted_wildcard cs)) (filter (λ d. not (goes_on d)) cs) (length (filter is_wild cs)) rest
@@ -132,8 +133,8 @@ front-quoted (c ∷ cs) zero (suc n) within = absurd (omega arith)
 front-quoted (c ∷ cs) (suc k) n within = by (is_wild c) (front-quoted cs k)
   where
     by : (wild : Bool) → ((m : ℕ) → m ≤ k → take m (flat_map quoted_wildcard (take k cs)) ≡ take m (flat_map quoted_wildcard cs))
-        → take n ((if wild then 92 ∷ c ∷ [] else c ∷ []) ++ flat_map quoted_wildcard (take k cs)) ≡ take n ((if wild then 92 ∷ c ∷ [] else c ∷ []) ++ flat_map quoted_wildcard cs)
-    by true all = front-cons 92 (suc k) _ _ (front-cons c k _ _ all) n (omega arith)
+        → take n ((if wild then octet_of "\\" ∷ c ∷ [] else c ∷ []) ++ flat_map quoted_wildcard (take k cs)) ≡ take n ((if wild then octet_of "\\" ∷ c ∷ [] else c ∷ []) ++ flat_map quoted_wildcard cs)
+    by true all = front-cons (octet_of "\\") (suc k) _ _ (front-cons c k _ _ all) n (omega arith)
     by false all = front-cons c k _ _ all n within
 
 -- no number has more digits than a value may have octets

@@ -1,4 +1,5 @@
 -- What is done to the keys of a set of names is done to the names.
+use Rattle.sieve_base.specs.Octet.{is_among}
 use Rattle.std.proofs.Common.{◌≡◌, ℕ, List, [], ◌∷◌, ◌++◌, Bool, true, false, ◌||◌, if◌then◌else◌, nat_eq, refl, sym, ap, ◌∙◌}
 use Rattle.std.proofs.lemmas.List.{map-append}
 use Rattle.std.specs.declared.alloc.Global.{Global}
@@ -7,7 +8,7 @@ use Rattle.std.specs.List.{list_any}
 use Rattle.indexmap.specs.IndexSet.{insert_key}
 use lib.Pointwise.{pointwise}
 use Rattle.sieve_variables.specs.view.Names.{names_of}
-use Rattle.sieve_variables.specs.Variable.{is_among, with_name}
+use Rattle.sieve_variables.specs.Variable.{with_name}
 
 -- a name is among them where its key is
 among_names : (name : List ℕ) (keys : List (Vec ℕ Global)) → is_among name (names_of keys) ≡ list_any (λ k. pointwise nat_eq name k.items) keys

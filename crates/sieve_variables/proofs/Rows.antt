@@ -30,7 +30,7 @@ zeros_row : parts_of_text (codes "${007}") ≡ match_part 7 ∷ []
 unfolding before_brace inside_at pieces_from
 zeros_row = refl
 
-far_row : parts_of_text (codes "${123456}") ≡ match_part 100 ∷ []
+far_row : parts_of_text (codes "${123456}") ≡ match_part (octet_of "d") ∷ []
 unfolding before_brace inside_at pieces_from
 far_row = refl
 

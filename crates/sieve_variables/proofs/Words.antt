@@ -5,7 +5,7 @@ use Rattle.std.proofs.lemmas.Bool.{false≢true}
 use Rattle.std.proofs.lemmas.Bool.Decides.{nat_tests}
 use Rattle.std.proofs.lemmas.List.Folds.{list_all-append}
 use Rattle.std.proofs.lemmas.List.Splits.{length-slice_split}
-use Rattle.sieve_base.specs.Octet.{begins_name, is_digit, is_name_octet}
+use Rattle.sieve_base.specs.Octet.{begins_name, is_digit, is_name_octet, octet_of}
 use Rattle.std.specs.Str.{str_eq_ignore_ascii_case}
 use Rattle.sieve_variables.specs.Name.{folded_name, global_namespace, index_of, is_identifier, is_number}
 use Rattle.sieve_variables.specs.Part.{global_part, is_shared, literal, part_of_words}
@@ -18,7 +18,7 @@ use Rattle.sieve_base.proofs.Both.{both, first_of_both, last_of_both}
 pub not_dot : (c : ℕ) → is_name_octet c ≡ true → is_dot c ≡ false
 not_dot c is = grind (arith, nat_tests)
 
-pub not_brace : (c : ℕ) → is_inside c ≡ true → (c == 125) ≡ false
+pub not_brace : (c : ℕ) → is_inside c ≡ true → (c == octet_of "}") ≡ false
 not_brace c is = grind (arith, nat_tests)
 
 either_inside : (a b : Bool) → a ≡ true → (a || b) ≡ true
@@ -52,10 +52,10 @@ dotted_inside (word ∷ words) is =
 split_onto : (c : ℕ) (rest : List ℕ) → is_name_octet c ≡ true → words_of (c ∷ rest) ≡ onto_first c (words_of rest)
 split_onto c rest is = ap (λ b. cond b ([] ∷ words_of rest) (onto_first c (words_of rest))) (not_dot c is)
 
-split_at_dot : (word rest : List ℕ) → list_all is_name_octet word ≡ true → words_of (word ++ 46 ∷ rest) ≡ word ∷ words_of rest
+split_at_dot : (word rest : List ℕ) → list_all is_name_octet word ≡ true → words_of (word ++ octet_of "." ∷ rest) ≡ word ∷ words_of rest
 split_at_dot [] rest is = refl
 split_at_dot (c ∷ cs) rest is =
-    split_onto c (cs ++ 46 ∷ rest) (first_of_both (is_name_octet c) (list_all is_name_octet cs) is)
+    split_onto c (cs ++ octet_of "." ∷ rest) (first_of_both (is_name_octet c) (list_all is_name_octet cs) is)
     ∙ ap (onto_first c) (split_at_dot cs rest (last_of_both (is_name_octet c) (list_all is_name_octet cs) is))
 
 split_last : (word : List ℕ) → list_all is_name_octet word ≡ true → words_of (word ++ []) ≡ word ∷ []
@@ -75,14 +75,14 @@ dotted-onto : (c : ℕ) (words : List (List ℕ)) → dotted (onto_first c words
 dotted-onto c [] = refl
 dotted-onto c (word ∷ words) = refl
 
-dots_before : (words : List (List ℕ)) → 0 < length words → flat_map (λ further. 46 ∷ further) words ≡ 46 ∷ dotted words
+dots_before : (words : List (List ℕ)) → 0 < length words → flat_map (λ further. 46 ∷ further) words ≡ octet_of "." ∷ dotted words
 dots_before [] some = absurd (omega arith)
 dots_before (word ∷ words) some = refl
 
 dotted_step : (c : ℕ) (rest : List ℕ) (b : Bool) → is_dot c ≡ b → dotted (words_of rest) ≡ rest → dotted (cond b ([] ∷ words_of rest) (onto_first c (words_of rest))) ≡ c ∷ rest
 dotted_step c rest true is behind =
     let some : 0 < length (words_of rest) = omega (arith, length-slice_split is_dot rest) in
-    let dot : c ≡ 46 = grind (arith, nat_tests) in
+    let dot : c ≡ octet_of "." = grind (arith, nat_tests) in
     dots_before (words_of rest) some ∙ ap (λ further. 46 ∷ further) behind ∙ ap (λ first. first ∷ rest) (sym dot)
 dotted_step c rest false is behind = dotted-onto c (words_of rest) ∙ ap (λ further. c ∷ further) behind
 

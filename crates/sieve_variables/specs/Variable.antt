@@ -1,8 +1,7 @@
 -- Variables by their names in lower case: those of a script (RFC 5229, section 3), and those that scripts share (RFC 6609,
 -- section 3.4).
-use Rattle.std.specs.Prelude.{ℕ, Bool, List, [], ◌∷◌, ◌++◌, length, drop, nat_eq, if◌then◌else◌}
-use Rattle.std.specs.List.{list_any}
-use lib.Pointwise.{pointwise}
+use Rattle.sieve_base.specs.Octet.{is_among}
+use Rattle.std.specs.Prelude.{ℕ, List, [], ◌∷◌, ◌++◌, length, drop, if◌then◌else◌}
 use Rattle.sieve_variables.specs.Name.{folded_name, global_prefix, is_global_name}
 
 pub data Variable : Type 0 where
@@ -12,10 +11,6 @@ pub data Variable : Type 0 where
 -- the variable of a name that a command or a test has: behind `global.` it is one that scripts share (RFC 6609, section 3.4.2)
 abbrev pub variable_named : List ℕ → Variable
 variable_named name = if is_global_name name then global_variable (folded_name (drop (length global_prefix) name)) else local_variable (folded_name name)
-
--- whether a name in lower case is among such names
-abbrev pub is_among : List ℕ → List (List ℕ) → Bool
-is_among name names = list_any (pointwise nat_eq name) names
 
 -- these names and one more, each once
 abbrev pub with_name : List ℕ → List (List ℕ) → List (List ℕ)

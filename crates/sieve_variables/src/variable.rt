@@ -1,6 +1,7 @@
 //! Variables by their names (RFC 5229, section 3; RFC 6609, section 3.4).
+ghost use Rattle.sieve_base.specs.Octet.{is_among};
 ghost use Rattle.std.specs.Prelude.{◌≡◌, [], IfOk, OnErr, OnOk};
-ghost use Rattle.sieve_variables.specs.Variable.{is_among, scoped, variable_named, with_name};
+ghost use Rattle.sieve_variables.specs.Variable.{scoped, variable_named, with_name};
 ghost use Rattle.sieve_variables.specs.view.Part.{variable_of};
 
 use crate::name::{folded, global_name};

@@ -24,20 +24,20 @@ Knows input remaining = IsTrue input.ended → IsAtEnd remaining
 abbrev pub fuel : Input → ℕ
 fuel input = input.turns * (capacity + 1) + length input.pending
 
--- Each turn that was taken gave an octet or counted a fault, where the device tells what it has left. A count that stands at the
--- greatest u64 counts no more.
+-- No more turns were taken than octets were given and faults counted, where the device tells what it has left. A count that stands
+-- at the greatest u64 counts no more.
 abbrev pub TurnsGave : ℕ → ℕ → Option (List ℕ) → Option (List ℕ) → ℕ → ℕ → Type 0
 TurnsGave before after None left faults faults' = ⊤
 TurnsGave before after (Some stream) None faults faults' = ⊥
 TurnsGave before after (Some stream) (Some left) faults faults' =
     (length left ≤ length stream) × ((before + length left + faults ≤ after + length stream + faults') ⊎ (2 ^ 64 - 1 ≤ faults'))
 
--- Each turn that was taken is a call of the device. A count that stands at the greatest u64 counts no more.
+-- As many turns were taken as calls of the device were made. A count that stands at the greatest u64 counts no more.
 abbrev pub CallsMade : ℕ → ℕ → ℕ → ℕ → Type 0
 CallsMade before after calls calls' = (after ≤ before) × (calls' + after ≤ calls + before) × ((calls + before ≤ calls' + after) ⊎ (2 ^ 64 - 1 ≤ calls'))
 
--- Between two states of an input and of the device that it reads, each turn that was taken was a call of the device, and where none has
--- come to the end, each gave an octet or counted a fault.
+-- Between two states of an input and of the device that it reads as many turns were taken as calls of the device were made and, where
+-- none has come to the end, no more than octets were given and faults counted.
 pub record Reads {S : Type 0} (remaining : S → Option (List ℕ)) (fault_count call_count : S → ℕ) (before after : Input) (old new : S) : Type 0 where
   pub faults_kept : fault_count old ≤ fault_count new
   pub calls_made : CallsMade before.turns after.turns (call_count old) (call_count new)

@@ -1,5 +1,6 @@
+use Rattle.sieve_base.specs.Octet.{is_filled}
 use Rattle.std.proofs.Common.{◌≡◌, ◌++◌, drop, filter}
-use Rattle.match_text.specs.Flags.{flag_keys, is_filled}
+use Rattle.match_text.specs.Flags.{flag_keys}
 use Rattle.match_text.specs.view.Segment.{texts_of}
 use Rattle.sieve_base.specs.view.Texts.{octets_of_each}
 use Rattle.match_text.proofs.sought_flags.push_keys.Given as goal

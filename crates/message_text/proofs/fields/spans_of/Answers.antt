@@ -1,7 +1,8 @@
+use Rattle.sieve_base.specs.Octet.{is_filled}
 use Rattle.std.proofs.Common.{◌≡◌, ◌++◌, List, [], slice_range, drop, map, sym, ap, ◌∙◌, append_assoc, arith}
 use Rattle.std.specs.Str.Lines.{lines}
 use Rattle.std.proofs.lemmas.List.{drop_all}
-use Rattle.message_text.specs.Fields.{Group, field_groups, is_filled}
+use Rattle.message_text.specs.Fields.{Group, field_groups}
 use Rattle.message_text.specs.view.Spans.{field_here, group_at}
 use Rattle.message_text.proofs.GroupLemmas.{are_spans, field_groups-end, field_groups-first, field_groups-nil, slice-empty, slice-filled}
 use Rattle.message_text.proofs.fields.spans_of.Goals.{else-loop-start-test, then-loop-start-test+then-line-start}

@@ -1,3 +1,4 @@
+use Rattle.sieve_base.specs.Octet.{octet_of}
 use Rattle.std.proofs.Common.{◌≡◌, ℕ, ◌+◌, ◌-◌, ◌<◌, ◌≤◌, List, take, length, arith, ap, ◌∙◌, get_or, eqb, cond, ◌≢◌, refl}
 use Rattle.std.proofs.lemmas.Bool.Decides.{nat_tests}
 use Rattle.session_text.specs.SessionLine.{without_cr}
@@ -6,15 +7,15 @@ use Rattle.session_text.proofs.line.len_without_cr.Goals as goal
 use Rattle.session_text.proofs.line.len_without_cr.Goals.{else-end-gt0-via-then-end-gt0+else-octets-end-eq13, else-end-gt0-via-else-end-gt0}
 
 -- a CR before the place
-with_cr : (bs : List ℕ) (end : ℕ) → 0 < end → end ≤ length bs → get_or bs (end - 1) 0 ≡ 13 → without_cr (take end bs) ≡ take (end - 1) bs
+with_cr : (bs : List ℕ) (end : ℕ) → 0 < end → end ≤ length bs → get_or bs (end - 1) 0 ≡ octet_of "\r" → without_cr (take end bs) ≡ take (end - 1) bs
 with_cr bs end some within is =
     let i = end - 1 in
     let e : end ≡ i + 1 = omega arith in
     let step = without_cr-take bs i (omega arith) in
-    ap (λ n. without_cr (take n bs)) e ∙ step ∙ ap (λ b. cond (eqb b 13) (take i bs) (take (i + 1) bs)) is
+    ap (λ n. without_cr (take n bs)) e ∙ step ∙ ap (λ b. cond (eqb b (octet_of "\r")) (take i bs) (take (i + 1) bs)) is
 
 -- another octet before the place
-without : (bs : List ℕ) (end : ℕ) → 0 < end → end ≤ length bs → get_or bs (end - 1) 0 ≢ 13 → without_cr (take end bs) ≡ take end bs
+without : (bs : List ℕ) (end : ℕ) → 0 < end → end ≤ length bs → get_or bs (end - 1) 0 ≢ octet_of "\r" → without_cr (take end bs) ≡ take end bs
 without bs end some within is =
     let i = end - 1 in
     let e : end ≡ i + 1 = omega arith in
