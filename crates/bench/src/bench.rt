@@ -20,7 +20,7 @@ use crate::marking::{forget_all, forget_readers};
 use crate::message::message_of;
 use crate::messages::{expect, put};
 use crate::refusal::{
-    is_long, refuse_absent, refuse_envelope, refuse_expected, refuse_mailbox, refuse_main,
+    refuse_absent, refuse_envelope, refuse_expected, refuse_mailbox, refuse_main,
     refuse_message, refuse_remove_script, refuse_rename, refuse_script,
 };
 use crate::report::{is_clean, run_stale, write_report};
@@ -28,7 +28,7 @@ use crate::scripts::Scripts;
 use crate::sought::{SoughtId, remove_sought};
 use indexmap::IndexMap;
 use sieve_base::{Octets, ScriptName, Sink};
-use sieve_run::{Envelope, Found, Library, Meter, Outcome};
+use sieve_run::{Envelope, Found, Meter, Outcome, find};
 use std::alloc::{AllocError, Global};
 use std::collections::BTreeMap;
 use std::marker::Model;
@@ -370,10 +370,6 @@ impl Bench {
     pub fn code(&self, name: &ScriptName) -> Found<'_>
         ensures { FoundAs result (found_at (library_of (text_at self.now.content.scripts)) name.now) }
     {
-        if is_long(&name.name) {
-            Found::Missing
-        } else {
-            self.scripts.find(name)
-        }
+        find(&self.scripts, name)
     }
 }

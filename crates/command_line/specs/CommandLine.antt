@@ -46,15 +46,15 @@ test_shape = record (new_shape (codes "test")) {
 abbrev pub envelope_rules : List Rule
 envelope_rules = letter_rule (codes "from") (code "f") ∷ name_rule (codes "to") ∷ []
 
--- its option for the mailbox
+-- the option of a test for the mailbox
 abbrev pub mailbox_rules : List Rule
 mailbox_rules = letter_rule (codes "mailbox") (code "m") ∷ []
 
--- its options for folders of scripts
+-- the options of a test for folders of scripts
 abbrev pub folder_rules : List Rule
 folder_rules = name_rule (codes "personal") ∷ name_rule (codes "global") ∷ []
 
--- its files
+-- the files of a test
 abbrev pub file_rules : List Rule
 file_rules = path_rule (codes "script") ∷ path_rule (codes "mail") ∷ []
 

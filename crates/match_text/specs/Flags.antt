@@ -41,11 +41,11 @@ has_flag flags flag = list_any (same ascii_casemap flag) flags
 abbrev pub has_key : (ℕ → ℕ) → List (List ℕ) → List ℕ → Bool
 has_key fold flags key = list_any (λ flag. same fold flag key) flags
 
--- no two are the same
+-- no two flags are the same
 abbrev pub AreDistinct : List (List ℕ) → Type 0
 AreDistinct flags = IsDistinct (same ascii_casemap) flags
 
--- those that are the same as no member of the others
+-- the flags that are the same as no member of the others
 unfoldable pub flags_without : List (List ℕ) → (others : List (List ℕ)) → List (List ℕ)
 flags_without flags others = filter (λ flag. not (has_flag others flag)) flags
 

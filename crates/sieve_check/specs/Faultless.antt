@@ -5,6 +5,6 @@ use Rattle.sieve_check.specs.Breach.{breaches_of}
 use Rattle.sieve_check.specs.Parted.{parted}
 use Rattle.sieve_reading.specs.Tree.{Node}
 
--- they are those of a text's tree without a breach
+-- commands are those of a text's tree without a breach
 abbrev pub AreFaultless : List Node → Type 0
 AreFaultless commands = (tree : List syntax.Node) × (breaches_of tree ≡ []) × (commands ≡ parted tree)

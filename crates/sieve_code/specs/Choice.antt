@@ -38,7 +38,7 @@ unfoldable mutual
   test_before (test name line args ts) behind =
       reading_before (test_reading (test name line args ts)) (tests_before false ts) (tests_before true ts) (first_before ts) behind
 
-  -- those of all tests: behind each but the last, a jump past the last one where it comes to that truth; without a test, the
+  -- the operations of all tests: behind each but the last, a jump past the last one where it comes to that truth; without a test, the
   -- other truth
   pub tests_before : Bool → Tests → Tail → Tail
   tests_before truth no_tests behind = set_op (not truth) ∷ behind
@@ -50,7 +50,7 @@ unfoldable mutual
   list_before truth end_tests behind = behind
   list_before truth (more_tests t ts) behind = test_before t (joint truth ts behind (list_before truth ts behind))
 
-  -- those of the first test; without one, false
+  -- the operations of the first test; without one, false
   pub first_before : Tests → Tail → Tail
   first_before no_tests behind = set_op false ∷ behind
   first_before (one_test t) behind = test_before t behind

@@ -5,12 +5,12 @@ use Rattle.sieve_code.specs.Choice.{code_of}
 use Rattle.sieve_code.specs.Operation.{Operation}
 use Rattle.sieve_code.specs.Walk.{code_walk, tree_walk}
 
--- they are those that are chosen for it, and in at most as many turns as there are operations they do what it does
+-- operations are those that are chosen for a tree, and in at most as many turns as there are operations they do what it does
 pub record Compiles (tree : List Node) (ops : List Operation) : Type 0 where
   pub chosen : ops ≡ code_of tree
   pub does : code_walk ops (length ops) ≡ tree_walk tree
 
--- they are the code of some tree
+-- operations are the code of some tree
 pub record IsCode (ops : List Operation) : Type 0 where
   pub tree : List Node
   pub compiles : Compiles tree ops

@@ -66,7 +66,7 @@ address_part_word address_part.Domain = codes "domain"
 unfoldable pub comparing_words : List ℕ → MatchType → Collation → List ℕ
 comparing_words test match_type collation = test ++ codes " " ++ match_word match_type ++ codes " " ++ collation_word collation
 
--- those of one that compares a part of addresses
+-- the words of a test that compares a part of addresses
 unfoldable pub address_words : List ℕ → MatchType → Collation → AddressPart → List ℕ
 address_words test match_type collation part = comparing_words test match_type collation ++ (codes " " ++ address_part_word part)
 
@@ -115,7 +115,7 @@ copy_word copy = given_word copy (codes " copy")
 unfoldable pub stored_text : Settings → List ℕ
 stored_text settings = stored_flags settings.flags ++ copy_word settings.copy
 
--- these behind a command's word
+-- what a command says beside, behind its word
 unfoldable pub worded_settings : List ℕ → Settings → List ℕ
 worded_settings word settings = word ++ stored_text settings
 

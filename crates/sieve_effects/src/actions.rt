@@ -208,7 +208,7 @@ fn lowered(place: usize, known: usize) -> usize
     if place < known { known - 1 } else { known }
 }
 
-/// The same of several numbers.
+/// Lowers each of several numbers so.
 fn lower_all(known: &mut Vec<usize>, place: usize)
     ensures { known.new.items ≡ map (lowered place) known.old.items }
 {

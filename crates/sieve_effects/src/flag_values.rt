@@ -50,7 +50,7 @@ fn find_in_flags(
     }
 }
 
-/// The same, by comparing each flag with each key.
+/// What the first flag gives that matches some key, where each flag is compared with each.
 fn find_in_each(
     alloc: Global,
     flags: &FlagList,

@@ -32,7 +32,7 @@ pub record Settings : Type 0 where
   pub flags : Option (List (List Part))
   pub copy : Bool
 
--- those of a command that says nothing beside
+-- the settings of a command that says nothing beside
 abbrev pub plain_settings : Settings
 plain_settings = record { flags = None; copy = false }
 

@@ -15,8 +15,8 @@ use sieve_effects::{Delivery, Flow, State};
 use sieve_variables::Own;
 use std::alloc::{AllocError, Global};
 
-/// What a library has at a name, where that isn't too long.
-pub(crate) fn find<'a, L: Library>(lib: &'a L, name: &ScriptName) -> Found<'a>
+/// What an `include` of a name finds in a library: a name of more than 1,024 octets is that of no script. Takes no memory.
+pub fn find<'a, L: Library>(lib: &'a L, name: &ScriptName) -> Found<'a>
     ensures { FoundAs result (found_at (library_of (L.texts lib.now)) name.now) }
 {
     if name.name.as_slice().len() > MAX_NAME {

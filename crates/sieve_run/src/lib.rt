@@ -15,6 +15,7 @@ mod script;
 mod shelf;
 mod steps;
 
+pub use including::find;
 pub use interpreter::run;
 pub use library::{Found, Library};
 pub use lines::{write_action, write_error, write_implicit, write_read};

@@ -32,7 +32,7 @@ fn opening_stop(rest: &[u8]) -> Option<usize>
     }
 }
 
-/// The same with the spaces and tabs in front.
+/// How many octets the end of an opening has, with the spaces and tabs in front.
 #[tactic(auto, using(crate::proofs::Steps::opening_steps))]
 fn opening_end(rest: &[u8]) -> Option<usize>
     ensures value { result ≡ opening_end rest.now }

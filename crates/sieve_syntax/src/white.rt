@@ -1,6 +1,7 @@
 //! White space and comments (RFC 5228, sections 2.2 and 2.3).
 
 ghost use Rattle.std.specs.Prelude.{◌≡◌, ◌<◌, ◌≤◌, length, IfSome};
+ghost use Rattle.sieve_base.specs.Octet.{octet_of};
 ghost use Rattle.sieve_syntax.specs.White.{begins_with, bracket_comment, comment_length, white_at};
 
 use crate::line::line_length;
@@ -8,7 +9,7 @@ use crate::octet::is_white;
 
 /// Whether a slash begins the octets.
 fn begins_with_slash(rest: &[u8]) -> bool
-    ensures { result ≡ begins_with 47 rest.now }
+    ensures { result ≡ begins_with (octet_of "/") rest.now }
 {
     match rest {
         [] => false,

@@ -17,7 +17,7 @@ capability_name Copy = codes "copy"
 capability_name OctetComparator = codes "comparator-i;octet"
 capability_name CasemapComparator = codes "comparator-i;ascii-casemap"
 
--- those that there are
+-- the capabilities that there are
 abbrev pub capabilities : List Capability
 capabilities = Fileinto ∷ Envelope ∷ Variables ∷ Imap4flags ∷ Include ∷ Copy ∷ OctetComparator ∷ CasemapComparator ∷ []
 

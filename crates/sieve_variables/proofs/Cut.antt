@@ -55,7 +55,7 @@ inside_at-written words rest legal =
     ∙ legal_is (dotted words) (ap is_legal (words_of-dotted words (legal_some words legal) octets) ∙ legal)
 
 pub written-is : (words : List (List ℕ)) (rest : List ℕ) → written words ++ rest ≡ octet_of "$" ∷ octet_of "{" ∷ (dotted words ++ octet_of "}" ∷ rest)
-written-is words rest = ap (λ text. 36 ∷ octet_of "{" ∷ text) (append_assoc (dotted words) (octet_of "}" ∷ []) rest)
+written-is words rest = ap (λ text. octet_of "$" ∷ octet_of "{" ∷ text) (append_assoc (dotted words) (octet_of "}" ∷ []) rest)
 
 -- a text that begins with a reference, by what stands inside it
 record BeginsWith (text inside : List ℕ) : Type 0 where
@@ -83,8 +83,8 @@ sign_step c d rest inside true signs is =
       legal = found.0;
       is =
           ap (λ one. one ∷ d ∷ rest) first
-          ∙ ap (λ one. 36 ∷ one ∷ rest) second
-          ∙ ap (λ text. 36 ∷ octet_of "{" ∷ text) (before_brace-ends rest inside found.1);
+          ∙ ap (λ one. octet_of "$" ∷ one ∷ rest) second
+          ∙ ap (λ text. octet_of "$" ∷ octet_of "{" ∷ text) (before_brace-ends rest inside found.1);
     }
 sign_step c d rest inside false signs is = absurd cc
 
@@ -101,7 +101,7 @@ behind inside text = drop (suc (length inside)) (drop 2 text)
 written_at : (text inside : List ℕ) → BeginsWith text inside → text ≡ written (words_of inside) ++ behind inside text
 written_at text inside begins =
     begins.is
-    ∙ ap (λ one. 36 ∷ octet_of "{" ∷ (one ++ octet_of "}" ∷ behind inside text)) (sym (dotted-words_of inside))
+    ∙ ap (λ one. octet_of "$" ∷ octet_of "{" ∷ (one ++ octet_of "}" ∷ behind inside text)) (sym (dotted-words_of inside))
     ∙ sym (written-is (words_of inside) (behind inside text))
 
 begins_at : (text inside : List ℕ) → BeginsWith text inside → BeginsWithReference text

@@ -31,19 +31,19 @@ word_inside (c ∷ cs) is =
     (either_inside (is_name_octet c) (is_dot c) (first_of_both (is_name_octet c) (list_all is_name_octet cs) is))
     (word_inside cs (last_of_both (is_name_octet c) (list_all is_name_octet cs) is))
 
-further_inside : (words : List (List ℕ)) → list_all (list_all is_name_octet) words ≡ true → list_all is_inside (flat_map (λ further. 46 ∷ further) words) ≡ true
+further_inside : (words : List (List ℕ)) → list_all (list_all is_name_octet) words ≡ true → list_all is_inside (flat_map (λ further. octet_of "." ∷ further) words) ≡ true
 further_inside [] is = refl
 further_inside (word ∷ words) is =
-    list_all-append is_inside word (flat_map (λ further. 46 ∷ further) words)
-    ∙ both (list_all is_inside word) (list_all is_inside (flat_map (λ further. 46 ∷ further) words))
+    list_all-append is_inside word (flat_map (λ further. octet_of "." ∷ further) words)
+    ∙ both (list_all is_inside word) (list_all is_inside (flat_map (λ further. octet_of "." ∷ further) words))
     (word_inside word (first_of_both (list_all is_name_octet word) (list_all (list_all is_name_octet) words) is))
     (further_inside words (last_of_both (list_all is_name_octet word) (list_all (list_all is_name_octet) words) is))
 
 pub dotted_inside : (words : List (List ℕ)) → list_all (list_all is_name_octet) words ≡ true → list_all is_inside (dotted words) ≡ true
 dotted_inside [] is = refl
 dotted_inside (word ∷ words) is =
-    list_all-append is_inside word (flat_map (λ further. 46 ∷ further) words)
-    ∙ both (list_all is_inside word) (list_all is_inside (flat_map (λ further. 46 ∷ further) words))
+    list_all-append is_inside word (flat_map (λ further. octet_of "." ∷ further) words)
+    ∙ both (list_all is_inside word) (list_all is_inside (flat_map (λ further. octet_of "." ∷ further) words))
     (word_inside word (first_of_both (list_all is_name_octet word) (list_all (list_all is_name_octet) words) is))
     (further_inside words (last_of_both (list_all is_name_octet word) (list_all (list_all is_name_octet) words) is))
 
@@ -75,7 +75,7 @@ dotted-onto : (c : ℕ) (words : List (List ℕ)) → dotted (onto_first c words
 dotted-onto c [] = refl
 dotted-onto c (word ∷ words) = refl
 
-dots_before : (words : List (List ℕ)) → 0 < length words → flat_map (λ further. 46 ∷ further) words ≡ octet_of "." ∷ dotted words
+dots_before : (words : List (List ℕ)) → 0 < length words → flat_map (λ further. octet_of "." ∷ further) words ≡ octet_of "." ∷ dotted words
 dots_before [] some = absurd (omega arith)
 dots_before (word ∷ words) some = refl
 
@@ -83,7 +83,7 @@ dotted_step : (c : ℕ) (rest : List ℕ) (b : Bool) → is_dot c ≡ b → dott
 dotted_step c rest true is behind =
     let some : 0 < length (words_of rest) = omega (arith, length-slice_split is_dot rest) in
     let dot : c ≡ octet_of "." = grind (arith, nat_tests) in
-    dots_before (words_of rest) some ∙ ap (λ further. 46 ∷ further) behind ∙ ap (λ first. first ∷ rest) (sym dot)
+    dots_before (words_of rest) some ∙ ap (λ further. octet_of "." ∷ further) behind ∙ ap (λ first. first ∷ rest) (sym dot)
 dotted_step c rest false is behind = dotted-onto c (words_of rest) ∙ ap (λ further. c ∷ further) behind
 
 pub dotted-words_of : (inside : List ℕ) → dotted (words_of inside) ≡ inside

@@ -25,7 +25,7 @@ unfoldable pub before_brace : List ℕ → Option (List ℕ)
 before_brace [] = None
 before_brace (c ∷ rest) = if c == octet_of "}" then Some [] else if is_inside c then option_map (λ inside. c ∷ inside) (before_brace rest) else None
 
--- the same, but only where its words are those of a reference
+-- what stands between the braces, only where its words are those of a reference
 abbrev pub if_legal : Option (List ℕ) → Option (List ℕ)
 if_legal None = None
 if_legal (Some inside) = if is_legal (words_of inside) then Some inside else None

@@ -12,7 +12,7 @@ pub data Variable : Type 0 where
 abbrev pub variable_named : List ℕ → Variable
 variable_named name = if is_global_name name then global_variable (folded_name (drop (length global_prefix) name)) else local_variable (folded_name name)
 
--- these names and one more, each once
+-- names and one more, each once
 abbrev pub with_name : List ℕ → List (List ℕ) → List (List ℕ)
 with_name name names = if is_among name names then names else names ++ name ∷ []
 

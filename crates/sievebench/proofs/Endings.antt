@@ -1,4 +1,5 @@
 -- Each session comes to an end.
+use Rattle.sieve_base.specs.Octet.{octet_of}
 use Rattle.std.proofs.Common.{◌≡◌, ℕ, ◌<◌, ◌≤◌, zero, suc, List, [], ◌∷◌, ◌++◌, length, take, drop, length-drop, append_assoc, append-nil, sym, ap, ◌∙◌, refl, arith, inl, inr, Bool, true, false, eqb, cond, nat_lt, codes, Option, None, Some, Result, Ok, Err}
 use Rattle.std.specs.Option.{option_map}
 use Rattle.session_text.specs.SessionLine.{cut_line, first_line, in_front, line_from, without_cr}
@@ -51,7 +52,7 @@ later_fewer n b (Some cut) less = omega (arith, less)
 
 cut_fewer : (bs : List ℕ) → CutsFewer (length bs) (cut_line bs)
 cut_fewer [] = tt
-cut_fewer (b ∷ bs) = by_octet (cut_fewer bs) (eqb b 10)
+cut_fewer (b ∷ bs) = by_octet (cut_fewer bs) (eqb b (octet_of "\n"))
   where
     by_octet : CutsFewer (length bs) (cut_line bs) → (v : Bool) → CutsFewer (suc (length bs)) (cond v (Some ([], bs)) (option_map (in_front b) (cut_line bs)))
     by_octet later true = omega arith

@@ -1,4 +1,5 @@
 -- What the lines of a session's input ask for.
+use Rattle.sieve_base.specs.Octet.{octet_of}
 use Rattle.std.proofs.Common.{◌≡◌, ℕ, ◌<◌, ◌≤◌, ◌⊎◌, inl, inr, List, [], ◌∷◌, ◌++◌, length, take, drop, sym, ap, ◌∙◌, refl, arith, subst, append_assoc, take-append-drop, Option, None, Some, Bool, true, false, eqb, nat_lt, cond, codes, IfSome, length-append, length-take, ◌+◌}
 use Rattle.std.proofs.lemmas.Bool.{cases_lt}
 use Rattle.std.proofs.lemmas.Bool.Decides.{nat_tests}
@@ -181,7 +182,7 @@ KeepsCut more (Some cut) all = all ≡ Some (cut.0, cut.1 ++ more)
 
 cut_kept : (read more : List ℕ) → KeepsCut more (cut_line read) (cut_line (read ++ more))
 cut_kept [] more = tt
-cut_kept (b ∷ bs) more = by_octet (eqb b 10) (cut_line bs) (cut_line (bs ++ more)) (cut_kept bs more)
+cut_kept (b ∷ bs) more = by_octet (eqb b (octet_of "\n")) (cut_line bs) (cut_line (bs ++ more)) (cut_kept bs more)
   where
     by_octet : (v : Bool) (first all : Option (List ℕ × List ℕ)) → KeepsCut more first all
         → KeepsCut more (cond v (Some ([], bs)) (option_map (in_front b) first)) (cond v (Some ([], bs ++ more)) (option_map (in_front b) all))

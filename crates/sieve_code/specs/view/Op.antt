@@ -19,13 +19,7 @@ op_as Return = return_op
 
 -- an operation whose target counts from the end of code of that length, with the target's place
 abbrev pub with_place_of : ℕ → Op → Op
-with_place_of count True = True
-with_place_of count False = False
-with_place_of count Not = Not
-with_place_of count (Test test) = Test test
 with_place_of count (Jump left) = Jump (count - left)
 with_place_of count (JumpIfFalse left) = JumpIfFalse (count - left)
 with_place_of count (JumpIfTrue left) = JumpIfTrue (count - left)
-with_place_of count (Command command line) = Command command line
-with_place_of count Stop = Stop
-with_place_of count Return = Return
+with_place_of count op = op
