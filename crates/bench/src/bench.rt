@@ -12,7 +12,7 @@ ghost use Rattle.bench.specs.Report.{report_text};
 ghost use Rattle.bench.specs.Test.{is_clean};
 ghost use Rattle.bench.specs.view.ReportFault.{MatchReportFault};
 ghost use Rattle.bench.specs.Content.{after, Answers, new_content, Refuses, text_at};
-ghost use Rattle.bench.specs.Content.{put_script, put_message, set_main, rename_script, remove_script, remove_message, clear_main, set_envelope, set_mailbox, set_expected, clear_expected};
+ghost use Rattle.bench.specs.Content as edit;
 
 use crate::entry::Entry;
 use crate::fault::{EditFault, ReportFault};
@@ -20,8 +20,8 @@ use crate::marking::{forget_all, forget_readers};
 use crate::message::message_of;
 use crate::messages::{expect, put};
 use crate::refusal::{
-    refuse_absent, refuse_envelope, refuse_expected, refuse_mailbox, refuse_main,
-    refuse_message, refuse_remove_script, refuse_rename, refuse_script,
+    refuse_absent, refuse_envelope, refuse_expected, refuse_mailbox, refuse_main, refuse_message,
+    refuse_remove_script, refuse_rename, refuse_script,
 };
 use crate::report::{is_clean, run_stale, write_report};
 use crate::scripts::Scripts;
@@ -70,10 +70,10 @@ impl Bench {
 
     /// Keeps a script's text at a name. The text needn't be copied.
     pub fn keep_script(&mut self, name: &ScriptName, text: Octets) -> Result<(), EditFault>
-        ensures ok { OnOk result (after self.old.content (put_script name.now text) ≡ Ok self.new.content) }
-        ensures stale { OnOk result (self.new.stale ≡ stale_after self.old.content (put_script name.now text) self.old.stale self.new.content) }
+        ensures ok { OnOk result (after self.old.content (edit.put_script name.now text) ≡ Ok self.new.content) }
+        ensures stale { OnOk result (self.new.stale ≡ stale_after self.old.content (edit.put_script name.now text) self.old.stale self.new.content) }
         ensures err { OnErr result (self.new ≡ self.old) }
-        ensures refused { Refuses (after self.old.content (put_script name.now text)) result }
+        ensures refused { Refuses (after self.old.content (edit.put_script name.now text)) result }
     {
         if let Some(fault) = refuse_script(&self.scripts, name, text.as_slice()) {
             return Err(fault);
@@ -90,10 +90,10 @@ impl Bench {
     /// Keeps a message's octets at an id, neither of which needs to be copied.
     #[tactic(auto, using(crate::proofs::Entries::entries))]
     pub fn keep_message(&mut self, id: Octets, bytes: Octets) -> Result<(), EditFault>
-        ensures ok { OnOk result (after self.old.content (put_message id bytes) ≡ Ok self.new.content) }
-        ensures stale { OnOk result (self.new.stale ≡ stale_after self.old.content (put_message id bytes) self.old.stale self.new.content) }
+        ensures ok { OnOk result (after self.old.content (edit.put_message id bytes) ≡ Ok self.new.content) }
+        ensures stale { OnOk result (self.new.stale ≡ stale_after self.old.content (edit.put_message id bytes) self.old.stale self.new.content) }
         ensures err { OnErr result (self.new ≡ self.old) }
-        ensures refused { Refuses (after self.old.content (put_message id bytes)) result }
+        ensures refused { Refuses (after self.old.content (edit.put_message id bytes)) result }
     {
         if let Some(fault) = refuse_message(&self.messages, &id, bytes.as_slice()) {
             return Err(fault);
@@ -106,10 +106,10 @@ impl Bench {
     /// Expects a text of a message's verdict, which needn't be copied.
     #[tactic(auto, using(crate::proofs::Entries::entries))]
     pub fn keep_expected(&mut self, id: &[u8], text: Octets) -> Result<(), EditFault>
-        ensures ok { OnOk result (after self.old.content (set_expected id.now text) ≡ Ok self.new.content) }
-        ensures stale { OnOk result (self.new.stale ≡ stale_after self.old.content (set_expected id.now text) self.old.stale self.new.content) }
+        ensures ok { OnOk result (after self.old.content (edit.set_expected id.now text) ≡ Ok self.new.content) }
+        ensures stale { OnOk result (self.new.stale ≡ stale_after self.old.content (edit.set_expected id.now text) self.old.stale self.new.content) }
         ensures err { OnErr result (self.new ≡ self.old) }
-        ensures refused { Answers (after self.old.content (set_expected id.now text)) result }
+        ensures refused { Answers (after self.old.content (edit.set_expected id.now text)) result }
     {
         if let Some(fault) = refuse_expected(&self.messages, id, text.as_slice()) {
             return Err(fault);
@@ -142,10 +142,10 @@ impl Bench {
 
     /// Puts a script's text at a name, in place of the one there. A text with a fault is kept, and reported.
     pub fn put_script(&mut self, name: &ScriptName, text: &[u8]) -> Result<(), EditFault>
-        ensures ok { OnOk result (after self.old.content (put_script name.now text.now) ≡ Ok self.new.content) }
-        ensures stale { OnOk result (self.new.stale ≡ stale_after self.old.content (put_script name.now text.now) self.old.stale self.new.content) }
+        ensures ok { OnOk result (after self.old.content (edit.put_script name.now text.now) ≡ Ok self.new.content) }
+        ensures stale { OnOk result (self.new.stale ≡ stale_after self.old.content (edit.put_script name.now text.now) self.old.stale self.new.content) }
         ensures err { OnErr result (self.new ≡ self.old) }
-        ensures refused { Refuses (after self.old.content (put_script name.now text.now)) result }
+        ensures refused { Refuses (after self.old.content (edit.put_script name.now text.now)) result }
     {
         if let Some(fault) = refuse_script(&self.scripts, name, text) {
             return Err(fault);
@@ -157,10 +157,10 @@ impl Bench {
     /// Puts a message's octets at an id: a new id goes last, and nothing is expected of its verdict; a present one keeps its place, and the text that is
     /// expected.
     pub fn put_message(&mut self, id: &Octets, bytes: &[u8]) -> Result<(), EditFault>
-        ensures ok { OnOk result (after self.old.content (put_message id.now bytes.now) ≡ Ok self.new.content) }
-        ensures stale { OnOk result (self.new.stale ≡ stale_after self.old.content (put_message id.now bytes.now) self.old.stale self.new.content) }
+        ensures ok { OnOk result (after self.old.content (edit.put_message id.now bytes.now) ≡ Ok self.new.content) }
+        ensures stale { OnOk result (self.new.stale ≡ stale_after self.old.content (edit.put_message id.now bytes.now) self.old.stale self.new.content) }
         ensures err { OnErr result (self.new ≡ self.old) }
-        ensures refused { Refuses (after self.old.content (put_message id.now bytes.now)) result }
+        ensures refused { Refuses (after self.old.content (edit.put_message id.now bytes.now)) result }
     {
         if let Some(fault) = refuse_message(&self.messages, id, bytes) {
             return Err(fault);
@@ -172,10 +172,10 @@ impl Bench {
 
     /// Makes a script main, whether or not it is there.
     pub fn set_main(&mut self, name: &ScriptName) -> Result<(), EditFault>
-        ensures ok { OnOk result (after self.old.content (set_main name.now) ≡ Ok self.new.content) }
-        ensures stale { OnOk result (self.new.stale ≡ stale_after self.old.content (set_main name.now) self.old.stale self.new.content) }
+        ensures ok { OnOk result (after self.old.content (edit.set_main name.now) ≡ Ok self.new.content) }
+        ensures stale { OnOk result (self.new.stale ≡ stale_after self.old.content (edit.set_main name.now) self.old.stale self.new.content) }
         ensures err { OnErr result (self.new ≡ self.old) }
-        ensures refused { Refuses (after self.old.content (set_main name.now)) result }
+        ensures refused { Refuses (after self.old.content (edit.set_main name.now)) result }
     {
         if let Some(fault) = refuse_main(name) {
             return Err(fault);
@@ -188,10 +188,10 @@ impl Bench {
 
     /// Renames a script to a name that no script has. The main script's name stays as it is.
     pub fn rename_script(&mut self, from: &ScriptName, to: &ScriptName) -> Result<(), EditFault>
-        ensures ok { OnOk result (after self.old.content (rename_script from.now to.now) ≡ Ok self.new.content) }
-        ensures stale { OnOk result (self.new.stale ≡ stale_after self.old.content (rename_script from.now to.now) self.old.stale self.new.content) }
+        ensures ok { OnOk result (after self.old.content (edit.rename_script from.now to.now) ≡ Ok self.new.content) }
+        ensures stale { OnOk result (self.new.stale ≡ stale_after self.old.content (edit.rename_script from.now to.now) self.old.stale self.new.content) }
         ensures err { OnErr result (self.new ≡ self.old) }
-        ensures refused { Refuses (after self.old.content (rename_script from.now to.now)) result }
+        ensures refused { Refuses (after self.old.content (edit.rename_script from.now to.now)) result }
     {
         if let Some(fault) = refuse_rename(&self.scripts, from, to) {
             return Err(fault);
@@ -208,10 +208,10 @@ impl Bench {
 
     /// Removes a script. Takes no memory.
     pub fn remove_script(&mut self, name: &ScriptName) -> Result<(), EditFault>
-        ensures ok { OnOk result (after self.old.content (remove_script name.now) ≡ Ok self.new.content) }
-        ensures stale { OnOk result (self.new.stale ≡ stale_after self.old.content (remove_script name.now) self.old.stale self.new.content) }
+        ensures ok { OnOk result (after self.old.content (edit.remove_script name.now) ≡ Ok self.new.content) }
+        ensures stale { OnOk result (self.new.stale ≡ stale_after self.old.content (edit.remove_script name.now) self.old.stale self.new.content) }
         ensures err { OnErr result (self.new ≡ self.old) }
-        ensures refused { Answers (after self.old.content (remove_script name.now)) result }
+        ensures refused { Answers (after self.old.content (edit.remove_script name.now)) result }
     {
         if let Some(fault) = refuse_remove_script(&self.scripts, name) {
             return Err(fault);
@@ -224,10 +224,10 @@ impl Bench {
     /// Removes a message, and what is expected of it. The others stay in their order. Takes no memory.
     #[tactic(auto, using(crate::proofs::Entries::entries))]
     pub fn remove_message(&mut self, id: &[u8]) -> Result<(), EditFault>
-        ensures ok { OnOk result (after self.old.content (remove_message id.now) ≡ Ok self.new.content) }
-        ensures stale { OnOk result (self.new.stale ≡ stale_after self.old.content (remove_message id.now) self.old.stale self.new.content) }
+        ensures ok { OnOk result (after self.old.content (edit.remove_message id.now) ≡ Ok self.new.content) }
+        ensures stale { OnOk result (self.new.stale ≡ stale_after self.old.content (edit.remove_message id.now) self.old.stale self.new.content) }
         ensures err { OnErr result (self.new ≡ self.old) }
-        ensures refused { Answers (after self.old.content (remove_message id.now)) result }
+        ensures refused { Answers (after self.old.content (edit.remove_message id.now)) result }
     {
         if let Some(fault) = refuse_absent(&self.messages, id) {
             return Err(fault);
@@ -239,10 +239,10 @@ impl Bench {
     /// Expects a text of a message's verdict, in place of what was expected. Each report tells whether the verdict's lines are those of the text, as
     /// `Outcome::agrees` does. Makes no message stale.
     pub fn set_expected(&mut self, id: &[u8], text: &[u8]) -> Result<(), EditFault>
-        ensures ok { OnOk result (after self.old.content (set_expected id.now text.now) ≡ Ok self.new.content) }
-        ensures stale { OnOk result (self.new.stale ≡ stale_after self.old.content (set_expected id.now text.now) self.old.stale self.new.content) }
+        ensures ok { OnOk result (after self.old.content (edit.set_expected id.now text.now) ≡ Ok self.new.content) }
+        ensures stale { OnOk result (self.new.stale ≡ stale_after self.old.content (edit.set_expected id.now text.now) self.old.stale self.new.content) }
         ensures err { OnErr result (self.new ≡ self.old) }
-        ensures refused { Refuses (after self.old.content (set_expected id.now text.now)) result }
+        ensures refused { Refuses (after self.old.content (edit.set_expected id.now text.now)) result }
     {
         if let Some(fault) = refuse_expected(&self.messages, id, text) {
             return Err(fault);
@@ -254,10 +254,10 @@ impl Bench {
     /// Expects no text of a message's verdict any more, also where none was expected. Makes no message stale. Takes no memory.
     #[tactic(auto, using(crate::proofs::Entries::entries))]
     pub fn clear_expected(&mut self, id: &[u8]) -> Result<(), EditFault>
-        ensures ok { OnOk result (after self.old.content (clear_expected id.now) ≡ Ok self.new.content) }
-        ensures stale { OnOk result (self.new.stale ≡ stale_after self.old.content (clear_expected id.now) self.old.stale self.new.content) }
+        ensures ok { OnOk result (after self.old.content (edit.clear_expected id.now) ≡ Ok self.new.content) }
+        ensures stale { OnOk result (self.new.stale ≡ stale_after self.old.content (edit.clear_expected id.now) self.old.stale self.new.content) }
         ensures err { OnErr result (self.new ≡ self.old) }
-        ensures refused { Answers (after self.old.content (clear_expected id.now)) result }
+        ensures refused { Answers (after self.old.content (edit.clear_expected id.now)) result }
     {
         if let Some(fault) = refuse_absent(&self.messages, id) {
             return Err(fault);
@@ -268,8 +268,8 @@ impl Bench {
 
     /// Leaves no script main. Takes no memory.
     pub fn clear_main(&mut self)
-        ensures made { after self.old.content clear_main ≡ Ok self.new.content }
-        ensures stale { self.new.stale ≡ stale_after self.old.content clear_main self.old.stale self.new.content }
+        ensures made { after self.old.content edit.clear_main ≡ Ok self.new.content }
+        ensures stale { self.new.stale ≡ stale_after self.old.content edit.clear_main self.old.stale self.new.content }
     {
         self.main = None;
         forget_all(&mut self.messages);
@@ -277,10 +277,10 @@ impl Bench {
 
     /// Sets the addresses of the sender and of the recipient.
     pub fn set_envelope(&mut self, from: &[u8], to: &[u8]) -> Result<(), EditFault>
-        ensures ok { OnOk result (after self.old.content (set_envelope from.now to.now) ≡ Ok self.new.content) }
-        ensures stale { OnOk result (self.new.stale ≡ stale_after self.old.content (set_envelope from.now to.now) self.old.stale self.new.content) }
+        ensures ok { OnOk result (after self.old.content (edit.set_envelope from.now to.now) ≡ Ok self.new.content) }
+        ensures stale { OnOk result (self.new.stale ≡ stale_after self.old.content (edit.set_envelope from.now to.now) self.old.stale self.new.content) }
         ensures err { OnErr result (self.new ≡ self.old) }
-        ensures refused { Refuses (after self.old.content (set_envelope from.now to.now)) result }
+        ensures refused { Refuses (after self.old.content (edit.set_envelope from.now to.now)) result }
     {
         if let Some(fault) = refuse_envelope(from, to) {
             return Err(fault);
@@ -295,10 +295,10 @@ impl Bench {
 
     /// Sets the mailbox that mail is kept in.
     pub fn set_mailbox(&mut self, mailbox: &[u8]) -> Result<(), EditFault>
-        ensures ok { OnOk result (after self.old.content (set_mailbox mailbox.now) ≡ Ok self.new.content) }
-        ensures stale { OnOk result (self.new.stale ≡ stale_after self.old.content (set_mailbox mailbox.now) self.old.stale self.new.content) }
+        ensures ok { OnOk result (after self.old.content (edit.set_mailbox mailbox.now) ≡ Ok self.new.content) }
+        ensures stale { OnOk result (self.new.stale ≡ stale_after self.old.content (edit.set_mailbox mailbox.now) self.old.stale self.new.content) }
         ensures err { OnErr result (self.new ≡ self.old) }
-        ensures refused { Refuses (after self.old.content (set_mailbox mailbox.now)) result }
+        ensures refused { Refuses (after self.old.content (edit.set_mailbox mailbox.now)) result }
     {
         if let Some(fault) = refuse_mailbox(mailbox) {
             return Err(fault);

@@ -1,6 +1,6 @@
 //! Why an edit is refused, apart from memory.
 ghost use Rattle.std.specs.Prelude.{◌≡◌};
-ghost use Rattle.bench.specs.Content.{is_long, script_refusal, message_refusal, absent_refusal, expected_refusal, main_refusal, rename_refusal, remove_script_refusal, envelope_refusal, mailbox_refusal};
+ghost use Rattle.bench.specs.Content as spec;
 ghost use Rattle.bench.specs.view.Entry.{messages_of};
 
 use crate::entry::Entry;
@@ -16,14 +16,14 @@ use sieve_base::{Octets, ScriptName};
 
 /// Whether a script's name is past its limit.
 pub(crate) fn is_long(name: &Octets) -> bool
-    ensures { result ≡ is_long name.now }
+    ensures { result ≡ spec.is_long name.now }
 {
     name.as_slice().len() > MAX_NAME
 }
 
 /// Why a script isn't put, apart from memory.
 pub(crate) fn refuse_script(scripts: &Scripts, name: &ScriptName, text: &[u8]) -> Option<EditFault>
-    ensures { result ≡ script_refusal scripts.now name.now text.now }
+    ensures { result ≡ spec.script_refusal scripts.now name.now text.now }
 {
     if is_long(&name.name) || text.len() > MAX_TEXT {
         return Some(EditFault::TooLarge);
@@ -41,7 +41,7 @@ pub(crate) fn refuse_message(
     id: &Octets,
     bytes: &[u8],
 ) -> Option<EditFault>
-    ensures { result ≡ message_refusal (messages_of messages.now.entries) id.now bytes.now }
+    ensures { result ≡ spec.message_refusal (messages_of messages.now.entries) id.now bytes.now }
 {
     if id.as_slice().len() > MAX_ID || bytes.len() > MAX_MESSAGE {
         return Some(EditFault::TooLarge);
@@ -55,7 +55,7 @@ pub(crate) fn refuse_message(
 /// Why a message isn't removed, or why what is expected of it isn't.
 #[tactic(auto, using(crate::proofs::Entries::entries))]
 pub(crate) fn refuse_absent(messages: &IndexMap<Octets, Entry>, id: &[u8]) -> Option<EditFault>
-    ensures { result ≡ absent_refusal (messages_of messages.now.entries) id.now }
+    ensures { result ≡ spec.absent_refusal (messages_of messages.now.entries) id.now }
 {
     if id.len() > MAX_ID {
         Some(EditFault::TooLarge)
@@ -73,7 +73,7 @@ pub(crate) fn refuse_expected(
     id: &[u8],
     text: &[u8],
 ) -> Option<EditFault>
-    ensures { result ≡ expected_refusal (messages_of messages.now.entries) id.now text.now }
+    ensures { result ≡ spec.expected_refusal (messages_of messages.now.entries) id.now text.now }
 {
     if id.len() > MAX_ID || text.len() > MAX_EXPECTED {
         Some(EditFault::TooLarge)
@@ -86,7 +86,7 @@ pub(crate) fn refuse_expected(
 
 /// Why a main script's name isn't taken, apart from memory.
 pub(crate) fn refuse_main(name: &ScriptName) -> Option<EditFault>
-    ensures { result ≡ main_refusal name.now }
+    ensures { result ≡ spec.main_refusal name.now }
 {
     if is_long(&name.name) {
         Some(EditFault::TooLarge)
@@ -101,7 +101,7 @@ pub(crate) fn refuse_rename(
     from: &ScriptName,
     to: &ScriptName,
 ) -> Option<EditFault>
-    ensures { result ≡ rename_refusal scripts.now from.now to.now }
+    ensures { result ≡ spec.rename_refusal scripts.now from.now to.now }
 {
     if is_long(&from.name) || is_long(&to.name) {
         Some(EditFault::TooLarge)
@@ -116,7 +116,7 @@ pub(crate) fn refuse_rename(
 
 /// Why a script isn't removed.
 pub(crate) fn refuse_remove_script(scripts: &Scripts, name: &ScriptName) -> Option<EditFault>
-    ensures { result ≡ remove_script_refusal scripts.now name.now }
+    ensures { result ≡ spec.remove_script_refusal scripts.now name.now }
 {
     if is_long(&name.name) {
         Some(EditFault::TooLarge)
@@ -129,7 +129,7 @@ pub(crate) fn refuse_remove_script(scripts: &Scripts, name: &ScriptName) -> Opti
 
 /// Why an envelope isn't taken, apart from memory.
 pub(crate) fn refuse_envelope(from: &[u8], to: &[u8]) -> Option<EditFault>
-    ensures { result ≡ envelope_refusal from.now to.now }
+    ensures { result ≡ spec.envelope_refusal from.now to.now }
 {
     if from.len() > MAX_ADDRESS || to.len() > MAX_ADDRESS {
         Some(EditFault::TooLarge)
@@ -140,7 +140,7 @@ pub(crate) fn refuse_envelope(from: &[u8], to: &[u8]) -> Option<EditFault>
 
 /// Why a mailbox isn't taken, apart from memory.
 pub(crate) fn refuse_mailbox(mailbox: &[u8]) -> Option<EditFault>
-    ensures { result ≡ mailbox_refusal mailbox.now }
+    ensures { result ≡ spec.mailbox_refusal mailbox.now }
 {
     if mailbox.len() > MAX_MAILBOX {
         Some(EditFault::TooLarge)

@@ -4,7 +4,7 @@ ghost use Rattle.std.specs.Prelude.{◌≡◌, IfOk, codes, false};
 ghost use Rattle.clap.specs.Words.{app_of, new_app, shape_of, with_subcommand};
 ghost use Rattle.clap.specs.Walk.{rule_of};
 ghost use Rattle.clap.specs.declared.builder.command.Command.TheViews.{out-Command};
-ghost use Rattle.command_line.specs.CommandLine.{HasMore, the_app, top_app, dump_shape, envelope_rules, file_rules, folder_rules, mailbox_rules, path_rule, letter_rule, name_rule, session_shape, test_shape};
+ghost use Rattle.command_line.specs.CommandLine as spec;
 
 use crate::help;
 use clap::{Arg, Command};
@@ -15,7 +15,7 @@ const VERSION: &str = "0.1.0";
 
 // The subcommand `session`.
 fn session_command<'a>(alloc: Global) -> Command<'a>
-    ensures shape { shape_of result ≡ session_shape }
+    ensures shape { shape_of result ≡ spec.session_shape }
     ensures local { (out-Command result).has_globals ≡ false }
 {
     Command::new(alloc, "session")
@@ -25,7 +25,7 @@ fn session_command<'a>(alloc: Global) -> Command<'a>
 
 // A path that must be there, under the name `id`.
 fn path_argument<'a>(alloc: Global, id: &'a str, value: &'a str, help: &'a str) -> Arg<'a>
-    ensures rule { rule_of result ≡ path_rule id.entry.now }
+    ensures rule { rule_of result ≡ spec.path_rule id.entry.now }
     ensures local { result.global ≡ false }
 {
     Arg::new(alloc, id)
@@ -42,7 +42,7 @@ fn letter_option<'a>(
     value: &'a str,
     help: &'a str,
 ) -> Arg<'a>
-    ensures rule { rule_of result ≡ letter_rule id.entry.now letter }
+    ensures rule { rule_of result ≡ spec.letter_rule id.entry.now letter }
     ensures local { result.global ≡ false }
 {
     Arg::new(alloc, id)
@@ -53,7 +53,7 @@ fn letter_option<'a>(
 
 // An option with one value that its name names.
 fn name_option<'a>(alloc: Global, name: &'a str, value: &'a str, help: &'a str) -> Arg<'a>
-    ensures rule { rule_of result ≡ name_rule name.entry.now }
+    ensures rule { rule_of result ≡ spec.name_rule name.entry.now }
     ensures local { result.global ≡ false }
 {
     Arg::new(alloc, name)
@@ -74,7 +74,7 @@ fn bare_dump_command<'a>(alloc: Global) -> Command<'a>
 
 // The subcommand `dump`.
 fn dump_command<'a>(alloc: Global) -> Result<Command<'a>, AllocError>
-    ensures shape { IfOk result (λ command. shape_of command ≡ dump_shape) }
+    ensures shape { IfOk result (λ command. shape_of command ≡ spec.dump_shape) }
     ensures local { IfOk result (λ command. (out-Command command).has_globals ≡ false) }
 {
     let script = path_argument(alloc, "script", "SCRIPT", "The file that the script is in");
@@ -93,7 +93,7 @@ fn bare_test_command<'a>(alloc: Global) -> Command<'a>
 
 // The command with the options for the envelope.
 fn with_envelope<'a>(alloc: Global, command: Command<'a>) -> Result<Command<'a>, AllocError>
-    ensures { IfOk result (HasMore command.entry envelope_rules) }
+    ensures { IfOk result (spec.HasMore command.entry spec.envelope_rules) }
 {
     let from = "The sender's address in the envelope; empty where it is not given";
     let to = "The recipient's address in the envelope; empty where it is not given";
@@ -104,7 +104,7 @@ fn with_envelope<'a>(alloc: Global, command: Command<'a>) -> Result<Command<'a>,
 
 // The command with the option for the mailbox.
 fn with_mailbox<'a>(alloc: Global, command: Command<'a>) -> Result<Command<'a>, AllocError>
-    ensures { IfOk result (HasMore command.entry mailbox_rules) }
+    ensures { IfOk result (spec.HasMore command.entry spec.mailbox_rules) }
 {
     let mailbox = "The mailbox that mail is kept in; INBOX where it is not given";
     command.arg(letter_option(alloc, "mailbox", 'm', "BOX", mailbox))
@@ -112,7 +112,7 @@ fn with_mailbox<'a>(alloc: Global, command: Command<'a>) -> Result<Command<'a>, 
 
 // The command with the options for folders of scripts.
 fn with_folders<'a>(alloc: Global, command: Command<'a>) -> Result<Command<'a>, AllocError>
-    ensures { IfOk result (HasMore command.entry folder_rules) }
+    ensures { IfOk result (spec.HasMore command.entry spec.folder_rules) }
 {
     let personal = "A folder of personal scripts, for include and include :personal";
     let global = "A folder of global scripts, for include :global";
@@ -123,7 +123,7 @@ fn with_folders<'a>(alloc: Global, command: Command<'a>) -> Result<Command<'a>, 
 
 // The command with the paths of the script and the message.
 fn with_files<'a>(alloc: Global, command: Command<'a>) -> Result<Command<'a>, AllocError>
-    ensures { IfOk result (HasMore command.entry file_rules) }
+    ensures { IfOk result (spec.HasMore command.entry spec.file_rules) }
 {
     let script = "The file that the main script is in";
     let mail = "The file that the message is in";
@@ -134,7 +134,7 @@ fn with_files<'a>(alloc: Global, command: Command<'a>) -> Result<Command<'a>, Al
 
 // The subcommand `test`.
 fn test_command<'a>(alloc: Global) -> Result<Command<'a>, AllocError>
-    ensures shape { IfOk result (λ command. shape_of command ≡ test_shape) }
+    ensures shape { IfOk result (λ command. shape_of command ≡ spec.test_shape) }
     ensures local { IfOk result (λ command. (out-Command command).has_globals ≡ false) }
 {
     let command = with_envelope(alloc, bare_test_command(alloc))?;
@@ -154,7 +154,7 @@ fn bare_top_command<'a>(alloc: Global) -> Command<'a>
 
 // The program, which wants a subcommand. Its usage has this name, whatever its file is called.
 fn top_command<'a>(alloc: Global) -> Result<Command<'a>, AllocError>
-    ensures { IfOk result (λ command. app_of command ≡ top_app) }
+    ensures { IfOk result (λ command. app_of command ≡ spec.top_app) }
 {
     bare_top_command(alloc)
         .version(VERSION)
@@ -165,21 +165,21 @@ fn top_command<'a>(alloc: Global) -> Result<Command<'a>, AllocError>
 
 // The program with `session`.
 fn with_session<'a>(alloc: Global) -> Result<Command<'a>, AllocError>
-    ensures { IfOk result (λ command. app_of command ≡ with_subcommand top_app session_shape) }
+    ensures { IfOk result (λ command. app_of command ≡ with_subcommand spec.top_app spec.session_shape) }
 {
     top_command(alloc)?.subcommand(session_command(alloc))
 }
 
 // The program with `session` and `dump`.
 fn with_dump<'a>(alloc: Global) -> Result<Command<'a>, AllocError>
-    ensures { IfOk result (λ command. app_of command ≡ with_subcommand (with_subcommand top_app session_shape) dump_shape) }
+    ensures { IfOk result (λ command. app_of command ≡ with_subcommand (with_subcommand spec.top_app spec.session_shape) spec.dump_shape) }
 {
     with_session(alloc)?.subcommand(dump_command(alloc)?)
 }
 
 /// The program and its subcommands.
 pub(crate) fn program<'a>(alloc: Global) -> Result<Command<'a>, AllocError>
-    ensures { IfOk result (λ command. app_of command ≡ the_app) }
+    ensures { IfOk result (λ command. app_of command ≡ spec.the_app) }
 {
     with_dump(alloc)?.subcommand(test_command(alloc)?)
 }

@@ -1,6 +1,6 @@
 //! The octets of a value, each marked with what it stands in (RFC 5322, sections 3.2 and 3.4).
 ghost use Rattle.std.specs.Prelude.{◌≡◌, ◌≤◌, ◌<◌, ◌+◌, ◌^◌, IfOk};
-ghost use Rattle.message_text.specs.Addresses.{angle_behind, comment_behind, free_mark, inside_behind, is_protecting, mark_at, marks_of, opened_by, quoted_mark, surroundings_behind};
+ghost use Rattle.message_text.specs.Addresses as spec;
 ghost use Rattle.message_text.specs.view.Depths.{depth_of};
 
 use std::alloc::{AllocError, Global};
@@ -59,7 +59,7 @@ pub(crate) struct Marked {
 
 // The mark of an octet outside of quoted strings, comments and literals.
 fn free_mark(in_angle: bool, octet: u8) -> Mark
-    ensures { result ≡ free_mark in_angle octet }
+    ensures { result ≡ spec.free_mark in_angle octet }
 {
     match octet {
         b'"' => Mark::QuoteSign,
@@ -73,7 +73,7 @@ fn free_mark(in_angle: bool, octet: u8) -> Mark
 
 // The mark of an octet in a quoted string. A backslash that ends the value protects nothing.
 fn quoted_mark(is_protected: bool, is_last: bool, octet: u8) -> Mark
-    ensures { result ≡ quoted_mark is_protected is_last octet }
+    ensures { result ≡ spec.quoted_mark is_protected is_last octet }
 {
     if is_protected {
         return Mark::Quoted;
@@ -87,7 +87,7 @@ fn quoted_mark(is_protected: bool, is_last: bool, octet: u8) -> Mark
 
 // The mark of the octet at a place.
 fn mark_at(spot: Surroundings, is_last: bool, octet: u8) -> Mark
-    ensures { result ≡ mark_at spot is_last octet }
+    ensures { result ≡ spec.mark_at spot is_last octet }
 {
     match spot.inside {
         Inside::Nothing => free_mark(spot.in_angle, octet),
@@ -99,7 +99,7 @@ fn mark_at(spot: Surroundings, is_last: bool, octet: u8) -> Mark
 
 // What an octet opens where nothing is open.
 fn opened_by(octet: u8) -> Inside
-    ensures { result ≡ opened_by octet }
+    ensures { result ≡ spec.opened_by octet }
 {
     match octet {
         b'"' => Inside::QuotedString,
@@ -112,7 +112,7 @@ fn opened_by(octet: u8) -> Inside
 // What is open behind an octet of so many comments in one another.
 fn comment_behind(depth: usize, octet: u8) -> Inside
     requires { depth + 1 < 2 ^ 64 }
-    ensures { result ≡ comment_behind depth octet }
+    ensures { result ≡ spec.comment_behind depth octet }
 {
     match octet {
         b'(' => Inside::Comment(depth + 1),
@@ -125,7 +125,7 @@ fn comment_behind(depth: usize, octet: u8) -> Inside
 // What is open behind an octet that isn't protected.
 fn inside_behind(inside: Inside, octet: u8) -> Inside
     requires { depth_of inside + 1 < 2 ^ 64 }
-    ensures { result ≡ inside_behind inside octet }
+    ensures { result ≡ spec.inside_behind inside octet }
 {
     match inside {
         Inside::Nothing => opened_by(octet),
@@ -138,14 +138,14 @@ fn inside_behind(inside: Inside, octet: u8) -> Inside
 
 // Whether a backslash there protects the next octet.
 fn is_protecting(inside: Inside) -> bool
-    ensures { result ≡ is_protecting inside }
+    ensures { result ≡ spec.is_protecting inside }
 {
     !matches!(inside, Inside::Nothing)
 }
 
 // Whether an angle is open behind an octet.
 fn angle_behind(inside: Inside, in_angle: bool, octet: u8) -> bool
-    ensures { result ≡ angle_behind inside in_angle octet }
+    ensures { result ≡ spec.angle_behind inside in_angle octet }
 {
     if is_protecting(inside) {
         return in_angle;
@@ -160,7 +160,7 @@ fn angle_behind(inside: Inside, in_angle: bool, octet: u8) -> bool
 // The place behind an octet.
 fn surroundings_behind(spot: Surroundings, octet: u8) -> Surroundings
     requires { depth_of spot.inside + 1 < 2 ^ 64 }
-    ensures spot { result ≡ surroundings_behind spot octet }
+    ensures spot { result ≡ spec.surroundings_behind spot octet }
     ensures depth { depth_of result.inside ≤ depth_of spot.inside + 1 }
 {
     Surroundings {
@@ -176,7 +176,7 @@ fn surroundings_behind(spot: Surroundings, octet: u8) -> Surroundings
 
 /// The octets of a value with their marks.
 pub(crate) fn marks_of(alloc: Global, value: &[u8]) -> Result<Vec<Marked>, AllocError>
-    ensures { IfOk result (λ marked. marked.items ≡ marks_of value.now) }
+    ensures { IfOk result (λ marked. marked.items ≡ spec.marks_of value.now) }
 {
     let mut marked = Vec::new(alloc);
     let mut spot = Surroundings {

@@ -2,7 +2,7 @@
 ghost use Rattle.std.specs.Prelude.{◌≡◌, ◌<◌, ◌≤◌, ◌↔◌, ◌^◌, ◌-◌, IfErr, IfOk, IsErrAnd, IfNone, IfSome, IsOk, IsOkAnd, Some, false, length, map, slice_get, ℕ};
 ghost use Rattle.std.specs.Cow.{IsBorrowedSlice, IsOwnedSlice, cow_slice_items};
 ghost use Rattle.sieve_base.specs.Limits.{message_limit};
-ghost use Rattle.message_text.specs.Fields.{IsFolded, IsNextNamed, IsReplaced, IsUnfolded, IsUnreplaced, IsUnwritten, decoded_values_of, fields_of, is_field_named, names_of, values_of};
+ghost use Rattle.message_text.specs.Fields as spec;
 
 use crate::fields::{FieldSpan, span_in, spans_of};
 use crate::names::{FieldName, next_named};
@@ -81,15 +81,15 @@ impl Message {
 
     /// The number of header fields.
     pub fn fields(&self) -> usize
-        ensures { result ≡ length (fields_of self.now) }
+        ensures { result ≡ length (spec.fields_of self.now) }
     {
         self.fields.len()
     }
 
     /// The name of field `i`, as it is written.
     pub fn name(&self, i: usize) -> &[u8]
-        requires { i < length (fields_of self.now) }
-        ensures { slice_get (names_of self.now) i ≡ Some result.now }
+        requires { i < length (spec.fields_of self.now) }
+        ensures { slice_get (spec.names_of self.now) i ≡ Some result.now }
     {
         let octets = self.octets.as_slice();
         let span = span_in(octets, &self.fields, i);
@@ -99,9 +99,9 @@ impl Message {
     /// The place of the first field of that name at or behind place `start`, or nothing where no further field has
     /// it. Names ignore the case of ASCII (RFC 5228, section 2.4.2.2). Takes no memory.
     pub fn next_named(&self, name: &FieldName<'_>, start: usize) -> Option<usize>
-        ensures some { IfSome result (IsNextNamed (fields_of self.now) name.now start) }
-        ensures none { IfNone result ((k : ℕ) → start ≤ k → k < length (fields_of self.now)
-            → slice_get (map (is_field_named name.now) (fields_of self.now)) k ≡ Some false) }
+        ensures some { IfSome result (spec.IsNextNamed (spec.fields_of self.now) name.now start) }
+        ensures none { IfNone result ((k : ℕ) → start ≤ k → k < length (spec.fields_of self.now)
+            → slice_get (map (spec.is_field_named name.now) (spec.fields_of self.now)) k ≡ Some false) }
         // So a search can go on behind it.
         ensures countable { IfSome result (λ i. i < 2 ^ 64 - 1) }
     {
@@ -114,11 +114,11 @@ impl Message {
     /// It is borrowed from the message, and no memory is taken, where the field stands on one line; where lines
     /// continue the field, it is a copy.
     pub fn value(&self, alloc: Global, i: usize) -> Result<CowSlice<'_, u8>, AllocError>
-        requires { i < length (fields_of self.now) }
-        ensures octets { IfOk result (λ value. slice_get (values_of self.now) i
+        requires { i < length (spec.fields_of self.now) }
+        ensures octets { IfOk result (λ value. slice_get (spec.values_of self.now) i
             ≡ Some (cow_slice_items value)) }
-        ensures unfolded { IsUnfolded self.now i → IsOkAnd result IsBorrowedSlice }
-        ensures folded { IsFolded self.now i → IfOk result IsOwnedSlice }
+        ensures unfolded { spec.IsUnfolded self.now i → IsOkAnd result IsBorrowedSlice }
+        ensures folded { spec.IsFolded self.now i → IfOk result IsOwnedSlice }
     {
         let octets = self.octets.as_slice();
         let span = span_in(octets, &self.fields, i);
@@ -133,13 +133,13 @@ impl Message {
     /// It is borrowed from the message where the field stands on one line and no word was replaced, and else a copy.
     /// No memory is taken where the field stands on one line in which no word is written.
     pub fn decoded(&self, alloc: Global, i: usize) -> Result<CowSlice<'_, u8>, AllocError>
-        requires { i < length (fields_of self.now) }
-        ensures octets { IfOk result (λ value. slice_get (decoded_values_of self.now) i
+        requires { i < length (spec.fields_of self.now) }
+        ensures octets { IfOk result (λ value. slice_get (spec.decoded_values_of self.now) i
             ≡ Some (cow_slice_items value)) }
-        ensures unchanged { IsUnfolded self.now i → IsUnreplaced self.now i → IfOk result IsBorrowedSlice }
-        ensures folded { IsFolded self.now i → IfOk result IsOwnedSlice }
-        ensures replaced { IsReplaced self.now i → IfOk result IsOwnedSlice }
-        ensures unwritten { IsUnfolded self.now i → IsUnwritten self.now i → IsOk result }
+        ensures unchanged { spec.IsUnfolded self.now i → spec.IsUnreplaced self.now i → IfOk result IsBorrowedSlice }
+        ensures folded { spec.IsFolded self.now i → IfOk result IsOwnedSlice }
+        ensures replaced { spec.IsReplaced self.now i → IfOk result IsOwnedSlice }
+        ensures unwritten { spec.IsUnfolded self.now i → spec.IsUnwritten self.now i → IsOk result }
     {
         let value = self.value(alloc, i)?;
         decoded_value(alloc, value)

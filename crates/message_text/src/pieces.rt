@@ -1,35 +1,35 @@
 //! The pieces of a marked value, and what of a piece is its address (RFC 5322, sections 3.4 and 4.4).
 ghost use Rattle.std.specs.Prelude.{◌≡◌, IfOk};
 ghost use Rattle.std.specs.List.{before_first};
-ghost use Rattle.message_text.specs.Addresses.{address_marks, begins_route, closes_angle, in_first_angle, is_bare, is_free, is_gap, separates, stays, without_comments, without_group, without_route};
+ghost use Rattle.message_text.specs.Addresses as spec;
 
 use crate::marks::{Mark, Marked};
 use std::alloc::{AllocError, Global};
 
 /// Whether it is this octet, outside of quoted strings, comments and literals, and no sign of an angle.
 pub(crate) fn is_free(octet: u8, marked: Marked) -> bool
-    ensures { result ≡ is_free octet marked }
+    ensures { result ≡ spec.is_free octet marked }
 {
     matches!(marked.mark, Mark::Plain) && marked.octet == octet
 }
 
 // Whether it is this octet, outside of angles too.
 fn is_bare(octet: u8, marked: Marked) -> bool
-    ensures { result ≡ is_bare octet marked }
+    ensures { result ≡ spec.is_bare octet marked }
 {
     is_free(octet, marked) && !marked.in_angle
 }
 
 /// Whether it ends a piece.
 pub(crate) fn separates(marked: Marked) -> bool
-    ensures { result ≡ separates marked }
+    ensures { result ≡ spec.separates marked }
 {
     is_bare(b',', marked) || is_bare(b';', marked)
 }
 
 // The piece without the name of a group, which the last bare colon ends.
 fn without_group(piece: &[Marked]) -> &[Marked]
-    ensures { result.now ≡ without_group piece.now }
+    ensures { result.now ≡ spec.without_group piece.now }
 {
     let mut start = piece.len();
     while start > 0 && !is_bare(b':', piece[start - 1]) {
@@ -39,7 +39,7 @@ fn without_group(piece: &[Marked]) -> &[Marked]
 }
 
 fn without_comments(alloc: Global, piece: &[Marked]) -> Result<Vec<Marked>, AllocError>
-    ensures { IfOk result (λ kept. kept.items ≡ without_comments piece.now) }
+    ensures { IfOk result (λ kept. kept.items ≡ spec.without_comments piece.now) }
 {
     piece
         .iter()
@@ -50,14 +50,14 @@ fn without_comments(alloc: Global, piece: &[Marked]) -> Result<Vec<Marked>, Allo
 
 // Whether it is white space outside of quoted strings.
 fn is_gap(marked: Marked) -> bool
-    ensures { result ≡ is_gap marked }
+    ensures { result ≡ spec.is_gap marked }
 {
     matches!(marked.octet, b' ' | b'\t' | b'\r' | b'\n') && !matches!(marked.mark, Mark::Quoted)
 }
 
 // Whether the first octet behind white space is an `@`.
 fn begins_route(inside: &[Marked]) -> bool
-    ensures { result ≡ begins_route inside.now }
+    ensures { result ≡ spec.begins_route inside.now }
 {
     for marked in inside {
         if !is_gap(*marked) {
@@ -69,7 +69,7 @@ fn begins_route(inside: &[Marked]) -> bool
 
 // The inside of an angle without its source route, which ends with the first colon.
 fn without_route(inside: &[Marked]) -> &[Marked]
-    ensures { result.now ≡ without_route inside.now }
+    ensures { result.now ≡ spec.without_route inside.now }
 {
     if !begins_route(inside) {
         return inside;
@@ -82,7 +82,7 @@ fn without_route(inside: &[Marked]) -> &[Marked]
 
 // The inside of the first angle, or the piece where it has none.
 fn in_first_angle(piece: &[Marked]) -> &[Marked]
-    ensures { result.now ≡ in_first_angle piece.now }
+    ensures { result.now ≡ spec.in_first_angle piece.now }
 {
     let opens = |marked: &Marked| matches!(marked.mark, Mark::AngleOpen);
     let Some(open) = piece.iter().position(opens) else {
@@ -93,7 +93,7 @@ fn in_first_angle(piece: &[Marked]) -> &[Marked]
 
 // What stands before the first sign that closes an angle.
 fn up_to_close(inside: &[Marked]) -> &[Marked]
-    ensures { result.now ≡ before_first (λ m. closes_angle m.mark) inside.now }
+    ensures { result.now ≡ before_first (λ m. spec.closes_angle m.mark) inside.now }
 {
     let closes = |marked: &Marked| matches!(marked.mark, Mark::AngleClose);
     match inside.iter().position(closes) {
@@ -104,14 +104,14 @@ fn up_to_close(inside: &[Marked]) -> &[Marked]
 
 // Whether it is neither white space outside of quoted strings nor a sign of one.
 fn stays(marked: Marked) -> bool
-    ensures { result ≡ stays marked }
+    ensures { result ≡ spec.stays marked }
 {
     !is_gap(marked) && !matches!(marked.mark, Mark::QuoteSign)
 }
 
 /// The marked octets of the address in a piece.
 pub(crate) fn address_marks(alloc: Global, piece: &[Marked]) -> Result<Vec<Marked>, AllocError>
-    ensures { IfOk result (λ kept. kept.items ≡ address_marks piece.now) }
+    ensures { IfOk result (λ kept. kept.items ≡ spec.address_marks piece.now) }
 {
     let kept = without_comments(alloc, without_group(piece))?;
     in_first_angle(&kept)

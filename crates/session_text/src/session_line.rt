@@ -3,7 +3,7 @@ ghost use Rattle.std.specs.Prelude.{◌≡◌, ◌<◌, None, Some, IsTrue, ◌�
 ghost use Rattle.std.specs.List.{list_all};
 ghost use Rattle.std.specs.Option.{option_map};
 ghost use Rattle.sieve_base.specs.Octet.{is_printable};
-ghost use Rattle.session_text.specs.SessionLine.{line_words, is_text, place_of, count_of, last_count, named, last_name, last_value, script_command, message_command, expect_command, rename_command, envelope_command, main_command, drop_script_command, dump_command, expecting_command, print_command, name_command, value_command, lone_command, command_by, command_of_line};
+ghost use Rattle.session_text.specs.SessionLine as spec;
 ghost use Rattle.session_text.specs.view.Command.{command_as};
 
 use crate::cutting::next_word;
@@ -80,14 +80,14 @@ pub enum SessionCommand<'a> {
 /// Whether a word is this text.
 #[tactic(auto, unfolding(crate::specs::SessionLine::is_text))]
 fn is_text(word: &[u8], text: &[u8]) -> bool
-    ensures { result ≡ is_text text.now word.now }
+    ensures { result ≡ spec.is_text text.now word.now }
 {
     word == text
 }
 
 /// The place of that name.
 fn place_of(word: &[u8]) -> Option<Place>
-    ensures { result ≡ place_of word.now }
+    ensures { result ≡ spec.place_of word.now }
 {
     if is_text(word, b"personal") {
         Some(Place::Personal)
@@ -100,7 +100,7 @@ fn place_of(word: &[u8]) -> Option<Place>
 
 /// The value of a count: one to nine digits.
 fn count_of(word: &[u8]) -> Option<u64>
-    ensures { result ≡ count_of word.now }
+    ensures { result ≡ spec.count_of word.now }
 {
     if word.is_empty() || word.len() > 9 {
         return None;
@@ -117,14 +117,14 @@ fn count_of(word: &[u8]) -> Option<u64>
 
 /// Whether nothing but spaces is left.
 fn is_over(line: &[u8]) -> bool
-    ensures { IsTrue result ↔ (line_words line.now ≡ []) }
+    ensures { IsTrue result ↔ (spec.line_words line.now ≡ []) }
 {
     next_word(line).is_none()
 }
 
 /// The value of a count that is the last word.
 fn last_count(line: &[u8]) -> Option<u64>
-    ensures { result ≡ last_count (line_words line.now) }
+    ensures { result ≡ spec.last_count (spec.line_words line.now) }
 {
     let (count, line) = next_word(line)?;
     if is_over(line) { count_of(count) } else { None }
@@ -132,7 +132,7 @@ fn last_count(line: &[u8]) -> Option<u64>
 
 /// The script of a place and a name.
 fn named<'a>(place: &[u8], name: &'a [u8]) -> Option<(Place, Word<'a>)>
-    ensures { result ≡ named place.now name.now }
+    ensures { result ≡ spec.named place.now name.now }
 {
     let place = place_of(place)?;
     let name = Word::new(name)?;
@@ -141,7 +141,7 @@ fn named<'a>(place: &[u8], name: &'a [u8]) -> Option<(Place, Word<'a>)>
 
 /// A place and a name that are the last words.
 fn last_name(line: &[u8]) -> Option<(Place, Word<'_>)>
-    ensures { result ≡ last_name (line_words line.now) }
+    ensures { result ≡ spec.last_name (spec.line_words line.now) }
 {
     let (place, line) = next_word(line)?;
     let (name, line) = next_word(line)?;
@@ -154,7 +154,7 @@ fn last_name(line: &[u8]) -> Option<(Place, Word<'_>)>
 
 /// What the last word stands for.
 fn last_value(line: &[u8]) -> Option<Word<'_>>
-    ensures { result ≡ last_value (line_words line.now) }
+    ensures { result ≡ spec.last_value (spec.line_words line.now) }
 {
     let (word, line) = next_word(line)?;
     if is_over(line) { Word::new(word) } else { None }
@@ -162,7 +162,7 @@ fn last_value(line: &[u8]) -> Option<Word<'_>>
 
 /// What `script PLACE NAME N` asks for, behind its first word.
 fn script_command(line: &[u8]) -> Option<SessionCommand<'_>>
-    ensures { option_map command_as result ≡ script_command (line_words line.now) }
+    ensures { option_map command_as result ≡ spec.script_command (spec.line_words line.now) }
 {
     let (place, line) = next_word(line)?;
     let (name, line) = next_word(line)?;
@@ -173,7 +173,7 @@ fn script_command(line: &[u8]) -> Option<SessionCommand<'_>>
 
 /// What `message ID N` asks for, behind its first word.
 fn message_command(line: &[u8]) -> Option<SessionCommand<'_>>
-    ensures { option_map command_as result ≡ message_command (line_words line.now) }
+    ensures { option_map command_as result ≡ spec.message_command (spec.line_words line.now) }
 {
     let (id, line) = next_word(line)?;
     let id = Word::new(id)?;
@@ -183,7 +183,7 @@ fn message_command(line: &[u8]) -> Option<SessionCommand<'_>>
 
 /// What `expect ID N` asks for, behind its first word.
 fn expect_command(line: &[u8]) -> Option<SessionCommand<'_>>
-    ensures { option_map command_as result ≡ expect_command (line_words line.now) }
+    ensures { option_map command_as result ≡ spec.expect_command (spec.line_words line.now) }
 {
     let (id, line) = next_word(line)?;
     let id = Word::new(id)?;
@@ -193,7 +193,7 @@ fn expect_command(line: &[u8]) -> Option<SessionCommand<'_>>
 
 /// What `rename PLACE NAME PLACE NAME` asks for, behind its first word.
 fn rename_command(line: &[u8]) -> Option<SessionCommand<'_>>
-    ensures { option_map command_as result ≡ rename_command (line_words line.now) }
+    ensures { option_map command_as result ≡ spec.rename_command (spec.line_words line.now) }
 {
     let (place, line) = next_word(line)?;
     let (name, line) = next_word(line)?;
@@ -209,7 +209,7 @@ fn rename_command(line: &[u8]) -> Option<SessionCommand<'_>>
 
 /// What `envelope FROM TO` asks for, behind its first word.
 fn envelope_command(line: &[u8]) -> Option<SessionCommand<'_>>
-    ensures { option_map command_as result ≡ envelope_command (line_words line.now) }
+    ensures { option_map command_as result ≡ spec.envelope_command (spec.line_words line.now) }
 {
     let (from, line) = next_word(line)?;
     let from = Word::new(from)?;
@@ -219,7 +219,7 @@ fn envelope_command(line: &[u8]) -> Option<SessionCommand<'_>>
 
 /// What `main PLACE NAME` asks for, behind its first word.
 fn main_command(line: &[u8]) -> Option<SessionCommand<'_>>
-    ensures { option_map command_as result ≡ main_command (line_words line.now) }
+    ensures { option_map command_as result ≡ spec.main_command (spec.line_words line.now) }
 {
     let (place, name) = last_name(line)?;
     Some(SessionCommand::Main { place, name })
@@ -227,7 +227,7 @@ fn main_command(line: &[u8]) -> Option<SessionCommand<'_>>
 
 /// What `drop-script PLACE NAME` asks for, behind its first word.
 fn drop_script_command(line: &[u8]) -> Option<SessionCommand<'_>>
-    ensures { option_map command_as result ≡ drop_script_command (line_words line.now) }
+    ensures { option_map command_as result ≡ spec.drop_script_command (spec.line_words line.now) }
 {
     let (place, name) = last_name(line)?;
     Some(SessionCommand::DropScript { place, name })
@@ -235,7 +235,7 @@ fn drop_script_command(line: &[u8]) -> Option<SessionCommand<'_>>
 
 /// What `dump PLACE NAME` asks for, behind its first word.
 fn dump_command(line: &[u8]) -> Option<SessionCommand<'_>>
-    ensures { option_map command_as result ≡ dump_command (line_words line.now) }
+    ensures { option_map command_as result ≡ spec.dump_command (spec.line_words line.now) }
 {
     let (place, name) = last_name(line)?;
     Some(SessionCommand::Dump { place, name })
@@ -243,7 +243,7 @@ fn dump_command(line: &[u8]) -> Option<SessionCommand<'_>>
 
 /// What a line that says what is expected of a message asks for.
 fn expecting_command<'a>(word: &[u8], line: &'a [u8]) -> Option<SessionCommand<'a>>
-    ensures { option_map command_as result ≡ expecting_command word.now (line_words line.now) }
+    ensures { option_map command_as result ≡ spec.expecting_command word.now (spec.line_words line.now) }
 {
     if is_text(word, b"expect") {
         expect_command(line)
@@ -257,7 +257,7 @@ fn expecting_command<'a>(word: &[u8], line: &'a [u8]) -> Option<SessionCommand<'
 
 /// What a line that prints what there is at a place and a name asks for.
 fn print_command<'a>(word: &[u8], line: &'a [u8]) -> Option<SessionCommand<'a>>
-    ensures { option_map command_as result ≡ print_command word.now (line_words line.now) }
+    ensures { option_map command_as result ≡ spec.print_command word.now (spec.line_words line.now) }
 {
     if is_text(word, b"dump") {
         dump_command(line)
@@ -268,7 +268,7 @@ fn print_command<'a>(word: &[u8], line: &'a [u8]) -> Option<SessionCommand<'a>>
 
 /// What a line with a place and a name behind its first word asks for.
 fn name_command<'a>(word: &[u8], line: &'a [u8]) -> Option<SessionCommand<'a>>
-    ensures { option_map command_as result ≡ name_command word.now (line_words line.now) }
+    ensures { option_map command_as result ≡ spec.name_command word.now (spec.line_words line.now) }
 {
     if is_text(word, b"main") {
         main_command(line)
@@ -281,7 +281,7 @@ fn name_command<'a>(word: &[u8], line: &'a [u8]) -> Option<SessionCommand<'a>>
 
 /// What a line with one word behind its first asks for.
 fn value_command<'a>(word: &[u8], line: &'a [u8]) -> Option<SessionCommand<'a>>
-    ensures { option_map command_as result ≡ value_command word.now (line_words line.now) }
+    ensures { option_map command_as result ≡ spec.value_command word.now (spec.line_words line.now) }
 {
     if is_text(word, b"drop-message") {
         let id = last_value(line)?;
@@ -296,7 +296,7 @@ fn value_command<'a>(word: &[u8], line: &'a [u8]) -> Option<SessionCommand<'a>>
 
 /// What a line of one word asks for.
 fn lone_command<'a>(word: &[u8], line: &'a [u8]) -> Option<SessionCommand<'a>>
-    ensures { option_map command_as result ≡ lone_command word.now (line_words line.now) }
+    ensures { option_map command_as result ≡ spec.lone_command word.now (spec.line_words line.now) }
 {
     if is_text(word, b"no-main") {
         if is_over(line) {
@@ -317,7 +317,7 @@ fn lone_command<'a>(word: &[u8], line: &'a [u8]) -> Option<SessionCommand<'a>>
 
 /// What a line of some words asks for.
 fn command_by<'a>(word: &[u8], line: &'a [u8]) -> Option<SessionCommand<'a>>
-    ensures { option_map command_as result ≡ command_by word.now (line_words line.now) }
+    ensures { option_map command_as result ≡ spec.command_by word.now (spec.line_words line.now) }
 {
     if is_text(word, b"script") {
         script_command(line)
@@ -337,7 +337,7 @@ fn command_by<'a>(word: &[u8], line: &'a [u8]) -> Option<SessionCommand<'a>>
 /// few words or too many, or a count that isn't one to nine digits. Takes no memory.
 #[tactic(auto, unfolding(crate::specs::SessionLine::command_of_line))]
 pub fn command_of_line(line: &[u8]) -> Option<SessionCommand<'_>>
-    ensures { option_map command_as result ≡ command_of_line line.now }
+    ensures { option_map command_as result ≡ spec.command_of_line line.now }
 {
     if !is_plain(line) {
         return None;

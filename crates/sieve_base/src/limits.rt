@@ -1,7 +1,7 @@
 //! The limits of the project, each once, for code. Contracts name the limits of the definitions.
 
 ghost use Rattle.std.specs.Prelude.{◌≡◌};
-ghost use Rattle.sieve_base.specs.Limits.{action_limit, address_limit, block_room, expected_limit, global_limit, id_limit, include_depth, include_limit, line_limit, local_limit, mailbox_limit, match_limit, message_count_limit, message_limit, name_limit, script_count_limit, test_depth, text_limit, value_limit};
+ghost use Rattle.sieve_base.specs.Limits as spec;
 
 /// The most octets of a script's text.
 pub const MAX_TEXT: usize = 1_048_576;
@@ -44,23 +44,23 @@ pub const MAX_LINE: usize = 16_384;
 
 /// The constants are the limits of the definitions. Does nothing: its contract is the law.
 pub fn constants_are_limits()
-    ensures text { MAX_TEXT ≡ text_limit }
-    ensures name { MAX_NAME ≡ name_limit }
-    ensures scripts { MAX_SCRIPTS ≡ script_count_limit }
-    ensures tests { MAX_TEST_DEPTH ≡ test_depth }
-    ensures blocks { MAX_OPEN_BLOCKS ≡ block_room }
-    ensures message { MAX_MESSAGE ≡ message_limit }
-    ensures id { MAX_ID ≡ id_limit }
-    ensures expected { MAX_EXPECTED ≡ expected_limit }
-    ensures messages { MAX_MESSAGES ≡ message_count_limit }
-    ensures address { MAX_ADDRESS ≡ address_limit }
-    ensures mailbox { MAX_MAILBOX ≡ mailbox_limit }
-    ensures actions { MAX_ACTIONS ≡ action_limit }
-    ensures depth { MAX_INCLUDE_DEPTH ≡ include_depth }
-    ensures includes { MAX_INCLUDES ≡ include_limit }
-    ensures value { MAX_VALUE ≡ value_limit }
-    ensures locals { MAX_LOCALS ≡ local_limit }
-    ensures globals { MAX_GLOBALS ≡ global_limit }
-    ensures matched { MAX_MATCH ≡ match_limit }
-    ensures line { MAX_LINE ≡ line_limit }
+    ensures text { MAX_TEXT ≡ spec.text_limit }
+    ensures name { MAX_NAME ≡ spec.name_limit }
+    ensures scripts { MAX_SCRIPTS ≡ spec.script_count_limit }
+    ensures tests { MAX_TEST_DEPTH ≡ spec.test_depth }
+    ensures blocks { MAX_OPEN_BLOCKS ≡ spec.block_room }
+    ensures message { MAX_MESSAGE ≡ spec.message_limit }
+    ensures id { MAX_ID ≡ spec.id_limit }
+    ensures expected { MAX_EXPECTED ≡ spec.expected_limit }
+    ensures messages { MAX_MESSAGES ≡ spec.message_count_limit }
+    ensures address { MAX_ADDRESS ≡ spec.address_limit }
+    ensures mailbox { MAX_MAILBOX ≡ spec.mailbox_limit }
+    ensures actions { MAX_ACTIONS ≡ spec.action_limit }
+    ensures depth { MAX_INCLUDE_DEPTH ≡ spec.include_depth }
+    ensures includes { MAX_INCLUDES ≡ spec.include_limit }
+    ensures value { MAX_VALUE ≡ spec.value_limit }
+    ensures locals { MAX_LOCALS ≡ spec.local_limit }
+    ensures globals { MAX_GLOBALS ≡ spec.global_limit }
+    ensures matched { MAX_MATCH ≡ spec.match_limit }
+    ensures line { MAX_LINE ≡ spec.line_limit }
 {}

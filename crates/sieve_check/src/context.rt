@@ -2,7 +2,7 @@
 ghost use Rattle.std.specs.Prelude.{◌≡◌, ◌&&◌, Some, map};
 ghost use Rattle.sieve_syntax.specs.Tree.{nodes};
 ghost use Rattle.sieve_syntax.specs.view.Tree.{argument_of, node_of, text_of};
-ghost use Rattle.sieve_check.specs.Context.{allows_else, behind_kind, continues_if, inside, is_require, is_required, nothing_required, required_behind, required_from, requiring, requiring_argument, requiring_arguments, requiring_texts, script_start, takes_references};
+ghost use Rattle.sieve_check.specs.Context as spec;
 ghost use Rattle.sieve_check.specs.Scope.{naming_arguments, no_names};
 ghost use Rattle.sieve_reading.specs.Shape.{row_labels};
 ghost use Rattle.sieve_check.specs.view.Context.{at_spot, required_as};
@@ -27,7 +27,7 @@ pub(crate) struct Required {
 impl Required {
     /// Nothing.
     fn nothing() -> Required
-        ensures { required_as result ≡ nothing_required }
+        ensures { required_as result ≡ spec.nothing_required }
     {
         Required {
             fileinto: false,
@@ -41,7 +41,7 @@ impl Required {
 
     /// Whether a capability is required, or need not be.
     pub(crate) fn has(self, capability: Capability) -> bool
-        ensures { result ≡ is_required (required_as self) capability }
+        ensures { result ≡ spec.is_required (required_as self) capability }
     {
         match capability {
             Capability::Fileinto => self.fileinto,
@@ -57,7 +57,7 @@ impl Required {
 
     /// With what a string names.
     fn with_name(self, name: &[u8]) -> Required
-        ensures { required_as result ≡ requiring (required_as self) name.now }
+        ensures { required_as result ≡ spec.requiring (required_as self) name.now }
     {
         Required {
             fileinto: self.fileinto || is_name_of(name, Capability::Fileinto),
@@ -71,7 +71,7 @@ impl Required {
 
     /// With what strings name.
     fn with_texts(self, texts: &[Text]) -> Required
-        ensures { required_as result ≡ requiring_texts (required_as self) (map text_of texts.now) }
+        ensures { required_as result ≡ spec.requiring_texts (required_as self) (map text_of texts.now) }
     {
         let mut required = self;
         for text in texts {
@@ -82,7 +82,7 @@ impl Required {
 
     /// With what the strings of an argument name.
     fn with_argument(self, argument: &Argument) -> Required
-        ensures { required_as result ≡ requiring_argument (required_as self) (argument_of argument.now) }
+        ensures { required_as result ≡ spec.requiring_argument (required_as self) (argument_of argument.now) }
     {
         match argument {
             Argument::Strings { items, .. } => self.with_texts(items),
@@ -93,7 +93,7 @@ impl Required {
 
     /// With what the strings of arguments name.
     fn with_arguments(self, args: &[Argument]) -> Required
-        ensures { required_as result ≡ requiring_arguments (required_as self) (map argument_of args.now) }
+        ensures { required_as result ≡ spec.requiring_arguments (required_as self) (map argument_of args.now) }
     {
         let mut required = self;
         for argument in args {
@@ -105,7 +105,7 @@ impl Required {
 
 /// Whether references in a string stand for values, by its role, if it has one (RFC 5229, section 3).
 pub(crate) fn takes_references(required: Required, role: Option<Role>) -> bool
-    ensures { result ≡ takes_references (required_as required) role }
+    ensures { result ≡ spec.takes_references (required_as required) role }
 {
     match role {
         Some(role) => is_expanded(role) && required.has(Capability::Variables),
@@ -134,28 +134,28 @@ pub(crate) struct Context<'a> {
 
 /// Whether it is `require`.
 pub(crate) fn is_require(kind: CommandKind) -> bool
-    ensures { result ≡ is_require kind }
+    ensures { result ≡ spec.is_require kind }
 {
     matches!(kind, CommandKind::Require)
 }
 
 /// Whether it goes on with what an `if` began.
 pub(crate) fn continues_if(kind: CommandKind) -> bool
-    ensures { result ≡ continues_if kind }
+    ensures { result ≡ spec.continues_if kind }
 {
     matches!(kind, CommandKind::Elsif | CommandKind::Else)
 }
 
 /// Whether an `elsif` or `else` may follow.
 fn allows_else(kind: CommandKind) -> bool
-    ensures { result ≡ allows_else kind }
+    ensures { result ≡ spec.allows_else kind }
 {
     matches!(kind, CommandKind::If | CommandKind::Elsif)
 }
 
 /// Whether only requires stand behind a command of this kind, where only requires stand before it or others too.
 fn leads_behind(leads: bool, kind: CommandKind) -> bool
-    ensures { result ≡ (leads && is_require kind) }
+    ensures { result ≡ (leads && spec.is_require kind) }
 {
     leads && is_require(kind)
 }
@@ -163,7 +163,7 @@ fn leads_behind(leads: bool, kind: CommandKind) -> bool
 impl Spot {
     /// At the start of a script.
     pub(crate) fn script_start() -> Spot
-        ensures { at_spot result no_names ≡ script_start }
+        ensures { at_spot result no_names ≡ spec.script_start }
     {
         Spot {
             leads: true,
@@ -174,7 +174,7 @@ impl Spot {
 
     /// At the start of a block behind this.
     pub(crate) fn inside(self) -> Spot
-        ensures { (scope : ScopeState) → at_spot result scope ≡ inside (at_spot self scope) }
+        ensures { (scope : ScopeState) → at_spot result scope ≡ spec.inside (at_spot self scope) }
     {
         Spot {
             leads: false,
@@ -185,7 +185,7 @@ impl Spot {
 
     /// What is required behind a command of this kind with these arguments.
     fn required_behind(self, kind: CommandKind, args: &[Argument]) -> Required
-        ensures { (scope : ScopeState) → required_as result ≡ required_behind (at_spot self scope) kind (map argument_of args.now) }
+        ensures { (scope : ScopeState) → required_as result ≡ spec.required_behind (at_spot self scope) kind (map argument_of args.now) }
     {
         if self.leads && is_require(kind) {
             self.required.with_arguments(args)
@@ -196,7 +196,7 @@ impl Spot {
 
     /// Behind a command of this kind with these arguments.
     pub(crate) fn behind_kind(self, kind: CommandKind, args: &[Argument]) -> Spot
-        ensures { (scope : ScopeState) → at_spot result (naming_arguments scope (row_labels (command_row kind) (map argument_of args.now)) (map argument_of args.now)) ≡ behind_kind (at_spot self scope) (Some kind) (map argument_of args.now) }
+        ensures { (scope : ScopeState) → at_spot result (naming_arguments scope (row_labels (command_row kind) (map argument_of args.now)) (map argument_of args.now)) ≡ spec.behind_kind (at_spot self scope) (Some kind) (map argument_of args.now) }
     {
         Spot {
             leads: leads_behind(self.leads, kind),
@@ -208,7 +208,7 @@ impl Spot {
 
 /// What the requires at the top of a script name, which is all that is required in it.
 pub(crate) fn required_in(commands: &[Command]) -> Required
-    ensures { required_as result ≡ required_from nothing_required (nodes (map node_of commands.now)) }
+    ensures { required_as result ≡ spec.required_from spec.nothing_required (nodes (map node_of commands.now)) }
 {
     let mut required = Required::nothing();
     for command in commands {

@@ -2,7 +2,7 @@
 ghost use Rattle.std.specs.Prelude.{◌≡◌, [], ◌∷◌, map, IfOk, OnOk};
 ghost use Rattle.sieve_syntax.specs.Tree as syntax;
 ghost use Rattle.sieve_syntax.specs.view.Tree as seen;
-ghost use Rattle.sieve_check.specs.Parted.{command_labels, declared_behind, declared_behind_nodes, parted, parted_argument, parted_labelled, parted_node, parted_nodes, parted_test, parted_tests, parted_text, parts_in, test_labels};
+ghost use Rattle.sieve_check.specs.Parted as spec;
 ghost use Rattle.sieve_check.specs.Scope.{declaring_arguments};
 ghost use Rattle.sieve_reading.specs.Shape.{row_labels};
 ghost use Rattle.sieve_table.specs.Table as table;
@@ -62,7 +62,7 @@ fn parts_in(
     role: Option<Role>,
     octets: &[u8],
 ) -> Result<Parts, AllocError>
-    ensures { IfOk result (λ parts. map part_of parts.items ≡ parts_in (cutting_as cutting.entry) role octets.now) }
+    ensures { IfOk result (λ parts. map part_of parts.items ≡ spec.parts_in (cutting_as cutting.entry) role octets.now) }
 {
     if names_variable(role) {
         return variable_parts(alloc, cutting.declared, octets);
@@ -81,7 +81,7 @@ fn parted_text(
     role: Option<Role>,
     text: &sieve_syntax::Text,
 ) -> Result<Text, AllocError>
-    ensures { IfOk result (λ copy. text_of copy ≡ parted_text (cutting_as cutting.entry) role (seen.text_of text.now)) }
+    ensures { IfOk result (λ copy. text_of copy ≡ spec.parted_text (cutting_as cutting.entry) role (seen.text_of text.now)) }
 {
     Ok(Text {
         string: parts_in(alloc, cutting, role, &text.string)?,
@@ -96,7 +96,7 @@ fn parted_texts(
     role: Option<Role>,
     texts: &[sieve_syntax::Text],
 ) -> Result<Vec<Text>, AllocError>
-    ensures { IfOk result (λ copies. map text_of copies.items ≡ map (parted_text (cutting_as cutting.entry) role) (map seen.text_of texts.now)) }
+    ensures { IfOk result (λ copies. map text_of copies.items ≡ map (spec.parted_text (cutting_as cutting.entry) role) (map seen.text_of texts.now)) }
 {
     let mut copies = Vec::with_capacity(alloc, texts.len())?;
     for text in texts {
@@ -112,7 +112,7 @@ fn parted_argument(
     role: Option<Role>,
     argument: &sieve_syntax::Argument,
 ) -> Result<Argument, AllocError>
-    ensures { IfOk result (λ copy. argument_of copy ≡ parted_argument (cutting_as cutting.entry) role (seen.argument_of argument.now)) }
+    ensures { IfOk result (λ copy. argument_of copy ≡ spec.parted_argument (cutting_as cutting.entry) role (seen.argument_of argument.now)) }
 {
     match argument {
         sieve_syntax::Argument::Strings { items, bracketed } => Ok(Argument::Strings {
@@ -137,7 +137,7 @@ fn parted_by_row(
     row: &Row,
     args: &[sieve_syntax::Argument],
 ) -> Result<Vec<Argument>, AllocError>
-    ensures { IfOk result (λ copies. map argument_of copies.items ≡ parted_labelled (cutting_as cutting.entry) (row_labels (row_as row.now) (map seen.argument_of args.now)) (map seen.argument_of args.now)) }
+    ensures { IfOk result (λ copies. map argument_of copies.items ≡ spec.parted_labelled (cutting_as cutting.entry) (row_labels (row_as row.now) (map seen.argument_of args.now)) (map seen.argument_of args.now)) }
 {
     let mut copies = Vec::with_capacity(alloc, args.len())?;
     let mut expected = row_expected(row, args);
@@ -156,7 +156,7 @@ fn parted_without_row(
     cutting: Cutting<'_>,
     args: &[sieve_syntax::Argument],
 ) -> Result<Vec<Argument>, AllocError>
-    ensures { IfOk result (λ copies. map argument_of copies.items ≡ parted_labelled (cutting_as cutting.entry) [] (map seen.argument_of args.now)) }
+    ensures { IfOk result (λ copies. map argument_of copies.items ≡ spec.parted_labelled (cutting_as cutting.entry) [] (map seen.argument_of args.now)) }
 {
     let mut copies = Vec::with_capacity(alloc, args.len())?;
     for argument in args {
@@ -172,7 +172,7 @@ fn parted_test_arguments(
     name: &[u8],
     args: &[sieve_syntax::Argument],
 ) -> Result<Vec<Argument>, AllocError>
-    ensures { IfOk result (λ copies. map argument_of copies.items ≡ parted_labelled (cutting_as cutting.entry) (test_labels (table.test_named name.now) (map seen.argument_of args.now)) (map seen.argument_of args.now)) }
+    ensures { IfOk result (λ copies. map argument_of copies.items ≡ spec.parted_labelled (cutting_as cutting.entry) (spec.test_labels (table.test_named name.now) (map seen.argument_of args.now)) (map seen.argument_of args.now)) }
 {
     match test_named(name) {
         None => parted_without_row(alloc, cutting, args),
@@ -187,7 +187,7 @@ fn parted_command_arguments(
     kind: Option<CommandKind>,
     args: &[sieve_syntax::Argument],
 ) -> Result<Vec<Argument>, AllocError>
-    ensures { IfOk result (λ copies. map argument_of copies.items ≡ parted_labelled (cutting_as cutting.entry) (command_labels kind (map seen.argument_of args.now)) (map seen.argument_of args.now)) }
+    ensures { IfOk result (λ copies. map argument_of copies.items ≡ spec.parted_labelled (cutting_as cutting.entry) (spec.command_labels kind (map seen.argument_of args.now)) (map seen.argument_of args.now)) }
 {
     match kind {
         None => parted_without_row(alloc, cutting, args),
@@ -202,7 +202,7 @@ fn parted_test(
     cutting: Cutting<'_>,
     test: &sieve_syntax::Test,
 ) -> Result<Test, AllocError>
-    ensures { IfOk result (λ copy. test_of copy ≡ parted_test (cutting_as cutting.entry) (seen.test_of test.now)) }
+    ensures { IfOk result (λ copy. test_of copy ≡ spec.parted_test (cutting_as cutting.entry) (seen.test_of test.now)) }
 {
     let name = SmallOctets::from_slice(alloc, &test.name)?;
     let args = parted_test_arguments(alloc, cutting, &test.name, &test.args)?;
@@ -222,7 +222,7 @@ fn parted_tests(
     cutting: Cutting<'_>,
     tests: &sieve_syntax::Tests,
 ) -> Result<Tests, AllocError>
-    ensures { IfOk result (λ copy. tests_of copy ≡ parted_tests (cutting_as cutting.entry) (seen.tests_of tests.now)) }
+    ensures { IfOk result (λ copy. tests_of copy ≡ spec.parted_tests (cutting_as cutting.entry) (seen.tests_of tests.now)) }
 {
     match tests {
         sieve_syntax::Tests::None => Ok(Tests::None),
@@ -244,7 +244,7 @@ fn parted_test_list(
     cutting: Cutting<'_>,
     tests: &[sieve_syntax::Test],
 ) -> Result<Vec<Test>, AllocError>
-    ensures { IfOk result (λ copies. map test_of copies.items ≡ map (parted_test (cutting_as cutting.entry)) (map seen.test_of tests.now)) }
+    ensures { IfOk result (λ copies. map test_of copies.items ≡ map (spec.parted_test (cutting_as cutting.entry)) (map seen.test_of tests.now)) }
 {
     let mut copies = Vec::with_capacity(alloc, tests.len())?;
     for test in tests {
@@ -279,7 +279,7 @@ fn declare_by_command(
     kind: Option<CommandKind>,
     args: &[sieve_syntax::Argument],
 ) -> Result<(), AllocError>
-    ensures { OnOk result (declared.new ≡ declaring_arguments declared.old (command_labels kind (map seen.argument_of args.now)) (map seen.argument_of args.now)) }
+    ensures { OnOk result (declared.new ≡ declaring_arguments declared.old (spec.command_labels kind (map seen.argument_of args.now)) (map seen.argument_of args.now)) }
 {
     match kind {
         None => Ok(()),
@@ -324,8 +324,8 @@ fn parted_command(
     declared: &mut Names,
     command: &sieve_syntax::Command,
 ) -> Result<Command, AllocError>
-    ensures copy { IfOk result (λ copy. node_of copy ≡ parted_node (cutting_by required declared.old) (seen.node_of command.now)) }
-    ensures declared { IfOk result (λ copy. declared.new ≡ declared_behind declared.old (seen.node_of command.now)) }
+    ensures copy { IfOk result (λ copy. node_of copy ≡ spec.parted_node (cutting_by required declared.old) (seen.node_of command.now)) }
+    ensures declared { IfOk result (λ copy. declared.new ≡ spec.declared_behind declared.old (seen.node_of command.now)) }
 {
     let Front { name, args, tests } = parted_front(alloc, required, &mut *declared, command)?;
     match &command.block {
@@ -357,8 +357,8 @@ fn parted_commands(
     declared: &mut Names,
     commands: &[sieve_syntax::Command],
 ) -> Result<Vec<Command>, AllocError>
-    ensures copies { IfOk result (λ copies. map node_of copies.items ≡ items (parted_nodes (cutting_by required declared.old) (syntax.nodes (map seen.node_of commands.now)))) }
-    ensures declared { IfOk result (λ copies. declared.new ≡ declared_behind_nodes declared.old (syntax.nodes (map seen.node_of commands.now))) }
+    ensures copies { IfOk result (λ copies. map node_of copies.items ≡ items (spec.parted_nodes (cutting_by required declared.old) (syntax.nodes (map seen.node_of commands.now)))) }
+    ensures declared { IfOk result (λ copies. declared.new ≡ spec.declared_behind_nodes declared.old (syntax.nodes (map seen.node_of commands.now))) }
 {
     let mut copies = Vec::with_capacity(alloc, commands.len())?;
     for command in commands {
@@ -372,7 +372,7 @@ pub(crate) fn parted(
     alloc: Global,
     script: &sieve_syntax::ParsedScript,
 ) -> Result<Vec<Command>, AllocError>
-    ensures { IfOk result (λ commands. map node_of commands.items ≡ parted (seen.nodes_of script.now)) }
+    ensures { IfOk result (λ commands. map node_of commands.items ≡ spec.parted (seen.nodes_of script.now)) }
 {
     let mut declared = Names::new(alloc);
     parted_commands(

@@ -5,7 +5,7 @@ ghost use Rattle.sieve_syntax.specs.view.Tree.{argument_of, text_of};
 ghost use Rattle.sieve_variables.specs.Name.{folded_name};
 ghost use Rattle.sieve_variables.specs.Variable.{with_name};
 ghost use Rattle.sieve_check.specs.Breach.{is_past_locals};
-ghost use Rattle.sieve_check.specs.Scope.{assigning, assigning_argument, assigning_arguments, assigning_texts, declaring_argument, declaring_arguments, declaring_texts, is_assigned, is_new_local, naming_arguments, no_names};
+ghost use Rattle.sieve_check.specs.Scope as spec;
 
 use crate::role::{behind_first, first_role};
 use sieve_base::Octets;
@@ -51,7 +51,7 @@ fn declare(alloc: Global, declared: &mut Names, name: &[u8]) -> Result<(), Alloc
 
 /// Declares those that strings name.
 fn declare_texts(alloc: Global, declared: &mut Names, texts: &[Text]) -> Result<(), AllocError>
-    ensures { OnOk result (declared.new ≡ declaring_texts declared.old (map text_of texts.now)) }
+    ensures { OnOk result (declared.new ≡ spec.declaring_texts declared.old (map text_of texts.now)) }
 {
     for text in texts {
         declare(alloc, &mut *declared, &text.string)?;
@@ -66,7 +66,7 @@ pub(crate) fn declare_argument(
     role: Option<Role>,
     argument: &Argument,
 ) -> Result<(), AllocError>
-    ensures { OnOk result (declared.new ≡ declaring_argument declared.old role (argument_of argument.now)) }
+    ensures { OnOk result (declared.new ≡ spec.declaring_argument declared.old role (argument_of argument.now)) }
 {
     match argument {
         Argument::Strings { items, .. } => {
@@ -88,7 +88,7 @@ fn declare_arguments(
     labels: &[Label],
     args: &[Argument],
 ) -> Result<(), AllocError>
-    ensures { OnOk result (declared.new ≡ declaring_arguments declared.old labels.now (map argument_of args.now)) }
+    ensures { OnOk result (declared.new ≡ spec.declaring_arguments declared.old labels.now (map argument_of args.now)) }
 {
     let mut labels_left = labels;
     for argument in args {
@@ -101,7 +101,7 @@ fn declare_arguments(
 impl Scope {
     /// None.
     pub(crate) fn new(alloc: Global) -> Scope
-        ensures { result ≡ no_names }
+        ensures { result ≡ spec.no_names }
     {
         Scope {
             assigned: Vec::new(alloc),
@@ -111,7 +111,7 @@ impl Scope {
 
     /// Whether the script sets a variable of its own under a name. Case doesn't matter.
     pub(crate) fn is_assigned(&self, name: &[u8]) -> bool
-        ensures { result ≡ is_assigned name.now self.now }
+        ensures { result ≡ spec.is_assigned name.now self.now }
     {
         self.assigned
             .iter()
@@ -120,7 +120,7 @@ impl Scope {
 
     /// Whether it is the name of a variable of the script that isn't set yet.
     fn lacks(&self, alloc: Global, name: &[u8]) -> Result<bool, AllocError>
-        ensures { IfOk result (λ lacks. lacks ≡ is_new_local name.now self.now) }
+        ensures { IfOk result (λ lacks. lacks ≡ spec.is_new_local name.now self.now) }
     {
         if !is_identifier(name) || self.is_assigned(name) {
             return Ok(false);
@@ -143,7 +143,7 @@ impl Scope {
     /// Adds the variable that a string names where one is set.
     #[tactic(auto, unfolding(crate::specs::Scope::assigning))]
     fn assign(&mut self, alloc: Global, name: &[u8]) -> Result<(), AllocError>
-        ensures { OnOk result (self.new ≡ assigning self.old name.now) }
+        ensures { OnOk result (self.new ≡ spec.assigning self.old name.now) }
     {
         if self.lacks(alloc, name)? {
             let copy = Octets::copied(alloc, name)?;
@@ -154,7 +154,7 @@ impl Scope {
 
     /// Adds those that strings name.
     fn assign_texts(&mut self, alloc: Global, texts: &[Text]) -> Result<(), AllocError>
-        ensures { OnOk result (self.new ≡ assigning_texts self.old (map text_of texts.now)) }
+        ensures { OnOk result (self.new ≡ spec.assigning_texts self.old (map text_of texts.now)) }
     {
         for text in texts {
             self.assign(alloc, &text.string)?;
@@ -169,7 +169,7 @@ impl Scope {
         role: Option<Role>,
         argument: &Argument,
     ) -> Result<(), AllocError>
-        ensures { OnOk result (self.new ≡ assigning_argument self.old role (argument_of argument.now)) }
+        ensures { OnOk result (self.new ≡ spec.assigning_argument self.old role (argument_of argument.now)) }
     {
         match argument {
             Argument::Strings { items, .. } => {
@@ -191,7 +191,7 @@ impl Scope {
         labels: &[Label],
         args: &[Argument],
     ) -> Result<(), AllocError>
-        ensures { OnOk result (self.new ≡ assigning_arguments self.old labels.now (map argument_of args.now)) }
+        ensures { OnOk result (self.new ≡ spec.assigning_arguments self.old labels.now (map argument_of args.now)) }
     {
         let mut labels_left = labels;
         for argument in args {
@@ -208,7 +208,7 @@ impl Scope {
         labels: &[Label],
         args: &[Argument],
     ) -> Result<(), AllocError>
-        ensures { OnOk result (self.new ≡ naming_arguments self.old labels.now (map argument_of args.now)) }
+        ensures { OnOk result (self.new ≡ spec.naming_arguments self.old labels.now (map argument_of args.now)) }
     {
         self.assign_arguments(alloc, labels, args)?;
         declare_arguments(alloc, &mut self.declared, labels, args)

@@ -5,7 +5,7 @@ ghost use Rattle.sieve_syntax.specs.view.Tree.{argument_of, tests_of};
 ghost use Rattle.sieve_reading.specs.Label.{row_is_filled};
 ghost use Rattle.sieve_reading.specs.Shape.{shapes_of};
 ghost use Rattle.sieve_reading.specs.Positional.{is_positional_label};
-ghost use Rattle.sieve_check.specs.Use.{are_bad, awaits, begins_own, has_bad_tag, has_late_tag, has_repeated, is_of_kind, is_other_tag, is_repeated, is_tag, is_lacking, lacks_kind, lacks_needed, lacks_own, lacks_required, needed_by, tests_fit};
+ghost use Rattle.sieve_check.specs.Use as spec;
 ghost use Rattle.sieve_check.specs.view.Context.{required_as};
 ghost use Rattle.sieve_table.specs.view.Row.{row_as};
 
@@ -16,14 +16,14 @@ use sieve_table::{Capability, Inner, Row, TagKind, same_kind};
 
 /// Whether a capability has to be required and isn't.
 fn is_lacking(required: Required, capability: Capability) -> bool
-    ensures { result ≡ is_lacking (required_as required) capability }
+    ensures { result ≡ spec.is_lacking (required_as required) capability }
 {
     !required.has(capability)
 }
 
 /// What has to be required for an argument.
 fn needed_by(label: Label) -> Option<Capability>
-    ensures { result ≡ needed_by label }
+    ensures { result ≡ spec.needed_by label }
 {
     match label {
         Label::Tagged(tag) => tag.row().needs,
@@ -36,7 +36,7 @@ fn needed_by(label: Label) -> Option<Capability>
 
 /// Whether an argument needs what isn't required.
 fn lacks_needed(required: Required, label: Label) -> bool
-    ensures { result ≡ lacks_needed (required_as required) (needed_by label) }
+    ensures { result ≡ spec.lacks_needed (required_as required) (spec.needed_by label) }
 {
     match needed_by(label) {
         Some(capability) => is_lacking(required, capability),
@@ -46,7 +46,7 @@ fn lacks_needed(required: Required, label: Label) -> bool
 
 /// Whether some of these has to be required and isn't.
 fn has_lacking(required: Required, needs: &[Capability]) -> bool
-    ensures { result ≡ list_any (is_lacking (required_as required)) needs.now }
+    ensures { result ≡ list_any (spec.is_lacking (required_as required)) needs.now }
 {
     needs
         .iter()
@@ -55,21 +55,21 @@ fn has_lacking(required: Required, needs: &[Capability]) -> bool
 
 /// Whether some argument needs what isn't required.
 fn has_needy(required: Required, labels: &[Label]) -> bool
-    ensures { result ≡ list_any (λ label. lacks_needed (required_as required) (needed_by label)) labels.now }
+    ensures { result ≡ list_any (λ label. spec.lacks_needed (required_as required) (spec.needed_by label)) labels.now }
 {
     labels.iter().any(|label| lacks_needed(required, *label))
 }
 
 /// Whether a command or a test of a row, with arguments of these labels, needs what isn't required (RFC 5228, section 2.10.5).
 pub(crate) fn lacks_required(required: Required, row: &Row, labels: &[Label]) -> bool
-    ensures { result ≡ lacks_required (required_as required) (row_as row.now) labels.now }
+    ensures { result ≡ spec.lacks_required (required_as required) (row_as row.now) labels.now }
 {
     has_lacking(required, row.needs) || has_needy(required, labels)
 }
 
 /// Whether it is a tag that isn't taken.
 fn is_other_tag(label: Label) -> bool
-    ensures { result ≡ is_other_tag label }
+    ensures { result ≡ spec.is_other_tag label }
 {
     match label {
         Label::OtherTag => true,
@@ -79,7 +79,7 @@ fn is_other_tag(label: Label) -> bool
 
 /// Whether it is a tag.
 fn is_tag(label: Label) -> bool
-    ensures { result ≡ is_tag label }
+    ensures { result ≡ spec.is_tag label }
 {
     match label {
         Label::Tagged(_) | Label::OtherTag => true,
@@ -99,21 +99,21 @@ fn is_positional(label: Label) -> bool
 
 /// Whether a tag is among them.
 fn has_some_tag(labels: &[Label]) -> bool
-    ensures { result ≡ list_any is_tag labels.now }
+    ensures { result ≡ list_any spec.is_tag labels.now }
 {
     labels.iter().any(|label| is_tag(*label))
 }
 
 /// Whether a tag that isn't taken is among them.
 fn has_other_tag(labels: &[Label]) -> bool
-    ensures { result ≡ list_any is_other_tag labels.now }
+    ensures { result ≡ list_any spec.is_other_tag labels.now }
 {
     labels.iter().any(|label| is_other_tag(*label))
 }
 
 /// Whether a tag stands behind a positional argument.
 fn has_late_tag(labels: &[Label]) -> bool
-    ensures { result ≡ has_late_tag labels.now }
+    ensures { result ≡ spec.has_late_tag labels.now }
 {
     let mut left = labels;
     while let [first, rest @ ..] = left {
@@ -127,7 +127,7 @@ fn has_late_tag(labels: &[Label]) -> bool
 
 /// Whether it is a tag of that kind.
 fn is_of_kind(kind: TagKind, label: Label) -> bool
-    ensures { result ≡ is_of_kind kind label }
+    ensures { result ≡ spec.is_of_kind kind label }
 {
     match label {
         Label::Tagged(tag) => same_kind(kind, tag.row().kind),
@@ -137,14 +137,14 @@ fn is_of_kind(kind: TagKind, label: Label) -> bool
 
 /// Whether a tag of that kind is among them.
 fn has_kind(kind: TagKind, labels: &[Label]) -> bool
-    ensures { result ≡ list_any (is_of_kind kind) labels.now }
+    ensures { result ≡ list_any (spec.is_of_kind kind) labels.now }
 {
     labels.iter().any(|label| is_of_kind(kind, *label))
 }
 
 /// Whether a tag of the kind of the first stands behind it.
 fn is_repeated(first: Label, behind: &[Label]) -> bool
-    ensures { result ≡ is_repeated first behind.now }
+    ensures { result ≡ spec.is_repeated first behind.now }
 {
     match first {
         Label::Tagged(tag) => has_kind(tag.row().kind, behind),
@@ -154,7 +154,7 @@ fn is_repeated(first: Label, behind: &[Label]) -> bool
 
 /// Whether two tags are of one kind.
 fn has_repeated(labels: &[Label]) -> bool
-    ensures { result ≡ has_repeated labels.now }
+    ensures { result ≡ spec.has_repeated labels.now }
 {
     let mut left = labels;
     while let [first, rest @ ..] = left {
@@ -168,14 +168,14 @@ fn has_repeated(labels: &[Label]) -> bool
 
 /// Whether there is a tag that isn't taken, two of one kind, or one behind a positional argument.
 pub(crate) fn has_bad_tag(labels: &[Label]) -> bool
-    ensures { result ≡ has_bad_tag labels.now }
+    ensures { result ≡ spec.has_bad_tag labels.now }
 {
     has_other_tag(labels) || has_repeated(labels) || has_late_tag(labels)
 }
 
 /// Whether it is a tag that takes an argument itself.
 fn awaits(label: Label) -> bool
-    ensures { result ≡ awaits label }
+    ensures { result ≡ spec.awaits label }
 {
     match label {
         Label::Tagged(tag) => tag.row().takes.is_some(),
@@ -185,7 +185,7 @@ fn awaits(label: Label) -> bool
 
 /// Whether the argument that a tag takes itself comes first.
 fn begins_own(labels: &[Label]) -> bool
-    ensures { result ≡ begins_own labels.now }
+    ensures { result ≡ spec.begins_own labels.now }
 {
     match labels {
         [Label::Own(_), ..] => true,
@@ -195,7 +195,7 @@ fn begins_own(labels: &[Label]) -> bool
 
 /// Whether a tag lacks the argument that it takes itself.
 fn lacks_own(labels: &[Label]) -> bool
-    ensures { result ≡ lacks_own labels.now }
+    ensures { result ≡ spec.lacks_own labels.now }
 {
     let mut left = labels;
     while let [first, rest @ ..] = left {
@@ -209,7 +209,7 @@ fn lacks_own(labels: &[Label]) -> bool
 
 /// Whether no tag of the kind that has to be there is there.
 fn lacks_kind(kind: Option<TagKind>, labels: &[Label]) -> bool
-    ensures { result ≡ lacks_kind kind labels.now }
+    ensures { result ≡ spec.lacks_kind kind labels.now }
 {
     match kind {
         Some(kind) => !has_kind(kind, labels),
@@ -219,7 +219,7 @@ fn lacks_kind(kind: Option<TagKind>, labels: &[Label]) -> bool
 
 /// Whether the tests are those.
 fn tests_fit(inner: Inner, tests: &Tests) -> bool
-    ensures { result ≡ tests_fit inner (tests_of tests.now) }
+    ensures { result ≡ spec.tests_fit inner (tests_of tests.now) }
 {
     match (inner, tests) {
         (Inner::None, Tests::None) => true,
@@ -238,7 +238,7 @@ pub(crate) fn has_bad_arguments(
     tests: &Tests,
     ends_by_block: bool,
 ) -> bool
-    ensures { result ≡ are_bad (row_is_filled (row_as row.now) (shapes_of row.now.tags.now (map argument_of args.now))) (row_as row.now) labels.now (tests_of tests.now) ends_by_block }
+    ensures { result ≡ spec.are_bad (row_is_filled (row_as row.now) (shapes_of row.now.tags.now (map argument_of args.now))) (row_as row.now) labels.now (tests_of tests.now) ends_by_block }
 {
     if !row_is_filled(row, args) || !tests_fit(row.tests, tests) || row.has_block != ends_by_block {
         return true;

@@ -2,7 +2,7 @@
 ghost use Rattle.std.specs.Prelude.{◌≡◌, ◌++◌, codes, map};
 ghost use Rattle.std.specs.Option.{option_map};
 ghost use Rattle.sieve_base.specs.Writers.{Writes};
-ghost use Rattle.sieve_code.specs.Dump.{case_word, change_word, changing_words, copy_word, first_word, given_word, include_words, leaf_text, list_text, modifier_words, set_words, stored_flags, stored_text, worded_settings, worded_text, worded_variable};
+ghost use Rattle.sieve_code.specs.Dump as spec;
 ghost use Rattle.sieve_effects.specs.view.Ops.{command_op_as, settings_op_as};
 ghost use Rattle.sieve_variables.specs.view.Part.{part_of, strings_of, variable_of};
 
@@ -15,7 +15,7 @@ use sieve_variables::{LetterCase, Modifiers, Part, Parts, Variable};
 /// Writes a command's word and then a string.
 #[tactic(auto, unfolding(crate::specs::Dump::worded_text))]
 fn write_worded<W: Sink>(word: &[u8], string: &[Part], writer: &mut W) -> Result<(), WriteFault>
-    ensures { Writes W.contents W.fault_count result writer.old writer.new (worded_text word.now (map part_of string.now)) }
+    ensures { Writes W.contents W.fault_count result writer.old writer.new (spec.worded_text word.now (map part_of string.now)) }
 {
     write_string(word, string, writer)
 }
@@ -23,7 +23,7 @@ fn write_worded<W: Sink>(word: &[u8], string: &[Part], writer: &mut W) -> Result
 /// Writes the flags of what is stored: those that are named, or that these are the internal ones.
 #[tactic(auto, unfolding(crate::specs::Dump::stored_flags))]
 fn write_stored_flags<W: Sink>(settings: &SettingsOp, writer: &mut W) -> Result<(), WriteFault>
-    ensures { Writes W.contents W.fault_count result writer.old writer.new (stored_flags (settings_op_as settings.now).flags) }
+    ensures { Writes W.contents W.fault_count result writer.old writer.new (spec.stored_flags (settings_op_as settings.now).flags) }
 {
     match settings.flags() {
         Some(flags) => write_list(b" flags ", flags, writer),
@@ -33,7 +33,7 @@ fn write_stored_flags<W: Sink>(settings: &SettingsOp, writer: &mut W) -> Result<
 
 /// A word, where it is given.
 fn given_word<'a>(is_given: bool, word: &'a [u8]) -> &'a [u8]
-    ensures { result.now ≡ given_word is_given word.now }
+    ensures { result.now ≡ spec.given_word is_given word.now }
 {
     if is_given { word } else { b"" }
 }
@@ -41,7 +41,7 @@ fn given_word<'a>(is_given: bool, word: &'a [u8]) -> &'a [u8]
 /// Writes that an action is a copy, where it is one.
 #[tactic(auto, unfolding(crate::specs::Dump::copy_word))]
 fn write_copy<W: Sink>(settings: &SettingsOp, writer: &mut W) -> Result<(), WriteFault>
-    ensures { Writes W.contents W.fault_count result writer.old writer.new (copy_word (settings_op_as settings.now).copy) }
+    ensures { Writes W.contents W.fault_count result writer.old writer.new (spec.copy_word (settings_op_as settings.now).copy) }
 {
     write_out(given_word(settings.copy(), b" copy"), writer)
 }
@@ -49,7 +49,7 @@ fn write_copy<W: Sink>(settings: &SettingsOp, writer: &mut W) -> Result<(), Writ
 /// Writes what a command that stores says beside.
 #[tactic(auto, using(sieve_base::proofs::Writing::writing), unfolding(crate::specs::Dump::stored_text))]
 fn write_stored<W: Sink>(settings: &SettingsOp, writer: &mut W) -> Result<(), WriteFault>
-    ensures { Writes W.contents W.fault_count result writer.old writer.new (stored_text (settings_op_as settings.now)) }
+    ensures { Writes W.contents W.fault_count result writer.old writer.new (spec.stored_text (settings_op_as settings.now)) }
 {
     write_stored_flags(settings, writer)?;
     write_copy(settings, writer)
@@ -62,7 +62,7 @@ fn write_worded_settings<W: Sink>(
     settings: &SettingsOp,
     writer: &mut W,
 ) -> Result<(), WriteFault>
-    ensures { Writes W.contents W.fault_count result writer.old writer.new (worded_settings word.now (settings_op_as settings.now)) }
+    ensures { Writes W.contents W.fault_count result writer.old writer.new (spec.worded_settings word.now (settings_op_as settings.now)) }
 {
     write_out(word, writer)?;
     write_stored(settings, writer)
@@ -75,7 +75,7 @@ fn write_redirect<W: Sink>(
     settings: &SettingsOp,
     writer: &mut W,
 ) -> Result<(), WriteFault>
-    ensures { Writes W.contents W.fault_count result writer.old writer.new (worded_text (codes "redirect ") (map part_of address.now) ++ copy_word (settings_op_as settings.now).copy) }
+    ensures { Writes W.contents W.fault_count result writer.old writer.new (spec.worded_text (codes "redirect ") (map part_of address.now) ++ spec.copy_word (settings_op_as settings.now).copy) }
 {
     write_worded(b"redirect ", address, writer)?;
     write_copy(settings, writer)
@@ -88,7 +88,7 @@ fn write_fileinto<W: Sink>(
     settings: &SettingsOp,
     writer: &mut W,
 ) -> Result<(), WriteFault>
-    ensures { Writes W.contents W.fault_count result writer.old writer.new (worded_text (codes "fileinto ") (map part_of mailbox.now) ++ stored_text (settings_op_as settings.now)) }
+    ensures { Writes W.contents W.fault_count result writer.old writer.new (spec.worded_text (codes "fileinto ") (map part_of mailbox.now) ++ spec.stored_text (settings_op_as settings.now)) }
 {
     write_worded(b"fileinto ", mailbox, writer)?;
     write_stored(settings, writer)
@@ -96,7 +96,7 @@ fn write_fileinto<W: Sink>(
 
 /// The word of a modifier of letters.
 fn case_word(case: Option<LetterCase>) -> &'static [u8]
-    ensures { result.now ≡ case_word case }
+    ensures { result.now ≡ spec.case_word case }
 {
     match case {
         None => b"",
@@ -107,7 +107,7 @@ fn case_word(case: Option<LetterCase>) -> &'static [u8]
 
 /// The word of a modifier of the first letter.
 fn first_word(case: Option<LetterCase>) -> &'static [u8]
-    ensures { result.now ≡ first_word case }
+    ensures { result.now ≡ spec.first_word case }
 {
     match case {
         None => b"",
@@ -123,7 +123,7 @@ fn write_variable<'x, W: Sink>(
     variable: &'x Variable,
     writer: &mut W,
 ) -> Result<(), WriteFault>
-    ensures { Writes W.contents W.fault_count result writer.old writer.new (worded_variable word.now (variable_of variable.now)) }
+    ensures { Writes W.contents W.fault_count result writer.old writer.new (spec.worded_variable word.now (variable_of variable.now)) }
 {
     write_pieces(
         &[
@@ -138,7 +138,7 @@ fn write_variable<'x, W: Sink>(
 
 /// Writes the modifiers of a `set`.
 fn write_modifiers<W: Sink>(modifiers: Modifiers, writer: &mut W) -> Result<(), WriteFault>
-    ensures { Writes W.contents W.fault_count result writer.old writer.new (modifier_words modifiers) }
+    ensures { Writes W.contents W.fault_count result writer.old writer.new (spec.modifier_words modifiers) }
 {
     write_pieces(
         &[
@@ -159,7 +159,7 @@ fn write_set_words<W: Sink>(
     modifiers: Modifiers,
     writer: &mut W,
 ) -> Result<(), WriteFault>
-    ensures { Writes W.contents W.fault_count result writer.old writer.new (set_words (variable_of variable.now) modifiers) }
+    ensures { Writes W.contents W.fault_count result writer.old writer.new (spec.set_words (variable_of variable.now) modifiers) }
 {
     write_variable(b"set ", variable, writer)?;
     write_modifiers(modifiers, writer)
@@ -173,7 +173,7 @@ fn write_set<W: Sink>(
     value: &[Part],
     writer: &mut W,
 ) -> Result<(), WriteFault>
-    ensures { Writes W.contents W.fault_count result writer.old writer.new (worded_text (set_words (variable_of variable.now) modifiers) (map part_of value.now)) }
+    ensures { Writes W.contents W.fault_count result writer.old writer.new (spec.worded_text (spec.set_words (variable_of variable.now) modifiers) (map part_of value.now)) }
 {
     write_set_words(variable, modifiers, writer)?;
     write_string(b"", value, writer)
@@ -181,7 +181,7 @@ fn write_set<W: Sink>(
 
 /// The word of a command that changes flags.
 fn change_word(change: FlagChange) -> &'static [u8]
-    ensures { result.now ≡ change_word change }
+    ensures { result.now ≡ spec.change_word change }
 {
     match change {
         FlagChange::Set => b"setflag",
@@ -197,7 +197,7 @@ fn write_changing_words<W: Sink>(
     variable: &Option<Variable>,
     writer: &mut W,
 ) -> Result<(), WriteFault>
-    ensures { Writes W.contents W.fault_count result writer.old writer.new (changing_words change (option_map variable_of variable.now)) }
+    ensures { Writes W.contents W.fault_count result writer.old writer.new (spec.changing_words change (option_map variable_of variable.now)) }
 {
     let word = change_word(change);
     match variable {
@@ -223,7 +223,7 @@ fn write_flags<W: Sink>(
     flags: &[Parts],
     writer: &mut W,
 ) -> Result<(), WriteFault>
-    ensures { Writes W.contents W.fault_count result writer.old writer.new (changing_words change (option_map variable_of variable.now) ++ list_text (strings_of flags.now)) }
+    ensures { Writes W.contents W.fault_count result writer.old writer.new (spec.changing_words change (option_map variable_of variable.now) ++ spec.list_text (strings_of flags.now)) }
 {
     write_changing_words(change, variable, writer)?;
     write_list(b"", flags, writer)
@@ -238,7 +238,7 @@ fn write_include<W: Sink>(
     name: &[u8],
     writer: &mut W,
 ) -> Result<(), WriteFault>
-    ensures { Writes W.contents W.fault_count result writer.old writer.new (include_words place once optional name.now) }
+    ensures { Writes W.contents W.fault_count result writer.old writer.new (spec.include_words place once optional name.now) }
 {
     write_pieces(
         &[
@@ -256,7 +256,7 @@ fn write_include<W: Sink>(
 /// Writes what a command does.
 #[tactic(auto, unfolding(crate::specs::Dump::leaf_text))]
 pub(crate) fn write_command<W: Sink>(command: &CommandOp, writer: &mut W) -> Result<(), WriteFault>
-    ensures { Writes W.contents W.fault_count result writer.old writer.new (leaf_text (command_op_as command.now)) }
+    ensures { Writes W.contents W.fault_count result writer.old writer.new (spec.leaf_text (command_op_as command.now)) }
 {
     match command {
         CommandOp::Keep(settings) => write_worded_settings(b"keep", settings, writer),

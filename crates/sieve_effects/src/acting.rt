@@ -3,7 +3,7 @@ ghost use Rattle.std.specs.Prelude.{◌≡◌, IfOk, map};
 ghost use Rattle.std.specs.List.{list_all};
 ghost use Rattle.std.specs.Option.{option_map};
 ghost use Rattle.message_text.specs.Addresses.{addresses_of};
-ghost use Rattle.sieve_effects.specs.Act.{Performed, discards, files_into, ends_with, gives, is_mailbox, is_no_control, keeps, only_address, performs, sends, sets, store_deed, whole_address};
+ghost use Rattle.sieve_effects.specs.Act as spec;
 ghost use Rattle.sieve_effects.specs.view.Delivery.{delivery_as};
 ghost use Rattle.sieve_effects.specs.view.Flow.{ending_by};
 ghost use Rattle.sieve_effects.specs.view.Ops.{settings_op_as};
@@ -35,7 +35,7 @@ fn perform(
     line: u64,
     state: &mut State,
 ) -> Result<Flow, AllocError>
-    ensures { IfOk result (λ flow. ending_by flow (state_of state.new) ≡ performs (delivery_as delivery.now) line deed (state_of state.old)) }
+    ensures { IfOk result (λ flow. ending_by flow (state_of state.new) ≡ spec.performs (delivery_as delivery.now) line deed (state_of state.old)) }
 {
     let has_room = state.actions.add(delivery.alloc, deed.action)?;
     end_with(delivery, has_room, deed.copy, line, state)
@@ -49,7 +49,7 @@ fn end_with(
     line: u64,
     state: &mut State,
 ) -> Result<Flow, AllocError>
-    ensures { (performed : Performed) (deed : deeds.Deed) → performed_as has_room (state_of state.old).actions ≡ performed → deed.copy ≡ copy → IfOk result (λ flow. ending_by flow (state_of state.new) ≡ ends_with (delivery_as delivery.now) line deed performed (state_of state.old)) }
+    ensures { (performed : spec.Performed) (deed : deeds.Deed) → performed_as has_room (state_of state.old).actions ≡ performed → deed.copy ≡ copy → IfOk result (λ flow. ending_by flow (state_of state.new) ≡ spec.ends_with (delivery_as delivery.now) line deed performed (state_of state.old)) }
 {
     if has_room {
         state.cancelled = !copy || state.cancelled;
@@ -67,7 +67,7 @@ fn store(
     line: u64,
     state: &mut State,
 ) -> Result<Flow, AllocError>
-    ensures { IfOk result (λ flow. ending_by flow (state_of state.new) ≡ performs (delivery_as delivery.now) line (store_deed (state_of state.old) mailbox (settings_op_as settings.now)) (state_of state.old)) }
+    ensures { IfOk result (λ flow. ending_by flow (state_of state.new) ≡ spec.performs (delivery_as delivery.now) line (spec.store_deed (state_of state.old) mailbox (settings_op_as settings.now)) (state_of state.old)) }
 {
     let copy = settings.copy();
     match settings.flags() {
@@ -91,7 +91,7 @@ pub fn keep(
     line: u64,
     state: &mut State,
 ) -> Result<Flow, AllocError>
-    ensures { IfOk result (λ flow. ending_by flow (state_of state.new) ≡ keeps (delivery_as delivery.now) (settings_op_as settings.now) line (state_of state.old)) }
+    ensures { IfOk result (λ flow. ending_by flow (state_of state.new) ≡ spec.keeps (delivery_as delivery.now) (settings_op_as settings.now) line (state_of state.old)) }
 {
     let mailbox = Octets::copied(delivery.alloc, delivery.envelope.mailbox.as_slice())?;
     store(delivery, mailbox, settings, line, state)
@@ -99,7 +99,7 @@ pub fn keep(
 
 /// Discards the message (RFC 5228, section 4.4). One action too many is an error of the script (section 2.10.4). Fails where memory is refused.
 pub fn discard(delivery: &Delivery<'_>, line: u64, state: &mut State) -> Result<Flow, AllocError>
-    ensures { IfOk result (λ flow. ending_by flow (state_of state.new) ≡ discards (delivery_as delivery.now) line (state_of state.old)) }
+    ensures { IfOk result (λ flow. ending_by flow (state_of state.new) ≡ spec.discards (delivery_as delivery.now) line (state_of state.old)) }
 {
     let action = Action::Discard;
     let copy = false;
@@ -108,21 +108,21 @@ pub fn discard(delivery: &Delivery<'_>, line: u64, state: &mut State) -> Result<
 
 /// Whether an octet is no control character of ASCII.
 fn is_no_control(octet: u8) -> bool
-    ensures { result ≡ is_no_control octet }
+    ensures { result ≡ spec.is_no_control octet }
 {
     octet >= b' ' && octet != 127
 }
 
 /// Whether none of these octets is a control character of ASCII.
 fn has_no_control(name: &[u8]) -> bool
-    ensures { result ≡ list_all is_no_control name.now }
+    ensures { result ≡ list_all spec.is_no_control name.now }
 {
     name.iter().all(|octet| is_no_control(*octet))
 }
 
 /// Whether it is a name that a mailbox may have.
 fn is_mailbox(name: &[u8]) -> bool
-    ensures { result ≡ is_mailbox name.now }
+    ensures { result ≡ spec.is_mailbox name.now }
 {
     !name.is_empty() && name.len() <= MAX_MAILBOX && has_no_control(name)
 }
@@ -154,7 +154,7 @@ pub fn file_into(
     line: u64,
     state: &mut State,
 ) -> Result<Flow, AllocError>
-    ensures { IfOk result (λ flow. ending_by flow (state_of state.new) ≡ files_into (delivery_as delivery.now) (map part_of mailbox.now) (settings_op_as settings.now) line (state_of state.old)) }
+    ensures { IfOk result (λ flow. ending_by flow (state_of state.new) ≡ spec.files_into (delivery_as delivery.now) (map part_of mailbox.now) (settings_op_as settings.now) line (state_of state.old)) }
 {
     match mailbox_named(delivery, &state.values, mailbox)? {
         Some(mailbox) => store(delivery, mailbox, settings, line, state),
@@ -164,7 +164,7 @@ pub fn file_into(
 
 /// All of an address that has a local part and a domain.
 fn whole_address(address: &Address) -> Option<&[u8]>
-    ensures { option_map (λ octets. octets.now) result ≡ whole_address address.now }
+    ensures { option_map (λ octets. octets.now) result ≡ spec.whole_address address.now }
 {
     if address.part(AddressPart::Local).is_some() && address.part(AddressPart::Domain).is_some() {
         address.part(AddressPart::All)
@@ -175,7 +175,7 @@ fn whole_address(address: &Address) -> Option<&[u8]>
 
 /// The one address, where it has a local part and a domain.
 fn only_address(found: &[Address]) -> Option<&[u8]>
-    ensures { option_map (λ octets. octets.now) result ≡ only_address found.now }
+    ensures { option_map (λ octets. octets.now) result ≡ spec.only_address found.now }
 {
     match found {
         [one] => whole_address(one),
@@ -189,7 +189,7 @@ fn address_named(
     values: &Values,
     address: &[Part],
 ) -> Result<Option<Octets>, AllocError>
-    ensures { IfOk result (λ octets. octets ≡ only_address (addresses_of (text_value values.now (map part_of address.now)))) }
+    ensures { IfOk result (λ octets. octets ≡ spec.only_address (addresses_of (text_value values.now (map part_of address.now)))) }
 {
     let text = values.expanded_string(delivery.alloc, address)?;
     let found = addresses(delivery.alloc, text.as_slice())?;
@@ -210,7 +210,7 @@ pub fn redirect(
     line: u64,
     state: &mut State,
 ) -> Result<Flow, AllocError>
-    ensures { IfOk result (λ flow. ending_by flow (state_of state.new) ≡ sends (delivery_as delivery.now) (map part_of address.now) (settings_op_as settings.now) line (state_of state.old)) }
+    ensures { IfOk result (λ flow. ending_by flow (state_of state.new) ≡ spec.sends (delivery_as delivery.now) (map part_of address.now) (settings_op_as settings.now) line (state_of state.old)) }
 {
     match address_named(delivery, &state.values, address)? {
         Some(address) => {
@@ -243,7 +243,7 @@ pub(crate) fn give(
     line: u64,
     state: &mut State,
 ) -> Result<Flow, AllocError>
-    ensures { IfOk result (λ flow. ending_by flow (state_of state.new) ≡ gives (delivery_as delivery.now) line (variable_of variable.now) value (state_of state.old)) }
+    ensures { IfOk result (λ flow. ending_by flow (state_of state.new) ≡ spec.gives (delivery_as delivery.now) line (variable_of variable.now) value (state_of state.old)) }
 {
     if !state.values.has_room_for(variable) {
         return fail(delivery, line, ErrorKind::TooManyGlobals);
@@ -262,7 +262,7 @@ pub fn set(
     line: u64,
     state: &mut State,
 ) -> Result<Flow, AllocError>
-    ensures { IfOk result (λ flow. ending_by flow (state_of state.new) ≡ sets (delivery_as delivery.now) (variable_of variable.now) modifiers (map part_of value.now) line (state_of state.old)) }
+    ensures { IfOk result (λ flow. ending_by flow (state_of state.new) ≡ spec.sets (delivery_as delivery.now) (variable_of variable.now) modifiers (map part_of value.now) line (state_of state.old)) }
 {
     let octets = value_of(delivery, &state.values, modifiers, value)?;
     give(delivery, variable, octets, line, state)

@@ -2,7 +2,7 @@
 ghost use Rattle.std.specs.Prelude.{◌≡◌, true, false, length, Some, None, map};
 ghost use Rattle.std.specs.Option.{option_map};
 ghost use Rattle.sieve_reading.specs.Reading.{reads_act};
-ghost use Rattle.sieve_reading.specs.CommandReading.{case_of, command_reading, command_reading_by, fileinto_by, flags_by, include_by, keep_by, kind_of, modifiers_of, place_of, redirect_by, set_by, settings_by};
+ghost use Rattle.sieve_reading.specs.CommandReading as spec;
 ghost use Rattle.sieve_reading.specs.Given.{given_texts, given_variable, has_tag, literal_in, text_in, texts_in, variable_in};
 ghost use Rattle.sieve_reading.specs.view.Labels.{labels_in};
 ghost use Rattle.sieve_reading.specs.view.Reading.{command_reading_as, settings_as};
@@ -18,7 +18,7 @@ use sieve_variables::{LetterCase, Modifiers};
 
 /// What a command says beside its mailbox or its address.
 fn settings_by<'a>(row: &Row, args: &'a [Argument]) -> Option<Settings<'a>>
-    ensures { option_map settings_as result ≡ settings_by (labels_in row.now args.now) (map argument_of args.now) }
+    ensures { option_map settings_as result ≡ spec.settings_by (labels_in row.now args.now) (map argument_of args.now) }
 {
     let flags = given_texts(argument_in(row, Role::Flags, args))?;
     let copy = has_tag(row, Tag::Copy, args);
@@ -27,7 +27,7 @@ fn settings_by<'a>(row: &Row, args: &'a [Argument]) -> Option<Settings<'a>>
 
 /// What a `keep` does.
 fn keep_leaf<'a>(row: &Row, args: &'a [Argument]) -> Option<CommandReading<'a>>
-    ensures { option_map command_reading_as result ≡ option_map reads_act (keep_by (labels_in row.now args.now) (map argument_of args.now)) }
+    ensures { option_map command_reading_as result ≡ option_map reads_act (spec.keep_by (labels_in row.now args.now) (map argument_of args.now)) }
 {
     let settings = settings_by(row, args)?;
     Some(CommandReading::Act(Leaf::Keep { settings }))
@@ -35,7 +35,7 @@ fn keep_leaf<'a>(row: &Row, args: &'a [Argument]) -> Option<CommandReading<'a>>
 
 /// What a `fileinto` does.
 fn fileinto_leaf<'a>(row: &Row, args: &'a [Argument]) -> Option<CommandReading<'a>>
-    ensures { option_map command_reading_as result ≡ option_map reads_act (fileinto_by (labels_in row.now args.now) (map argument_of args.now)) }
+    ensures { option_map command_reading_as result ≡ option_map reads_act (spec.fileinto_by (labels_in row.now args.now) (map argument_of args.now)) }
 {
     let mailbox = text_in(argument_in(row, Role::Mailbox, args))?;
     let settings = settings_by(row, args)?;
@@ -44,7 +44,7 @@ fn fileinto_leaf<'a>(row: &Row, args: &'a [Argument]) -> Option<CommandReading<'
 
 /// What a `redirect` does.
 fn redirect_leaf<'a>(row: &Row, args: &'a [Argument]) -> Option<CommandReading<'a>>
-    ensures { option_map command_reading_as result ≡ option_map reads_act (redirect_by (labels_in row.now args.now) (map argument_of args.now)) }
+    ensures { option_map command_reading_as result ≡ option_map reads_act (spec.redirect_by (labels_in row.now args.now) (map argument_of args.now)) }
 {
     let address = text_in(argument_in(row, Role::Address, args))?;
     let settings = settings_by(row, args)?;
@@ -53,7 +53,7 @@ fn redirect_leaf<'a>(row: &Row, args: &'a [Argument]) -> Option<CommandReading<'
 
 /// The case that one of two tags asks for.
 fn case_of(lower: bool, upper: bool) -> Option<LetterCase>
-    ensures { result ≡ case_of lower upper }
+    ensures { result ≡ spec.case_of lower upper }
 {
     match (lower, upper) {
         (true, _) => Some(LetterCase::Lower),
@@ -64,7 +64,7 @@ fn case_of(lower: bool, upper: bool) -> Option<LetterCase>
 
 /// The modifiers of a `set`.
 fn modifiers_of(row: &Row, args: &[Argument]) -> Modifiers
-    ensures { result ≡ modifiers_of (labels_in row.now args.now) }
+    ensures { result ≡ spec.modifiers_of (labels_in row.now args.now) }
 {
     let lower = has_tag(row, Tag::Lower, args);
     let upper = has_tag(row, Tag::Upper, args);
@@ -80,7 +80,7 @@ fn modifiers_of(row: &Row, args: &[Argument]) -> Modifiers
 
 /// What a `set` does.
 fn set_by<'a>(row: &Row, args: &'a [Argument]) -> Option<CommandReading<'a>>
-    ensures { option_map command_reading_as result ≡ option_map reads_act (set_by (labels_in row.now args.now) (map argument_of args.now)) }
+    ensures { option_map command_reading_as result ≡ option_map reads_act (spec.set_by (labels_in row.now args.now) (map argument_of args.now)) }
 {
     let modifiers = modifiers_of(row, args);
     let variable = variable_in(argument_in(row, Role::NameToSet, args))?;
@@ -94,7 +94,7 @@ fn set_by<'a>(row: &Row, args: &'a [Argument]) -> Option<CommandReading<'a>>
 
 /// What a command does that changes flags.
 fn flags_by<'a>(change: FlagChange, row: &Row, args: &'a [Argument]) -> Option<CommandReading<'a>>
-    ensures { option_map command_reading_as result ≡ option_map reads_act (flags_by change (labels_in row.now args.now) (map argument_of args.now)) }
+    ensures { option_map command_reading_as result ≡ option_map reads_act (spec.flags_by change (labels_in row.now args.now) (map argument_of args.now)) }
 {
     let variable = given_variable(argument_in(row, Role::NameToSet, args))?;
     let flags = texts_in(argument_in(row, Role::Flags, args))?;
@@ -107,7 +107,7 @@ fn flags_by<'a>(change: FlagChange, row: &Row, args: &'a [Argument]) -> Option<C
 
 /// The place of a script that is included, which is the personal one where none is named.
 fn place_of(row: &Row, args: &[Argument]) -> Place
-    ensures { result ≡ place_of (labels_in row.now args.now) }
+    ensures { result ≡ spec.place_of (labels_in row.now args.now) }
 {
     if has_tag(row, Tag::Global, args) {
         Place::Global
@@ -118,7 +118,7 @@ fn place_of(row: &Row, args: &[Argument]) -> Place
 
 /// What an `include` does.
 fn include_by<'a>(row: &Row, args: &'a [Argument]) -> Option<CommandReading<'a>>
-    ensures { option_map command_reading_as result ≡ option_map reads_act (include_by (labels_in row.now args.now) (map argument_of args.now)) }
+    ensures { option_map command_reading_as result ≡ option_map reads_act (spec.include_by (labels_in row.now args.now) (map argument_of args.now)) }
 {
     let place = place_of(row, args);
     let once = has_tag(row, Tag::Once, args);
@@ -134,7 +134,7 @@ fn include_by<'a>(row: &Row, args: &'a [Argument]) -> Option<CommandReading<'a>>
 
 /// What a command of a kind is.
 fn command_reading_by(kind: CommandKind, args: &[Argument]) -> Option<CommandReading<'_>>
-    ensures { option_map command_reading_as result ≡ command_reading_by (Some kind) (map argument_of args.now) }
+    ensures { option_map command_reading_as result ≡ spec.command_reading_by (Some kind) (map argument_of args.now) }
 {
     let row = &kind.row();
     match kind {
@@ -159,7 +159,7 @@ fn command_reading_by(kind: CommandKind, args: &[Argument]) -> Option<CommandRea
 
 /// Which command it is. A checked script has no other. Takes no memory.
 pub fn kind_of(command: &Command) -> Option<CommandKind>
-    ensures { result ≡ kind_of (node_of command.now) }
+    ensures { result ≡ spec.kind_of (node_of command.now) }
 {
     command_named(&command.name)
 }
@@ -167,7 +167,7 @@ pub fn kind_of(command: &Command) -> Option<CommandKind>
 /// What the command is, apart from its test and its block. Each command of a checked script is read as something. Takes no
 /// memory.
 pub fn read_command(command: &Command) -> Option<CommandReading<'_>>
-    ensures { option_map command_reading_as result ≡ command_reading (node_of command.now) }
+    ensures { option_map command_reading_as result ≡ spec.command_reading (node_of command.now) }
 {
     match kind_of(command) {
         Some(kind) => command_reading_by(kind, &command.args),

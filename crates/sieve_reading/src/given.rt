@@ -1,7 +1,7 @@
 //! What the arguments of a command or a test give, by their labels. None of it takes memory.
 ghost use Rattle.std.specs.Prelude.{◌≡◌, Some, None, map};
 ghost use Rattle.std.specs.Option.{option_map};
-ghost use Rattle.sieve_reading.specs.Given.{address_part_of, collation_by, given_texts, given_variable, has_tag, literal_in, literal_in_parts, match_type_of, number_in, text_in, texts_in, variable_in, variable_in_parts};
+ghost use Rattle.sieve_reading.specs.Given as spec;
 ghost use Rattle.sieve_reading.specs.view.Labels.{labels_in};
 ghost use Rattle.match_text.specs.Comparator.{collation_named};
 ghost use Rattle.sieve_reading.specs.view.Reading.{texts_as};
@@ -18,7 +18,7 @@ use sieve_variables::{Part, Variable};
 
 /// The strings of an argument.
 pub(crate) fn texts_in(argument: Option<&Argument>) -> Option<&[Text]>
-    ensures { option_map (λ texts. texts_as texts.now) result ≡ texts_in (option_map (λ a. argument_of a.now) argument.entry) }
+    ensures { option_map (λ texts. texts_as texts.now) result ≡ spec.texts_in (option_map (λ a. argument_of a.now) argument.entry) }
 {
     match argument {
         Some(Argument::Strings { items, .. }) => Some(items.as_slice()),
@@ -30,7 +30,7 @@ pub(crate) fn texts_in(argument: Option<&Argument>) -> Option<&[Text]>
 
 /// The strings of an argument that may be left out.
 pub(crate) fn given_texts(argument: Option<&Argument>) -> Option<Option<&[Text]>>
-    ensures { option_map (option_map (λ texts. texts_as texts.now)) result ≡ given_texts (option_map (λ a. argument_of a.now) argument.entry) }
+    ensures { option_map (option_map (λ texts. texts_as texts.now)) result ≡ spec.given_texts (option_map (λ a. argument_of a.now) argument.entry) }
 {
     match argument {
         Some(argument) => Some(Some(texts_in(Some(argument))?)),
@@ -40,7 +40,7 @@ pub(crate) fn given_texts(argument: Option<&Argument>) -> Option<Option<&[Text]>
 
 /// The one string that an argument is.
 pub(crate) fn text_in(argument: Option<&Argument>) -> Option<&[Part]>
-    ensures { option_map (λ parts. map part_of parts.now) result ≡ text_in (option_map (λ a. argument_of a.now) argument.entry) }
+    ensures { option_map (λ parts. map part_of parts.now) result ≡ spec.text_in (option_map (λ a. argument_of a.now) argument.entry) }
 {
     match argument {
         Some(Argument::Strings { items, .. }) => match items.as_slice() {
@@ -55,7 +55,7 @@ pub(crate) fn text_in(argument: Option<&Argument>) -> Option<&[Part]>
 
 /// The variable that parts name.
 fn variable_in_parts(parts: &[Part]) -> Option<&Variable>
-    ensures { option_map (λ variable. variable_of variable.now) result ≡ variable_in_parts (map part_of parts.now) }
+    ensures { option_map (λ variable. variable_of variable.now) result ≡ spec.variable_in_parts (map part_of parts.now) }
 {
     match parts {
         [Part::Variable(variable)] => Some(variable),
@@ -65,7 +65,7 @@ fn variable_in_parts(parts: &[Part]) -> Option<&Variable>
 
 /// The variable that an argument names (RFC 5229, section 4).
 pub(crate) fn variable_in(argument: Option<&Argument>) -> Option<&Variable>
-    ensures { option_map (λ variable. variable_of variable.now) result ≡ variable_in (option_map (λ a. argument_of a.now) argument.entry) }
+    ensures { option_map (λ variable. variable_of variable.now) result ≡ spec.variable_in (option_map (λ a. argument_of a.now) argument.entry) }
 {
     match argument {
         Some(Argument::Strings { items, .. }) => match items.as_slice() {
@@ -80,7 +80,7 @@ pub(crate) fn variable_in(argument: Option<&Argument>) -> Option<&Variable>
 
 /// The variable that an argument names that may be left out.
 pub(crate) fn given_variable(argument: Option<&Argument>) -> Option<Option<&Variable>>
-    ensures { option_map (option_map (λ variable. variable_of variable.now)) result ≡ given_variable (option_map (λ a. argument_of a.now) argument.entry) }
+    ensures { option_map (option_map (λ variable. variable_of variable.now)) result ≡ spec.given_variable (option_map (λ a. argument_of a.now) argument.entry) }
 {
     match argument {
         Some(argument) => Some(Some(variable_in(Some(argument))?)),
@@ -90,7 +90,7 @@ pub(crate) fn given_variable(argument: Option<&Argument>) -> Option<Option<&Vari
 
 /// The octets of parts that are one literal.
 fn literal_in_parts(parts: &[Part]) -> Option<&[u8]>
-    ensures { option_map (λ octets. octets.now) result ≡ literal_in_parts (map part_of parts.now) }
+    ensures { option_map (λ octets. octets.now) result ≡ spec.literal_in_parts (map part_of parts.now) }
 {
     match parts {
         [Part::Literal(octets)] => Some(octets.as_slice()),
@@ -100,7 +100,7 @@ fn literal_in_parts(parts: &[Part]) -> Option<&[u8]>
 
 /// The octets of an argument that is one string, which stands for itself.
 pub(crate) fn literal_in(argument: Option<&Argument>) -> Option<&[u8]>
-    ensures { option_map (λ octets. octets.now) result ≡ literal_in (option_map (λ a. argument_of a.now) argument.entry) }
+    ensures { option_map (λ octets. octets.now) result ≡ spec.literal_in (option_map (λ a. argument_of a.now) argument.entry) }
 {
     match argument {
         Some(Argument::Strings { items, .. }) => match items.as_slice() {
@@ -115,7 +115,7 @@ pub(crate) fn literal_in(argument: Option<&Argument>) -> Option<&[u8]>
 
 /// The number that an argument is.
 pub(crate) fn number_in(argument: Option<&Argument>) -> Option<u64>
-    ensures { result ≡ number_in (option_map (λ a. argument_of a.now) argument.entry) }
+    ensures { result ≡ spec.number_in (option_map (λ a. argument_of a.now) argument.entry) }
 {
     match argument {
         Some(Argument::Number { value, .. }) => *value,
@@ -127,7 +127,7 @@ pub(crate) fn number_in(argument: Option<&Argument>) -> Option<u64>
 
 /// The match type of a test, which is `:is` where no other is given.
 pub(crate) fn match_type_of(row: &Row, args: &[Argument]) -> MatchType
-    ensures { result ≡ match_type_of (labels_in row.now args.now) }
+    ensures { result ≡ spec.match_type_of (labels_in row.now args.now) }
 {
     if has_tag(row, Tag::Matches, args) {
         MatchType::Matches
@@ -140,7 +140,7 @@ pub(crate) fn match_type_of(row: &Row, args: &[Argument]) -> MatchType
 
 /// The comparator of a test, which is `i;ascii-casemap` where none is named.
 pub(crate) fn collation_by(argument: Option<&Argument>) -> Option<Collation>
-    ensures { result ≡ collation_by (option_map (λ a. argument_of a.now) argument.entry) }
+    ensures { result ≡ spec.collation_by (option_map (λ a. argument_of a.now) argument.entry) }
 {
     match argument {
         Some(argument) => collation_named(literal_in(Some(argument))?),
@@ -150,7 +150,7 @@ pub(crate) fn collation_by(argument: Option<&Argument>) -> Option<Collation>
 
 /// The part of an address that a test names, which is all of it where none is named.
 pub(crate) fn address_part_of(row: &Row, args: &[Argument]) -> AddressPart
-    ensures { result ≡ address_part_of (labels_in row.now args.now) }
+    ensures { result ≡ spec.address_part_of (labels_in row.now args.now) }
 {
     if has_tag(row, Tag::LocalPart, args) {
         AddressPart::Local

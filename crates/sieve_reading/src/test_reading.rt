@@ -2,7 +2,7 @@
 ghost use Rattle.std.specs.Prelude.{◌≡◌, true, false, Some, None, map};
 ghost use Rattle.std.specs.Option.{option_map};
 ghost use Rattle.sieve_reading.specs.Reading.{reads_ask};
-ghost use Rattle.sieve_reading.specs.TestReading.{address_source, compares_by, envelope_source, exists_by, flag_source, header_source, size_by, string_source, test_reading, test_reading_by};
+ghost use Rattle.sieve_reading.specs.TestReading as spec;
 ghost use Rattle.sieve_reading.specs.Given.{address_part_of, collation_by, given_texts, has_tag, match_type_of, number_in, texts_in};
 ghost use Rattle.sieve_reading.specs.view.Labels.{labels_in};
 ghost use Rattle.sieve_reading.specs.view.Reading.{ask_as, source_as, test_reading_as};
@@ -18,7 +18,7 @@ use sieve_table::{Role, Row, Tag, TestKind, test_named};
 
 /// From where a `header` test takes its values.
 fn header_source<'a>(row: &Row, args: &'a [Argument]) -> Option<ValueSource<'a>>
-    ensures { option_map source_as result ≡ header_source (labels_in row.now args.now) (map argument_of args.now) }
+    ensures { option_map source_as result ≡ spec.header_source (labels_in row.now args.now) (map argument_of args.now) }
 {
     let names = texts_in(argument_in(row, Role::FieldNames, args))?;
     Some(ValueSource::Header { names })
@@ -26,7 +26,7 @@ fn header_source<'a>(row: &Row, args: &'a [Argument]) -> Option<ValueSource<'a>>
 
 /// From where an `address` test takes its values.
 fn address_source<'a>(row: &Row, args: &'a [Argument]) -> Option<ValueSource<'a>>
-    ensures { option_map source_as result ≡ address_source (labels_in row.now args.now) (map argument_of args.now) }
+    ensures { option_map source_as result ≡ spec.address_source (labels_in row.now args.now) (map argument_of args.now) }
 {
     let part = address_part_of(row, args);
     let names = texts_in(argument_in(row, Role::AddressFields, args))?;
@@ -35,7 +35,7 @@ fn address_source<'a>(row: &Row, args: &'a [Argument]) -> Option<ValueSource<'a>
 
 /// From where an `envelope` test takes its values.
 fn envelope_source<'a>(row: &Row, args: &'a [Argument]) -> Option<ValueSource<'a>>
-    ensures { option_map source_as result ≡ envelope_source (labels_in row.now args.now) (map argument_of args.now) }
+    ensures { option_map source_as result ≡ spec.envelope_source (labels_in row.now args.now) (map argument_of args.now) }
 {
     let part = address_part_of(row, args);
     let names = texts_in(argument_in(row, Role::EnvelopeParts, args))?;
@@ -44,7 +44,7 @@ fn envelope_source<'a>(row: &Row, args: &'a [Argument]) -> Option<ValueSource<'a
 
 /// From where a `string` test takes its values.
 fn string_source<'a>(row: &Row, args: &'a [Argument]) -> Option<ValueSource<'a>>
-    ensures { option_map source_as result ≡ string_source (labels_in row.now args.now) (map argument_of args.now) }
+    ensures { option_map source_as result ≡ spec.string_source (labels_in row.now args.now) (map argument_of args.now) }
 {
     let texts = texts_in(argument_in(row, Role::Text, args))?;
     Some(ValueSource::String { texts })
@@ -52,7 +52,7 @@ fn string_source<'a>(row: &Row, args: &'a [Argument]) -> Option<ValueSource<'a>>
 
 /// From where a `hasflag` test takes its values.
 fn flag_source<'a>(row: &Row, args: &'a [Argument]) -> Option<ValueSource<'a>>
-    ensures { option_map source_as result ≡ flag_source (labels_in row.now args.now) (map argument_of args.now) }
+    ensures { option_map source_as result ≡ spec.flag_source (labels_in row.now args.now) (map argument_of args.now) }
 {
     let variables = given_texts(argument_in(row, Role::NamesToRead, args))?;
     Some(ValueSource::Flags { variables })
@@ -64,7 +64,7 @@ fn compares_by<'a>(
     row: &Row,
     args: &'a [Argument],
 ) -> Option<Ask<'a>>
-    ensures { option_map ask_as result ≡ compares_by (option_map source_as source.entry) (labels_in row.now args.now) (map argument_of args.now) }
+    ensures { option_map ask_as result ≡ spec.compares_by (option_map source_as source.entry) (labels_in row.now args.now) (map argument_of args.now) }
 {
     let source = source?;
     let match_type = match_type_of(row, args);
@@ -80,42 +80,42 @@ fn compares_by<'a>(
 
 /// What a `header` test asks.
 fn header_ask<'a>(row: &Row, args: &'a [Argument]) -> Option<Ask<'a>>
-    ensures { option_map ask_as result ≡ (let labels = labels_in row.now args.now in compares_by (header_source labels (map argument_of args.now)) labels (map argument_of args.now)) }
+    ensures { option_map ask_as result ≡ (let labels = labels_in row.now args.now in spec.compares_by (spec.header_source labels (map argument_of args.now)) labels (map argument_of args.now)) }
 {
     compares_by(header_source(row, args), row, args)
 }
 
 /// What an `address` test asks.
 fn address_ask<'a>(row: &Row, args: &'a [Argument]) -> Option<Ask<'a>>
-    ensures { option_map ask_as result ≡ (let labels = labels_in row.now args.now in compares_by (address_source labels (map argument_of args.now)) labels (map argument_of args.now)) }
+    ensures { option_map ask_as result ≡ (let labels = labels_in row.now args.now in spec.compares_by (spec.address_source labels (map argument_of args.now)) labels (map argument_of args.now)) }
 {
     compares_by(address_source(row, args), row, args)
 }
 
 /// What an `envelope` test asks.
 fn envelope_ask<'a>(row: &Row, args: &'a [Argument]) -> Option<Ask<'a>>
-    ensures { option_map ask_as result ≡ (let labels = labels_in row.now args.now in compares_by (envelope_source labels (map argument_of args.now)) labels (map argument_of args.now)) }
+    ensures { option_map ask_as result ≡ (let labels = labels_in row.now args.now in spec.compares_by (spec.envelope_source labels (map argument_of args.now)) labels (map argument_of args.now)) }
 {
     compares_by(envelope_source(row, args), row, args)
 }
 
 /// What a `string` test asks.
 fn string_ask<'a>(row: &Row, args: &'a [Argument]) -> Option<Ask<'a>>
-    ensures { option_map ask_as result ≡ (let labels = labels_in row.now args.now in compares_by (string_source labels (map argument_of args.now)) labels (map argument_of args.now)) }
+    ensures { option_map ask_as result ≡ (let labels = labels_in row.now args.now in spec.compares_by (spec.string_source labels (map argument_of args.now)) labels (map argument_of args.now)) }
 {
     compares_by(string_source(row, args), row, args)
 }
 
 /// What a `hasflag` test asks.
 fn flag_ask<'a>(row: &Row, args: &'a [Argument]) -> Option<Ask<'a>>
-    ensures { option_map ask_as result ≡ (let labels = labels_in row.now args.now in compares_by (flag_source labels (map argument_of args.now)) labels (map argument_of args.now)) }
+    ensures { option_map ask_as result ≡ (let labels = labels_in row.now args.now in spec.compares_by (spec.flag_source labels (map argument_of args.now)) labels (map argument_of args.now)) }
 {
     compares_by(flag_source(row, args), row, args)
 }
 
 /// What an `exists` test asks.
 fn exists_ask<'a>(row: &Row, args: &'a [Argument]) -> Option<Ask<'a>>
-    ensures { option_map ask_as result ≡ exists_by (labels_in row.now args.now) (map argument_of args.now) }
+    ensures { option_map ask_as result ≡ spec.exists_by (labels_in row.now args.now) (map argument_of args.now) }
 {
     let names = texts_in(argument_in(row, Role::FieldNames, args))?;
     Some(Ask::Exists { names })
@@ -123,7 +123,7 @@ fn exists_ask<'a>(row: &Row, args: &'a [Argument]) -> Option<Ask<'a>>
 
 /// What a `size` test asks.
 fn size_ask<'a>(row: &Row, args: &'a [Argument]) -> Option<Ask<'a>>
-    ensures { option_map ask_as result ≡ size_by (labels_in row.now args.now) (map argument_of args.now) }
+    ensures { option_map ask_as result ≡ spec.size_by (labels_in row.now args.now) (map argument_of args.now) }
 {
     let limit = number_in(argument_in(row, Role::Limit, args));
     match (
@@ -149,7 +149,7 @@ fn asking(ask: Option<Ask<'_>>) -> Option<TestReading<'_>>
 
 /// What a test of a kind is.
 fn test_reading_by(kind: TestKind, args: &[Argument]) -> Option<TestReading<'_>>
-    ensures { option_map test_reading_as result ≡ test_reading_by (Some kind) (map argument_of args.now) }
+    ensures { option_map test_reading_as result ≡ spec.test_reading_by (Some kind) (map argument_of args.now) }
 {
     let row = &kind.row();
     match kind {
@@ -171,7 +171,7 @@ fn test_reading_by(kind: TestKind, args: &[Argument]) -> Option<TestReading<'_>>
 /// What the test is, apart from the tests in it, by the labels of its arguments. Each test of a checked script is read as
 /// something. Takes no memory.
 pub fn read_test(test: &Test) -> Option<TestReading<'_>>
-    ensures { option_map test_reading_as result ≡ test_reading (test_of test.now) }
+    ensures { option_map test_reading_as result ≡ spec.test_reading (test_of test.now) }
 {
     match test_named(&test.name) {
         Some(kind) => test_reading_by(kind, &test.args),

@@ -4,7 +4,7 @@ ghost use Rattle.std.specs.List.{flat_map};
 ghost use Rattle.std.specs.Option.{option_copied};
 ghost use Rattle.std.specs.Str.Lines.{lines, strip_carriage_return};
 ghost use Rattle.sieve_base.specs.Writers.{hex_digit, octet_spelling, quoted, name_text, piece_text, pieces_text};
-ghost use Rattle.sieve_run.specs.Lines.{action_line, error_line, error_lines, flag_word, flag_words, implicit_line, implicit_lines, mailbox_line, mailbox_words, says};
+ghost use Rattle.sieve_run.specs.Lines as spec;
 ghost use Rattle.sieve_run.specs.view.Left.{behind_front, is_whole, left_says};
 
 use itoa::Buffer;
@@ -105,7 +105,7 @@ fn skip_pieces<'a>(text: &'a [u8], pieces: &[Piece<'_>]) -> Option<&'a [u8]>
 
 /// What follows a flag behind a space.
 fn skip_flag<'a>(text: &'a [u8], flag: &[u8]) -> Option<&'a [u8]>
-    ensures { option_copied result ≡ behind_front (flag_word flag.now) text.now }
+    ensures { option_copied result ≡ behind_front (spec.flag_word flag.now) text.now }
 {
     skip_pieces(text, &[Piece::Raw(b" "), Piece::Quoted(flag)])
 }
@@ -113,7 +113,7 @@ fn skip_flag<'a>(text: &'a [u8], flag: &[u8]) -> Option<&'a [u8]>
 /// What follows flags, each behind a space.
 #[tactic(auto, using(crate::proofs::Left::left))]
 fn skip_flags<'a>(text: &'a [u8], flags: &FlagList) -> Option<&'a [u8]>
-    ensures { option_copied result ≡ behind_front (flag_words flags.now) text.now }
+    ensures { option_copied result ≡ behind_front (spec.flag_words flags.now) text.now }
 {
     let mut left = text;
     for i in 0..flags.len() {
@@ -125,7 +125,7 @@ fn skip_flags<'a>(text: &'a [u8], flags: &FlagList) -> Option<&'a [u8]>
 /// What follows a word and a mailbox.
 #[tactic(auto, unfolding(crate::specs::Lines::mailbox_words))]
 fn skip_mailbox<'a>(text: &'a [u8], word: &[u8], mailbox: &[u8]) -> Option<&'a [u8]>
-    ensures { option_copied result ≡ behind_front (mailbox_words word.now mailbox.now) text.now }
+    ensures { option_copied result ≡ behind_front (spec.mailbox_words word.now mailbox.now) text.now }
 {
     skip_pieces(text, &[Piece::Raw(word), Piece::Quoted(mailbox)])
 }
@@ -138,7 +138,7 @@ fn skip_mailbox_line<'a>(
     mailbox: &[u8],
     flags: &FlagList,
 ) -> Option<&'a [u8]>
-    ensures { option_copied result ≡ behind_front (mailbox_line word.now mailbox.now flags.now) text.now }
+    ensures { option_copied result ≡ behind_front (spec.mailbox_line word.now mailbox.now flags.now) text.now }
 {
     let left = skip_mailbox(text, word, mailbox)?;
     skip_flags(left, flags)
@@ -147,7 +147,7 @@ fn skip_mailbox_line<'a>(
 /// What follows the line of an action.
 #[tactic(auto, unfolding(crate::specs::Lines::action_line))]
 fn skip_action<'a>(text: &'a [u8], action: &Action) -> Option<&'a [u8]>
-    ensures { option_copied result ≡ behind_front (action_line action.now) text.now }
+    ensures { option_copied result ≡ behind_front (spec.action_line action.now) text.now }
 {
     match action {
         Action::Store { mailbox, flags } => {
@@ -164,14 +164,14 @@ fn skip_action<'a>(text: &'a [u8], action: &Action) -> Option<&'a [u8]>
 /// What follows the line of the implicit keep.
 #[tactic(auto, unfolding(crate::specs::Lines::implicit_line))]
 fn skip_implicit<'a>(text: &'a [u8], mailbox: &[u8], flags: &FlagList) -> Option<&'a [u8]>
-    ensures { option_copied result ≡ behind_front (implicit_line mailbox.now flags.now) text.now }
+    ensures { option_copied result ≡ behind_front (spec.implicit_line mailbox.now flags.now) text.now }
 {
     skip_mailbox_line(text, b"implicit ", mailbox, flags)
 }
 
 /// What follows the line of an error.
 fn skip_error<'a>(text: &'a [u8], error: &RunError) -> Option<&'a [u8]>
-    ensures { option_copied result ≡ behind_front (error_line error.now) text.now }
+    ensures { option_copied result ≡ behind_front (spec.error_line error.now) text.now }
 {
     skip_pieces(
         text,
@@ -222,7 +222,7 @@ fn next_line(text: &[u8]) -> Option<(&[u8], &[u8])>
 /// What follows the line of an action.
 #[tactic(auto, using(crate::proofs::Left::saying))]
 fn behind_action<'a>(text: &'a [u8], action: &Action) -> Option<&'a [u8]>
-    ensures { (wanted : List (List ℕ)) → left_says (option_copied result) wanted ≡ says text.now (action_line action.now ∷ wanted) }
+    ensures { (wanted : List (List ℕ)) → left_says (option_copied result) wanted ≡ spec.says text.now (spec.action_line action.now ∷ wanted) }
 {
     let (line, left) = next_line(text)?;
     if is_whole(skip_action(line, action)) {
@@ -235,7 +235,7 @@ fn behind_action<'a>(text: &'a [u8], action: &Action) -> Option<&'a [u8]>
 /// What follows the line of the implicit keep.
 #[tactic(auto, using(crate::proofs::Left::saying))]
 fn behind_implicit<'a>(text: &'a [u8], mailbox: &[u8], flags: &FlagList) -> Option<&'a [u8]>
-    ensures { (wanted : List (List ℕ)) → left_says (option_copied result) wanted ≡ says text.now (implicit_line mailbox.now flags.now ∷ wanted) }
+    ensures { (wanted : List (List ℕ)) → left_says (option_copied result) wanted ≡ spec.says text.now (spec.implicit_line mailbox.now flags.now ∷ wanted) }
 {
     let (line, left) = next_line(text)?;
     if is_whole(skip_implicit(line, mailbox, flags)) {
@@ -248,7 +248,7 @@ fn behind_implicit<'a>(text: &'a [u8], mailbox: &[u8], flags: &FlagList) -> Opti
 /// What follows the line of an error.
 #[tactic(auto, using(crate::proofs::Left::saying))]
 fn behind_error<'a>(text: &'a [u8], error: &RunError) -> Option<&'a [u8]>
-    ensures { (wanted : List (List ℕ)) → left_says (option_copied result) wanted ≡ says text.now (error_line error.now ∷ wanted) }
+    ensures { (wanted : List (List ℕ)) → left_says (option_copied result) wanted ≡ spec.says text.now (spec.error_line error.now ∷ wanted) }
 {
     let (line, left) = next_line(text)?;
     if is_whole(skip_error(line, error)) {
@@ -261,7 +261,7 @@ fn behind_error<'a>(text: &'a [u8], error: &RunError) -> Option<&'a [u8]>
 /// What follows the lines of actions.
 #[tactic(auto, using(crate::proofs::Left::saying))]
 fn behind_actions<'a>(text: &'a [u8], actions: &[Action]) -> Option<&'a [u8]>
-    ensures { (wanted : List (List ℕ)) → left_says (option_copied result) wanted ≡ says text.now (map action_line actions.now ++ wanted) }
+    ensures { (wanted : List (List ℕ)) → left_says (option_copied result) wanted ≡ spec.says text.now (map spec.action_line actions.now ++ wanted) }
 {
     let mut left = text;
     for action in actions {
@@ -272,7 +272,7 @@ fn behind_actions<'a>(text: &'a [u8], actions: &[Action]) -> Option<&'a [u8]>
 
 /// What follows the line of the implicit keep, where it stands.
 fn behind_kept<'a>(text: &'a [u8], mailbox: &[u8], kept: Option<&FlagList>) -> Option<&'a [u8]>
-    ensures { (wanted : List (List ℕ)) → left_says (option_copied result) wanted ≡ says text.now (implicit_lines mailbox.now (option_copied kept.entry) ++ wanted) }
+    ensures { (wanted : List (List ℕ)) → left_says (option_copied result) wanted ≡ spec.says text.now (spec.implicit_lines mailbox.now (option_copied kept.entry) ++ wanted) }
 {
     match kept {
         Some(flags) => behind_implicit(text, mailbox, flags),
@@ -282,7 +282,7 @@ fn behind_kept<'a>(text: &'a [u8], mailbox: &[u8], kept: Option<&FlagList>) -> O
 
 /// What follows the line of the error, where there is one.
 fn behind_failed<'a>(text: &'a [u8], failed: Option<&RunError>) -> Option<&'a [u8]>
-    ensures { (wanted : List (List ℕ)) → left_says (option_copied result) wanted ≡ says text.now (error_lines (option_copied failed.entry) ++ wanted) }
+    ensures { (wanted : List (List ℕ)) → left_says (option_copied result) wanted ≡ spec.says text.now (spec.error_lines (option_copied failed.entry) ++ wanted) }
 {
     match failed {
         Some(error) => behind_error(text, error),
@@ -292,7 +292,7 @@ fn behind_failed<'a>(text: &'a [u8], failed: Option<&RunError>) -> Option<&'a [u
 
 /// Whether a text has no line.
 fn is_over(text: &[u8]) -> bool
-    ensures { result ≡ says text.now [] }
+    ensures { result ≡ spec.says text.now [] }
 {
     next_line(text).is_none()
 }
@@ -306,7 +306,7 @@ pub(crate) fn says(
     kept: Option<&FlagList>,
     failed: Option<&RunError>,
 ) -> bool
-    ensures { result ≡ says text.now (map action_line actions.now ++ (implicit_lines mailbox.now (option_copied kept.entry) ++ error_lines (option_copied failed.entry))) }
+    ensures { result ≡ spec.says text.now (map spec.action_line actions.now ++ (spec.implicit_lines mailbox.now (option_copied kept.entry) ++ spec.error_lines (option_copied failed.entry))) }
 {
     let Some(left) = behind_actions(text, actions) else {
         return false;

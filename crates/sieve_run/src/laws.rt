@@ -14,7 +14,7 @@ ghost use Rattle.sieve_run.specs.Library.{Lookup};
 ghost use Rattle.sieve_effects.specs.declared.envelope.Envelope.{Envelope};
 ghost use Rattle.sieve_run.specs.Perform.{answers_of, do_gone, perform};
 ghost use Rattle.sieve_effects.specs.Act.{Ending, returned, state_behind, stopped};
-ghost use Rattle.sieve_run.specs.Run.{Answer, SetsMatched, and_then, answer_of, begun, decide, delivery_to, exec, include_of, included, outcome_of, run_of, running};
+ghost use Rattle.sieve_run.specs.Run as spec;
 ghost use Rattle.sieve_effects.specs.State.{RunState};
 ghost use Rattle.sieve_base.specs.declared.name.ScriptName as names;
 
@@ -22,33 +22,33 @@ ghost use Rattle.sieve_base.specs.declared.name.ScriptName as names;
 /// its own block or behind that (RFC 5228, section 3.3).
 #[tactic(auto, using(crate::proofs::Unchanged::stop_ends))]
 pub fn stop_ends_the_commands()
-    ensures { (ask : Ask → RunState → Answer) (act : Leaf → ℕ → RunState → Ending) (rest : Commands) (behind : RunState → Ending) (state : RunState) → and_then (exec ask act (stops rest) state) behind ≡ stopped state }
+    ensures { (ask : Ask → RunState → spec.Answer) (act : Leaf → ℕ → RunState → Ending) (rest : Commands) (behind : RunState → Ending) (state : RunState) → spec.and_then (spec.exec ask act (stops rest) state) behind ≡ stopped state }
 {}
 
 /// Nor do those behind a `return` (RFC 6609, section 3.3).
 #[tactic(auto, using(crate::proofs::Unchanged::return_ends))]
 pub fn return_ends_the_commands()
-    ensures { (ask : Ask → RunState → Answer) (act : Leaf → ℕ → RunState → Ending) (rest : Commands) (behind : RunState → Ending) (state : RunState) → and_then (exec ask act (returns rest) state) behind ≡ returned state }
+    ensures { (ask : Ask → RunState → spec.Answer) (act : Leaf → ℕ → RunState → Ending) (rest : Commands) (behind : RunState → Ending) (state : RunState) → spec.and_then (spec.exec ask act (returns rest) state) behind ≡ returned state }
 {}
 
 /// A run enters at most 256 scripts beside the main one. A script that was entered stays among those that were, whatever is done then.
 pub fn a_run_enters_so_many_scripts()
-    ensures many { (find : names.ScriptName → Lookup) (envelope : Envelope) (message : List ℕ) (main : names.ScriptName) (tree : List Node) → length (state_behind (run_of find envelope message main tree)).entered ≤ suc include_limit }
-    ensures kept { (find : names.ScriptName → Lookup) (depth : ℕ) (delivery : Delivery) (tree : List Node) (state : RunState) → (more : List names.ScriptName) × ((state_behind (running find depth delivery tree state)).entered ≡ state.entered ++ more) }
+    ensures many { (find : names.ScriptName → Lookup) (envelope : Envelope) (message : List ℕ) (main : names.ScriptName) (tree : List Node) → length (state_behind (spec.run_of find envelope message main tree)).entered ≤ suc include_limit }
+    ensures kept { (find : names.ScriptName → Lookup) (depth : ℕ) (delivery : Delivery) (tree : List Node) (state : RunState) → (more : List names.ScriptName) × ((state_behind (spec.running find depth delivery tree state)).entered ≡ state.entered ++ more) }
 {}
 
 /// Scripts include one another 10 deep at most, counted by those that include the running one: the main script runs with none
 /// above it; an include runs its script with one more above it, and enters none where 10 are.
 pub fn scripts_include_one_another_so_deep()
-    ensures main { (find : names.ScriptName → Lookup) (envelope : Envelope) (message : List ℕ) (main : names.ScriptName) (tree : List Node) → run_of find envelope message main tree ≡ running find (depth_left (delivery_to envelope message main)) (delivery_to envelope message main) tree (begun main) }
-    ensures within { (find : names.ScriptName → Lookup) (delivery : Delivery) (name : names.ScriptName) (once optional : Bool) (line : ℕ) (state : RunState) → included find (depth_left delivery) delivery name once optional line state ≡ include_of find delivery (entered_within find delivery) name once optional line state }
-    ensures deepest { (find : names.ScriptName → Lookup) (delivery : Delivery) (name : names.ScriptName) (once optional : Bool) (line : ℕ) (state : RunState) → IsDeepest delivery → (state_behind (included find (depth_left delivery) delivery name once optional line state)).entered ≡ state.entered }
+    ensures main { (find : names.ScriptName → Lookup) (envelope : Envelope) (message : List ℕ) (main : names.ScriptName) (tree : List Node) → spec.run_of find envelope message main tree ≡ spec.running find (depth_left (spec.delivery_to envelope message main)) (spec.delivery_to envelope message main) tree (spec.begun main) }
+    ensures within { (find : names.ScriptName → Lookup) (delivery : Delivery) (name : names.ScriptName) (once optional : Bool) (line : ℕ) (state : RunState) → spec.included find (depth_left delivery) delivery name once optional line state ≡ spec.include_of find delivery (entered_within find delivery) name once optional line state }
+    ensures deepest { (find : names.ScriptName → Lookup) (delivery : Delivery) (name : names.ScriptName) (once optional : Bool) (line : ℕ) (state : RunState) → IsDeepest delivery → (state_behind (spec.included find (depth_left delivery) delivery name once optional line state)).entered ≡ state.entered }
 {}
 
 /// At no moment of a run do more than 10 scripts run below the main one (RFC 6609, section 3.1): whatever is done in place of a
 /// script that more include, the run is the same.
 pub fn no_run_comes_to_a_deeper_script()
-    ensures { (beyond : Delivery → List Node → RunState → Ending) (find : names.ScriptName → Lookup) (envelope : Envelope) (message : List ℕ) (main : names.ScriptName) (tree : List Node) → watched_run beyond find envelope message main tree ≡ run_of find envelope message main tree }
+    ensures { (beyond : Delivery → List Node → RunState → Ending) (find : names.ScriptName → Lookup) (envelope : Envelope) (message : List ℕ) (main : names.ScriptName) (tree : List Node) → watched_run beyond find envelope message main tree ≡ spec.run_of find envelope message main tree }
 {}
 
 /// The frame: a verdict, with the names that it looked up, is the same over each library that has the same text, or none, at each of
@@ -62,7 +62,7 @@ pub fn a_verdict_depends_on_what_it_looked_up()
 /// cancelled, neither the names looked up nor the variables that are set.
 #[tactic(auto, using(crate::proofs::Unchanged::decide_keeps))]
 pub fn tests_set_match_variables_at_most()
-    ensures state { (delivery : Delivery) (condition : Condition) (state : RunState) → SetsMatched state (decide (answer_of delivery) condition state).state }
+    ensures state { (delivery : Delivery) (condition : Condition) (state : RunState) → spec.SetsMatched state (spec.decide (spec.answer_of delivery) condition state).state }
 {}
 
 /// What running a checked tree's commands does is what doing the leaves of its walk in turn gives, up to the first that ends
@@ -70,19 +70,19 @@ pub fn tests_set_match_variables_at_most()
 /// So it is with the list of answers: what the walk meets with them, done in turn.
 #[tactic(auto, using(crate::proofs::Performing::walking))]
 pub fn a_run_does_its_walk()
-    ensures same { (ask : Ask → RunState → Answer) (act : Leaf → ℕ → RunState → Ending) (tree : List Node) (state : RunState) → exec ask act (script_of tree) state ≡ perform ask act (tree_walk tree) state }
-    ensures met { (ask : Ask → RunState → Answer) (act : Leaf → ℕ → RunState → Ending) (tree : List Node) (state : RunState) → exec ask act (script_of tree) state ≡ do_gone ask act (gone (tree_walk tree) (answers_of ask act (tree_walk tree) state)) state }
+    ensures same { (ask : Ask → RunState → spec.Answer) (act : Leaf → ℕ → RunState → Ending) (tree : List Node) (state : RunState) → spec.exec ask act (script_of tree) state ≡ perform ask act (tree_walk tree) state }
+    ensures met { (ask : Ask → RunState → spec.Answer) (act : Leaf → ℕ → RunState → Ending) (tree : List Node) (state : RunState) → spec.exec ask act (script_of tree) state ≡ do_gone ask act (gone (tree_walk tree) (answers_of ask act (tree_walk tree) state)) state }
 {}
 
 /// Whatever the scripts, the message and the envelope: no verdict has more actions than a run may perform (RFC 5228, section 2.10.4).
 #[tactic(auto, using(crate::proofs::Bounds::outcome_bounded))]
 pub fn no_run_acts_too_often()
-    ensures { (find : names.ScriptName → Lookup) (main : Option names.ScriptName) (envelope : Envelope) (message : List ℕ) → length (outcome_of find main envelope message).actions ≤ action_limit }
+    ensures { (find : names.ScriptName → Lookup) (main : Option names.ScriptName) (envelope : Envelope) (message : List ℕ) → length (spec.outcome_of find main envelope message).actions ≤ action_limit }
 {}
 
 /// No two actions of a verdict are one: it has no two stores into one mailbox, no two redirects to one address, and no two discards
 /// (RFC 5228, section 2.10.3).
 #[tactic(auto, using(crate::proofs::Distinct::outcome_distinct))]
 pub fn no_run_acts_twice_alike()
-    ensures { (find : names.ScriptName → Lookup) (main : Option names.ScriptName) (envelope : Envelope) (message : List ℕ) → AreDistinct (outcome_of find main envelope message).actions }
+    ensures { (find : names.ScriptName → Lookup) (main : Option names.ScriptName) (envelope : Envelope) (message : List ℕ) → AreDistinct (spec.outcome_of find main envelope message).actions }
 {}

@@ -3,7 +3,7 @@
 ghost use Rattle.std.specs.Prelude.{◌≡◌, ◌+◌, ◌-◌, ◌*◌, ◌^◌, ◌<◌, ◌++◌, false, IfOk, IsTrue, OnOk, SomeIff};
 ghost use Rattle.sieve_base.specs.Octet.{is_digit, octet_of};
 ghost use Rattle.std.specs.List.{list_any};
-ghost use Rattle.sieve_syntax.specs.Value.{is_changed, is_protector, kept_octet, line_end, multi_line_octets, number_of, quoted_octets, unit_of, unprotected, with_cr, without_dot};
+ghost use Rattle.sieve_syntax.specs.Value as spec;
 
 use crate::line::{is_dot_line, line_length};
 use sieve_base::SmallOctets;
@@ -12,7 +12,7 @@ use std::alloc::{AllocError, Global};
 
 /// What a unit stands for.
 fn unit_of(octet: u8) -> u64
-    ensures { result ≡ unit_of octet }
+    ensures { result ≡ spec.unit_of octet }
 {
     match octet {
         b'K' | b'k' => 1 << 10,
@@ -31,7 +31,7 @@ fn add_digit(number: u64, digit: u8) -> Option<u64>
 
 /// The number with its unit, or `None` past 64 bits.
 fn with_unit(number: u64, unit: u8) -> Option<u64>
-    ensures { SomeIff result (number * unit_of unit < 2 ^ 64) (number * unit_of unit) }
+    ensures { SomeIff result (number * spec.unit_of unit < 2 ^ 64) (number * spec.unit_of unit) }
 {
     number.checked_mul(unit_of(unit))
 }
@@ -39,7 +39,7 @@ fn with_unit(number: u64, unit: u8) -> Option<u64>
 /// The value of a number, or `None` past 64 bits.
 #[tactic(auto, using(crate::proofs::Values::number_steps))]
 pub(crate) fn number_of(symbol: &[u8]) -> Option<u64>
-    ensures { result ≡ number_of symbol.now }
+    ensures { result ≡ spec.number_of symbol.now }
 {
     let mut number = 0;
     for octet in symbol {
@@ -56,7 +56,7 @@ pub(crate) fn number_of(symbol: &[u8]) -> Option<u64>
 
 /// Adds an octet, and a CR before an LF that lacks one.
 fn push_octet(out: &mut Vec<u8>, octet: u8, after_cr: bool) -> Result<(), AllocError>
-    ensures { OnOk result (out.new.items ≡ out.old.items ++ line_end after_cr octet) }
+    ensures { OnOk result (out.new.items ≡ out.old.items ++ spec.line_end after_cr octet) }
 {
     if octet == b'\n' && !after_cr {
         out.push(b'\r')?;
@@ -67,7 +67,7 @@ fn push_octet(out: &mut Vec<u8>, octet: u8, after_cr: bool) -> Result<(), AllocE
 
 /// Adds the octets, and a CR before each LF that lacks one.
 fn push_with_cr(out: &mut Vec<u8>, octets: &[u8]) -> Result<(), AllocError>
-    ensures { OnOk result (out.new.items ≡ out.old.items ++ with_cr false octets.now) }
+    ensures { OnOk result (out.new.items ≡ out.old.items ++ spec.with_cr false octets.now) }
 {
     let mut after_cr = false;
     for octet in octets {
@@ -79,8 +79,8 @@ fn push_with_cr(out: &mut Vec<u8>, octets: &[u8]) -> Result<(), AllocError>
 
 /// Adds an octet, but for a backslash that protects the next one; whether it is one. A protected octet is always added.
 fn push_kept(kept: &mut Vec<u8>, octet: u8, protected: bool) -> Result<bool, AllocError>
-    ensures kept { OnOk result (kept.new.items ≡ kept.old.items ++ kept_octet protected octet) }
-    ensures protects { IfOk result (λ protects. protects ≡ is_protector protected octet) }
+    ensures kept { OnOk result (kept.new.items ≡ kept.old.items ++ spec.kept_octet protected octet) }
+    ensures protects { IfOk result (λ protects. protects ≡ spec.is_protector protected octet) }
 {
     if octet == b'\\' && !protected {
         return Ok(true);
@@ -91,7 +91,7 @@ fn push_kept(kept: &mut Vec<u8>, octet: u8, protected: bool) -> Result<bool, All
 
 /// The octets without the backslashes that protect one of them.
 fn unprotected(alloc: Global, octets: &[u8]) -> Result<Vec<u8>, AllocError>
-    ensures { IfOk result (λ kept. kept.items ≡ unprotected octets.now) }
+    ensures { IfOk result (λ kept. kept.items ≡ spec.unprotected octets.now) }
 {
     let mut kept = Vec::new(alloc);
     let mut protected = false;
@@ -103,7 +103,7 @@ fn unprotected(alloc: Global, octets: &[u8]) -> Result<Vec<u8>, AllocError>
 
 /// Whether an octet is among them that may stand for another than itself: an LF or a backslash. Most strings have none.
 fn has_changed(octets: &[u8]) -> bool
-    ensures { result ≡ list_any is_changed octets.now }
+    ensures { result ≡ list_any spec.is_changed octets.now }
 {
     octets.iter().any(|octet| matches!(*octet, b'\n' | b'\\'))
 }
@@ -111,7 +111,7 @@ fn has_changed(octets: &[u8]) -> bool
 /// What a quoted string stands for: each LF that lacks a CR gets one, and then a backslash and an octet give that octet.
 #[tactic(auto, unfolding(crate::specs::Value::quoted_octets), using(crate::proofs::Values::quoted_steps))]
 pub(crate) fn quoted_octets(alloc: Global, symbol: &[u8]) -> Result<SmallOctets, AllocError>
-    ensures { IfOk result (λ octets. octets.items ≡ quoted_octets symbol.now) }
+    ensures { IfOk result (λ octets. octets.items ≡ spec.quoted_octets symbol.now) }
 {
     if symbol.len() < 2 {
         return Ok(SmallOctets::new(alloc));
@@ -128,7 +128,7 @@ pub(crate) fn quoted_octets(alloc: Global, symbol: &[u8]) -> Result<SmallOctets,
 /// The line without the first of two dots that begin it.
 #[tactic(auto, unfolding(crate::specs::Value::without_dot))]
 fn without_dot(line: &[u8]) -> &[u8]
-    ensures { result.now ≡ without_dot line.now }
+    ensures { result.now ≡ spec.without_dot line.now }
 {
     match line {
         [first, second, ..] if *first == b'.' && *second == b'.' => &line[1..],
@@ -140,7 +140,7 @@ fn without_dot(line: &[u8]) -> &[u8]
 /// begin a line, and with CR and LF at the end of each.
 #[tactic(auto, using(crate::proofs::Values::line_steps))]
 pub(crate) fn multi_line_octets(alloc: Global, symbol: &[u8]) -> Result<Vec<u8>, AllocError>
-    ensures { IfOk result (λ octets. octets.items ≡ multi_line_octets symbol.now) }
+    ensures { IfOk result (λ octets. octets.items ≡ spec.multi_line_octets symbol.now) }
 {
     let mut octets = Vec::new(alloc);
     let mut place = line_length(symbol);

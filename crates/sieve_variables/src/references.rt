@@ -4,7 +4,7 @@ ghost use Rattle.std.specs.List.{list_all};
 ghost use Rattle.std.specs.Option.{option_map};
 ghost use Rattle.sieve_variables.specs.Part.{part_of_words};
 ghost use Rattle.sieve_variables.specs.Reference.{is_legal, is_name, reference};
-ghost use Rattle.sieve_variables.specs.Scan.{before_brace, has_far_index, has_foreign_namespace, has_namespace, has_reference, inside_at, is_dot, is_far, is_foreign, is_inside, is_namespaced, parts_of_text, words_of};
+ghost use Rattle.sieve_variables.specs.Scan as spec;
 ghost use Rattle.sieve_variables.specs.view.Part.{added, literal_part, part_of};
 
 use crate::name::{folded, index_of, is_identifier, is_name, is_number, is_shared};
@@ -33,7 +33,7 @@ const SIGN_COUNT: usize = 3;
 
 /// The parts of a text.
 pub fn parts_of_text(alloc: Global, text: &[u8]) -> Result<Parts, AllocError>
-    ensures { IfOk result (λ parts. map part_of parts.items ≡ parts_of_text text.now) }
+    ensures { IfOk result (λ parts. map part_of parts.items ≡ spec.parts_of_text text.now) }
 {
     let mut parts = Parts::new(alloc);
     // What isn't yet in the parts, and how many of its octets are known to stand for themselves.
@@ -57,10 +57,10 @@ pub fn parts_of_text(alloc: Global, text: &[u8]) -> Result<Parts, AllocError>
 
 /// What references the text has.
 pub fn references_in(text: &[u8]) -> References
-    ensures any { result.any ≡ has_reference text.now }
-    ensures namespaced { result.namespaced ≡ has_namespace text.now }
-    ensures foreign { result.foreign ≡ has_foreign_namespace text.now }
-    ensures far { result.far ≡ has_far_index text.now }
+    ensures any { result.any ≡ spec.has_reference text.now }
+    ensures namespaced { result.namespaced ≡ spec.has_namespace text.now }
+    ensures foreign { result.foreign ≡ spec.has_foreign_namespace text.now }
+    ensures far { result.far ≡ spec.has_far_index text.now }
 {
     let mut any = false;
     let mut namespaced = false;
@@ -94,7 +94,7 @@ pub fn references_in(text: &[u8]) -> References
 // What stands between the braces of the reference with which the text begins.
 #[tactic(auto, unfolding(crate::specs::Scan::inside_at))]
 fn inside_at(text: &[u8]) -> Option<&[u8]>
-    ensures is { option_map (λ inside. inside.now) result ≡ inside_at text.now }
+    ensures is { option_map (λ inside. inside.now) result ≡ spec.inside_at text.now }
     ensures within { IfSome result (λ inside. length inside.now + 3 ≤ length text.now) }
 {
     let [b'$', b'{', rest @ ..] = text else {
@@ -107,7 +107,7 @@ fn inside_at(text: &[u8]) -> Option<&[u8]>
 // What stands before the first `}`, if only octets of words and dots do.
 #[tactic(auto, unfolding(crate::specs::Scan::before_brace))]
 fn before_brace(text: &[u8]) -> Option<&[u8]>
-    ensures is { option_map (λ inside. inside.now) result ≡ before_brace text.now }
+    ensures is { option_map (λ inside. inside.now) result ≡ spec.before_brace text.now }
     ensures within { IfSome result (λ inside. length inside.now < length text.now) }
 {
     for (i, octet) in text.iter().enumerate() {
@@ -122,20 +122,20 @@ fn before_brace(text: &[u8]) -> Option<&[u8]>
 }
 
 fn is_dot(octet: u8) -> bool
-    ensures { result ≡ is_dot octet }
+    ensures { result ≡ spec.is_dot octet }
 {
     octet == b'.'
 }
 
 fn is_inside(octet: u8) -> bool
-    ensures { result ≡ is_inside octet }
+    ensures { result ≡ spec.is_inside octet }
 {
     is_name_octet(octet) || is_dot(octet)
 }
 
 // Cuts at the first dot: the first word, and what stands behind the dot.
 fn cut(inside: &[u8]) -> Option<(&[u8], &[u8])>
-    ensures words { MatchOption result (words_of inside.now ≡ inside.now ∷ []) (λ cut. words_of inside.now ≡ cut.0.now ∷ words_of cut.1.now) }
+    ensures words { MatchOption result (spec.words_of inside.now ≡ inside.now ∷ []) (λ cut. spec.words_of inside.now ≡ cut.0.now ∷ spec.words_of cut.1.now) }
     ensures shorter { IfSome result (λ cut. length cut.1.now < length inside.now) }
 {
     for (i, octet) in inside.iter().enumerate() {
@@ -149,7 +149,7 @@ fn cut(inside: &[u8]) -> Option<(&[u8], &[u8])>
 // Whether what stands between braces are the words of a reference.
 #[tactic(auto, using(crate::proofs::Words::legal_cut))]
 fn is_legal(inside: &[u8]) -> bool
-    ensures { result ≡ is_legal (words_of inside.now) }
+    ensures { result ≡ is_legal (spec.words_of inside.now) }
 {
     let Some((namespace, words)) = cut(inside) else {
         return is_name(inside);
@@ -163,7 +163,7 @@ fn is_legal(inside: &[u8]) -> bool
 // Whether the words between dots are names.
 #[tactic(auto, using(crate::proofs::Words::names_cut))]
 fn are_names(inside: &[u8]) -> bool
-    ensures { result ≡ list_all is_name (words_of inside.now) }
+    ensures { result ≡ list_all is_name (spec.words_of inside.now) }
 {
     let mut left = inside;
     while let Some((word, words)) = cut(left) {
@@ -177,14 +177,14 @@ fn are_names(inside: &[u8]) -> bool
 
 // Whether the words of a reference are more than one.
 fn is_namespaced(inside: &[u8]) -> bool
-    ensures { result ≡ is_namespaced (reference (words_of inside.now)) }
+    ensures { result ≡ spec.is_namespaced (reference (spec.words_of inside.now)) }
 {
     inside.contains(&b'.')
 }
 
 // Whether a reference is in another namespace than that of the variables that scripts share.
 fn is_foreign(inside: &[u8]) -> bool
-    ensures { result ≡ is_foreign (reference (words_of inside.now)) }
+    ensures { result ≡ spec.is_foreign (reference (spec.words_of inside.now)) }
 {
     match cut(inside) {
         None => false,
@@ -194,7 +194,7 @@ fn is_foreign(inside: &[u8]) -> bool
 
 // Whether a reference is to a match variable whose number is past the limit.
 fn is_far(inside: &[u8]) -> bool
-    ensures { result ≡ is_far (reference (words_of inside.now)) }
+    ensures { result ≡ spec.is_far (reference (spec.words_of inside.now)) }
 {
     if is_namespaced(inside) {
         return false;
@@ -228,8 +228,8 @@ fn part_of_word(alloc: Global, word: &[u8]) -> Result<Part, AllocError>
 
 // What a reference refers to that isn't in another namespace than that of the variables that scripts share.
 fn part_inside(alloc: Global, inside: &[u8]) -> Result<Part, AllocError>
-    requires { is_foreign (reference (words_of inside.now)) ≡ false }
-    ensures { IfOk result (λ part. part_of part ≡ part_of_words (words_of inside.now)) }
+    requires { spec.is_foreign (reference (spec.words_of inside.now)) ≡ false }
+    ensures { IfOk result (λ part. part_of part ≡ part_of_words (spec.words_of inside.now)) }
 {
     match cut(inside) {
         None => part_of_word(alloc, inside),

@@ -1,6 +1,6 @@
 //! What variables hold while a script runs (RFC 5229, section 3).
 ghost use Rattle.std.specs.Prelude.{◌≡◌, IsOk, OnErr, OnOk, slice_get, true};
-ghost use Rattle.sieve_variables.specs.Value.{begun_values, has_room_for, is_set, no_values, or_empty, own_of, part_value, variable_value, with_matched, with_own, with_variable};
+ghost use Rattle.sieve_variables.specs.Value as spec;
 ghost use Rattle.sieve_variables.specs.view.Part.{part_of, variable_of};
 
 use crate::part::Part;
@@ -46,7 +46,7 @@ impl Model for Own {
 impl Values {
     /// What a run starts with: no variable is set, and nothing has matched. Takes no memory.
     pub fn new(alloc: Global) -> Values
-        ensures { result ≡ no_values }
+        ensures { result ≡ spec.no_values }
     {
         Values {
             locals: Variables::new(alloc),
@@ -58,8 +58,8 @@ impl Values {
     /// What an included script starts with: it shares the global variables, and has nothing of its own (RFC 6609, section
     /// 3.4). Answers what the including script has of its own. Takes no memory.
     pub fn begin(&mut self, alloc: Global) -> Own
-        ensures begun { self.new ≡ begun_values self.old }
-        ensures own { result ≡ own_of self.old }
+        ensures begun { self.new ≡ spec.begun_values self.old }
+        ensures own { result ≡ spec.own_of self.old }
     {
         Own {
             locals: mem::replace(&mut self.locals, Variables::new(alloc)),
@@ -69,7 +69,7 @@ impl Values {
 
     /// Goes on with a script that has this of its own. Takes no memory.
     pub fn resume(&mut self, own: Own)
-        ensures { self.new ≡ with_own own self.old }
+        ensures { self.new ≡ spec.with_own own self.old }
     {
         self.locals = own.locals;
         self.matched = own.matched;
@@ -78,7 +78,7 @@ impl Values {
     /// Whether a variable can be set: one that scripts share where it is set already, or fewer than 128 are (RFC 5229, section
     /// 6); one of the script always, since these were counted before it runs. Takes no memory.
     pub fn has_room_for(&self, variable: &Variable) -> bool
-        ensures { result ≡ has_room_for (variable_of variable.now) self.now }
+        ensures { result ≡ spec.has_room_for (variable_of variable.now) self.now }
     {
         match variable {
             Variable::Local(_) => true,
@@ -94,9 +94,9 @@ impl Values {
         variable: &Variable,
         value: Octets,
     ) -> Result<(), AllocError>
-        ensures ok { OnOk result (self.new ≡ with_variable (variable_of variable.now) value self.old) }
+        ensures ok { OnOk result (self.new ≡ spec.with_variable (variable_of variable.now) value self.old) }
         ensures err { OnErr result (self.new ≡ self.old) }
-        ensures held { is_set (variable_of variable.now) self.old ≡ true → IsOk result }
+        ensures held { spec.is_set (variable_of variable.now) self.old ≡ true → IsOk result }
     {
         match variable {
             Variable::Local(name) => self.locals.set(alloc, name.as_slice(), value),
@@ -106,14 +106,14 @@ impl Values {
 
     /// Keeps what a match gave: the whole value, and what each wildcard took (RFC 5229, section 3.2). Takes no memory.
     pub fn set_matched(&mut self, texts: Vec<Octets>)
-        ensures { self.new ≡ with_matched texts.items self.old }
+        ensures { self.new ≡ spec.with_matched texts.items self.old }
     {
         self.matched = texts;
     }
 
     /// What a variable holds: nothing where it isn't set. Takes no memory.
     pub fn variable(&self, variable: &Variable) -> &[u8]
-        ensures { result.now ≡ variable_value self.now (variable_of variable.now) }
+        ensures { result.now ≡ spec.variable_value self.now (variable_of variable.now) }
     {
         match variable {
             Variable::Local(name) => self.locals.get(name.as_slice()),
@@ -123,7 +123,7 @@ impl Values {
 
     /// What the last match gave at a number: nothing where it gave less. Takes no memory.
     fn matched_text(&self, index: usize) -> &[u8]
-        ensures { result.now ≡ or_empty (slice_get self.now.matched index) }
+        ensures { result.now ≡ spec.or_empty (slice_get self.now.matched index) }
     {
         match self.matched.get(index) {
             Some(text) => text.as_slice(),
@@ -133,7 +133,7 @@ impl Values {
 
     /// The octets that a part stands for. Takes no memory.
     pub fn part<'a>(&'a self, part: &'a Part) -> &'a [u8]
-        ensures { result.now ≡ part_value self.now (part_of part.now) }
+        ensures { result.now ≡ spec.part_value self.now (part_of part.now) }
     {
         match part {
             Part::Literal(octets) => octets.as_slice(),

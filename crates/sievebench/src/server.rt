@@ -6,10 +6,10 @@ ghost use Rattle.bench.specs.Bench.{BenchState};
 ghost use Rattle.sieve_run.specs.Library.{Lookup};
 ghost use Rattle.sieve_run.specs.view.Found.{FoundAs};
 ghost use Rattle.session_text.specs.view.Input.{unused, fuel, Knows, Reads};
-ghost use Rattle.sievebench.specs.Session.{Demand, dump_reply, Request, Served, served, Moved, SessionFrom, BrokenSessionFrom, CutSessionFrom, MatchSessionEnd, MatchFault, ReadsAreMade, TurnsAreSpent, AtLastEnd, with_octets, request_by, dumps, reports};
+ghost use Rattle.sievebench.specs.Session as spec;
 ghost use Rattle.std.specs.Io.KnownBytes.{IsAtEnd};
 ghost use Rattle.sievebench.specs.view.Task.{IsTried, Tasks, edit_of};
-ghost use Rattle.sievebench.specs.view.Progress.{GoesFrom, Serves, Continues, EndsBy, MatchProgress, OnContinues, TellsFaults, AtLast, MayBeRefused, Tries, reply_line};
+ghost use Rattle.sievebench.specs.view.Progress as progress;
 
 use crate::status::SessionEnd;
 use crate::task::{Subject, Task, limit_of, task_of};
@@ -30,7 +30,7 @@ pub(crate) enum Progress {
 
 /// The reply to an edit.
 fn reply_line(outcome: Result<(), EditFault>) -> &'static [u8]
-    ensures { result.now ≡ reply_line outcome }
+    ensures { result.now ≡ progress.reply_line outcome }
 {
     match outcome {
         Ok(()) => b"ok\n",
@@ -45,7 +45,7 @@ fn reply_line(outcome: Result<(), EditFault>) -> &'static [u8]
 
 /// Writes the reply to an edit.
 fn answer<W: Sink>(outcome: Result<(), EditFault>, writer: &mut W) -> Progress
-    ensures { Continues result (Wrote W.contents W.fault_count writer.old writer.new (reply_line outcome)) (WroteFront W.contents W.fault_count writer.old writer.new (reply_line outcome)) }
+    ensures { progress.Continues result (Wrote W.contents W.fault_count writer.old writer.new (progress.reply_line outcome)) (WroteFront W.contents W.fault_count writer.old writer.new (progress.reply_line outcome)) }
 {
     match write_out(reply_line(outcome), writer) {
         Ok(()) => Progress::Continues,
@@ -55,7 +55,7 @@ fn answer<W: Sink>(outcome: Result<(), EditFault>, writer: &mut W) -> Progress
 
 /// Writes the last reply where a line says nothing that there is.
 fn refuse_line<W: Sink>(writer: &mut W) -> Progress
-    ensures { EndsBy SessionEnd.Syntax result (Wrote W.contents W.fault_count writer.old writer.new (codes "no syntax\n")) (WroteFront W.contents W.fault_count writer.old writer.new (codes "no syntax\n")) }
+    ensures { progress.EndsBy SessionEnd.Syntax result (Wrote W.contents W.fault_count writer.old writer.new (codes "no syntax\n")) (WroteFront W.contents W.fault_count writer.old writer.new (codes "no syntax\n")) }
 {
     match write_out(b"no syntax\n", writer) {
         Ok(()) => Progress::Ends(SessionEnd::Syntax),
@@ -65,7 +65,7 @@ fn refuse_line<W: Sink>(writer: &mut W) -> Progress
 
 /// Writes the last reply where octets end too early.
 fn refuse_octets<W: Sink>(writer: &mut W) -> Progress
-    ensures { EndsBy SessionEnd.Truncated result (Wrote W.contents W.fault_count writer.old writer.new (codes "no truncated\n")) (WroteFront W.contents W.fault_count writer.old writer.new (codes "no truncated\n")) }
+    ensures { progress.EndsBy SessionEnd.Truncated result (Wrote W.contents W.fault_count writer.old writer.new (codes "no truncated\n")) (WroteFront W.contents W.fault_count writer.old writer.new (codes "no truncated\n")) }
 {
     match write_out(b"no truncated\n", writer) {
         Ok(()) => Progress::Ends(SessionEnd::Truncated),
@@ -76,7 +76,7 @@ fn refuse_octets<W: Sink>(writer: &mut W) -> Progress
 /// Puts octets at a name or an id.
 #[tactic(auto, using(crate::proofs::Tried::trying))]
 fn keep(bench: &mut Bench, subject: Subject, octets: Vec<u8>) -> Result<(), EditFault>
-    ensures { Tries (edit_of subject octets.items) result bench.old bench.new }
+    ensures { progress.Tries (edit_of subject octets.items) result bench.old bench.new }
 {
     let octets = Octets::from_vec(octets);
     match subject {
@@ -109,14 +109,14 @@ fn serve_put<R: Source, W: Sink>(
 ) -> Progress
     requires known { Knows input.old (R.remaining reader.old) }
     ensures known { Knows input.new (R.remaining reader.new) }
-    ensures goes { (runs : ℕ) → GoesFrom (λ rest. with_octets count rest (edit_of subject)) result
-        (served bench.old runs) (unused input.old (R.remaining reader.old)) (W.contents writer.old)
-        (served bench.new runs) (unused input.new (R.remaining reader.new)) (R.remaining reader.new) (W.contents writer.new) }
-    ensures moves { (runs : ℕ) → Moved (served bench.old runs) (served bench.new runs) }
+    ensures goes { (runs : ℕ) → progress.GoesFrom (λ rest. spec.with_octets count rest (edit_of subject)) result
+        (spec.served bench.old runs) (unused input.old (R.remaining reader.old)) (W.contents writer.old)
+        (spec.served bench.new runs) (unused input.new (R.remaining reader.new)) (R.remaining reader.new) (W.contents writer.new) }
+    ensures moves { (runs : ℕ) → spec.Moved (spec.served bench.old runs) (spec.served bench.new runs) }
     ensures fuel { fuel input.new ≤ fuel input.old }
     ensures reads { Reads R.remaining R.fault_count R.call_count input.old input.new reader.old reader.new }
-    ensures faults { TellsFaults result input.new (R.fault_count reader.old) (R.fault_count reader.new) (W.fault_count writer.old) (W.fault_count writer.new) }
-    ensures end { AtLast result (IsAtEnd (R.remaining reader.new)) }
+    ensures faults { progress.TellsFaults result input.new (R.fault_count reader.old) (R.fault_count reader.new) (W.fault_count writer.old) (W.fault_count writer.new) }
+    ensures end { progress.AtLast result (IsAtEnd (R.remaining reader.new)) }
 {
     let limit = limit_of(&subject);
     match take_octets(
@@ -145,13 +145,13 @@ fn serve_forgotten<R: Source, W: Sink>(
 ) -> Progress
     requires known { Knows input.old (R.remaining reader.old) }
     ensures known { Knows input.new (R.remaining reader.new) }
-    ensures goes { (old : Served) (request : List ℕ → Request) → MayBeRefused count request → GoesFrom request result
+    ensures goes { (old : spec.Served) (request : List ℕ → spec.Request) → progress.MayBeRefused count request → progress.GoesFrom request result
         old (unused input.old (R.remaining reader.old)) (W.contents writer.old)
         old (unused input.new (R.remaining reader.new)) (R.remaining reader.new) (W.contents writer.new) }
     ensures fuel { fuel input.new ≤ fuel input.old }
     ensures reads { Reads R.remaining R.fault_count R.call_count input.old input.new reader.old reader.new }
-    ensures faults { TellsFaults result input.new (R.fault_count reader.old) (R.fault_count reader.new) (W.fault_count writer.old) (W.fault_count writer.new) }
-    ensures end { AtLast result (IsAtEnd (R.remaining reader.new)) }
+    ensures faults { progress.TellsFaults result input.new (R.fault_count reader.old) (R.fault_count reader.new) (W.fault_count writer.old) (W.fault_count writer.new) }
+    ensures end { progress.AtLast result (IsAtEnd (R.remaining reader.new)) }
 {
     match take_octets(alloc, input, reader, count as usize, false) {
         Taken::Whole { kept: _kept } => answer(Err(EditFault::NoMemory), writer),
@@ -164,10 +164,10 @@ fn serve_forgotten<R: Source, W: Sink>(
 /// Replies to an edit that is made already.
 #[tactic(auto, using(crate::proofs::Serving::serving))]
 fn serve_made<W: Sink>(outcome: Result<(), EditFault>, writer: &mut W) -> Progress
-    ensures goes { (ask : Option Demand) (old new : BenchState) (runs : ℕ) (unused rest : Option (List ℕ)) → IsTried ask outcome old new → GoesFrom (request_by ask) result
-        (served old runs) unused (W.contents writer.old) (served new runs) unused rest (W.contents writer.new) }
-    ensures faults { MatchProgress result (W.fault_count writer.old ≤ W.fault_count writer.new) ⊥ (HasRisen (W.fault_count writer.old) (W.fault_count writer.new)) ⊥ }
-    ensures end { AtLast result ⊥ }
+    ensures goes { (ask : Option spec.Demand) (old new : BenchState) (runs : ℕ) (unused rest : Option (List ℕ)) → IsTried ask outcome old new → progress.GoesFrom (spec.request_by ask) result
+        (spec.served old runs) unused (W.contents writer.old) (spec.served new runs) unused rest (W.contents writer.new) }
+    ensures faults { progress.MatchProgress result (W.fault_count writer.old ≤ W.fault_count writer.new) ⊥ (HasRisen (W.fault_count writer.old) (W.fault_count writer.new)) ⊥ }
+    ensures end { progress.AtLast result ⊥ }
 {
     answer(outcome, writer)
 }
@@ -175,11 +175,11 @@ fn serve_made<W: Sink>(outcome: Result<(), EditFault>, writer: &mut W) -> Progre
 /// Reports, or replies that memory was refused.
 #[tactic(auto, using(crate::proofs::Serving::serving))]
 fn serve_report<W: Sink>(bench: &mut Bench, meter: &mut Meter, writer: &mut W) -> Progress
-    ensures goes { (unused rest : Option (List ℕ)) → GoesFrom (λ rest. reports rest) result
-        (served bench.old meter.old) unused (W.contents writer.old) (served bench.new meter.new) unused rest (W.contents writer.new) }
-    ensures moves { Moved (served bench.old meter.old) (served bench.new meter.new) }
-    ensures faults { MatchProgress result (W.fault_count writer.old ≤ W.fault_count writer.new) ⊥ (HasRisen (W.fault_count writer.old) (W.fault_count writer.new)) ⊥ }
-    ensures end { AtLast result ⊥ }
+    ensures goes { (unused rest : Option (List ℕ)) → progress.GoesFrom (λ rest. spec.reports rest) result
+        (spec.served bench.old meter.old) unused (W.contents writer.old) (spec.served bench.new meter.new) unused rest (W.contents writer.new) }
+    ensures moves { spec.Moved (spec.served bench.old meter.old) (spec.served bench.new meter.new) }
+    ensures faults { progress.MatchProgress result (W.fault_count writer.old ≤ W.fault_count writer.new) ⊥ (HasRisen (W.fault_count writer.old) (W.fault_count writer.new)) ⊥ }
+    ensures end { progress.AtLast result ⊥ }
 {
     match bench.report(meter, writer) {
         Ok(()) => Progress::Continues,
@@ -191,7 +191,7 @@ fn serve_report<W: Sink>(bench: &mut Bench, meter: &mut Meter, writer: &mut W) -
 /// Writes the lines of a script's code and `ok`, or why there are none.
 #[tactic(auto, using(sieve_base::proofs::Writing::writing))]
 fn write_dump<W: Sink>(found: Found<'_>, writer: &mut W) -> Result<(), WriteFault>
-    ensures { (lookup : Lookup) → FoundAs found.entry lookup → Writes W.contents W.fault_count result writer.old writer.new (dump_reply lookup) }
+    ensures { (lookup : Lookup) → FoundAs found.entry lookup → Writes W.contents W.fault_count result writer.old writer.new (spec.dump_reply lookup) }
 {
     match found {
         Found::Missing => write_out(b"no no-such-script\n", writer),
@@ -206,10 +206,10 @@ fn write_dump<W: Sink>(found: Found<'_>, writer: &mut W) -> Result<(), WriteFaul
 /// Prints the code of a script, or replies why not.
 #[tactic(auto, using(crate::proofs::Serving::serving))]
 fn serve_dump<W: Sink>(bench: &Bench, writer: &mut W, name: &ScriptName) -> Progress
-    ensures goes { (runs : ℕ) (unused rest : Option (List ℕ)) → GoesFrom (λ rest. dumps name.now rest) result
-        (served bench.now runs) unused (W.contents writer.old) (served bench.now runs) unused rest (W.contents writer.new) }
-    ensures faults { MatchProgress result (W.fault_count writer.old ≤ W.fault_count writer.new) ⊥ (HasRisen (W.fault_count writer.old) (W.fault_count writer.new)) ⊥ }
-    ensures end { AtLast result ⊥ }
+    ensures goes { (runs : ℕ) (unused rest : Option (List ℕ)) → progress.GoesFrom (λ rest. spec.dumps name.now rest) result
+        (spec.served bench.now runs) unused (W.contents writer.old) (spec.served bench.now runs) unused rest (W.contents writer.new) }
+    ensures faults { progress.MatchProgress result (W.fault_count writer.old ≤ W.fault_count writer.new) ⊥ (HasRisen (W.fault_count writer.old) (W.fault_count writer.new)) ⊥ }
+    ensures end { progress.AtLast result ⊥ }
 {
     match write_dump(bench.code(name), writer) {
         Ok(()) => Progress::Continues,
@@ -229,14 +229,14 @@ fn perform<R: Source, W: Sink>(
 ) -> Progress
     requires known { Knows input.old (R.remaining reader.old) }
     ensures known { Knows input.new (R.remaining reader.new) }
-    ensures goes { (ask : Option Demand) (old : BenchState) → Tasks task ask old bench.old → GoesFrom (request_by ask) result
-        (served old meter.old) (unused input.old (R.remaining reader.old)) (W.contents writer.old)
-        (served bench.new meter.new) (unused input.new (R.remaining reader.new)) (R.remaining reader.new) (W.contents writer.new) }
-    ensures moves { Moved (served bench.old meter.old) (served bench.new meter.new) }
+    ensures goes { (ask : Option spec.Demand) (old : BenchState) → Tasks task ask old bench.old → progress.GoesFrom (spec.request_by ask) result
+        (spec.served old meter.old) (unused input.old (R.remaining reader.old)) (W.contents writer.old)
+        (spec.served bench.new meter.new) (unused input.new (R.remaining reader.new)) (R.remaining reader.new) (W.contents writer.new) }
+    ensures moves { spec.Moved (spec.served bench.old meter.old) (spec.served bench.new meter.new) }
     ensures fuel { fuel input.new ≤ fuel input.old }
     ensures reads { Reads R.remaining R.fault_count R.call_count input.old input.new reader.old reader.new }
-    ensures faults { TellsFaults result input.new (R.fault_count reader.old) (R.fault_count reader.new) (W.fault_count writer.old) (W.fault_count writer.new) }
-    ensures end { AtLast result (IsAtEnd (R.remaining reader.new)) }
+    ensures faults { progress.TellsFaults result input.new (R.fault_count reader.old) (R.fault_count reader.new) (W.fault_count writer.old) (W.fault_count writer.new) }
+    ensures end { progress.AtLast result (IsAtEnd (R.remaining reader.new)) }
 {
     match task {
         Task::Idle => Progress::Continues,
@@ -262,14 +262,14 @@ fn serve<R: Source, W: Sink>(
 ) -> Progress
     requires known { Knows input.old (R.remaining reader.old) }
     ensures known { Knows input.new (R.remaining reader.new) }
-    ensures goes { Serves input.new.ended result
-        (served bench.old meter.old) (unused input.old (R.remaining reader.old)) (W.contents writer.old)
-        (served bench.new meter.new) (unused input.new (R.remaining reader.new)) (R.remaining reader.new) (W.contents writer.new) }
-    ensures moves { Moved (served bench.old meter.old) (served bench.new meter.new) }
-    ensures fuel { OnContinues result (fuel input.new < fuel input.old) }
+    ensures goes { progress.Serves input.new.ended result
+        (spec.served bench.old meter.old) (unused input.old (R.remaining reader.old)) (W.contents writer.old)
+        (spec.served bench.new meter.new) (unused input.new (R.remaining reader.new)) (R.remaining reader.new) (W.contents writer.new) }
+    ensures moves { spec.Moved (spec.served bench.old meter.old) (spec.served bench.new meter.new) }
+    ensures fuel { progress.OnContinues result (fuel input.new < fuel input.old) }
     ensures reads { Reads R.remaining R.fault_count R.call_count input.old input.new reader.old reader.new }
-    ensures faults { TellsFaults result input.new (R.fault_count reader.old) (R.fault_count reader.new) (W.fault_count writer.old) (W.fault_count writer.new) }
-    ensures end { AtLast result (IsAtEnd (R.remaining reader.new)) }
+    ensures faults { progress.TellsFaults result input.new (R.fault_count reader.old) (R.fault_count reader.new) (W.fault_count writer.old) (W.fault_count writer.new) }
+    ensures end { progress.AtLast result (IsAtEnd (R.remaining reader.new)) }
 {
     match Line::next(input, reader) {
         Line::Over => Progress::Ends(SessionEnd::Done),
@@ -300,21 +300,21 @@ pub fn session<R: Source, W: Sink>(
     // whole in what was read, and at `Write` a front of the text, up to a reply that was cut; the bench holds what these
     // commands leave. At each end the meter has counted the runs of these commands' reports. Where memory is refused at the start,
     // nothing has changed.
-    ensures session { MatchSessionEnd result
-        (SessionFrom result (served bench.old meter.old) (R.remaining reader.old) (W.contents writer.old) (served bench.new meter.new) (W.contents writer.new))
-        (BrokenSessionFrom (served bench.old meter.old) (R.remaining reader.old) (W.contents writer.old) (served bench.new meter.new) (R.remaining reader.new) (W.contents writer.new))
-        (CutSessionFrom (served bench.old meter.old) (R.remaining reader.old) (W.contents writer.old) (served bench.new meter.new) (W.contents writer.new))
+    ensures session { spec.MatchSessionEnd result
+        (spec.SessionFrom result (spec.served bench.old meter.old) (R.remaining reader.old) (W.contents writer.old) (spec.served bench.new meter.new) (W.contents writer.new))
+        (spec.BrokenSessionFrom (spec.served bench.old meter.old) (R.remaining reader.old) (W.contents writer.old) (spec.served bench.new meter.new) (R.remaining reader.new) (W.contents writer.new))
+        (spec.CutSessionFrom (spec.served bench.old meter.old) (R.remaining reader.old) (W.contents writer.old) (spec.served bench.new meter.new) (W.contents writer.new))
         ((bench.new ≡ bench.old) × (meter.new ≡ meter.old) × (reader.new ≡ reader.old) × (writer.new ≡ writer.old)) }
     // Whatever the devices tell, what became of bench and meter are edits and reports in turn, and nothing else.
-    ensures moves { Moved (served bench.old meter.old) (served bench.new meter.new) }
+    ensures moves { spec.Moved (spec.served bench.old meter.old) (spec.served bench.new meter.new) }
     // At the end of the input none of the octets is unread.
-    ensures end { AtLastEnd result (IsAtEnd (R.remaining reader.new)) }
+    ensures end { spec.AtLastEnd result (IsAtEnd (R.remaining reader.new)) }
     // A fault is told only where the device counted one, and the end of the turns only where all were taken, no more than octets were given and faults counted.
-    ensures faults { MatchFault result
+    ensures faults { spec.MatchFault result
         (HasRisen (R.fault_count reader.old) (R.fault_count reader.new))
         (HasRisen (W.fault_count writer.old) (W.fault_count writer.new))
-        (ReadsAreMade turns (R.call_count reader.old) (R.call_count reader.new)
-        × TurnsAreSpent turns (R.remaining reader.old) (R.remaining reader.new) (R.fault_count reader.old) (R.fault_count reader.new)) }
+        (spec.ReadsAreMade turns (R.call_count reader.old) (R.call_count reader.new)
+        × spec.TurnsAreSpent turns (R.remaining reader.old) (R.remaining reader.new) (R.fault_count reader.old) (R.fault_count reader.new)) }
     ensures calls { R.call_count reader.new ≤ R.call_count reader.old + turns }
 {
     let Ok(mut input) = Input::new(bench.allocator(), turns) else {
