@@ -1,4 +1,4 @@
-"""Whether `docs/PROVED.md`, `docs/RULES.md` and `docs/ADDING.md` name what there is, and the first each law.
+"""Whether `docs/PROVED.md`, `docs/RULES.md` and `docs/ADDING.md` name what there is, and the first each law and each clause with a name.
 
 In what is proved, names in parentheses are those of clauses, laws, definitions or ghost fields of the crate's sources; other names are
 words of its sources, or of another crate's. Of a rule, `Module.name` is a definition of that file, and the other names stand somewhere. What
@@ -13,6 +13,10 @@ PROVED, RULES, ADDING = (TOP / "docs" / name for name in ("PROVED.md", "RULES.md
 NAME = r"[A-Za-z_][A-Za-z0-9_]*"
 # What declares a name that stands for something proved: in code a clause, a function or what is ghost, and a definition.
 DECLARED = rf"\b(?:ensures|fn|ghost(?: fn)?) ({NAME})|^(?:unfoldable |abbrev |pub |record )+(?!fn )({NAME})"
+# What defines a name: the first of a line of definitions.
+DEFINED = rf"^ *(?:pub |data |record |abbrev |unfoldable )*({NAME})"
+# A public function with its contract; a law does nothing.
+PUBLIC = r"^( *)pub fn \w+.*?\n\1\{\}?"
 # How files end.
 FILES = "rt|antt|py|md|rows|faults|sessions"
 TESTS = ("text_tests", "library_tests", "bench_tests")
@@ -61,6 +65,9 @@ def of_claims():
         laws = TOP / "crates" / crate / "src/laws.rt"
         told = re.findall(rf"^pub fn ({NAME})", laws.read_text(encoding="utf-8"), re.M) if laws.is_file() else []
         yield Named(f"laws of {crate}", told, set(names_in(part)))
+        contracts = [it[0] for it in re.finditer(PUBLIC, texts.get(crate, ""), re.M | re.S) if not it[0].endswith("{}")]
+        named = [name for contract in contracts for name in re.findall(rf"^ *ensures ({NAME}) ", contract, re.M)]
+        yield Named(f"each named clause of {crate}", named, set(names_in(part)))
     yield Named("the headline", names_in(head), words)
     # The last cell of a row names tests and files of rows.
     rows = [line.strip("| ").split(" | ")[-1] for line in calls.splitlines() if line.startswith("| `")]
@@ -77,7 +84,7 @@ def of_rules():
     words = set(re.findall(NAME, text_of(files + list((TOP / "tools/checks").glob("*.py"))))) | {path.name for path in (TOP / "examples/rows").iterdir()}
     there = {}
     for path in (path for path in files if "specs" in path.parts):
-        there.setdefault(path.stem, set()).update(re.findall(NAME, path.read_text(encoding="utf-8")))
+        there.setdefault(path.stem, set()).update(re.findall(DEFINED, path.read_text(encoding="utf-8"), re.M))
     definitions = re.findall(rf"`({NAME})\.({NAME})`", text)
     yield Named("definitions", [f"{module}.{name}" for module, name in definitions if module[0].isupper()], {f"{module}.{name}" for module in there for name in there[module]}, RULES)
     files = re.findall(r"`([a-z_]+\.(?:rows|faults|sessions))`", text)
