@@ -24,6 +24,8 @@ def of_odd_names(room):
     (folder / "scripts/lost.sieve").symlink_to("nowhere")
     (folder / "scripts/through.sieve").symlink_to("x.sieve/nowhere")
     (folder / "scripts/ring.sieve").symlink_to("ring.sieve")
+    (folder / "far").mkdir()
+    (folder / "far/x.sieve").symlink_to("n" * 300)
     plain = 'personal "a script" ok'
     yield Run("spaces in names", folder, "sievebench test 'a script.sieve' 'a mail\\1'", report([plain], "a script", "a mail\\\\1", ["discard"]))
     yield Run(
@@ -40,6 +42,8 @@ def of_odd_names(room):
         "sievebench test --personal scripts 'a script.sieve' empty",
         report([plain, 'personal "link" ok', 'personal "x" ok'], "a script", "empty", ["discard"]),
     )
+    far = b'sievebench: cannot read "far/x.sieve"\n'
+    yield Run("a script of which nobody knows what it is", folder, "sievebench test --personal far 'a script.sieve' empty", b"", far, 3)
     yield Run("a word that begins with a dash", folder, "sievebench test -- -x.sieve empty", b"", b'sievebench: cannot read "-x.sieve"\n', 3)
     yield Run("a folder for a script", folder, "sievebench test scripts empty", b"", b'sievebench: cannot read "scripts"\n', 3)
     yield Run("a folder for a mail", folder, "sievebench test empty scripts", b"", b'sievebench: cannot read "scripts"\n', 3)
@@ -71,6 +75,8 @@ def of_limits(room):
     yield Run("a mail at its limit", folder, "sievebench test small.sieve at.eml", report([small], "small", "at.eml", kept))
     yield Run("a script past it", folder, "sievebench test past.sieve past.eml", b"", b'sievebench: too large "past.sieve"\n', 2)
     yield Run("a mail past it", folder, "sievebench test small.sieve past.eml", b"", b'sievebench: too large "past.eml"\n', 2)
+    for words in ["/dev/zero small.eml", "small.sieve /dev/zero"]:
+        yield Run(f"a file without an end: {words}", folder, f"ulimit -v 131072; sievebench test {words}", b"", b'sievebench: too large "/dev/zero"\n', 2)
     yield Run("a script of a folder past it", folder, "sievebench test --global large past.sieve small.eml", b"", b'sievebench: too large "large/past.sieve"\n', 2)
     yield Run("what can't be read is told before what is too large", folder, "sievebench test past.sieve absent", b"", b'sievebench: cannot read "absent"\n', 3)
     yield Run(
@@ -120,7 +126,7 @@ def of_words(room):
         "sievebench test -f a@b --to c@d -m Box --personal p --global g a.sieve m",
         report(['personal "a" ok', 'personal "x" ok', 'global "y" ok'], "a", "m", ['implicit "Box"'], settings='envelope "a@b" "c@d" mailbox "Box"'),
     )
-    for words in ["test -f '' '' ''", "test -f '' a ''", "dump ''"]:
+    for words in ["test -f '' '' ''", "test -f '' a ''", "test --personal '' a m", "test --global '' a m", "dump ''"]:
         yield Run(f"an empty path: {words}", folder, f"sievebench {words}", b"", b'sievebench: cannot read ""\n', 3)
 
 

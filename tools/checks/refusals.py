@@ -110,6 +110,35 @@ class Refusals:
         return wrong[:3]
 
 
+class Words:
+    """What words of the command line ask for, where one request is refused, or it and all behind it: the whole answer, or none and that
+    memory is out."""
+
+    OUT = b"", b"sievebench: out of memory\n", 4
+
+    def __init__(self, room, library, words):
+        self.room, self.library, self.words = room, library, words
+        self.title, self.command = f"each request refused in turn: {words[0]}", " ".join(["sievebench", *words])
+
+    def answer(self, path, **settings):
+        """What comes of them."""
+        env = {**os.environ, "PATH": path, **settings}
+        done = subprocess.run(["sievebench", *self.words], cwd=self.room, env=env, stdin=subprocess.DEVNULL, capture_output=True, timeout=SECONDS)
+        return done.stdout, done.stderr, done.returncode
+
+    def differences(self, path):
+        counted, whole = self.room / "requests", self.answer(path)
+        found = self.answer(path, LD_PRELOAD=str(self.library), REQUESTS=str(counted))
+        if found != whole or not whole[0] or whole[1]:
+            return [f"wanted {whole!r}, got {found!r}"]
+        wrong, most = [], int(counted.read_text())
+        for number, name in itertools.product(range(1, most + 1), ("REFUSE", "REFUSE_FROM")):
+            found = self.answer(path, LD_PRELOAD=str(self.library), **{name: str(number)})
+            if found not in (whole, self.OUT) or (found == whole and name == "REFUSE_FROM" and number == 1):
+                wrong.append(f"{name} {number} of {most}: got {found!r:.1000}")
+        return wrong[:3]
+
+
 class Pieces:
     """A session whose reads give an octet each."""
 
@@ -223,5 +252,12 @@ def of_sessions(room):
     # As many reads as this would end a session that lets a million be made.
     long = 1_100_000
     yield Pieces(library, "more than a million", put(b"message m", b"x" * long) + b"report\n", (lines("ok") + Narrow().report(["m".encode()]), 0))
+    script, mail = room / "main.sieve", room / "mail"
+    script.write_bytes(SHARES)
+    mail.write_bytes(b"Subject: one\n\n")
+    (room / "lib").mkdir()
+    (room / "lib/lib.sieve").write_bytes(b'require ["variables", "include"]; set "global.box" "Lists";')
+    yield Words(room, library, ["dump", script.name])
+    yield Words(room, library, ["test", "-f", "a@b.example", "--personal", "lib", script.name, mail.name])
     yield Narrow()
     yield from map(Bounded, BOUNDED)

@@ -42,4 +42,7 @@ def of_sessions():
     yield Waiting("a script with its octets", [script], lines("ok"))
     yield Waiting("a script whose octets come behind its line, in two parts", [script[:-9], script[-9:-4], script[-4:]], lines("ok"))
     yield Waiting("a command in two parts, and another", [b"no-", b"main\n", b"no-main\n"], lines("ok", "ok"))
+    large = b"expect m 65537\n" + b"x" * 65_537
+    yield Waiting("octets that are refused", [large], lines("no too-large"))
+    yield Waiting("octets that are refused, in two parts, and a command", [large[:-1], large[-1:], b"no-main\n"], lines("no too-large", "ok"))
     yield Waiting("a line that is too long already", [b"no-main\n" + b" " * 16_386], lines("ok", "no syntax"), 2)
