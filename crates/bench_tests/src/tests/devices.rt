@@ -120,6 +120,26 @@ fn the_end_of_the_input_is_read_once(rt: HostRuntime) -> Result<(), AllocError> 
     check_turns(&rt, 6, b"", SessionEnd::TurnLimit)
 }
 
+/// Serves a report in one piece with so many reads, and compares.
+fn check_piece(
+    rt: &(impl AllocGlobal + Abort),
+    turns: u64,
+    text: &[u8],
+    wanted: SessionEnd,
+) -> Result<(), AllocError> {
+    let octets: &[u8] = b"report";
+    let mut reader = Counted::new(octets);
+    check_ended(rt, &mut reader, turns, text, wanted)?;
+    check_calls(rt, &reader, turns);
+    Ok(())
+}
+
+#[test]
+fn octets_in_one_piece_take_two_reads(rt: HostRuntime) -> Result<(), AllocError> {
+    check_piece(&rt, 2, REPORT, SessionEnd::Done)?;
+    check_piece(&rt, 1, b"", SessionEnd::TurnLimit)
+}
+
 /// A reader of one line for ever.
 #[derive(Drop)]
 struct Endless<'a>(&'a [u8]);
