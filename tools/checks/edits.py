@@ -55,37 +55,10 @@ class Bench:
         place, name = dice.choice([b"personal", b"personal", b"global"]), dice.choice(NAMES)
         words = place + b" " + quoted(name)
         key, at = (place != b"personal", name), dice.choice(IDS)
-        if kind == "script":
-            text = self.scripts.get(key, b"") if dice.random() < 0.1 else text_of(dice)
-            self.scripts[key] = text
-            return put(b"script " + words, text), b"ok"
-        if kind == "message":
-            octets = b"Subject: " + dice.choice(SUBJECTS) + b"\n\n"
-            self.messages[at] = octets, self.messages.get(at, (b"", None))[1]
-            return put(b"message " + quoted(at), octets), b"ok"
-        if kind in ("expect", "no-expect"):
-            text = dice.choice(TEXTS) if kind == "expect" else None
-            line = b"no-expect " + quoted(at) + b"\n" if text is None else put(b"expect " + quoted(at), text)
-            if at not in self.messages:
-                return line, b"no no-such-message"
-            self.messages[at] = self.messages[at][0], text
-            return line, b"ok"
-        if kind == "rename":
-            other = dice.choice([b"personal", b"personal", b"global"]), dice.choice(NAMES)
-            new = (other[0] != b"personal", other[1])
-            line = b"rename %s %s %s\n" % (words, other[0], quoted(other[1]))
-            if key not in self.scripts:
-                return line, b"no no-such-script"
-            if new in self.scripts:
-                return line, b"no name-taken"
-            self.scripts[new] = self.scripts.pop(key)
-            return line, b"ok"
-        if kind == "drop-script":
-            there = self.scripts.pop(key, None) is not None
-            return b"drop-script " + words + b"\n", b"ok" if there else b"no no-such-script"
-        if kind == "drop-message":
-            there = self.messages.pop(at, None) is not None
-            return b"drop-message " + quoted(at) + b"\n", b"ok" if there else b"no no-such-message"
+        if kind in ("script", "rename", "drop-script"):
+            return self.edit_of_script(dice, kind, key, words)
+        if kind in ("message", "expect", "no-expect", "drop-message"):
+            return self.edit_of_message(dice, kind, at)
         if kind == "main":
             self.main = words
             return b"main " + words + b"\n", b"ok"
@@ -97,6 +70,41 @@ class Bench:
             return b"envelope %s %s\n" % tuple(quoted(it) for it in self.envelope), b"ok"
         self.mailbox = dice.choice([b"INBOX", b"Lists"])
         return b"mailbox " + self.mailbox + b"\n", b"ok"
+
+    def edit_of_message(self, dice, kind, at):
+        """Makes an edit of a message, by its id."""
+        if kind == "message":
+            octets = b"Subject: " + dice.choice(SUBJECTS) + b"\n\n"
+            self.messages[at] = octets, self.messages.get(at, (b"", None))[1]
+            return put(b"message " + quoted(at), octets), b"ok"
+        if kind == "drop-message":
+            there = self.messages.pop(at, None) is not None
+            return b"drop-message " + quoted(at) + b"\n", b"ok" if there else b"no no-such-message"
+        text = dice.choice(TEXTS) if kind == "expect" else None
+        line = b"no-expect " + quoted(at) + b"\n" if text is None else put(b"expect " + quoted(at), text)
+        if at not in self.messages:
+            return line, b"no no-such-message"
+        self.messages[at] = self.messages[at][0], text
+        return line, b"ok"
+
+    def edit_of_script(self, dice, kind, key, words):
+        """Makes an edit of a script, by its place and name, and by the words for these."""
+        if kind == "script":
+            text = self.scripts.get(key, b"") if dice.random() < 0.1 else text_of(dice)
+            self.scripts[key] = text
+            return put(b"script " + words, text), b"ok"
+        if kind == "drop-script":
+            there = self.scripts.pop(key, None) is not None
+            return b"drop-script " + words + b"\n", b"ok" if there else b"no no-such-script"
+        other = dice.choice([b"personal", b"personal", b"global"]), dice.choice(NAMES)
+        new = (other[0] != b"personal", other[1])
+        line = b"rename %s %s %s\n" % (words, other[0], quoted(other[1]))
+        if key not in self.scripts:
+            return line, b"no no-such-script"
+        if new in self.scripts:
+            return line, b"no name-taken"
+        self.scripts[new] = self.scripts.pop(key)
+        return line, b"ok"
 
     def anew(self):
         """A session that makes a new bench of this, and reports."""

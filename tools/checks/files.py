@@ -6,9 +6,8 @@ from .amounts import MAILBOX_LIMIT, MESSAGE_LIMIT, NAME_LIMIT, SCRIPT_LIMIT, TEX
 from .runs import Run, report
 
 
-def of_odd_names(room):
-    """Names with spaces, quotes and octets past 126, and what isn't a plain file."""
-    folder = room / "odd"
+def odd_files(folder):
+    """Files with odd names, and what isn't a plain file."""
     (folder / "scripts").mkdir(parents=True)
     (folder / "a script.sieve").write_bytes(b"discard;\n")
     (folder / "b\u00fccher \"q\".sieve").write_bytes(b"keep;\n")
@@ -26,6 +25,12 @@ def of_odd_names(room):
     (folder / "scripts/ring.sieve").symlink_to("ring.sieve")
     (folder / "far").mkdir()
     (folder / "far/x.sieve").symlink_to("n" * 300)
+
+
+def of_odd_names(room):
+    """Names with spaces, quotes and octets past 126, and what isn't a plain file."""
+    folder = room / "odd"
+    odd_files(folder)
     plain = 'personal "a script" ok'
     yield Run("spaces in names", folder, "sievebench test 'a script.sieve' 'a mail\\1'", report([plain], "a script", "a mail\\\\1", ["discard"]))
     yield Run(
@@ -51,9 +56,8 @@ def of_odd_names(room):
     yield Run("an output that is full", folder, "sievebench test empty empty > /dev/full", b"", b"sievebench: cannot write\n", 3)
 
 
-def of_limits(room):
-    """Files, words and numbers at their limits and past them."""
-    folder = room / "limits"
+def limit_files(folder):
+    """Files at their limits and past them."""
     (folder / "full").mkdir(parents=True)
     (folder / "over").mkdir()
     (folder / "large").mkdir()
@@ -68,6 +72,12 @@ def of_limits(room):
         (folder / f"full/{i:04}.sieve").write_bytes(b"")
     for i in range(SCRIPT_LIMIT):
         (folder / f"over/{i:04}.sieve").write_bytes(b"")
+
+
+def of_limits(room):
+    """Files, words and numbers at their limits and past them."""
+    folder = room / "limits"
+    limit_files(folder)
     address, mailbox = "a" * NAME_LIMIT, "b" * MAILBOX_LIMIT
     small = 'personal "small" ok'
     kept = ['implicit "INBOX"']
@@ -159,7 +169,7 @@ def of_dumps(room):
 
 
 def of_trials(room):
-    """Tests of a script and a mail in files: what is reported, in which order files are read, and which of them is named."""
+    """Tests of a script and a mail in files: what is reported."""
     folder = room / "trials"
     write(folder, {"main.sieve": b"discard;\n", "mail.txt": b"Subject: one\n\n", "home/ada/keep.sieve": b"", "mail/1": b"", "home/.sieve": b"kep;"})
     main = ['personal "main" ok']
@@ -185,6 +195,11 @@ def of_trials(room):
     (folder / "p/link.sieve").symlink_to("nowhere")
     scripts = ['personal "a" ok', 'personal "b" line 2 syntax', *main, 'global "main" ok', 'global "x.sieve" ok']
     yield Run("the scripts of two folders", folder, words, report(scripts, "main", "mail.txt", ["discard"]), status=1)
+
+
+def of_order(room):
+    """Which of several files is named that can't be read, or are too large."""
+    words = "sievebench test --personal p --global g/ main.sieve mail.txt"
     script = {"main.sieve": b"stop;"}
     personal = {"p/b.sieve": b"", "p/a.sieve": b"", "p/a-b.sieve": b""}
     for number, (given, broken, path) in enumerate(
@@ -258,6 +273,7 @@ def write(folder, files):
 def of_files(room):
     """All of them."""
     yield from of_trials(room)
+    yield from of_order(room)
     yield from of_dumps(room)
     yield from of_words(room)
     yield from of_odd_names(room)

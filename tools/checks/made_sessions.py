@@ -160,8 +160,8 @@ def of_amounts(room):
     yield Run("everything at its limit", room, f"{MAKE} {words} | sievebench session | {count}", wanted)
 
 
-def of_refusals(room):
-    """What ends without a session."""
+def refused_folders(room):
+    """Folders of which some give no session."""
     write(room / "s", {"main.sieve": b""})
     write(room / "two", {"a.sieve": b"", "b.sieve": b""})
     write(room / "m", {"1": b""})
@@ -177,6 +177,11 @@ def of_refusals(room):
         (room / folder / name).symlink_to("/proc/self/mem")
     write(room / "far", {"main.sieve": b""})
     (room / "far/x.sieve").symlink_to("n" * 300)
+
+
+def of_refusals(room):
+    """What ends without a session."""
+    refused_folders(room)
     address, mailbox = "a" * (NAME_LIMIT + 1), "b" * (MAILBOX_LIMIT + 1)
     for title, words, sentence in [
         ("a folder of scripts that isn't there", "'n\u00f3' m", 'cannot read "n\\xc3\\xb3": '),

@@ -63,6 +63,13 @@ def of_checks(room):
     write(room / "fault", site({"1.eml": b"", "1.eml.expect": b'[main]\nimplicit "INBOX"\nerror personal "main" line 0 invalid-script\n'}, main=b"kep;"))
     fault = "fault/personal/main.sieve:1: unknown-command: There is no such command or test."
     yield run("a script has a fault", room, "check fault", lines(fault, counted(1, 1, 1, 1, 0, 0, 0, 1)), status=1)
+    write(room / "stale", site({"1.eml": b"", "1.eml.expect": b"[main]\ndiscard\n", "2.eml.expect": b""}, main=b"discard;"))
+    yield run("all agree, but a file is stale", room, "check --strict stale", lines("stale/mails/2.eml.expect: its mail isn't there", counted(1, 1, 1, 1, 0, 0, 1, 0)), status=1)
+    yield run("an output that is closed early", room, "check --strict none | head -c 4", b"none")
+
+
+def of_spellings(room):
+    """Names of files that are taken or passed over, and how names and octets are shown."""
     odd = '-\u00fc "x" \\ y'
     write(room / "-odd", {f"mails/{odd}.eml": b"", f"mails/{odd}.eml.expect": f'["{odd}"]\n'.replace("\u00fc", "\\xc3\\xbc").replace(' "x" \\', ' \\"x\\" \\\\').encode() + b"discard\n", f"personal/{odd}.sieve": b"discard;", "mains": f"{odd}\n".encode()})
     yield run("odd names", room, "check -- -odd", lines(counted(1, 1, 1, 1, 0, 0, 0, 0)))
@@ -82,13 +89,10 @@ def of_checks(room):
     yield run("files that are passed over, and a link that isn't", room, "check --main main --main .x over", lines(counted(2, 2, 4, 1, 0, 3, 0, 0)))
     write(room / "names", {**site({"\n\x1f\x7f\x80\udcff.eml": b""}, main=b"discard;", other=b""), "mains": b"main\r\n\nother\r\nmain"})
     yield run("CR LF, an empty line and a name again among those of main scripts, and a mail of an odd name", room, "check names", lines(counted(1, 2, 2, 0, 0, 2, 0, 0)))
-    write(room / "stale", site({"1.eml": b"", "1.eml.expect": b"[main]\ndiscard\n", "2.eml.expect": b""}, main=b"discard;"))
-    yield run("all agree, but a file is stale", room, "check --strict stale", lines("stale/mails/2.eml.expect: its mail isn't there", counted(1, 1, 1, 1, 0, 0, 1, 0)), status=1)
-    yield run("an output that is closed early", room, "check --strict none | head -c 4", b"none")
 
 
 def of_refusals(room):
-    """Misuse, and a program that can't be run."""
+    """Misuse."""
     write(room / "broken", site({"1.eml": b"", "1.eml.expect": b"discard\n"}, main=b""))
     yield run("no name in front", room, "check broken", b"", told('"broken/mails/1.eml.expect", line 1: in front of it stands no name of a main script in brackets'), 2)
     write(room / "twice", site({"1.eml": b"", "1.eml.expect": b"[main]\ndiscard\n[main]\n"}, main=b""))
@@ -103,7 +107,6 @@ def of_refusals(room):
     yield run("an unknown mail", room, "check --main main --only 2.eml unnamed", b"", told('no mail "unnamed/mails/2.eml"'), 2)
     write(room / "large", site({"1.eml": b""}, main=b"#" * 1_048_577))
     yield run("a script that is refused", room, "check large", b"", told('the script "large/personal/main.sieve" is refused: no too-large'), 2)
-    yield run("a program that isn't there", room, "check --program ./absent --main main unnamed", b"", told('cannot run "./absent": No such file or directory'), 3)
     yield run("a site that isn't there", room, "check nowhere", b"", told('cannot read "nowhere/personal": No such file or directory'), 2)
     for end in ("envelope", "expect"):
         write(room / end, site({"1.eml": b""}, main=b""))
@@ -111,6 +114,19 @@ def of_refusals(room):
         yield run(f"a link to nothing, {end}", room, f"check {end}", b"", told(f'cannot read "{end}/mails/1.eml.{end}": No such file or directory'), 2)
     yield run("an unknown option", room, "check --no unnamed", b"", told('"--no" is no option here, or wants a value: --help tells the options'), 2)
     yield run("a value of an option that takes none", room, "check --strict=no good", b"", told('"--strict" takes no value: --help tells the options'), 2)
+    yield run("the help of a command", room, "lint --help", [b"sievebench-site lint [--main NAME].. [--sievec] SITE\n", b"--program P "])
+    yield run("an option without its value", room, "check good --main", b"", told('"--main" is no option here, or wants a value: --help tells the options'), 2)
+    yield run("no command", room, "", b"", told("one of check, record and lint is wanted: --help tells more"), 2)
+    yield run("an unknown command", room, "chek good", b"", told('"chek" is none of check, record and lint: --help tells more'), 2)
+    for words in ("", "good none", "''"):
+        yield run(f"one folder is wanted: {words}", room, f"check {words}", b"", told("one folder is wanted, the site: --help tells more"), 2)
+    yield run("an option of another command", room, "lint --strict unnamed", b"", told('"--strict" is no option here, or wants a value: --help tells the options'), 2)
+    yield run("an output that is full", room, "check good > /dev/full", b"", told("cannot write: No space left on device"), 2)
+
+
+def of_programs(room):
+    """Programs that are beside the tool, or can't be run, or answer too little."""
+    yield run("a program that isn't there", room, "check --program ./absent --main main unnamed", b"", told('cannot run "./absent": No such file or directory'), 3)
     # The program beside the tool comes before that of the path, also where a link leads to the tool; a folder is none.
     for name in ("beside", "folder"):
         write(room / name, {"sievebench-site": TOOL.read_bytes(), "sievebench" if name == "beside" else "sievebench/x": b"#!/bin/sh\necho beside >&2\nexit 4\n"})
@@ -118,26 +134,6 @@ def of_refusals(room):
     (room / "linked").symlink_to("beside/sievebench-site")
     yield Run("sievebench-site: the program beside the tool", room, "python3 linked check good", b"", [b'/beside/sievebench" ended with status 4: "beside"\n'], 3)
     yield Run("sievebench-site: a folder beside the tool", room, "python3 folder/sievebench-site lint good")
-    write(room / "touch", site({"1.eml": b"", "1.eml.envelope": b'""ada@home.example\n'}, main=b""))
-    yield run("an envelope of words that touch", room, "check touch", b"", told('"touch/mails/1.eml.envelope" isn\'t two words, as in a session'), 2)
-    write(room / "sender", site({"1.eml": b"", "1.eml.envelope": b'"" ' + b"a" * 1_025}, main=b""))
-    yield run("an envelope that is refused", room, "check sender", b"", told('the envelope of "sender/mails/1.eml" is refused: no too-large'), 2)
-    yield run("the help of a command", room, "lint --help", [b"sievebench-site lint [--main NAME].. [--sievec] SITE\n", b"--program P "])
-    write(room / "bare", {**site({"1.eml": b""}, main=b""), "mains": b"\n"})
-    yield run("no name of a main script", room, "check bare", b"", told('no main script in "bare/mains"'), 2)
-    write(room / "escape", site({"1.eml": b"", "1.eml.expect": b'["m\\ain"]\n'}, main=b""))
-    yield run("a name that is no word", room, "check escape", b"", told('"escape/mails/1.eml.expect", line 1: between the brackets stands no name of a main script, or one that stood there before'), 2)
-    write(room / "pipe", site({"1.eml": b""}, main=b""))
-    os.mkfifo(room / "pipe/mails/1.eml.expect")
-    yield run("an expectation that is a pipe", room, "check pipe", b"", told('cannot read "pipe/mails/1.eml.expect": it is no plain file'), 2)
-    yield run("an option without its value", room, "check good --main", b"", told('"--main" is no option here, or wants a value: --help tells the options'), 2)
-    yield run("no command", room, "", b"", told("one of check, record and lint is wanted: --help tells more"), 2)
-    yield run("an unknown command", room, "chek good", b"", told('"chek" is none of check, record and lint: --help tells more'), 2)
-    for words in ("", "good none", "''"):
-        yield run(f"one folder is wanted: {words}", room, f"check {words}", b"", told("one folder is wanted, the site: --help tells more"), 2)
-    write(room / "far", site({"1.eml": b""}, main=b""))
-    (room / "far/mails/2.eml").symlink_to("n" * 300)
-    yield run("a mail of which nobody knows what it is", room, "check far", b"", told('cannot read "far/mails/2.eml": File name too long'), 2)
     write(room / "mute", {"program": b"#!/bin/sh\ncat > /dev/null\n", "failing": b"#!/bin/sh\ncat > /dev/null\necho 'out of memory' >&2\nexit 4\n"})
     for name, sentence in (("program", "the program answered too little"), ("failing", '"mute/failing" ended with status 4: "out of memory"')):
         (room / "mute" / name).chmod(0o755)
@@ -145,8 +141,24 @@ def of_refusals(room):
     # Nothing but the tool itself is in this path.
     alone = f'PATH=/nowhere "$(python3 -c "import sys; print(sys.executable)")" {shlex.quote(str(TOOL))} lint --sievec --program "$(command -v sievebench)" good'
     yield Run("sievebench-site: sievec isn't there", room, alone, b"", told('cannot run "sievec": No such file or directory'), 3)
-    yield run("an option of another command", room, "lint --strict unnamed", b"", told('"--strict" is no option here, or wants a value: --help tells the options'), 2)
-    yield run("an output that is full", room, "check good > /dev/full", b"", told("cannot write: No space left on device"), 2)
+
+
+def of_broken_files(room):
+    """Files that can't be read as what they are."""
+    write(room / "touch", site({"1.eml": b"", "1.eml.envelope": b'""ada@home.example\n'}, main=b""))
+    yield run("an envelope of words that touch", room, "check touch", b"", told('"touch/mails/1.eml.envelope" isn\'t two words, as in a session'), 2)
+    write(room / "sender", site({"1.eml": b"", "1.eml.envelope": b'"" ' + b"a" * 1_025}, main=b""))
+    yield run("an envelope that is refused", room, "check sender", b"", told('the envelope of "sender/mails/1.eml" is refused: no too-large'), 2)
+    write(room / "bare", {**site({"1.eml": b""}, main=b""), "mains": b"\n"})
+    yield run("no name of a main script", room, "check bare", b"", told('no main script in "bare/mains"'), 2)
+    write(room / "escape", site({"1.eml": b"", "1.eml.expect": b'["m\\ain"]\n'}, main=b""))
+    yield run("a name that is no word", room, "check escape", b"", told('"escape/mails/1.eml.expect", line 1: between the brackets stands no name of a main script, or one that stood there before'), 2)
+    write(room / "pipe", site({"1.eml": b""}, main=b""))
+    os.mkfifo(room / "pipe/mails/1.eml.expect")
+    yield run("an expectation that is a pipe", room, "check pipe", b"", told('cannot read "pipe/mails/1.eml.expect": it is no plain file'), 2)
+    write(room / "far", site({"1.eml": b""}, main=b""))
+    (room / "far/mails/2.eml").symlink_to("n" * 300)
+    yield run("a mail of which nobody knows what it is", room, "check far", b"", told('cannot read "far/mails/2.eml": File name too long'), 2)
 
 
 def of_results(room):
@@ -241,6 +253,17 @@ def of_lints(room):
     write(room / "behind", {f"personal/{name}.sieve": text for name, text in ring.items()})
     told_of = [f"behind/personal/{name}.sieve:1: recursive-include: The script of this name runs already." for name in "ab"]
     yield run("a script that a ring is behind isn't in it", room, "lint behind", lines(*told_of), status=1)
+    write(room / "clean", {"personal/main.sieve": b"keep;", "personal/.x.sieve": b"keep;"})
+    yield run("no faults", room, "lint clean")
+    write(room / "marked", {"personal/main.sieve": codecs.BOM_UTF8 + b"keep;", "personal/other.sieve": b"keep;\n" + codecs.BOM_UTF8, "mains": b"main\nother\n"})
+    faults = ["main.sieve:1: syntax: The file begins with a byte order mark, the octets EF BB BF: save it without one.", "other.sieve:2: syntax: What stands here can't follow what stands before it, or the text ends too early."]
+    yield run("a byte order mark", room, "lint marked", lines(*(f"marked/personal/{fault}" for fault in faults)), status=1)
+    write(room / "twice", {"personal/main.sieve": b'redirect "x"; redirect "x";', "mains": b"main\n"})
+    yield run("a fault that stands twice on a line", room, "lint twice", lines("twice/personal/main.sieve:1: bad-address: This isn't one address."), status=1)
+
+
+def of_sievec(room):
+    """What sievec says otherwise."""
     # In place of sievec: it compiles what has no `reject`, and is told where the scripts are that those include.
     fake = '#!/bin/sh\n[ "$2 $4" = "plugin/sieve=file:$PWD/peer/personal plugin/sieve_global=file:$PWD/peer/global" ] || exit 9\n! grep -n reject "$5" > /dev/null || { echo "x: line 2: error: there is a reject" >&2; exit 89; }\n'
     write(room / "peer", {"bin/sievec": fake.encode(), "personal/main.sieve": b'require "include"; include "a";\ninclude "gone";', "personal/a.sieve": b"\nkep;", "personal/b.sieve": b"# reject", "personal/both.sieve": b"keep;", "personal/c.sieve": b"reject;", "mains": b"main\n"})
@@ -250,13 +273,6 @@ def of_lints(room):
     write(room / "alien", {"bin/sievec": b"#!/bin/sh\nexit 1\n", "personal/a.sieve": b"keep;"})
     (room / "alien/bin/sievec").chmod(0o755)
     yield Run("sievebench-site: where sievec alone says something", room, f'PATH="$PWD/alien/bin:$PATH" python3 {shlex.quote(str(TOOL))} lint --sievec alien', lines("alien/personal/a.sieve:0: sievec: It can't compile this."), status=1)
-    write(room / "clean", {"personal/main.sieve": b"keep;", "personal/.x.sieve": b"keep;"})
-    yield run("no faults", room, "lint clean")
-    write(room / "marked", {"personal/main.sieve": codecs.BOM_UTF8 + b"keep;", "personal/other.sieve": b"keep;\n" + codecs.BOM_UTF8, "mains": b"main\nother\n"})
-    faults = ["main.sieve:1: syntax: The file begins with a byte order mark, the octets EF BB BF: save it without one.", "other.sieve:2: syntax: What stands here can't follow what stands before it, or the text ends too early."]
-    yield run("a byte order mark", room, "lint marked", lines(*(f"marked/personal/{fault}" for fault in faults)), status=1)
-    write(room / "twice", {"personal/main.sieve": b'redirect "x"; redirect "x";', "mains": b"main\n"})
-    yield run("a fault that stands twice on a line", room, "lint twice", lines("twice/personal/main.sieve:1: bad-address: This isn't one address."), status=1)
 
 
 def of_many(room):
@@ -275,5 +291,5 @@ def of_sites(room):
     room = room / "sites"
     room.mkdir()
     yield Run("sievebench-site: it compiles", room, f"python3 -c 'import ast, sys; ast.parse(open(sys.argv[1]).read())' {shlex.quote(str(TOOL))}")
-    for part in (of_checks, of_refusals, of_results, of_records, of_lints, of_many):
+    for part in (of_checks, of_spellings, of_refusals, of_programs, of_broken_files, of_results, of_records, of_lints, of_sievec, of_many):
         yield from part(room)
