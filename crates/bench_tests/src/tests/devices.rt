@@ -101,26 +101,31 @@ fn the_pieces_of_the_input_do_not_matter(rt: HostRuntime) -> Result<(), AllocErr
     check_dripping(&rt, 1_001, b"", SessionEnd::Read)
 }
 
-/// Serves a report in single octets with so many reads, and compares.
-fn check_turns(
+/// Serves a session with exactly so many reads, and compares.
+fn check_turns<R: Source>(
+    rt: &(impl AllocGlobal + Abort),
+    reader: &mut R,
+    turns: u64,
+    text: &[u8],
+    wanted: SessionEnd,
+) -> Result<(), AllocError> {
+    check_ended(rt, reader, turns, text, wanted)?;
+    check_calls(rt, reader, turns);
+    Ok(())
+}
+
+/// Serves a report in single octets with exactly so many reads, and compares.
+fn check_single(
     rt: &(impl AllocGlobal + Abort),
     turns: u64,
     text: &[u8],
     wanted: SessionEnd,
 ) -> Result<(), AllocError> {
     let mut reader = Counted::new(Dripping::new(b"report", 0));
-    check_ended(rt, &mut reader, turns, text, wanted)?;
-    check_calls(rt, &reader, turns);
-    Ok(())
+    check_turns(rt, &mut reader, turns, text, wanted)
 }
 
-#[test]
-fn the_end_of_the_input_is_read_once(rt: HostRuntime) -> Result<(), AllocError> {
-    check_turns(&rt, 7, REPORT, SessionEnd::Done)?;
-    check_turns(&rt, 6, b"", SessionEnd::TurnLimit)
-}
-
-/// Serves a report in one piece with so many reads, and compares.
+/// Serves a report in one piece with exactly so many reads, and compares.
 fn check_piece(
     rt: &(impl AllocGlobal + Abort),
     turns: u64,
@@ -129,9 +134,13 @@ fn check_piece(
 ) -> Result<(), AllocError> {
     let octets: &[u8] = b"report";
     let mut reader = Counted::new(octets);
-    check_ended(rt, &mut reader, turns, text, wanted)?;
-    check_calls(rt, &reader, turns);
-    Ok(())
+    check_turns(rt, &mut reader, turns, text, wanted)
+}
+
+#[test]
+fn the_end_of_the_input_is_read_once(rt: HostRuntime) -> Result<(), AllocError> {
+    check_single(&rt, 7, REPORT, SessionEnd::Done)?;
+    check_single(&rt, 6, b"", SessionEnd::TurnLimit)
 }
 
 #[test]
@@ -160,9 +169,7 @@ fn check_endless(
     text: &[u8],
 ) -> Result<(), AllocError> {
     let mut reader = Counted::new(Endless(line));
-    check_ended(rt, &mut reader, turns, text, SessionEnd::TurnLimit)?;
-    check_calls(rt, &reader, turns);
-    Ok(())
+    check_turns(rt, &mut reader, turns, text, SessionEnd::TurnLimit)
 }
 
 #[test]
