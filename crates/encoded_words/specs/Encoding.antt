@@ -1,19 +1,15 @@
 -- The octets that a text in B or in Q stands for (RFC 2047, section 4).
-use Rattle.std.specs.Prelude.{ℕ, ◌+◌, ◌*◌, Bool, ◌&&◌, ◌==◌, nat_lt, List, [], ◌∷◌, Option, None, Some, if◌then◌else◌}
-use Rattle.std.specs.Char.{digit_value}
+use Rattle.std.specs.Prelude.{ℕ, ◌==◌, List, [], ◌∷◌, Option, None, Some, if◌then◌else◌}
 use Rattle.std.specs.Option.{option_and_then, option_map}
 use Rattle.std.specs.Result.{result_ok}
 use Rattle.base64.specs.Engines.{standard}
 use Rattle.base64.specs.GeneralPurpose.{decode_of}
+use Rattle.sieve_base.specs.Hex.{hex_octet}
 use Rattle.sieve_base.specs.Octet.{octet_of}
 
 -- B is base64 (RFC 4648, section 4), with its padding and with zeros in the bits that are left over
 unfoldable pub b_octets : List ℕ → Option (List ℕ)
 b_octets text = result_ok (decode_of standard text)
-
--- a hexadecimal digit, in either case
-abbrev pub is_hex : ℕ → Bool
-is_hex digit = nat_lt (digit_value digit) 16
 
 -- what a letter of Q stands for that isn't `=`
 abbrev pub plain_octet : ℕ → ℕ
@@ -22,10 +18,6 @@ plain_octet c = if c == octet_of "_" then octet_of " " else c
 -- an octet in front of others, if there are any
 abbrev pub octet_before : ℕ → Option (List ℕ) → Option (List ℕ)
 octet_before c octets = option_map (λ behind. c ∷ behind) octets
-
--- the octet of two hexadecimal digits
-abbrev pub hex_octet : (high low : ℕ) → Option ℕ
-hex_octet high low = if is_hex high && is_hex low then Some (digit_value high * 16 + digit_value low) else None
 
 -- In Q `_` is a space, and `=` with two hexadecimal digits is the octet of that number.
 unfoldable pub q_octets : List ℕ → Option (List ℕ)

@@ -1,6 +1,6 @@
 -- Encoded words (RFC 2047, section 2): `=?`, a charset, `?`, the letter of an encoding, `?`, a text, and `?=`. Charset and text
 -- have no limit of length, and may have each visible octet but `?`.
-use Rattle.std.specs.Prelude.{ℕ, Bool, not, ◌&&◌, ◌||◌, ◌==◌, List, ◌∷◌, ◌++◌, codes, length}
+use Rattle.std.specs.Prelude.{ℕ, Bool, not, ◌&&◌, ◌||◌, ◌==◌, List, ◌∷◌, ◌++◌, codes}
 use Rattle.std.specs.List.{list_all}
 use Rattle.sieve_base.specs.Octet.{is_filled, is_visible, octet_of}
 

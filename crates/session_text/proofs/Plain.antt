@@ -4,7 +4,8 @@ use Rattle.std.specs.List.{All, AllByRecursion, flat_map, list_all}
 use Rattle.std.proofs.lemmas.Bool.Decides.{nat_tests}
 use Rattle.std.proofs.lemmas.List.Elements.{recursion_from_All}
 use Rattle.std.proofs.lemmas.List.Folds.{list_all-append}
-use Rattle.sieve_base.specs.Writers.{hex_digit, octet_spelling, quoted}
+use Rattle.sieve_base.specs.Hex.{hex_digit}
+use Rattle.sieve_base.specs.Writers.{octet_spelling, quoted}
 use Rattle.session_text.specs.LineOf.{joined}
 use Rattle.sieve_base.specs.Octet.{is_printable, octet_of}
 

@@ -4,11 +4,12 @@ use Rattle.std.proofs.Common.{◌≡◌, ℕ, ◌/◌, ◌%◌, ◌<◌, ◌||�
 use Rattle.std.specs.List.{All, AllByRecursion, flat_map}
 use Rattle.std.proofs.lemmas.Bool.Decides.{nat_tests}
 use Rattle.std.proofs.lemmas.List.Elements.{recursion_from_All}
-use Rattle.sieve_base.specs.Writers.{hex_digit, octet_spelling, quoted}
-use Rattle.session_text.specs.SessionLine.{behind, escaped_value, hex_digit_value, hex_octet, hex_octets, quoted_value, word_value}
+use Rattle.sieve_base.specs.Hex.{hex_digit, hex_octet, hex_value}
+use Rattle.sieve_base.specs.Writers.{octet_spelling, quoted}
+use Rattle.session_text.specs.SessionLine.{behind, escaped_value, hex_octets, quoted_value, word_value}
 
 -- a digit of base 16 has its value
-digit_value : (n : ℕ) → n < 16 → hex_digit_value (hex_digit n) ≡ Some n
+digit_value : (n : ℕ) → n < 16 → hex_value (hex_digit n) ≡ Some n
 digit_value n small = grind (arith, nat_tests)
 
 -- and two have that of their octet

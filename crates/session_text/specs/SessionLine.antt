@@ -6,7 +6,8 @@ use lib.Pointwise.{pointwise}
 use Rattle.sieve_base.specs.declared.place.Place.{Place}
 use Rattle.sieve_base.specs.declared.place.Place.TheVariants.{Personal, Global}
 use Rattle.sieve_base.specs.Limits.{line_limit}
-use Rattle.sieve_base.specs.Octet.{octet_of, is_between, is_digit, is_printable, is_visible}
+use Rattle.sieve_base.specs.Hex.{hex_octet}
+use Rattle.sieve_base.specs.Octet.{octet_of, is_digit, is_printable, is_visible}
 
 -- a line with an octet in front of it, and what follows
 abbrev pub in_front : ℕ → List ℕ × List ℕ → List ℕ × List ℕ
@@ -86,18 +87,6 @@ line_words line = filter is_word (pieces_from outside line)
 -- an octet of a bare word: a visible one of ASCII, without the quote and the backslash
 abbrev pub is_bare : ℕ → Bool
 is_bare b = is_visible b && not (b == octet_of "\"") && not (b == octet_of "\\")
-
--- the value of a hexadecimal digit, in either case
-abbrev pub hex_digit_value : ℕ → Option ℕ
-hex_digit_value b =
-    if is_digit b then Some (b - octet_of "0")
-    else if is_between (octet_of "A") (octet_of "F") b then Some (b - octet_of "A" + 10)
-    else if is_between (octet_of "a") (octet_of "f") b then Some (b - octet_of "a" + 10)
-    else None
-
--- the octet of two hexadecimal digits
-abbrev pub hex_octet : ℕ → ℕ → Option ℕ
-hex_octet high low = option_and_then (λ h. option_map (λ l. 16 * h + l) (hex_digit_value low)) (hex_digit_value high)
 
 -- an octet in front of others
 abbrev pub behind : ℕ → Option (List ℕ) → Option (List ℕ)

@@ -9,7 +9,7 @@ ghost use Rattle.session_text.specs.view.Command.{command_as};
 use crate::cutting::next_word;
 use crate::word::Word;
 use sieve_base::Place;
-use sieve_base::octet::is_printable;
+use sieve_base::octet::{is_digit, is_printable};
 
 /// What a line asks for. The words are those of the line, and no copies.
 #[derive(Drop)]
@@ -107,7 +107,7 @@ fn count_of(word: &[u8]) -> Option<u64>
     }
     let mut value = 0u64;
     for octet in word {
-        if !octet.is_ascii_digit() {
+        if !is_digit(*octet) {
             return None;
         }
         value = value * 10 + u64::from(*octet - b'0');

@@ -1,11 +1,12 @@
 //! The words of a session's lines that may be quoted. Reading them takes no memory, and copying their octets does.
 ghost use Rattle.std.specs.Prelude.{◌≡◌, ◌<◌, ◌≤◌, ℕ, IfOk, Some, None, IfSome, IfNone, is_some, length, take, drop, [], false, true};
 ghost use Rattle.std.specs.List.{list_all};
-ghost use Rattle.session_text.specs.SessionLine.{is_bare, hex_digit_value, hex_octet, behind, quoted_value, escaped_value, hex_octets, word_value};
+ghost use Rattle.session_text.specs.SessionLine.{is_bare, behind, quoted_value, escaped_value, hex_octets, word_value};
 ghost use Rattle.session_text.specs.view.Word.{MatchNext};
 
 use arrayvec::ArrayVec;
 use sieve_base::Octets;
+use sieve_base::hex::hex_octet;
 use sieve_base::octet::is_visible;
 use std::alloc::{AllocError, Global};
 use std::marker::Model;
@@ -22,28 +23,6 @@ fn are_bare(octets: &[u8]) -> bool
     ensures { result ≡ list_all is_bare octets.now }
 {
     octets.iter().all(|octet| is_bare(*octet))
-}
-
-/// The value of a hexadecimal digit, in either case.
-fn hex_digit_value(octet: u8) -> Option<u8>
-    ensures value { result ≡ hex_digit_value octet }
-    ensures small { IfSome result (λ value. value < 16) }
-{
-    match octet {
-        b'0'..=b'9' => Some(octet - b'0'),
-        b'A'..=b'F' => Some(octet - b'A' + 10),
-        b'a'..=b'f' => Some(octet - b'a' + 10),
-        _ => None,
-    }
-}
-
-/// The octet of two hexadecimal digits.
-fn hex_octet(high: u8, low: u8) -> Option<u8>
-    ensures { result ≡ hex_octet high low }
-{
-    let high = hex_digit_value(high)?;
-    let low = hex_digit_value(low)?;
-    Some(16 * high + low)
 }
 
 /// What a quoted word has next, behind its first quote.

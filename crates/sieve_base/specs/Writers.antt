@@ -1,5 +1,5 @@
 -- What is written: octets, their quoted form, and pieces of text.
-use Rattle.std.specs.Prelude.{◌≡◌, ℕ, ◌+◌, ◌-◌, ◌/◌, ◌%◌, ◌≤◌, ◌==◌, ◌||◌, nat_lt, if◌then◌else◌, List, [], ◌∷◌, ◌++◌, Option, Result, MatchResult, codes, decimal}
+use Rattle.std.specs.Prelude.{◌≡◌, ℕ, ◌/◌, ◌%◌, ◌≤◌, ◌==◌, ◌||◌, nat_lt, if◌then◌else◌, List, [], ◌∷◌, ◌++◌, Option, Result, MatchResult, codes, decimal}
 use Rattle.std.specs.List.{flat_map}
 use Rattle.std.specs.Io.KnownBytes.{Appends}
 use Rattle.sieve_base.specs.Devices.{HasRisen}
@@ -7,11 +7,8 @@ use Rattle.sieve_base.specs.declared.writers.Piece.{Piece}
 use Rattle.sieve_base.specs.declared.writers.Piece.TheVariants.{Raw, Quoted, Name, Number}
 use Rattle.sieve_base.specs.declared.name.ScriptName.{ScriptName}
 use Rattle.sieve_base.specs.Name.{place_word}
+use Rattle.sieve_base.specs.Hex.{hex_digit}
 use Rattle.sieve_base.specs.Octet.{octet_of}
-
--- a digit of base 16, in lower case
-abbrev pub hex_digit : ℕ → ℕ
-hex_digit n = if nat_lt n 10 then octet_of "0" + n else octet_of "a" + (n - 10)
 
 -- how an octet stands between quotes: `"` and `\` behind a `\`, an octet that isn't a visible character of ASCII or a space as \x and two digits
 abbrev pub octet_spelling : ℕ → List ℕ

@@ -3,6 +3,7 @@
 #![tactic(auto)]
 
 mod devices;
+pub mod hex;
 pub mod laws;
 pub mod limits;
 mod name;

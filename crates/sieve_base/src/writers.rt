@@ -1,10 +1,12 @@
 //! Writing octets, their quoted form, and lines of several pieces. None of it takes memory.
 ghost use Rattle.std.specs.Prelude.{◌≡◌, ◌<◌, ◌≤◌, [], take, length, IfOk, OnErr, IsTrue, ◌↔◌, ◌∷◌};
 ghost use Rattle.std.specs.List.{flat_map};
-ghost use Rattle.sieve_base.specs.Writers.{Wrote, WroteFront, Writes, hex_digit, octet_spelling, quoted, name_text, piece_text, pieces_text};
+ghost use Rattle.sieve_base.specs.Writers.{Wrote, WroteFront, Writes, octet_spelling, quoted, name_text, piece_text, pieces_text};
 
 use crate::devices::Sink;
+use crate::hex::hex_digit;
 use crate::name::ScriptName;
+use crate::octet::is_printable;
 use itoa::Buffer;
 use std::io::ErrorKind;
 use thiserror::Error;
@@ -71,7 +73,7 @@ pub fn write_out<W: Sink>(bytes: &[u8], writer: &mut W) -> Result<(), WriteFault
 fn is_plain(octet: u8) -> bool
     ensures { IsTrue result ↔ (octet_spelling octet ≡ octet ∷ []) }
 {
-    (b' '..=b'~').contains(&octet) && octet != b'"' && octet != b'\\'
+    is_printable(octet) && octet != b'"' && octet != b'\\'
 }
 
 // How many octets at the front stand between quotes as they are.
@@ -87,14 +89,6 @@ fn plain_len(bytes: &[u8]) -> usize
     bytes.len()
 }
 
-// The digit of base 16, in lower case.
-fn hex_digit_of(n: u8) -> u8
-    requires { n < 16 }
-    ensures { result ≡ hex_digit n }
-{
-    if n < 10 { b'0' + n } else { b'a' + (n - 10) }
-}
-
 // Writes how an octet stands between quotes.
 #[tactic(auto, using(crate::proofs::Writing::writing))]
 fn write_spelling<W: Sink>(octet: u8, writer: &mut W) -> Result<(), WriteFault>
@@ -102,13 +96,13 @@ fn write_spelling<W: Sink>(octet: u8, writer: &mut W) -> Result<(), WriteFault>
 {
     match octet {
         b'"' | b'\\' => write_out(&[b'\\', octet], writer),
-        b' '..=b'~' => write_out(&[octet], writer),
+        _ if is_printable(octet) => write_out(&[octet], writer),
         _ => write_out(
             &[
                 b'\\',
                 b'x',
-                hex_digit_of(octet / 16),
-                hex_digit_of(octet % 16),
+                hex_digit(octet / 16),
+                hex_digit(octet % 16),
             ],
             writer,
         ),

@@ -3,13 +3,15 @@ ghost use Rattle.std.specs.Prelude.{◌≡◌, ◌<◌, ℕ, List, ◌∷◌, �
 ghost use Rattle.std.specs.List.{flat_map};
 ghost use Rattle.std.specs.Option.{option_copied};
 ghost use Rattle.std.specs.Str.Lines.{lines, strip_carriage_return};
-ghost use Rattle.sieve_base.specs.Writers.{hex_digit, octet_spelling, quoted, name_text, piece_text, pieces_text};
+ghost use Rattle.sieve_base.specs.Writers.{octet_spelling, quoted, name_text, piece_text, pieces_text};
 ghost use Rattle.sieve_run.specs.Lines as spec;
 ghost use Rattle.sieve_run.specs.view.Left.{behind_front, is_whole, left_says};
 
 use itoa::Buffer;
 use match_text::FlagList;
 use memchr::memchr;
+use sieve_base::hex::hex_digit;
+use sieve_base::octet::is_printable;
 use sieve_base::{Piece, ScriptName};
 use sieve_effects::{Action, RunError};
 
@@ -20,28 +22,20 @@ fn skip_octets<'a>(text: &'a [u8], octets: &[u8]) -> Option<&'a [u8]>
     text.strip_prefix(octets)
 }
 
-/// The digit of base 16, in lower case.
-fn hex_digit_of(n: u8) -> u8
-    requires { n < 16 }
-    ensures { result ≡ hex_digit n }
-{
-    if n < 10 { b'0' + n } else { b'a' + (n - 10) }
-}
-
 /// What follows an octet as it stands between quotes.
 fn skip_spelling(text: &[u8], octet: u8) -> Option<&[u8]>
     ensures { option_copied result ≡ behind_front (octet_spelling octet) text.now }
 {
     match octet {
         b'"' | b'\\' => skip_octets(text, &[b'\\', octet]),
-        b' '..=b'~' => skip_octets(text, &[octet]),
+        _ if is_printable(octet) => skip_octets(text, &[octet]),
         _ => skip_octets(
             text,
             &[
                 b'\\',
                 b'x',
-                hex_digit_of(octet / 16),
-                hex_digit_of(octet % 16),
+                hex_digit(octet / 16),
+                hex_digit(octet % 16),
             ],
         ),
     }

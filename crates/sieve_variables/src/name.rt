@@ -8,7 +8,7 @@ ghost use Rattle.sieve_variables.specs.Name.{folded_name, global_prefix, index_o
 
 use sieve_base::SmallOctets;
 use sieve_base::limits::MAX_MATCH;
-use sieve_base::octet::{begins_name, is_name_octet};
+use sieve_base::octet::{begins_name, is_digit, is_name_octet};
 use std::alloc::{AllocError, Global};
 
 /// The first number that no match variable has.
@@ -77,7 +77,7 @@ pub(crate) fn is_shared(namespace: &[u8], name: &[u8]) -> bool
 fn are_digits(octets: &[u8]) -> bool
     ensures { result ≡ list_all is_digit octets.now }
 {
-    octets.iter().all(|octet| octet.is_ascii_digit())
+    octets.iter().all(|octet| is_digit(*octet))
 }
 
 /// Whether it is the number of a match variable.
@@ -86,7 +86,7 @@ pub(crate) fn is_number(word: &[u8]) -> bool
 {
     match word {
         [] => false,
-        [first, rest @ ..] => first.is_ascii_digit() && are_digits(rest),
+        [first, rest @ ..] => is_digit(*first) && are_digits(rest),
     }
 }
 
