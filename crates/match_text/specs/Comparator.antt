@@ -1,10 +1,10 @@
 -- What it means that two octet strings are equal under a comparator, and that one contains the other (RFC 4790, RFC 5228
 -- section 2.7). A comparator is known by its fold: two octets are equal under it where their folds are equal.
-use Rattle.std.specs.Prelude.{◌≡◌, ℕ, Bool, ◌-◌, ◌<◌, ◌≤◌, ◌&&◌, ◌||◌, ◌==◌, nat_le, if◌then◌else◌, List, [], ◌∷◌, length, take, slice_index, slice_range, Option, Some, None, nat_eq, codes}
+use Rattle.std.specs.Prelude.{◌≡◌, ℕ, Bool, ◌-◌, ◌<◌, ◌≤◌, ◌||◌, ◌==◌, if◌then◌else◌, List, [], ◌∷◌, length, take, slice_index, slice_range, Option, Some, None, nat_eq, codes}
 use lib.Pointwise.{pointwise}
 use Rattle.match_text.specs.declared.comparators.Collation.{Collation}
 use Rattle.match_text.specs.declared.comparators.Collation.TheVariants.{Octet, Casemap}
-use Rattle.sieve_base.specs.Octet.{octet_of}
+use Rattle.sieve_base.specs.Octet.{is_between, octet_of}
 
 -- i;octet: each octet is equal to itself alone (RFC 4790, section 9.3.1)
 abbrev pub octet : ℕ → ℕ
@@ -12,7 +12,7 @@ octet b = b
 
 -- i;ascii-casemap: the lower-case letters are changed to upper case (RFC 4790, section 9.2.1)
 abbrev pub ascii_casemap : ℕ → ℕ
-ascii_casemap b = if nat_le (octet_of "a") b && nat_le b (octet_of "z") then b - (octet_of "a" - octet_of "A") else b
+ascii_casemap b = if is_between (octet_of "a") (octet_of "z") b then b - (octet_of "a" - octet_of "A") else b
 
 -- the fold by which a comparator takes octets as equal (RFC 5228, section 2.7.3)
 abbrev pub fold_of : Collation → ℕ → ℕ
