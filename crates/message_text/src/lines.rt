@@ -1,9 +1,9 @@
 //! Where the lines of a text end.
 ghost use Rattle.std.specs.Prelude.{◌≡◌, ◌<◌, length};
-ghost use Rattle.std.specs.Str.Lines.{strip_carriage_return};
 ghost use Rattle.message_text.specs.view.Positions.{IsLineAt};
 
 use memchr::memchr;
+use sieve_base::without_return;
 
 /// The places of a line in a text.
 #[derive(Clone, Copy)]
@@ -29,15 +29,5 @@ pub(crate) fn line_at(text: &[u8], start: usize) -> LineSpan
     LineSpan {
         end: start + without_return(&text[start..feed]).len(),
         next: feed + 1,
-    }
-}
-
-// The piece before a line feed, without the one carriage return directly before that.
-fn without_return(piece: &[u8]) -> &[u8]
-    ensures { result.now ≡ strip_carriage_return piece.now }
-{
-    match piece {
-        [line @ .., b'\r'] => line,
-        _ => piece,
     }
 }

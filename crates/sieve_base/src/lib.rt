@@ -6,6 +6,7 @@ mod devices;
 pub mod hex;
 pub mod laws;
 pub mod limits;
+mod line;
 mod name;
 pub mod octet;
 mod octets;
@@ -13,6 +14,7 @@ mod place;
 mod writers;
 
 pub use devices::{Counted, Faults, Sink, Source};
+pub use line::without_return;
 pub use name::ScriptName;
 pub use octets::{Octets, SmallOctets};
 pub use place::Place;

@@ -2,7 +2,7 @@
 ghost use Rattle.std.specs.Prelude.{◌≡◌, ◌<◌, ℕ, List, ◌∷◌, ◌++◌, MatchOption, [], map};
 ghost use Rattle.std.specs.List.{flat_map};
 ghost use Rattle.std.specs.Option.{option_copied};
-ghost use Rattle.std.specs.Str.Lines.{lines, strip_carriage_return};
+ghost use Rattle.std.specs.Str.Lines.{lines};
 ghost use Rattle.sieve_base.specs.Writers.{octet_spelling, quoted, name_text, piece_text, pieces_text};
 ghost use Rattle.sieve_run.specs.Lines as spec;
 ghost use Rattle.sieve_run.specs.view.Left.{behind_front, is_whole, left_says};
@@ -12,7 +12,7 @@ use match_text::FlagList;
 use memchr::memchr;
 use sieve_base::hex::hex_digit;
 use sieve_base::octet::is_printable;
-use sieve_base::{Piece, ScriptName};
+use sieve_base::{Piece, ScriptName, without_return};
 use sieve_effects::{Action, RunError};
 
 /// What follows these octets, where the text begins with them.
@@ -187,16 +187,6 @@ fn is_whole(left: Option<&[u8]>) -> bool
     match left {
         Some(octets) => octets.is_empty(),
         None => false,
-    }
-}
-
-/// A line without the CR at its end.
-fn without_return(line: &[u8]) -> &[u8]
-    ensures { result.now ≡ strip_carriage_return line.now }
-{
-    match line {
-        [front @ .., b'\r'] => front,
-        _ => line,
     }
 }
 
