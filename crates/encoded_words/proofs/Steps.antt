@@ -1,7 +1,7 @@
 -- Steps of decoding.
 use Rattle.std.proofs.Common.{◌≡◌, ℕ, suc, ◌+◌, ◌<◌, ◌≤◌, Bool, true, false, ◌&&◌, ◌||◌, ◌==◌, cond, List, [], ◌∷◌, ◌++◌, length, map, take, drop, Option, None, Some, is_some, unwrap_or, refl, sym, ◌∙◌, ap, append_assoc, append-nil, add-one, ◌-◌, get_or, zero, encode_utf8, encode_utf8_all, arith}
 use Rattle.std.specs.List.{list_all, list_any, prefix_len}
-use Rattle.std.specs.Option.{option_map}
+use Rattle.std.specs.Option.{option_and_then, option_map}
 use Rattle.std.specs.Str.{IsUtf8, is_utf8}
 use Rattle.std.proofs.lemmas.Bool.{false_from_ne_true}
 use Rattle.std.proofs.lemmas.List.Folds.{length-prefix_len}
@@ -12,8 +12,9 @@ use Rattle.std.proofs.lemmas.Str.{encodes-append, IsUtf8-from_is_utf8, is_utf8-f
 use Rattle.encoded_words.specs.Encoding.{octet_before}
 use Rattle.encoded_words.specs.Cut.{Cuts, ValuePiece, joined, kept, leads_to_word, octet, replaced}
 use Rattle.sieve_base.specs.Octet.{is_blank, octet_of}
-use Rattle.encoded_words.specs.Charset.{meaning}
-use Rattle.encoded_words.specs.Scan.{decoded_of, first_piece, has_word, replaced_of, has_written, further_octets, is_word, piece_by, pieces_from, pieces_of, run, word_at}
+use Rattle.encoded_words.specs.Charset.{charset_named, in_utf8, meaning, octets_in}
+use Rattle.encoded_words.specs.declared.charset.Charset.{Charset}
+use Rattle.encoded_words.specs.Scan.{decoded_of, first_piece, has_word, replaced_of, has_known, has_written, further_octets, is_known, is_word, piece_by, pieces_from, pieces_of, run, word_at}
 use Rattle.encoded_words.specs.Word.{EncodedWord, is_word_octet}
 use Rattle.encoded_words.proofs.Cut.{cuts_from, pieces_from-drop}
 
@@ -203,34 +204,66 @@ pub none_found : (octets : List ℕ) → list_any is_word (map octet octets) ≡
 none_found [] = refl
 none_found (c ∷ octets) = none_found octets
 
--- whether a word is written
+-- whether a word of a known charset is written
+
+or_first : (a b : Bool) → (a || b) ≡ false → a ≡ false
+or_first true b is = absurd cc
+or_first false b is = refl
 
 or_last : (a b : Bool) → (a || b) ≡ false → b ≡ false
 or_last true b is = absurd cc
 or_last false b is = is
 
-written_behind : (left : List ℕ) (plain : ℕ) → plain < length left → has_written (drop plain left) ≡ false → has_written (drop (suc plain) left) ≡ false
-unfolding has_written
-written_behind [] plain within none = absurd (omega arith)
-written_behind (c ∷ rest) zero within none = or_last (is_some (word_at (c ∷ rest))) (has_written rest) none
-written_behind (c ∷ rest) (suc plain) within none = written_behind rest plain (omega arith) none
+known_behind : (left : List ℕ) (plain : ℕ) → plain < length left → has_known (drop plain left) ≡ false → has_known (drop (suc plain) left) ≡ false
+unfolding has_known
+known_behind [] plain within none = absurd (omega arith)
+known_behind (c ∷ rest) zero within none = or_last (is_known (word_at (c ∷ rest))) (has_known rest) none
+known_behind (c ∷ rest) (suc plain) within none = known_behind rest plain (omega arith) none
 
-pub written_next : (left : List ℕ) (plain : ℕ) → plain < length left → has_written (drop plain left) ≡ false → has_written (drop (plain + 1) left) ≡ false
-written_next left plain within none = rw add-one (written_behind left plain within none)
+pub known_next : (left : List ℕ) (plain : ℕ) → plain < length left → has_known (drop plain left) ≡ false → has_known (drop (plain + 1) left) ≡ false
+known_next left plain within none = rw add-one (known_behind left plain within none)
 
-pub written_from : (left : List ℕ) (n : ℕ) → n ≤ length left → has_written left ≡ false → has_written (drop n left) ≡ false
-unfolding has_written
-written_from [] zero within none = none
-written_from [] (suc n) within none = absurd (omega arith)
-written_from (c ∷ rest) zero within none = none
-written_from (c ∷ rest) (suc n) within none = written_from rest n (omega arith) (or_last (is_some (word_at (c ∷ rest))) (has_written rest) none)
+pub known_from : (left : List ℕ) (n : ℕ) → n ≤ length left → has_known left ≡ false → has_known (drop n left) ≡ false
+unfolding has_known
+known_from [] zero within none = none
+known_from [] (suc n) within none = absurd (omega arith)
+known_from (c ∷ rest) zero within none = none
+known_from (c ∷ rest) (suc n) within none = known_from rest n (omega arith) (or_last (is_known (word_at (c ∷ rest))) (has_known rest) none)
 
-pub word_written : (rest : List ℕ) (word : EncodedWord) → Some word ≡ word_at rest → has_written rest ≡ false → ⊥
-unfolding has_written word_at
-word_written [] word is none = absurd cc
-word_written (c ∷ rest) word is none =
-    let found : true ≡ false = ap (λ one. is_some one || has_written rest) is ∙ none in
+not_there : (found : Option Charset) → is_some found ≡ false → found ≡ None
+not_there None none = refl
+not_there (Some charset) none = absurd cc
+
+-- a word there has a charset that isn't known
+pub unknown_here : (rest : List ℕ) (word : EncodedWord) → Some word ≡ word_at rest → has_known rest ≡ false → charset_named word.charset ≡ None
+unfolding has_known word_at
+unknown_here [] word is none = absurd cc
+unknown_here (c ∷ rest) word is none =
+    not_there (charset_named word.charset) (ap is_known is ∙ or_first (is_known (word_at (c ∷ rest))) (has_known rest) none)
+
+-- so it stands for nothing
+pub unknown_means : (rest meant : List ℕ) (word : EncodedWord) → Some word ≡ word_at rest → Some meant ≡ meaning word → has_known rest ≡ false → ⊥
+unfolding meaning
+unknown_means rest meant word is means none =
+    let nothing : Some meant ≡ None =
+    means ∙ ap (λ found. option_and_then (λ charset. option_and_then (in_utf8 charset) (octets_in word)) found) (unknown_here rest word is none) in
     cc
+
+none_written : (found : Option EncodedWord) → is_some found ≡ false → is_known found ≡ false
+none_written None none = refl
+none_written (Some word) none = absurd cc
+
+both_false : (a b : Bool) → a ≡ false → b ≡ false → (a || b) ≡ false
+both_false true b first last = absurd cc
+both_false false b first last = last
+
+-- where no word is written, none of a known charset is
+pub unwritten_unknown : (value : List ℕ) → has_written value ≡ false → has_known value ≡ false
+unfolding has_written has_known
+unwritten_unknown [] none = refl
+unwritten_unknown (c ∷ rest) none =
+    let found = word_at (c ∷ rest) in
+    both_false (is_known found) (has_known rest) (none_written found (or_first (is_some found) (has_written rest) none)) (unwritten_unknown rest (or_last (is_some found) (has_written rest) none))
 
 -- where no word is replaced
 

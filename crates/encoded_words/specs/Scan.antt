@@ -1,7 +1,7 @@
 -- The one cut of a value into words that can be decoded and octets, computed, and the value with its words replaced.
 use Rattle.std.specs.Prelude.{ℕ, zero, suc, ◌+◌, Bool, true, false, ◌==◌, ◌&&◌, List, [], ◌∷◌, length, drop, Option, None, Some, is_some, ◌||◌, if◌then◌else◌}
 use Rattle.std.specs.List.{list_any, prefix_len, take_while}
-use Rattle.encoded_words.specs.Charset.{meaning}
+use Rattle.encoded_words.specs.Charset.{charset_named, meaning}
 use Rattle.encoded_words.specs.Cut.{ValuePiece, joined, octet, replaced}
 use Rattle.sieve_base.specs.Octet.{is_filled, octet_of}
 use Rattle.encoded_words.specs.Word.{EncodedWord, is_letter, is_word_octet}
@@ -81,3 +81,13 @@ replaced_of value = if has_word value then Some (decoded_of value) else None
 unfoldable pub has_written : List ℕ → Bool
 has_written [] = false
 has_written (c ∷ rest) = is_some (word_at (c ∷ rest)) || has_written rest
+
+-- whether there is a word, of a charset that is known
+abbrev pub is_known : Option EncodedWord → Bool
+is_known None = false
+is_known (Some word) = is_some (charset_named word.charset)
+
+-- whether a word of a charset that is known is written in a value, whether or not it can be decoded
+unfoldable pub has_known : List ℕ → Bool
+has_known [] = false
+has_known (c ∷ rest) = is_known (word_at (c ∷ rest)) || has_known rest

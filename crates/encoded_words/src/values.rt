@@ -3,7 +3,7 @@ ghost use Rattle.std.specs.Prelude.{◌≡◌, ◌++◌, ◌≤◌, IfOk, IsOk, 
 ghost use Rattle.std.specs.Cow.{IsBorrowedSlice, IsOwnedSlice, cow_slice_items};
 ghost use Rattle.std.specs.List.{list_all};
 ghost use Rattle.sieve_base.specs.Octet.{is_blank};
-ghost use Rattle.encoded_words.specs.Scan.{decoded_of, has_word, has_written, pieces_of, replaced_of};
+ghost use Rattle.encoded_words.specs.Scan.{decoded_of, has_known, has_word, has_written, pieces_of, replaced_of};
 ghost use Rattle.encoded_words.specs.Cut.{kept, octet};
 ghost use Rattle.encoded_words.specs.view.Word.{octets_of};
 
@@ -40,7 +40,7 @@ fn push_word(
 fn before_sign(value: &[u8]) -> usize
     ensures within { result ≤ length value.now }
     ensures alone { map octet (take result value.now) ++ pieces_of (drop result value.now) ≡ pieces_of value.now }
-    ensures unwritten { has_written value.now ≡ false → has_written (drop result value.now) ≡ false }
+    ensures unknown { has_known value.now ≡ false → has_known (drop result value.now) ≡ false }
 {
     memchr(b'=', value).unwrap_or(value.len())
 }
@@ -48,8 +48,8 @@ fn before_sign(value: &[u8]) -> usize
 // A value with its encoded words replaced, if it has one that can be decoded.
 fn replaced(alloc: Global, value: &[u8]) -> Result<Option<Vec<u8>>, AllocError>
     ensures is { IfOk result (λ found. octets_of found ≡ replaced_of value.now) }
-    // A value in which no word is written takes no memory, so want of it is never answered.
-    ensures unwritten { has_written value.now ≡ false → IsOk result }
+    // A value in which no word of a known charset is written takes no memory, so want of it is never answered.
+    ensures unknown { has_known value.now ≡ false → IsOk result }
 {
     let mut octets = Vec::new(alloc);
     let mut behind_word = false;
@@ -85,7 +85,7 @@ fn decoded(alloc: Global, value: &[u8]) -> Result<CowSlice<'_, u8>, AllocError>
     ensures octets { IfOk result (λ octets. cow_slice_items octets ≡ decoded_of value.now) }
     ensures borrowed { has_word value.now ≡ false → IfOk result IsBorrowedSlice }
     ensures owned { has_word value.now ≡ true → IfOk result IsOwnedSlice }
-    ensures unwritten { has_written value.now ≡ false → IsOk result }
+    ensures unknown { has_known value.now ≡ false → IsOk result }
 {
     match replaced(alloc, value)? {
         None => Ok(CowSlice::Borrowed(value)),
@@ -99,15 +99,16 @@ fn decoded(alloc: Global, value: &[u8]) -> Result<CowSlice<'_, u8>, AllocError>
 /// two such words are dropped (RFC 2047, section 6.2). A word whose charset isn't known, or whose text isn't of its
 /// encoding or charset, stays as it is written, and another may begin inside it. The value is one of unfolded lines.
 ///
-/// The result is borrowed exactly where the value was and no word was replaced. No memory is taken where no word is
-/// written in the value.
-#[tactic(auto, using(crate::proofs::Steps::unchanged, crate::proofs::Steps::none_replaced, crate::proofs::Steps::some_replaced))]
+/// The result is borrowed exactly where the value was and no word was replaced. No memory is taken where no word of a
+/// charset that is known is written in the value.
+#[tactic(auto, using(crate::proofs::Steps::unchanged, crate::proofs::Steps::none_replaced, crate::proofs::Steps::some_replaced, crate::proofs::Steps::unwritten_unknown))]
 pub fn decoded_value(alloc: Global, value: CowSlice<'_, u8>) -> Result<CowSlice<'_, u8>, AllocError>
     ensures octets { IfOk result (λ octets. cow_slice_items octets ≡ decoded_of (cow_slice_items value.entry)) }
     ensures borrowed { has_word (cow_slice_items value.entry) ≡ false → IsBorrowedSlice value.entry → IfOk result IsBorrowedSlice }
     ensures replaced { has_word (cow_slice_items value.entry) ≡ true → IfOk result IsOwnedSlice }
     ensures owned { IsOwnedSlice value.entry → IfOk result IsOwnedSlice }
     ensures unwritten { has_written (cow_slice_items value.entry) ≡ false → IsOk result }
+    ensures unknown { has_known (cow_slice_items value.entry) ≡ false → IsOk result }
 {
     match value {
         CowSlice::Borrowed(octets) => decoded(alloc, octets),

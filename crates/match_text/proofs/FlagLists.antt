@@ -1,11 +1,12 @@
 -- Lists of flags that are joined, filtered and taken once each.
-use Rattle.std.proofs.Common.{◌≡◌, ℕ, SomeIndex, zero, suc, ◌-◌, arith, ◌+◌, ◌<◌, ◌≤◌, length, drop, get_or, take, Bool, true, false, not, cond, ◌&&◌, ◌||◌, List, [], ◌∷◌, ◌++◌, filter, if◌then◌else◌, refl, sym, ap, subst, ◌∙◌, append-nil, append_assoc, true≢false}
-use Rattle.std.specs.List.{All, AllByRecursion, IsDistinct, flat_map}
+use Rattle.std.proofs.Common.{◌≡◌, ℕ, Some, SomeIndex, zero, suc, ◌-◌, arith, ◌+◌, ◌<◌, ◌≤◌, length, drop, get_or, take, Bool, true, false, not, cond, ◌&&◌, ◌||◌, List, [], ◌∷◌, ◌++◌, filter, if◌then◌else◌, refl, sym, ap, subst, ◌∙◌, append-nil, append_assoc, true≢false}
+use Rattle.std.specs.List.{All, AllByRecursion, IsDistinct, flat_map, slice_get}
 use Rattle.std.proofs.lemmas.List.{at_drop_more, drop_all, length-drop, take_all, take_more, take_rest}
-use Rattle.std.proofs.Math.Seq.{take-add}
-use Rattle.std.proofs.lemmas.List.Elements.{All-cons, All-filter, All-head, All-nil, All-tail, filter-append, filter_agree, filter_passes}
+use Rattle.std.proofs.Math.Seq.{take-add, take-nil}
+use Rattle.std.proofs.lemmas.List.Elements.{All-cons, All-filter, All-get_or, All-head, All-more, All-nil, All-tail, filter-append, filter_agree, filter_passes}
 use Rattle.std.proofs.lemmas.List.Folds.{list_any-append}
 use Rattle.std.proofs.lemmas.Map.Steps.{list_any_congr}
+use Rattle.std.proofs.lemmas.Option.{get_or_from_slice_get, slice_get_within}
 use Rattle.indexmap.specs.IndexSet.{insert_key}
 use Rattle.match_text.specs.Comparator.{ascii_casemap, same}
 use Rattle.match_text.specs.Flags.{AreDistinct, distinct, flag_list, flag_union, flags_in, flags_of_texts, flags_without, has_flag, is_flag, pieces}
@@ -142,18 +143,37 @@ union_slice a flags items n are within known =
     let long = length-drop n flags in
     ap (λ l. flag_union a (take (length l - n) (drop n l))) are ∙ ap (flag_union a) (take_all (length flags - n) (drop n flags) (omega arith)) ∙ union_behind a flags n within known
 
--- what was added of a slice of the flags, from the n-th on, was added of the flags
-pub union_behind_some : (a flags items : List (List ℕ)) (n : ℕ) (new : List (List ℕ)) → items ≡ flags → n ≤ length flags → All (λ flag. has_flag a flag ≡ true) (take n flags)
+-- what was added of a slice of the flags, from the n-th on, was added of the flags, behind as many as are known among the first n
+pub union_behind_some : (a flags items : List (List ℕ)) (known n : ℕ) (new : List (List ℕ)) → items ≡ flags → known ≤ n → n ≤ length flags
+    → All (λ flag. has_flag a flag ≡ true) (take n flags)
     → SomeIndex (take (length items - n) (drop n items)) (λ i. new ≡ flag_union a (take i (take (length items - n) (drop n items))))
-    → SomeIndex flags (λ i. (n ≤ i) × (new ≡ flag_union a (take i flags)))
-union_behind_some a flags items n new are within known some =
+    → SomeIndex flags (λ i. (known ≤ i) × (new ≡ flag_union a (take i flags)))
+union_behind_some a flags items known n new are more within there some =
     let is = ap (λ l. take (length l - n) (drop n l)) are ∙ take_rest flags n in
     behind (subst (λ l. SomeIndex l (λ i. new ≡ flag_union a (take i l))) is some)
   where
-    behind : SomeIndex (drop n flags) (λ i. new ≡ flag_union a (take i (drop n flags))) → SomeIndex flags (λ i. (n ≤ i) × (new ≡ flag_union a (take i flags)))
+    behind : SomeIndex (drop n flags) (λ i. new ≡ flag_union a (take i (drop n flags))) → SomeIndex flags (λ i. (known ≤ i) × (new ≡ flag_union a (take i flags)))
     behind (i, below, made) =
         let long = length-drop n flags in
-        (n + i, omega arith, (omega arith, made ∙ sym (union_known a (take n flags) (take i (drop n flags)) known) ∙ ap (flag_union a) (sym (take-add n i flags))))
+        (n + i, omega arith, (omega arith, made ∙ sym (union_known a (take n flags) (take i (drop n flags)) there) ∙ ap (flag_union a) (sym (take-add n i flags))))
+
+-- none is left of a slice of the flags from their end on
+pub none_behind : (flags items : List (List ℕ)) (n : ℕ) → items ≡ flags → n ≡ length flags → take (length items - n) (drop n items) ≡ []
+none_behind flags items n are end =
+    ap (λ l. take (length l - n) (drop n l)) are ∙ ap (take (length flags - n)) (drop_all n flags (omega arith)) ∙ take-nil (length flags - n)
+
+-- one more of those in front is there
+pub there_more : (a flags : List (List ℕ)) (i : ℕ) (flag : List ℕ) → slice_get flags i ≡ Some flag → has_flag a flag ≡ true
+    → All (λ x. has_flag a x ≡ true) (take i flags) → All (λ x. has_flag a x ≡ true) (take (i + 1) flags)
+there_more a flags i flag at there before =
+    All-more (λ x. has_flag a x ≡ true) flags i [] (slice_get_within flags i flag at) before (ap (has_flag a) (get_or_from_slice_get flags i flag [] at) ∙ there)
+
+-- not all are there where one isn't
+pub one_missing : (a flags : List (List ℕ)) (i : ℕ) (flag : List ℕ) → slice_get flags i ≡ Some flag → has_flag a flag ≡ false
+    → All (λ x. has_flag a x ≡ true) flags → ⊥
+one_missing a flags i flag at missing all =
+    true≢false
+    (sym (All-get_or (λ x. has_flag a x ≡ true) flags i [] (slice_get_within flags i flag at) all) ∙ ap (has_flag a) (get_or_from_slice_get flags i flag [] at) ∙ missing)
 
 -- what is there stays there
 union_keeps : (a b : List (List ℕ)) (x : List ℕ) → has_flag a x ≡ true → has_flag (flag_union a b) x ≡ true

@@ -1,5 +1,5 @@
 //! Comparators, and what they say of two texts.
-ghost use Rattle.std.specs.Prelude.{◌≡◌, ◌==◌, ◌↔◌, ℕ, IfOk, IsTrue, map};
+ghost use Rattle.std.specs.Prelude.{◌≡◌, ◌==◌, ◌↔◌, ◌≤◌, ℕ, IfOk, IsOk, IsTrue, length, map};
 ghost use Rattle.std.proofs.Common.{rules};
 ghost use Rattle.memchr.specs.Find.{IsFirstByte};
 ghost use Rattle.match_text.specs.Comparator.{IsPart, Same, ascii_casemap, collation_named, is_part, octet, same};
@@ -173,14 +173,15 @@ pub(crate) fn folded<C: Comparator>(alloc: Global, octets: &[u8]) -> Result<Vec<
 }
 
 /// As [`contains`], in time linear in the octets of `value` and `key`: a key of more than 64 octets is looked for in folded
-/// copies, for which memory may be refused.
+/// copies, for which memory may be refused. A shorter one takes none.
 #[tactic(auto, using(crate::proofs::Folding::folded_part))]
 pub fn contains_in<C: Comparator>(
     alloc: Global,
     value: &[u8],
     key: &[u8],
 ) -> Result<bool, AllocError>
-    ensures { IfOk result (λ found. found ≡ is_part C.folded value.now key.now) }
+    ensures exact { IfOk result (λ found. found ≡ is_part C.folded value.now key.now) }
+    ensures short { length key.now ≤ 64 → IsOk result }
 {
     if key.len() <= MAX_SHORT_KEY {
         return Ok(contains::<C>(value, key));

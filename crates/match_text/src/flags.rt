@@ -1,5 +1,5 @@
 //! Lists of flags (RFC 5232, sections 2 and 3).
-ghost use Rattle.std.specs.Prelude.{◌≡◌, ◌<◌, ◌≤◌, ◌↔◌, ◌++◌, [], ◌∷◌, IfNone, IfOk, IfSome, IsTrue, OnErr, OnOk, Some, SomeIndex, filter, fold, length, remove, slice_get, take, true};
+ghost use Rattle.std.specs.Prelude.{◌≡◌, ◌<◌, ◌≤◌, ◌↔◌, ◌++◌, [], ◌∷◌, IfNone, IfOk, IfSome, IsOk, IsTrue, OnErr, OnOk, Some, SomeIndex, filter, fold, length, remove, slice_get, take, true};
 ghost use Rattle.std.specs.List.{All};
 ghost use Rattle.match_text.specs.Comparator.{ascii_casemap, fold_of, same};
 ghost use Rattle.match_text.specs.Flags.{AreDistinct, has_flag, has_key, flag_list, flag_text, flag_union, flags_in};
@@ -189,18 +189,41 @@ impl FlagList {
     }
 
     /// Adds the flags of another list that aren't there yet (RFC 5232, section 3.2). The first of them, as many as `known`, are there
-    /// and aren't looked at. Where memory is refused, those in front of some place have been added.
+    /// and aren't looked at. Where memory is refused, those in front of some place have been added. Where all are there, none is taken.
     pub fn add(&mut self, alloc: Global, flags: &FlagList, known: usize) -> Result<(), AllocError>
         requires within { known ≤ length flags.now }
         requires known { All (λ flag. has_flag self.old flag ≡ true) (take known flags.now) }
         ensures union { OnOk result (self.new ≡ flag_union self.old flags.now) }
         ensures there { OnOk result (All (λ flag. has_flag self.new flag ≡ true) flags.now) }
         ensures err { OnErr result (SomeIndex flags.now (λ i. (known ≤ i) × (self.new ≡ flag_union self.old (take i flags.now)))) }
+        ensures held { All (λ flag. has_flag self.old flag ≡ true) flags.now → IsOk result }
     {
+        let known = self.first_other(flags, known);
         let added = insert_each(alloc, &mut self.flags, &flags.flags.as_slice()[known..]);
         // The set tells here that no two of them are the same.
         let _count = self.flags.len();
         added
+    }
+
+    /// The place of the first flag of another list that isn't there, or the length of that list. Those before a place that is known aren't
+    /// looked at. Takes no memory.
+    fn first_other(&self, flags: &FlagList, known: usize) -> usize
+        requires within { known ≤ length flags.now }
+        requires known { All (λ flag. has_flag self.now flag ≡ true) (take known flags.now) }
+        ensures behind { known ≤ result }
+        ensures within { result ≤ length flags.now }
+        ensures there { All (λ flag. has_flag self.now flag ≡ true) (take result flags.now) }
+        ensures all { All (λ flag. has_flag self.now flag ≡ true) flags.now → result ≡ length flags.now }
+    {
+        for place in known..flags.len() {
+            let sought = SoughtFlag {
+                spelling: flags.get(place),
+            };
+            if !self.flags.contains(sought) {
+                return place;
+            }
+        }
+        flags.len()
     }
 
     /// Takes a flag out, in whatever case it is spelled, and gives the place where it stood (RFC 5232, section 3.3). The others stay in
@@ -250,6 +273,7 @@ fn insert(alloc: Global, flags: &mut IndexSet<Flag>, flag: &[u8]) -> Result<(), 
 fn insert_each(alloc: Global, flags: &mut IndexSet<Flag>, list: &[Flag]) -> Result<(), AllocError>
     ensures ok { OnOk result (flags.new.keys ≡ flag_union flags.old.keys list.now) }
     ensures err { OnErr result (SomeIndex list.now (λ i. flags.new.keys ≡ flag_union flags.old.keys (take i list.now))) }
+    ensures none { list.now ≡ [] → IsOk result }
 {
     for flag in list {
         insert(alloc, flags, flag.as_slice())?;

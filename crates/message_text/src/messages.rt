@@ -131,7 +131,7 @@ impl Message {
     /// decoded; spaces and tabs between two such words are dropped. The result isn't trimmed again.
     ///
     /// It is borrowed from the message where the field stands on one line and no word was replaced, and else a copy.
-    /// No memory is taken where the field stands on one line in which no word is written.
+    /// No memory is taken where the field stands on one line in which no word of a charset that is known is written.
     pub fn decoded(&self, alloc: Global, i: usize) -> Result<CowSlice<'_, u8>, AllocError>
         requires { i < length (spec.fields_of self.now) }
         ensures octets { IfOk result (λ value. slice_get (spec.decoded_values_of self.now) i
@@ -140,6 +140,7 @@ impl Message {
         ensures folded { spec.IsFolded self.now i → IfOk result IsOwnedSlice }
         ensures replaced { spec.IsReplaced self.now i → IfOk result IsOwnedSlice }
         ensures unwritten { spec.IsUnfolded self.now i → spec.IsUnwritten self.now i → IsOk result }
+        ensures unknown { spec.IsUnfolded self.now i → spec.IsUnknown self.now i → IsOk result }
     {
         let value = self.value(alloc, i)?;
         decoded_value(alloc, value)

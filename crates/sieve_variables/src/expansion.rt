@@ -1,5 +1,5 @@
 //! What strings stand for while a script runs (RFC 5229, section 3).
-ghost use Rattle.std.specs.Prelude.{◌≡◌, length, map, IfOk, IsOk, IsOkAnd, OnOk};
+ghost use Rattle.std.specs.Prelude.{◌≡◌, [], length, map, IfOk, IsOk, IsOkAnd, OnOk};
 ghost use Rattle.std.specs.Cow.{IsBorrowedSlice, cow_slice_items};
 ghost use Rattle.sieve_variables.specs.Value.{text_value};
 ghost use Rattle.sieve_variables.specs.view.Part.{part_of, strings_of};
@@ -39,7 +39,7 @@ impl Values {
         Ok(())
     }
 
-    /// The octets that a string stands for. Those of one part are borrowed.
+    /// The octets that a string stands for. Those of one part are borrowed. Neither they nor those of no part take memory.
     pub fn expanded_string<'a>(
         &'a self,
         alloc: Global,
@@ -47,8 +47,10 @@ impl Values {
     ) -> Result<CowSlice<'a, u8>, AllocError>
         ensures octets { IfOk result (λ octets. cow_slice_items octets ≡ text_value self.now (map part_of parts.now)) }
         ensures one_part { length parts.now ≡ 1 → IsOkAnd result IsBorrowedSlice }
+        ensures no_part { parts.now ≡ [] → IsOk result }
     {
         match parts {
+            [] => Ok(CowSlice::Owned(Vec::new(alloc))),
             [part] => Ok(CowSlice::Borrowed(self.part(part))),
             _ => {
                 let mut octets = Vec::new(alloc);
@@ -58,8 +60,8 @@ impl Values {
         }
     }
 
-    /// The octets that a string stands for, for one string after another. Those of one part are borrowed, and take no memory; those of
-    /// several are put into the buffer, in place of what it holds, which takes memory where it has too little room.
+    /// The octets that a string stands for, for one string after another. Those of one part are borrowed, and take no memory, as those
+    /// of no part; those of several are put into the buffer, in place of what it holds, which takes memory where it has too little room.
     pub fn expanded_in<'a>(
         &'a self,
         parts: &'a [Part],
@@ -67,9 +69,12 @@ impl Values {
     ) -> Result<&'a [u8], AllocError>
         ensures octets { IfOk result (λ octets. octets.now ≡ text_value self.now (map part_of parts.now)) }
         ensures one_part { length parts.now ≡ 1 → IsOk result }
+        ensures no_part { parts.now ≡ [] → IsOk result }
     {
-        if let [part] = parts {
-            return Ok(self.part(part));
+        match parts {
+            [] => return Ok(&[]),
+            [part] => return Ok(self.part(part)),
+            _ => {}
         }
         self.join(parts, buffer)?;
         Ok(buffer.as_slice())

@@ -1,6 +1,6 @@
 //! Variables by their names (RFC 5229, section 3; RFC 6609, section 3.4).
 ghost use Rattle.sieve_base.specs.Octet.{is_among};
-ghost use Rattle.std.specs.Prelude.{◌≡◌, [], IfOk, OnErr, OnOk};
+ghost use Rattle.std.specs.Prelude.{◌≡◌, [], IfOk, IsOk, OnErr, OnOk, true};
 ghost use Rattle.sieve_variables.specs.Variable.{scoped, variable_named, with_name};
 ghost use Rattle.sieve_variables.specs.view.Part.{variable_of};
 
@@ -93,10 +93,12 @@ impl Names {
         self.names.contains(name)
     }
 
-    /// Adds a name in lower case. An error, which is a lack of memory, changes nothing.
+    /// Adds a name in lower case. An error, which is a lack of memory, changes nothing. A name that is there already takes no
+    /// memory.
     pub fn add(&mut self, alloc: Global, name: &[u8]) -> Result<(), AllocError>
         ensures ok { OnOk result (self.new ≡ with_name name.now self.old) }
         ensures err { OnErr result (self.new ≡ self.old) }
+        ensures there { is_among name.now self.old ≡ true → IsOk result }
     {
         if self.has(name) {
             return Ok(());

@@ -1,6 +1,6 @@
 use Rattle.std.proofs.Common.{◌≡◌, ℕ, take, drop, sym, subst, false}
-use Rattle.encoded_words.specs.Scan.{has_written, pieces_of}
-use Rattle.encoded_words.proofs.Steps.{front_of, in_front, signs_alone, written_from}
+use Rattle.encoded_words.specs.Scan.{has_known, pieces_of}
+use Rattle.encoded_words.proofs.Steps.{front_of, in_front, known_from, signs_alone}
 use Rattle.encoded_words.proofs.values.before_sign.Goals as goal
 
 pub returns-clause-alone : goal.returns-clause-alone
@@ -10,8 +10,8 @@ returns-clause-alone c =
     let P : ℕ → Type 0 = λ n. in_front (take n value) (pieces_of (drop n value)) ≡ pieces_of value in
     subst P (sym c.unwrap_or.ensures) (signs_alone value _ front.0 front.1)
 
-pub returns-clause-unwritten : goal.returns-clause-unwritten
-returns-clause-unwritten c = λ none.
+pub returns-clause-unknown : goal.returns-clause-unknown
+returns-clause-unknown c = λ none.
     let value = c.args.value.now in
-    let P : ℕ → Type 0 = λ n. has_written (drop n value) ≡ false in
-    subst P (sym c.unwrap_or.ensures) (written_from value _ (front_of value c.memchr.result c.memchr.ensures).0 none)
+    let P : ℕ → Type 0 = λ n. has_known (drop n value) ≡ false in
+    subst P (sym c.unwrap_or.ensures) (known_from value _ (front_of value c.memchr.result c.memchr.ensures).0 none)

@@ -4,7 +4,7 @@ use Rattle.encoded_words.specs.Charset.{meaning}
 use Rattle.encoded_words.specs.Cut.{kept}
 use Rattle.encoded_words.specs.Scan.{decoded_of, has_word, is_word, pieces_of, word_at}
 use Rattle.encoded_words.specs.view.Word.{octets_of, word_of}
-use Rattle.encoded_words.proofs.Steps.{all_alone, in_front, last_decoded, meaningless_at, none_at, none_found, plain_step, word_decoded, word_found, word_step, word_written, written_next}
+use Rattle.encoded_words.proofs.Steps.{all_alone, in_front, known_next, last_decoded, meaningless_at, none_at, none_found, plain_step, unknown_here, unknown_means, word_decoded, word_found, word_step}
 use Rattle.encoded_words.proofs.values.replaced.Goals as goal
 
 pub loop-plain-preserved-in_default : goal.loop-plain-preserved-in_default
@@ -18,7 +18,7 @@ loop-plain-preserved-in_default c =
       alone = plain_step left plain (pieces_of left) (omega arith) (none_at (drop plain left) some none) c.loop-plain.invariant.alone;
       decoded = c.loop-plain.invariant.decoded;
       found = c.loop-plain.invariant.found;
-      unwritten = λ none. ((c.loop-plain.invariant.unwritten none).0, written_next left plain (omega arith) ((c.loop-plain.invariant.unwritten none).1));
+      unknown = λ none. ((c.loop-plain.invariant.unknown none).0, known_next left plain (omega arith) ((c.loop-plain.invariant.unknown none).1));
     }
 
 pub loop-plain-preserved-in_default-2 : goal.loop-plain-preserved-in_default-2
@@ -33,7 +33,7 @@ loop-plain-preserved-in_default-2 c =
       alone = plain_step left plain (pieces_of left) (omega arith) (meaningless_at (drop plain left) (word_of c.in-Some.word) some word none) c.loop-plain.invariant.alone;
       decoded = c.loop-plain.invariant.decoded;
       found = c.loop-plain.invariant.found;
-      unwritten = λ none. ((c.loop-plain.invariant.unwritten none).0, written_next left plain (omega arith) ((c.loop-plain.invariant.unwritten none).1));
+      unknown = λ none. ((c.loop-plain.invariant.unknown none).0, known_next left plain (omega arith) ((c.loop-plain.invariant.unknown none).1));
     }
 
 pub loop-plain-preserved : goal.loop-plain-preserved
@@ -59,7 +59,7 @@ loop-plain-preserved c =
       alone = c.before_sign-plain-in-loop-plain.ensures.alone;
       decoded = word_decoded done c.push_word.new.octets.items gap meant c.loop-plain.behind_word word (pieces_of left) (pieces_of behind) _ pushed cut c.loop-plain.invariant.decoded;
       found = word_found c.loop-plain.behind_word _ gap meant word (pieces_of left) (pieces_of behind) cut c.loop-plain.invariant.found;
-      unwritten = λ none. absurd (word_written (drop c.loop-plain.plain left) word (c.in-Some.ensures.is ∙ ap word_at c.split_at.ensures.back) (c.loop-plain.invariant.unwritten none).1);
+      unknown = λ none. absurd (unknown_means (drop c.loop-plain.plain left) meant word (c.in-Some.ensures.is ∙ ap word_at c.split_at.ensures.back) means (c.loop-plain.invariant.unknown none).1);
     }
 
 pub returns-then-not-behind_word-clause-is : goal.returns-then-not-behind_word-clause-is
@@ -80,10 +80,15 @@ returns-clause-is c =
     ∙ last_decoded c.loop-plain.octets.items left (decoded_of c.args.value.now) c.loop-plain.behind_word (pieces_of left) alone c.loop-plain.invariant.decoded in
     ap Some items ∙ ap (λ b. if b then Some (decoded_of c.args.value.now) else None) (sym whole)
 
-pub returns-in_err-meant-clause-unwritten : goal.returns-in_err-meant-clause-unwritten
-returns-in_err-meant-clause-unwritten c = λ none.
-    absurd (word_written (drop c.loop-plain.plain c.loop-plain.left.now) (word_of c.in-Some.word) (c.in-Some.ensures.is ∙ ap word_at c.split_at.ensures.back) (c.loop-plain.invariant.unwritten none).1)
+pub returns-in_err-meant-clause-unknown : goal.returns-in_err-meant-clause-unknown
+returns-in_err-meant-clause-unknown c = λ none.
+    let refused : false ≡ true =
+    c.in_err-meant.ensures.unknown
+    (unknown_here (drop c.loop-plain.plain c.loop-plain.left.now) (word_of c.in-Some.word) (c.in-Some.ensures.is ∙ ap word_at c.split_at.ensures.back) (c.loop-plain.invariant.unknown none).1) in
+    cc
 
-pub returns-in_err-push_word-clause-unwritten : goal.returns-in_err-push_word-clause-unwritten
-returns-in_err-push_word-clause-unwritten c = λ none.
-    absurd (word_written (drop c.loop-plain.plain c.loop-plain.left.now) (word_of c.in-Some.word) (c.in-Some.ensures.is ∙ ap word_at c.split_at.ensures.back) (c.loop-plain.invariant.unwritten none).1)
+pub returns-in_err-push_word-clause-unknown : goal.returns-in_err-push_word-clause-unknown
+returns-in_err-push_word-clause-unknown c = λ none.
+    absurd
+    (unknown_means (drop c.loop-plain.plain c.loop-plain.left.now) c.in-Some-2.meant.items (word_of c.in-Some.word) (c.in-Some.ensures.is ∙ ap word_at c.split_at.ensures.back)
+    (ap octets_of (sym c.in-Some-2.is) ∙ c.in_ok-meant.ensures.is) (c.loop-plain.invariant.unknown none).1)
