@@ -1,8 +1,8 @@
 pub mod Copying
 pub mod Holding
+mod KeptNames
 pub mod Known
-pub mod KeptNames
 mod Named
-pub mod NamesInTurn
+mod NamesInTurn
 mod Paths
 pub mod Searching
