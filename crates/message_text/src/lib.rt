@@ -17,4 +17,4 @@ mod values;
 
 pub use crate::addressing::{Address, AddressPart, addresses};
 pub use crate::messages::{Message, MessageFault};
-pub use crate::names::FieldName;
+pub use crate::names::{FieldName, name_hash};

@@ -8,8 +8,8 @@ use crate::fields::{FieldSpan, span_in};
 use match_text::{AsciiCasemap, Comparator, is};
 use std::marker::Model;
 
-/// The hash of a name of fields, the same for names that differ in the case of ASCII alone.
-pub(crate) fn name_hash(name: &[u8]) -> u32
+/// The hash of a name of fields, the same for names that differ in the case of ASCII alone. Takes no memory.
+pub fn name_hash(name: &[u8]) -> u32
     ensures { result ≡ name_hash name.now }
 {
     let mut hash: u32 = 0;
@@ -50,6 +50,21 @@ impl<'a> FieldName<'a> {
             octets,
             hash: name_hash(octets),
         }
+    }
+
+    /// The name of these octets, whose hash is known already, as `name_hash` gives it. Takes no memory.
+    pub fn with_hash(octets: &'a [u8], hash: u32) -> FieldName<'a>
+        requires { hash ≡ name_hash octets.now }
+        ensures { result ≡ octets.now }
+    {
+        FieldName { octets, hash }
+    }
+
+    /// The octets of the name.
+    pub fn octets(&self) -> &'a [u8]
+        ensures { result.now ≡ self.now }
+    {
+        self.octets
     }
 }
 

@@ -155,9 +155,18 @@ fn write_source<W: Sink>(
     ensures { Writes W.contents W.fault_count result writer.old writer.new (source_text (source_op_as source.now) match_type collation) }
 {
     match source {
-        SourceOp::Header { names } => write_values(b"header", match_type, collation, names, writer),
+        SourceOp::Header { names } => {
+            write_values(b"header", match_type, collation, names.strings(), writer)
+        }
         SourceOp::Address { part, names } => {
-            write_address(b"address", match_type, collation, *part, names, writer)
+            write_address(
+                b"address",
+                match_type,
+                collation,
+                *part,
+                names.strings(),
+                writer,
+            )
         }
         SourceOp::Envelope { part, names } => {
             write_address(b"envelope", match_type, collation, *part, names, writer)
@@ -205,7 +214,7 @@ pub(crate) fn write_test<W: Sink>(test: &TestOp, writer: &mut W) -> Result<(), W
             collation,
             keys,
         } => write_compares(source, *match_type, *collation, keys, writer),
-        TestOp::Exists { names } => write_list(b"exists ", names, writer),
+        TestOp::Exists { names } => write_list(b"exists ", names.strings(), writer),
         TestOp::Over { limit } => write_number(b"size over ", *limit, writer),
         TestOp::Under { limit } => write_number(b"size under ", *limit, writer),
     }

@@ -8,8 +8,8 @@ ghost use Rattle.sieve_variables.specs.view.Part.{part_of, strings_of, variable_
 
 use sieve_base::{Place, SmallOctets};
 use sieve_effects::{
-    CommandOp, FileintoOp, FlagsOp, IncludeOp, RedirectOp, Said, SetOp, SettingsOp, SourceOp,
-    TestOp,
+    CommandOp, FieldNames, FileintoOp, FlagsOp, IncludeOp, RedirectOp, Said, SetOp, SettingsOp,
+    SourceOp, TestOp,
 };
 use sieve_reading::{Ask, FlagChange, Leaf, Settings, Text, ValueSource};
 use sieve_variables::{Modifiers, Part, Parts, Strings, Variable};
@@ -48,6 +48,14 @@ fn copied_strings(alloc: Global, texts: &[Text]) -> Result<Strings, AllocError>
     Ok(copies)
 }
 
+/// Copies of names of fields.
+fn field_names(alloc: Global, names: &[Text]) -> Result<FieldNames, AllocError>
+    ensures { IfOk result (λ copies. copies ≡ texts_as names.now) }
+{
+    let strings = copied_strings(alloc, names)?;
+    FieldNames::new(alloc, strings)
+}
+
 /// Copies of the parts of strings that may be left out.
 fn given_strings(alloc: Global, texts: Option<&[Text]>) -> Result<Option<Strings>, AllocError>
     ensures { IfOk result (λ copies. given_strings copies ≡ option_map (λ given. texts_as given.now) texts.entry) }
@@ -77,11 +85,11 @@ fn source_op(alloc: Global, source: &ValueSource<'_>) -> Result<SourceOp, AllocE
 {
     match source {
         ValueSource::Header { names } => Ok(SourceOp::Header {
-            names: copied_strings(alloc, names)?,
+            names: field_names(alloc, names)?,
         }),
         ValueSource::Address { part, names } => Ok(SourceOp::Address {
             part: *part,
-            names: copied_strings(alloc, names)?,
+            names: field_names(alloc, names)?,
         }),
         ValueSource::Envelope { part, names } => Ok(SourceOp::Envelope {
             part: *part,
@@ -113,7 +121,7 @@ pub(crate) fn test_op(alloc: Global, ask: &Ask<'_>) -> Result<TestOp, AllocError
             keys: copied_strings(alloc, keys)?,
         }),
         Ask::Exists { names } => Ok(TestOp::Exists {
-            names: copied_strings(alloc, names)?,
+            names: field_names(alloc, names)?,
         }),
         Ask::Over { limit } => Ok(TestOp::Over { limit: *limit }),
         Ask::Under { limit } => Ok(TestOp::Under { limit: *limit }),

@@ -2,6 +2,7 @@
 pub mod Acting
 pub mod Actions
 pub mod Delivery
+pub mod FieldNames
 pub mod FieldReads
 pub mod FieldTests
 pub mod Flow

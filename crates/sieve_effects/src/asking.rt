@@ -12,6 +12,7 @@ ghost use Rattle.sieve_variables.specs.view.Part.{strings_of};
 
 use crate::comparison::{Comparison, Keys, MatchValues, keep_found};
 use crate::delivery::Delivery;
+use crate::field_names::FieldNames;
 use crate::field_reads::FieldReads;
 use crate::field_values::{find_in_named, has_fields};
 use crate::flag_values::find_in_held;
@@ -169,8 +170,8 @@ fn compare(
 
 /// Whether all named fields are there (RFC 5228, section 5.5).
 #[tactic(auto, unfolding(crate::specs::Matching::truth_of))]
-fn exists(delivery: &Delivery<'_>, state: &State, names: &[Parts]) -> Result<bool, AllocError>
-    ensures { IfOk result (λ truth. truth ≡ truth_of (delivery_as delivery.now) (state_of state.now) (exists_ask (strings_of names.now))) }
+fn exists(delivery: &Delivery<'_>, state: &State, names: &FieldNames) -> Result<bool, AllocError>
+    ensures { IfOk result (λ truth. truth ≡ truth_of (delivery_as delivery.now) (state_of state.now) (exists_ask names.now)) }
 {
     has_fields(delivery.alloc, delivery.message, &state.values, names)
 }

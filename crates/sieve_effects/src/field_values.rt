@@ -8,22 +8,22 @@ ghost use Rattle.sieve_effects.specs.view.Delivery.{delivery_as};
 ghost use Rattle.sieve_effects.specs.view.FieldTests.{field_found, field_source, found_with, is_looked_at, name_found, part_found, value_found};
 ghost use Rattle.sieve_effects.specs.view.State.{state_of};
 ghost use Rattle.sieve_variables.specs.Value.{text_value};
-ghost use Rattle.sieve_variables.specs.view.Part.{strings_of};
 
 use crate::comparison::{Comparison, MatchValues};
 use crate::delivery::Delivery;
+use crate::field_names::FieldNames;
 use crate::field_reads::FieldReads;
 use crate::state::State;
 use message_text::{Address, AddressPart, FieldName, Message};
 use sieve_table::is_address_field;
-use sieve_variables::{Parts, Values};
+use sieve_variables::Values;
 use std::alloc::{AllocError, Global};
 
 /// Whether a field of that name is there.
-fn has_field(message: &Message, name: &[u8]) -> bool
+fn has_field(message: &Message, name: &FieldName<'_>) -> bool
     ensures { result ≡ has_field (fields_of message.now) name.now }
 {
-    message.next_named(&FieldName::new(name), 0).is_some()
+    message.next_named(name, 0).is_some()
 }
 
 /// Whether there is a field of each name.
@@ -31,14 +31,14 @@ pub(crate) fn has_fields(
     alloc: Global,
     message: &Message,
     values: &Values,
-    names: &[Parts],
+    names: &FieldNames,
 ) -> Result<bool, AllocError>
-    ensures { IfOk result (λ has. has ≡ list_all (has_field (fields_of message.now)) (map (text_value values.now) (strings_of names.now))) }
+    ensures { IfOk result (λ has. has ≡ list_all (has_field (fields_of message.now)) (map (text_value values.now) names.now)) }
 {
     let mut buffer = Vec::new(alloc);
-    for parts in names {
-        let name = values.expanded_in(parts, &mut buffer)?;
-        if !has_field(message, name) {
+    for i in 0..names.len() {
+        let name = names.name_in(i, values, &mut buffer)?;
+        if !has_field(message, &name) {
             return Ok(false);
         }
     }
@@ -134,17 +134,16 @@ fn find_in_fields(
     alloc: Global,
     fields: &mut FieldReads<'_>,
     part: Option<AddressPart>,
-    name: &[u8],
+    name: &FieldName<'_>,
     comparison: &Comparison<'_>,
 ) -> Result<Option<MatchValues>, AllocError>
     ensures message { fields.new ≡ fields.old }
     ensures found { IfOk result (λ found. found ≡ first_some (field_found (found_with comparison.now) part name.now) (fields_of fields.old)) }
 {
     let message = fields.message();
-    let name = FieldName::new(name);
     let mut start = 0;
     while start < message.fields() {
-        let Some(i) = message.next_named(&name, start) else {
+        let Some(i) = message.next_named(name, start) else {
             return Ok(None);
         };
         if let Some(values) = find_in_value(alloc, &mut *fields, i, part, comparison)? {
@@ -170,13 +169,13 @@ fn find_by_name(
     alloc: Global,
     fields: &mut FieldReads<'_>,
     part: Option<AddressPart>,
-    name: &[u8],
+    name: &FieldName<'_>,
     comparison: &Comparison<'_>,
 ) -> Result<Option<MatchValues>, AllocError>
     ensures message { fields.new ≡ fields.old }
     ensures found { IfOk result (λ found. found ≡ name_found (found_with comparison.now) part (fields_of fields.old) name.now) }
 {
-    if is_looked_at(part, name) {
+    if is_looked_at(part, name.octets()) {
         find_in_fields(alloc, fields, part, name, comparison)
     } else {
         Ok(None)
@@ -189,16 +188,16 @@ fn find_by_names(
     fields: &mut FieldReads<'_>,
     part: Option<AddressPart>,
     values: &Values,
-    names: &[Parts],
+    names: &FieldNames,
     comparison: &Comparison<'_>,
 ) -> Result<Option<MatchValues>, AllocError>
     ensures message { fields.new ≡ fields.old }
-    ensures found { IfOk result (λ found. found ≡ first_some (name_found (found_with comparison.now) part (fields_of fields.old)) (map (text_value values.now) (strings_of names.now))) }
+    ensures found { IfOk result (λ found. found ≡ first_some (name_found (found_with comparison.now) part (fields_of fields.old)) (map (text_value values.now) names.now)) }
 {
     let mut buffer = Vec::new(alloc);
-    for parts in names {
-        let name = values.expanded_in(parts, &mut buffer)?;
-        if let Some(found) = find_by_name(alloc, &mut *fields, part, name, comparison)? {
+    for i in 0..names.len() {
+        let name = names.name_in(i, values, &mut buffer)?;
+        if let Some(found) = find_by_name(alloc, &mut *fields, part, &name, comparison)? {
             return Ok(Some(found));
         }
     }
@@ -211,12 +210,12 @@ pub(crate) fn find_in_named(
     fields: &mut FieldReads<'_>,
     state: &State,
     part: Option<AddressPart>,
-    names: &[Parts],
+    names: &FieldNames,
     comparison: &Comparison<'_>,
 ) -> Result<Option<MatchValues>, AllocError>
     requires { fields.old ≡ (delivery_as delivery.now).message }
     ensures message { fields.new ≡ fields.old }
-    ensures found { IfOk result (λ found. found ≡ first_some (found_with comparison.now) (values_of (delivery_as delivery.now) (state_of state.now) (field_source part (strings_of names.now)))) }
+    ensures found { IfOk result (λ found. found ≡ first_some (found_with comparison.now) (values_of (delivery_as delivery.now) (state_of state.now) (field_source part names.now))) }
 {
     find_by_names(
         delivery.alloc,

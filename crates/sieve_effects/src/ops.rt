@@ -5,6 +5,7 @@ ghost use Rattle.std.specs.Option.{option_map};
 ghost use Rattle.sieve_effects.specs.view.Ops.{settings_op_as};
 ghost use Rattle.sieve_variables.specs.view.Part.{strings_of};
 
+use crate::field_names::FieldNames;
 use match_text::Collation;
 use message_text::AddressPart;
 use sieve_base::{Place, SmallOctets};
@@ -17,14 +18,14 @@ pub enum SourceOp {
     /// From the fields of some names (RFC 5228, section 5.7).
     Header {
         /// The names of fields.
-        names: Strings,
+        names: FieldNames,
     },
     /// From a part of the addresses in the fields of some names (RFC 5228, section 5.1).
     Address {
         /// Which part of an address.
         part: AddressPart,
         /// The names of fields.
-        names: Strings,
+        names: FieldNames,
     },
     /// From a part of the envelope's addresses (RFC 5228, section 5.4).
     Envelope {
@@ -62,7 +63,7 @@ pub enum TestOp {
     /// Whether all named fields are there (RFC 5228, section 5.5).
     Exists {
         /// The names of fields.
-        names: Strings,
+        names: FieldNames,
     },
     /// Whether the message has more octets (RFC 5228, section 5.9).
     Over {

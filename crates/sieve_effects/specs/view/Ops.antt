@@ -27,15 +27,15 @@ abbrev pub given_strings : Option (SmallVec (SmallVec Part)) → Option (List (L
 given_strings strings = option_map (λ given. strings_of given.items) strings
 
 abbrev pub source_op_as : SourceOp → reading.ValueSource
-source_op_as (source.Header names) = reading.header_values (strings_of names.items)
-source_op_as (source.Address part names) = reading.address_values part (strings_of names.items)
+source_op_as (source.Header names) = reading.header_values names
+source_op_as (source.Address part names) = reading.address_values part names
 source_op_as (source.Envelope part names) = reading.envelope_values part (strings_of names.items)
 source_op_as (source.String texts) = reading.string_values (strings_of texts.items)
 source_op_as (source.Flags variables) = reading.flag_values (given_strings variables)
 
 abbrev pub test_op_as : TestOp → Ask
 test_op_as (test.Compares source match_type collation keys) = compares (source_op_as source) match_type collation (strings_of keys.items)
-test_op_as (test.Exists names) = exists_ask (strings_of names.items)
+test_op_as (test.Exists names) = exists_ask names
 test_op_as (test.Over limit) = over_ask limit
 test_op_as (test.Under limit) = under_ask limit
 

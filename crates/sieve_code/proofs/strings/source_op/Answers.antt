@@ -4,11 +4,11 @@ use Rattle.sieve_reading.specs.Reading.{address_values, envelope_values, flag_va
 use Rattle.sieve_reading.specs.view.Reading.{source_as}
 use Rattle.sieve_code.proofs.strings.source_op.Goals as goal
 
-pub returns-in_ok-copied_strings-in-Header : goal.returns-in_ok-copied_strings-in-Header
-returns-in_ok-copied_strings-in-Header c = ap header_values c.in_ok-copied_strings-in-Header.ensures ∙ ap source_as (sym c.in-Header.is)
+pub returns-in_ok-field_names-in-Header : goal.returns-in_ok-field_names-in-Header
+returns-in_ok-field_names-in-Header c = ap header_values c.in_ok-field_names-in-Header.ensures ∙ ap source_as (sym c.in-Header.is)
 
-pub returns-in_ok-copied_strings-in-Address : goal.returns-in_ok-copied_strings-in-Address
-returns-in_ok-copied_strings-in-Address c = ap (address_values c.in-Address.part) c.in_ok-copied_strings-in-Address.ensures ∙ ap source_as (sym c.in-Address.is)
+pub returns-in_ok-field_names-in-Address : goal.returns-in_ok-field_names-in-Address
+returns-in_ok-field_names-in-Address c = ap (address_values c.in-Address.part) c.in_ok-field_names-in-Address.ensures ∙ ap source_as (sym c.in-Address.is)
 
 pub returns-in_ok-copied_strings-in-Envelope : goal.returns-in_ok-copied_strings-in-Envelope
 returns-in_ok-copied_strings-in-Envelope c = ap (envelope_values c.in-Envelope.part) c.in_ok-copied_strings-in-Envelope.ensures ∙ ap source_as (sym c.in-Envelope.is)

@@ -3,12 +3,11 @@ use Rattle.message_text.specs.Fields.{fields_of}
 use Rattle.sieve_effects.specs.Matching.{first_some}
 use Rattle.sieve_effects.specs.view.FieldTests.{found_with, name_found}
 use Rattle.sieve_variables.specs.Value.{text_value}
-use Rattle.sieve_variables.specs.view.Part.{strings_of}
 use Rattle.sieve_effects.proofs.field_values.find_by_names.Given as goal
 
 -- the message stays, and the names that are left decide
-abbrev pub invariant-loop-parts : goal.invariant-loop-parts
-invariant-loop-parts l =
+abbrev pub invariant-loop-i : goal.invariant-loop-i
+invariant-loop-i l =
     let find = name_found (found_with l.comparison) l.part (fields_of l.initial.fields) in
-    (l.fields ≡ l.initial.fields)
-    × (first_some find (map (text_value l.values) (strings_of (drop l.parts-index l.names))) ≡ first_some find (map (text_value l.values) (strings_of l.names)))
+    let names = map (text_value l.values) l.names in
+    (l.fields ≡ l.initial.fields) × (first_some find (drop l.i names) ≡ first_some find names)

@@ -5,7 +5,6 @@ use Rattle.sieve_effects.specs.view.Delivery.{delivery_as}
 use Rattle.sieve_effects.specs.view.FieldTests.{found_with, name_found}
 use Rattle.sieve_effects.specs.view.State.{state_of}
 use Rattle.sieve_variables.specs.Value.{text_value}
-use Rattle.sieve_variables.specs.view.Part.{strings_of}
 use Rattle.sieve_effects.proofs.Searching.{answers_so, first_of_names}
 use Rattle.sieve_effects.proofs.field_values.find_in_named.Goals as goal
 
@@ -13,7 +12,7 @@ pub returns-clause-found : goal.returns-clause-found
 returns-clause-found c =
     let find = found_with c.args.comparison.now in
     let state = state_of c.args.state.now in
-    let names = strings_of c.args.names.now in
+    let names = c.args.names.now in
     answers_so c.find_by_names.result _ _
     (ap (λ (m : List ℕ). first_some (name_found find c.args.part (fields_of m)) (map (text_value state.values) names)) c.requires
     ∙ sym (first_of_names find c.args.part (delivery_as c.args.delivery.now) state names))

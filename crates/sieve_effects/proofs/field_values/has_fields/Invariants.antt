@@ -3,11 +3,11 @@ use Rattle.std.specs.List.{list_all}
 use Rattle.message_text.specs.Fields.{fields_of}
 use Rattle.sieve_effects.specs.Matching.{has_field}
 use Rattle.sieve_variables.specs.Value.{text_value}
-use Rattle.sieve_variables.specs.view.Part.{strings_of}
 use Rattle.sieve_effects.proofs.field_values.has_fields.Given as goal
 
 -- the names that are left decide
-abbrev pub invariant-loop-parts : goal.invariant-loop-parts
-invariant-loop-parts l =
+abbrev pub invariant-loop-i : goal.invariant-loop-i
+invariant-loop-i l =
     let has = has_field (fields_of l.message) in
-    list_all has (map (text_value l.values) (strings_of (drop l.parts-index l.names))) ≡ list_all has (map (text_value l.values) (strings_of l.names))
+    let names = map (text_value l.values) l.names in
+    list_all has (drop l.i names) ≡ list_all has names

@@ -1,0 +1,133 @@
+//! The names of fields that a test looks at, as compiled code keeps them.
+ghost use Rattle.std.specs.Prelude.{◌≡◌, ◌<◌, length, map, slice_get, IfOk, Some};
+ghost use Rattle.std.specs.Option.{option_map};
+ghost use Rattle.sieve_effects.specs.view.FieldNames.{kept_hash, literal_octets, only_literal};
+ghost use Rattle.sieve_variables.specs.Value.{text_value};
+ghost use Rattle.sieve_variables.specs.view.Part.{part_of, strings_of};
+
+use message_text::{FieldName, name_hash};
+use sieve_variables::{Part, Parts, Strings, Values};
+use smallvec::SmallVec;
+use std::alloc::{AllocError, Global};
+use std::marker::Model;
+
+/// A hash for each name. Four, which few tests have more of, lie in the value itself.
+type Hashes = SmallVec<u32, 4>;
+
+/// The names of fields that a test looks at. Contracts see the parts of each. The hash of a name without a variable is made once, and no
+/// run makes it again.
+#[derive(Drop)]
+pub struct FieldNames {
+    strings: Strings,
+    hashes: Hashes,
+}
+
+impl Model for FieldNames {
+    ghost use Rattle.std.specs.Prelude.{◌≡◌, List, map};
+    ghost use Rattle.sieve_effects.specs.view.FieldNames.{kept_hash};
+    ghost use Rattle.sieve_variables.specs.Part.{Part};
+    ghost use Rattle.sieve_variables.specs.view.Part.{strings_of};
+
+    ghost Value = { List (List Part) };
+
+    ghost view = { λ n. strings_of n.strings.items };
+
+    ghost invariant = { λ n. n.hashes.items ≡ map kept_hash (strings_of n.strings.items) };
+}
+
+/// The octets of a literal.
+fn literal_octets(part: &Part) -> Option<&[u8]>
+    ensures { option_map (λ octets. octets.now) result ≡ literal_octets (part_of part.now) }
+{
+    match part {
+        Part::Literal(octets) => Some(octets.as_slice()),
+        Part::Variable(_) => None,
+        Part::Match(_) => None,
+    }
+}
+
+/// The octets of a string that is one literal.
+fn only_literal(parts: &[Part]) -> Option<&[u8]>
+    ensures { option_map (λ octets. octets.now) result ≡ only_literal (map part_of parts.now) }
+{
+    match parts {
+        [part] => literal_octets(part),
+        _ => None,
+    }
+}
+
+/// What is kept for a name: its hash, where it is one literal.
+fn kept_hash(parts: &[Part]) -> u32
+    ensures { result ≡ kept_hash (map part_of parts.now) }
+{
+    match only_literal(parts) {
+        Some(octets) => name_hash(octets),
+        None => 0,
+    }
+}
+
+/// What is kept for each name.
+fn kept_hashes(alloc: Global, strings: &[Parts]) -> Result<Hashes, AllocError>
+    ensures { IfOk result (λ hashes. hashes.items ≡ map kept_hash (strings_of strings.now)) }
+{
+    let mut hashes = Hashes::with_capacity(alloc, strings.len())?;
+    for parts in strings {
+        hashes.push(kept_hash(parts))?;
+    }
+    Ok(hashes)
+}
+
+/// The name that a string stands for, whose kept hash is given.
+fn prepared_in<'a>(
+    parts: &'a [Part],
+    hash: u32,
+    values: &'a Values,
+    buffer: &'a mut Vec<u8>,
+) -> Result<FieldName<'a>, AllocError>
+    requires { hash ≡ kept_hash (map part_of parts.now) }
+    ensures { IfOk result (λ name. name ≡ text_value values.now (map part_of parts.now)) }
+{
+    if let Some(octets) = only_literal(parts) {
+        return Ok(FieldName::with_hash(octets, hash));
+    }
+    let octets = values.expanded_in(parts, buffer)?;
+    Ok(FieldName::new(octets))
+}
+
+impl FieldNames {
+    /// These names. Where there are more than four, it takes memory for a number each.
+    pub fn new(alloc: Global, strings: Strings) -> Result<FieldNames, AllocError>
+        ensures { IfOk result (λ names. names ≡ strings_of strings.items) }
+    {
+        let hashes = kept_hashes(alloc, &strings)?;
+        Ok(FieldNames { strings, hashes })
+    }
+
+    /// The names as strings, each by its parts. Takes no memory.
+    pub fn strings(&self) -> &[Parts]
+        ensures { strings_of result.now ≡ self.now }
+    {
+        self.strings.as_slice()
+    }
+
+    /// How many there are.
+    pub(crate) fn len(&self) -> usize
+        ensures { result ≡ length self.now }
+    {
+        self.strings.len()
+    }
+
+    /// What name `i` stands for, for one name after another. One that is one part takes no memory; one of several is put into the
+    /// buffer, in place of what it holds, which takes memory where it has too little room.
+    pub(crate) fn name_in<'a>(
+        &'a self,
+        i: usize,
+        values: &'a Values,
+        buffer: &'a mut Vec<u8>,
+    ) -> Result<FieldName<'a>, AllocError>
+        requires { i < length self.now }
+        ensures { IfOk result (λ name. slice_get (map (text_value values.now) self.now) i ≡ Some name) }
+    {
+        prepared_in(&self.strings[i], self.hashes[i], values, buffer)
+    }
+}
