@@ -98,12 +98,7 @@ fn write_spelling<W: Sink>(octet: u8, writer: &mut W) -> Result<(), WriteFault>
         b'"' | b'\\' => write_out(&[b'\\', octet], writer),
         _ if is_printable(octet) => write_out(&[octet], writer),
         _ => write_out(
-            &[
-                b'\\',
-                b'x',
-                hex_digit(octet / 16),
-                hex_digit(octet % 16),
-            ],
+            &[b'\\', b'x', hex_digit(octet / 16), hex_digit(octet % 16)],
             writer,
         ),
     }
