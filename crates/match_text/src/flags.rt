@@ -365,10 +365,11 @@ fn insert_other(
     }
 }
 
-/// The flags as a variable holds them, with one space between two (RFC 5232, section 2).
+/// The flags as a variable holds them, with one space between two (RFC 5232, section 2). No flag takes no memory.
 #[tactic(auto, unfolding(crate::specs::Flags::flag_text))]
 pub fn flag_text(alloc: Global, list: &FlagList) -> Result<Vec<u8>, AllocError>
-    ensures { IfOk result (λ text. text.items ≡ flag_text list.now) }
+    ensures exact { IfOk result (λ text. text.items ≡ flag_text list.now) }
+    ensures no_flag { list.now ≡ [] → IsOk result }
 {
     let mut text = Vec::new(alloc);
     if let [first, rest @ ..] = list.flags.as_slice() {
