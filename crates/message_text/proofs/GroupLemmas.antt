@@ -6,7 +6,7 @@ use Rattle.std.specs.Str.Lines.{lines}
 use Rattle.std.proofs.lemmas.Bool.{cond-true, cond-false, lt-ltb}
 use Rattle.std.proofs.lemmas.List.{append-nil, drop-drop, drop-take, length-drop, length-take-le, take-take}
 use Rattle.std.proofs.lemmas.List.Sums.{take_while-cons}
-use Rattle.message_text.specs.Fields.{Group, field_groups, groups_of, is_continuation, is_field}
+use Rattle.message_text.specs.Fields.{Group, field_groups, field_of, fields_of, groups_of, is_continuation, is_field}
 use Rattle.message_text.specs.view.Heads.{IsHead}
 use Rattle.message_text.specs.view.NameHash.{name_hash}
 use Rattle.message_text.proofs.ContinuationLemmas.{none_continues}
@@ -96,3 +96,21 @@ pub are_spans : (octets : List ℕ) (spans : List FieldSpan) (start : ℕ) → m
 are_spans octets spans start found none each =
     let so_far = map (group_at octets) spans in
     record { groups = sym found ∙ ap (λ (rest : List Group). so_far ++ rest) none ∙ append-nil so_far; each = each }
+
+-- no groups are those of no line and those of what is behind it
+pub none_first : (first others : List Group) → first ++ others ≡ [] → first ≡ []
+none_first [] others none = refl
+none_first (group ∷ first) others none = cc
+
+pub none_behind : (first others : List Group) → first ++ others ≡ [] → others ≡ []
+none_behind [] others none = none
+none_behind (group ∷ first) others none = cc
+
+-- a message without a field has no group of one
+no_group : (groups : List Group) → map field_of groups ≡ [] → groups ≡ []
+no_group [] none = refl
+no_group (group ∷ groups) none = cc
+
+pub no_groups : (message : List ℕ) → fields_of message ≡ [] → field_groups message ≡ []
+unfolding fields_of
+no_groups message none = no_group (field_groups message) none

@@ -1,5 +1,5 @@
 //! Where the header fields of a message stand.
-ghost use Rattle.std.specs.Prelude.{◌≡◌, ◌<◌, ◌++◌, IfNone, IfOk, IfSome, OnOk, Some, false, true, length, map, option_to_list, slice_get, slice_range, drop};
+ghost use Rattle.std.specs.Prelude.{◌≡◌, ◌<◌, ◌++◌, [], IfNone, IfOk, IfSome, IsOk, OnOk, Some, false, true, length, map, option_to_list, slice_get, slice_range, drop};
 ghost use Rattle.std.specs.List.{All};
 ghost use Rattle.std.specs.Str.Lines.{lines};
 ghost use Rattle.message_text.specs.Fields.{begins_field, field_groups, fields_of, is_continuation, is_name};
@@ -120,6 +120,7 @@ fn push_span(
         ++ field_here (slice_range octets.now start line.end) (lines (drop line.next octets.now))) }
     ensures each { OnOk result (All (IsSpan octets.now) spans.old.items
         → All (IsSpan octets.now) spans.new.items) }
+    ensures nothing { field_here (slice_range octets.now start line.end) (lines (drop line.next octets.now)) ≡ [] → IsOk result }
 {
     if let Some(span) = span_of(octets, start, line) {
         spans.push(span)?;
@@ -129,7 +130,8 @@ fn push_span(
 
 /// The fields of a message, in order. The body isn't read.
 pub(crate) fn spans_of(alloc: Global, octets: &[u8]) -> Result<Vec<FieldSpan>, AllocError>
-    ensures { IfOk result (λ spans. AreSpans octets.now spans.items) }
+    ensures spans { IfOk result (λ spans. AreSpans octets.now spans.items) }
+    ensures no_field { field_groups octets.now ≡ [] → IsOk result }
 {
     let mut spans = Vec::new(alloc);
     let mut start = 0;

@@ -1,5 +1,5 @@
 //! A message and its header fields.
-ghost use Rattle.std.specs.Prelude.{◌≡◌, ◌<◌, ◌≤◌, ◌↔◌, ◌^◌, ◌-◌, IfErr, IfOk, IsErrAnd, IfNone, IfSome, IsOk, IsOkAnd, Some, false, length, map, slice_get, ℕ};
+ghost use Rattle.std.specs.Prelude.{◌≡◌, ◌<◌, ◌≤◌, ◌↔◌, ◌^◌, ◌-◌, [], IfErr, IfOk, IsErrAnd, IfNone, IfSome, IsOk, IsOkAnd, Some, false, length, map, slice_get, ℕ};
 ghost use Rattle.std.specs.Cow.{IsBorrowedSlice, IsOwnedSlice, cow_slice_items};
 ghost use Rattle.sieve_base.specs.Limits.{message_limit};
 ghost use Rattle.message_text.specs.Fields as spec;
@@ -52,12 +52,13 @@ impl Model for Message {
 impl Message {
     /// The message of these octets. A refusal gives them back.
     ///
-    /// It is [`TooLarge`](MessageFault::TooLarge) exactly past [`MAX_MESSAGE`].
+    /// It is [`TooLarge`](MessageFault::TooLarge) exactly past [`MAX_MESSAGE`]. Octets without a field take no memory.
     pub fn new(alloc: Global, bytes: Vec<u8>) -> Result<Message, (MessageFault, Vec<u8>)>
         ensures ok { IfOk result (λ message. message ≡ bytes.items) }
         ensures too_large { IsErrAnd result (λ refused. refused.0 ≡ MessageFault.TooLarge)
             ↔ (message_limit < length bytes.items) }
         ensures given_back { IfErr result (λ refused. refused.1.items ≡ bytes.items) }
+        ensures no_field { length bytes.items ≤ message_limit → spec.fields_of bytes.items ≡ [] → IsOk result }
     {
         if bytes.len() > MAX_MESSAGE {
             return Err((MessageFault::TooLarge, bytes));

@@ -1,10 +1,10 @@
 use Rattle.sieve_base.specs.Octet.{is_filled}
-use Rattle.std.proofs.Common.{◌≡◌, ◌++◌, List, [], slice_range, drop, map, sym, ap, ◌∙◌, append_assoc, arith}
+use Rattle.std.proofs.Common.{◌≡◌, ◌++◌, false, true, List, [], slice_range, drop, map, sym, ap, ◌∙◌, append_assoc, arith}
 use Rattle.std.specs.Str.Lines.{lines}
 use Rattle.std.proofs.lemmas.List.{drop_all}
 use Rattle.message_text.specs.Fields.{Group, field_groups}
 use Rattle.message_text.specs.view.Spans.{field_here, group_at}
-use Rattle.message_text.proofs.GroupLemmas.{are_spans, field_groups-end, field_groups-first, field_groups-nil, slice-empty, slice-filled}
+use Rattle.message_text.proofs.GroupLemmas.{are_spans, field_groups-end, field_groups-first, field_groups-nil, none_behind, none_first, slice-empty, slice-filled}
 use Rattle.message_text.proofs.fields.spans_of.Goals.{else-loop-start-test, then-loop-start-test+then-line-start}
 use Rattle.message_text.proofs.fields.spans_of.Goals as goal
 
@@ -25,8 +25,8 @@ loop-start-preserved c =
       c.in_ok-push_span.ensures.each c.loop-start.invariant.1,
     )
 
-pub returns : goal.returns
-returns c =
+pub returns-clause-spans : goal.returns-clause-spans
+returns-clause-spans c =
     let octets = c.args.octets.now in
     let start = c.loop-start.start in
     let none : field_groups (drop start octets) ≡ [] =
@@ -37,3 +37,19 @@ returns c =
           (ap (λ end. is_filled (slice_range octets start end)) w.if-line-start.true ∙ slice-empty octets start)
     ] in
     are_spans octets c.loop-start.spans.items start c.loop-start.invariant.0 none c.loop-start.invariant.1
+
+pub returns-in_err-push_span-clause-no_field : goal.returns-in_err-push_span-clause-no_field
+returns-in_err-push_span-clause-no_field c = λ none.
+    let octets = c.args.octets.now in
+    let start = c.loop-start.start in
+    let end = c.line_at-line.result.end in
+    let next = c.line_at-line.result.next in
+    let line = slice_range octets start end in
+    let so_far = map (group_at octets) c.loop-start.spans.items in
+    let here = field_here line (lines (drop next octets)) in
+    let others = field_groups (drop next octets) in
+    let filled = slice-filled octets start end (omega arith) c.line_at-line.ensures.end_within in
+    let left : field_groups (drop start octets) ≡ [] = none_behind so_far _ (c.loop-start.invariant.0 ∙ none) in
+    let both : here ++ others ≡ [] = sym (field_groups-first (drop start octets) (drop next octets) line c.line_at-line.ensures.first filled) ∙ left in
+    let refused : false ≡ true = c.in_err-push_span.ensures.nothing (none_first here others both) in
+    cc
