@@ -1,6 +1,5 @@
 -- What code keeps for a name at its place.
-use Rattle.std.proofs.Common.{◌≡◌, ℕ, zero, suc, ◌<◌, arith, List, [], ◌∷◌, map, length, slice_index_or, Option, Some, Result, sym, ap, ◌∙◌}
-use Rattle.std.specs.Prelude.{IfOk}
+use Rattle.std.proofs.Common.{◌≡◌, ℕ, zero, suc, ◌<◌, arith, List, [], ◌∷◌, map, length, slice_index_or, Some, sym, ap}
 use Rattle.std.specs.List.{slice_get}
 use Rattle.smallvec.specs.SmallVec.{SmallVec}
 use Rattle.sieve_variables.specs.Value.{Values, text_value}

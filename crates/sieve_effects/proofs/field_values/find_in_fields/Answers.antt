@@ -1,7 +1,6 @@
 use Rattle.std.proofs.Common.{◌≡◌, ◌<◌, ◌≤◌, ℕ, List, Some, false, length, map, ap, subst, sym, ◌∙◌, arith}
 use Rattle.std.specs.List.{slice_get}
 use Rattle.message_text.specs.Fields.{IsNextNamed, fields_of, is_field_named}
-use Rattle.sieve_effects.specs.Matching.{first_some}
 use Rattle.sieve_effects.specs.view.FieldTests.{field_found, found_with, value_found}
 use Rattle.sieve_effects.proofs.Searching.{first_at, first_after, next_found, next_within, none_behind, none_left}
 use Rattle.sieve_effects.proofs.field_values.find_in_fields.Goals as goal
