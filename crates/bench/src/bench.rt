@@ -1,6 +1,6 @@
 //! The bench: its edits, its report and the verdicts that it keeps.
 ghost use Rattle.sieve_base.specs.Octet.{is_among};
-ghost use Rattle.std.specs.Prelude.{◌≡◌, ⊤, [], IfOk, OnOk, OnErr, IfErr, Ok, length};
+ghost use Rattle.std.specs.Prelude.{◌≡◌, ⊤, [], IfOk, OnOk, OnErr, IfErr, None, Ok, length};
 ghost use Rattle.std.specs.Option.{option_copied};
 ghost use Rattle.bench.specs.Bench.{RefusedAmong, verdict_at};
 ghost use Rattle.bench.specs.Stale.{ids_where, stale_after};
@@ -11,7 +11,7 @@ ghost use Rattle.sieve_run.specs.view.Found.{FoundAs};
 ghost use Rattle.bench.specs.Report.{report_text};
 ghost use Rattle.bench.specs.Test.{is_clean};
 ghost use Rattle.bench.specs.view.ReportFault.{MatchReportFault};
-ghost use Rattle.bench.specs.Content.{after, Answers, new_content, Refuses, text_at};
+ghost use Rattle.bench.specs.Content.{after, Answers, expected_refusal, message_refusal, new_content, Refuses, script_refusal, text_at};
 ghost use Rattle.bench.specs.Content as edit;
 
 use crate::entry::Entry;
@@ -78,6 +78,17 @@ impl Bench {
         if let Some(fault) = refuse_script(&self.scripts, name, text.as_slice()) {
             return Err(fault);
         }
+        self.take_script(name, text)
+    }
+
+    /// Keeps a script's text at a name, where only memory may be refused.
+    fn take_script(&mut self, name: &ScriptName, text: Octets) -> Result<(), EditFault>
+        requires { script_refusal self.old.content.scripts name.now text ≡ None }
+        ensures ok { OnOk result (after self.old.content (edit.put_script name.now text) ≡ Ok self.new.content) }
+        ensures stale { OnOk result (self.new.stale ≡ stale_after self.old.content (edit.put_script name.now text) self.old.stale self.new.content) }
+        ensures err { OnErr result (self.new ≡ self.old) }
+        ensures refused { Refuses (after self.old.content (edit.put_script name.now text)) result }
+    {
         match self.scripts.put(self.alloc, name, text) {
             Ok(()) => {
                 forget_readers(&mut self.messages, name);
@@ -88,7 +99,6 @@ impl Bench {
     }
 
     /// Keeps a message's octets at an id, neither of which needs to be copied.
-    #[tactic(auto, using(crate::proofs::Entries::entries))]
     pub fn keep_message(&mut self, id: Octets, bytes: Octets) -> Result<(), EditFault>
         ensures ok { OnOk result (after self.old.content (edit.put_message id bytes) ≡ Ok self.new.content) }
         ensures stale { OnOk result (self.new.stale ≡ stale_after self.old.content (edit.put_message id bytes) self.old.stale self.new.content) }
@@ -98,13 +108,24 @@ impl Bench {
         if let Some(fault) = refuse_message(&self.messages, &id, bytes.as_slice()) {
             return Err(fault);
         }
+        self.take_message(id, bytes)
+    }
+
+    /// Keeps a message's octets at an id, where only memory may be refused.
+    #[tactic(auto, using(crate::proofs::Entries::entries))]
+    fn take_message(&mut self, id: Octets, bytes: Octets) -> Result<(), EditFault>
+        requires { message_refusal self.old.content.messages id bytes ≡ None }
+        ensures ok { OnOk result (after self.old.content (edit.put_message id bytes) ≡ Ok self.new.content) }
+        ensures stale { OnOk result (self.new.stale ≡ stale_after self.old.content (edit.put_message id bytes) self.old.stale self.new.content) }
+        ensures err { OnErr result (self.new ≡ self.old) }
+        ensures refused { Refuses (after self.old.content (edit.put_message id bytes)) result }
+    {
         let message = message_of(self.alloc, bytes)?;
         put(&mut self.messages, id, message)?;
         Ok(())
     }
 
     /// Expects a text of a message's verdict, which needn't be copied.
-    #[tactic(auto, using(crate::proofs::Entries::entries))]
     pub fn keep_expected(&mut self, id: &[u8], text: Octets) -> Result<(), EditFault>
         ensures ok { OnOk result (after self.old.content (edit.set_expected id.now text) ≡ Ok self.new.content) }
         ensures stale { OnOk result (self.new.stale ≡ stale_after self.old.content (edit.set_expected id.now text) self.old.stale self.new.content) }
@@ -114,8 +135,18 @@ impl Bench {
         if let Some(fault) = refuse_expected(&self.messages, id, text.as_slice()) {
             return Err(fault);
         }
-        expect(&mut self.messages, SoughtId { octets: id }, Some(text));
+        self.take_expected(id, text);
         Ok(())
+    }
+
+    /// Expects a text of the verdict on a message that is there.
+    #[tactic(auto, using(crate::proofs::Entries::entries))]
+    fn take_expected(&mut self, id: &[u8], text: Octets)
+        requires { expected_refusal self.old.content.messages id.now text ≡ None }
+        ensures made { after self.old.content (edit.set_expected id.now text) ≡ Ok self.new.content }
+        ensures stale { self.new.stale ≡ stale_after self.old.content (edit.set_expected id.now text) self.old.stale self.new.content }
+    {
+        expect(&mut self.messages, SoughtId { octets: id }, Some(text));
     }
 
     /// A bench with no scripts, no messages, no main script, an empty envelope, and the mailbox `INBOX`.
@@ -151,7 +182,7 @@ impl Bench {
             return Err(fault);
         }
         let text = Octets::copied(self.alloc, text)?;
-        self.keep_script(name, text)
+        self.take_script(name, text)
     }
 
     /// Puts a message's octets at an id: a new id goes last, and nothing is expected of its verdict; a present one keeps its place, and the text that is
@@ -165,9 +196,9 @@ impl Bench {
         if let Some(fault) = refuse_message(&self.messages, id, bytes) {
             return Err(fault);
         }
-        let bytes = Octets::copied(self.alloc, bytes)?;
+        let copy = Octets::copied(self.alloc, bytes)?;
         let id = Octets::copied(self.alloc, id.as_slice())?;
-        self.keep_message(id, bytes)
+        self.take_message(id, copy)
     }
 
     /// Makes a script main, whether or not it is there.
@@ -248,7 +279,8 @@ impl Bench {
             return Err(fault);
         }
         let copy = Octets::copied(self.alloc, text)?;
-        self.keep_expected(id, copy)
+        self.take_expected(id, copy);
+        Ok(())
     }
 
     /// Expects no text of a message's verdict any more, also where none was expected. Makes no message stale. Takes no memory.

@@ -2,7 +2,7 @@
 use Rattle.std.proofs.Common.{◌≡◌, ℕ, Bool, true, false, List, [], ◌∷◌, map, Some, refl, codes}
 use Rattle.sieve_syntax.specs.Tree as syntax
 use Rattle.sieve_syntax.specs.Symbol.{identifier, number_symbol, string_symbol}
-use Rattle.sieve_check.specs.Bare.{bare_written_node}
+use Rattle.sieve_check.specs.Bare.{bare_node}
 use Rattle.sieve_check.specs.Breach.{breaches_at, breaches_in, breaches_of}
 use Rattle.sieve_check.specs.Context.{behind, nothing_required, takes_references}
 use Rattle.sieve_check.specs.Element.{Element, the_command, the_number, the_test, the_text, block_elements, elements_of, node_elements, nodes_elements, test_elements, tests_elements}
@@ -108,11 +108,11 @@ early_cut_row : takes_references (cutting_at_start early_block).required (Some A
 unfolding command_named
 early_cut_row = refl
 
--- A TREE WITHOUT WHAT ITS STRINGS HOLD
+-- A TREE WITHOUT WHAT ITS STRINGS ARE
 
 -- redirect "${a}";
-bare_row : map bare_written_node (syntax.node (codes "redirect") 7 (string (codes "${a}") 8 ∷ []) syntax.no_tests syntax.no_block ∷ [])
-    ≡ node (codes "redirect") 7 (strings (record { string = []; line = 8 } ∷ []) false ∷ []) no_tests no_block ∷ []
+bare_row : map bare_node (syntax.node (codes "redirect") 7 (string (codes "${a}") 8 ∷ []) syntax.no_tests syntax.no_block ∷ [])
+    ≡ node (codes "redirect") 7 (strings (record { string = tt; line = 8 } ∷ []) false ∷ []) no_tests no_block ∷ []
 bare_row = refl
 
 -- NAMES THAT ARE WRITTEN

@@ -7,7 +7,7 @@ ghost use Rattle.sieve_syntax.specs.Token.{Spells};
 ghost use Rattle.sieve_syntax.specs.Tree.{Node, Nodes};
 ghost use Rattle.sieve_syntax.specs.Symbol.{symbols_of};
 ghost use Rattle.sieve_syntax.specs.declared.token.Token.{Token};
-ghost use Rattle.sieve_check.specs.Bare.{bare_node, bare_written_node};
+ghost use Rattle.sieve_check.specs.Bare.{bare_node};
 ghost use Rattle.sieve_check.specs.Breach.{Breach, breaches_at, breaches_of, breaks, first_breach, IsLeastBreach};
 ghost use Rattle.sieve_check.specs.Context.{Context, Required, behind_nodes, is_required, requiring, script_start, takes_references};
 ghost use Rattle.sieve_check.specs.Element.{Element, elements_of};
@@ -58,7 +58,7 @@ pub fn parts_go_by_the_role()
 /// Cutting strings into parts changes nothing else of a tree (RFC 5229, section 3): the checked tree has the names, lines, tags, numbers,
 /// tests and blocks of the text's tree, and in each argument as many strings, on the same lines, in brackets or not.
 pub fn parting_changes_strings_alone()
-    ensures { (tree : List Node) → map bare_node (parted tree) ≡ map bare_written_node tree }
+    ensures { (tree : List Node) → map bare_node (parted tree) ≡ map bare_node tree }
 {}
 
 /// The rules judge under the requirements by which strings are cut. Behind the `require` commands at the top of a script all that these

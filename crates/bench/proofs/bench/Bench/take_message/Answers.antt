@@ -1,7 +1,6 @@
-use Rattle.std.proofs.Common.{refl}
 use Rattle.bench.specs.view.Entry.{expected_in}
 use Rattle.bench.proofs.Marks.{due-put, stale-put}
-use Rattle.bench.proofs.bench.Bench.keep_message.Goals as goal
+use Rattle.bench.proofs.bench.Bench.take_message.Goals as goal
 
 pub invariant_of-self : goal.invariant_of-self
 invariant_of-self c = (rw c.in_err-put.ensures.err c.self.invariant.0, c.put.ensures.unique)
@@ -13,6 +12,3 @@ invariant_of-self-2 c =
 pub returns-clause-stale : goal.returns-clause-stale
 returns-clause-stale c =
     rw (← c.self.view_is, c.in_ok-put.ensures.ok) (stale-put c.args.id c.in_ok-message.message (expected_in c.self.inside.messages.entries c.args.id) c.self.inside.messages.entries c.self.invariant.1)
-
-pub returns-in-Some-clause-err : goal.returns-in-Some-clause-err
-returns-in-Some-clause-err c = refl

@@ -1,9 +1,9 @@
-use Rattle.std.proofs.Common.{refl, sym}
+use Rattle.std.proofs.Common.{sym}
 use Rattle.bench.specs.Content.{text_at, with_script}
 use Rattle.bench.specs.Report.{verdict_by}
 use Rattle.bench.proofs.Marks.{stale-marked}
 use Rattle.bench.proofs.Names.{text-with_script}
-use Rattle.bench.proofs.bench.Bench.keep_script.Goals as goal
+use Rattle.bench.proofs.bench.Bench.take_script.Goals as goal
 
 pub invariant_of-self : goal.invariant_of-self
 invariant_of-self c =
@@ -18,6 +18,3 @@ pub returns-in-Ok-clause-stale : goal.returns-in-Ok-clause-stale
 returns-in-Ok-clause-stale c =
     rw (← c.self.view_is, c.forget_readers.ensures.entries)
     (stale-marked (verdict_by c.self.inside.main c.self.inside.envelope c.self.inside.scripts) c.args.name.now c.self.inside.messages.entries c.self.invariant.0 c.self.invariant.1)
-
-pub returns-in-Some-clause-err : goal.returns-in-Some-clause-err
-returns-in-Some-clause-err c = refl
