@@ -226,18 +226,18 @@ fn no_field_is_behind_the_last(rt: HostRuntime) -> Result<(), Fail> {
     Ok(())
 }
 
-// Names that differ in case alone have one hash, and a name with its hash names the same fields.
+// Names that differ in case alone have one hash, by their letters in upper case, and a name with its hash names the same fields.
 #[test]
 fn a_name_keeps_its_hash(rt: HostRuntime) -> Result<(), Fail> {
-    holds(&rt, b"to", name_hash(b"to") == 3_707);
-    holds(&rt, b"TO", name_hash(b"TO") == 3_707);
-    holds(&rt, b"Subject", name_hash(b"Subject") == 2_427_082_028);
+    holds(&rt, b"to", name_hash(b"to") == 2_683);
+    holds(&rt, b"TO", name_hash(b"TO") == 2_683);
+    holds(&rt, b"Subject", name_hash(b"Subject") == 3_145_064_716);
     holds(&rt, b"", name_hash(b"") == 0);
     let message = read(rt.alloc(), b"To: a\nSubject: b\ntO: c\n")?;
     let name = FieldName::with_hash(b"tO", name_hash(b"tO"));
     let places = [message.next_named(&name, 0), message.next_named(&name, 1)];
     holds(&rt, b"tO", places == [Some(0), Some(2)]);
-    holds(&rt, b"tO", name.octets() == b"tO");
+    holds(&rt, b"tO", name.octets() == b"tO".as_slice());
     Ok(())
 }
 
