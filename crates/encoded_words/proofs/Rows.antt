@@ -5,7 +5,7 @@ use Rattle.std.specs.Str.{chars, is_utf8}
 use Rattle.base64.specs.Decode.{groups_bytes, groups_error, scan_steps}
 use Rattle.encoded_words.specs.Charset.{in_utf8, meaning}
 use Rattle.encoded_words.specs.Encoding.{b_octets, q_octets}
-use Rattle.encoded_words.specs.Scan.{decoded_of, has_known, has_word, has_written, pieces_from, word_at}
+use Rattle.encoded_words.specs.Scan.{decoded_of, has_known, has_word, pieces_from, word_at}
 
 -- RFC 2047, section 2
 
@@ -182,17 +182,13 @@ undecoded_row : has_word (codes "=?koi8-r?Q?a?=") ≡ false
 unfolding word_at pieces_from meaning
 undecoded_row = refl
 
-written_row : has_written (codes "=?koi8-r?Q?a?=") ≡ true
-unfolding has_written word_at
-written_row = refl
-
-unwritten_row : has_written (codes "=?koi8-r?Q?a? =") ≡ false
-unfolding has_written word_at
-unwritten_row = refl
-
 unknown_row : has_known (codes "=?koi8-r?Q?a?=") ≡ false
 unfolding has_known word_at
 unknown_row = refl
+
+open_row : has_known (codes "=?UTF-8?Q?a? =") ≡ false
+unfolding has_known word_at
+open_row = refl
 
 known_row : has_known (codes "=?koi8-r?Q?a?= =?UTF-8?B?!?=") ≡ true
 unfolding has_known word_at

@@ -14,7 +14,7 @@ use Rattle.encoded_words.specs.Cut.{Cuts, ValuePiece, joined, kept, leads_to_wor
 use Rattle.sieve_base.specs.Octet.{is_blank, octet_of}
 use Rattle.encoded_words.specs.Charset.{charset_named, in_utf8, meaning, octets_in}
 use Rattle.encoded_words.specs.declared.charset.Charset.{Charset}
-use Rattle.encoded_words.specs.Scan.{decoded_of, first_piece, has_word, replaced_of, has_known, has_written, further_octets, is_known, is_word, piece_by, pieces_from, pieces_of, run, word_at}
+use Rattle.encoded_words.specs.Scan.{decoded_of, first_piece, has_word, replaced_of, has_known, further_octets, is_known, is_word, piece_by, pieces_from, pieces_of, run, word_at}
 use Rattle.encoded_words.specs.Word.{EncodedWord, is_word_octet}
 use Rattle.encoded_words.proofs.Cut.{cuts_from, pieces_from-drop}
 
@@ -241,29 +241,13 @@ unknown_here [] word is none = absurd cc
 unknown_here (c ∷ rest) word is none =
     not_there (charset_named word.charset) (ap is_known is ∙ or_first (is_known (word_at (c ∷ rest))) (has_known rest) none)
 
--- so it stands for nothing
+-- a word there stands for nothing
 pub unknown_means : (rest meant : List ℕ) (word : EncodedWord) → Some word ≡ word_at rest → Some meant ≡ meaning word → has_known rest ≡ false → ⊥
 unfolding meaning
 unknown_means rest meant word is means none =
     let nothing : Some meant ≡ None =
     means ∙ ap (λ found. option_and_then (λ charset. option_and_then (in_utf8 charset) (octets_in word)) found) (unknown_here rest word is none) in
     cc
-
-none_written : (found : Option EncodedWord) → is_some found ≡ false → is_known found ≡ false
-none_written None none = refl
-none_written (Some word) none = absurd cc
-
-both_false : (a b : Bool) → a ≡ false → b ≡ false → (a || b) ≡ false
-both_false true b first last = absurd cc
-both_false false b first last = last
-
--- where no word is written, none of a known charset is
-pub unwritten_unknown : (value : List ℕ) → has_written value ≡ false → has_known value ≡ false
-unfolding has_written has_known
-unwritten_unknown [] none = refl
-unwritten_unknown (c ∷ rest) none =
-    let found = word_at (c ∷ rest) in
-    both_false (is_known found) (has_known rest) (none_written found (or_first (is_some found) (has_written rest) none)) (unwritten_unknown rest (or_last (is_some found) (has_written rest) none))
 
 -- where no word is replaced
 

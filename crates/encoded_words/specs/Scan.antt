@@ -77,11 +77,6 @@ has_word value = list_any is_word (pieces_of value)
 abbrev pub replaced_of : List ℕ → Option (List ℕ)
 replaced_of value = if has_word value then Some (decoded_of value) else None
 
--- whether a word is written in a value, whether or not it can be decoded
-unfoldable pub has_written : List ℕ → Bool
-has_written [] = false
-has_written (c ∷ rest) = is_some (word_at (c ∷ rest)) || has_written rest
-
 -- whether there is a word, of a charset that is known
 abbrev pub is_known : Option EncodedWord → Bool
 is_known None = false

@@ -3,7 +3,7 @@ ghost use Rattle.std.specs.Prelude.{◌≡◌, ◌++◌, ◌≤◌, IfOk, IsOk, 
 ghost use Rattle.std.specs.Cow.{IsBorrowedSlice, IsOwnedSlice, cow_slice_items};
 ghost use Rattle.std.specs.List.{list_all};
 ghost use Rattle.sieve_base.specs.Octet.{is_blank};
-ghost use Rattle.encoded_words.specs.Scan.{decoded_of, has_known, has_word, has_written, pieces_of, replaced_of};
+ghost use Rattle.encoded_words.specs.Scan.{decoded_of, has_known, has_word, pieces_of, replaced_of};
 ghost use Rattle.encoded_words.specs.Cut.{kept, octet};
 ghost use Rattle.encoded_words.specs.view.Word.{octets_of};
 
@@ -101,13 +101,12 @@ fn decoded(alloc: Global, value: &[u8]) -> Result<CowSlice<'_, u8>, AllocError>
 ///
 /// The result is borrowed exactly where the value was and no word was replaced. No memory is taken where no word of a
 /// charset that is known is written in the value.
-#[tactic(auto, using(crate::proofs::Steps::unchanged, crate::proofs::Steps::none_replaced, crate::proofs::Steps::some_replaced, crate::proofs::Steps::unwritten_unknown))]
+#[tactic(auto, using(crate::proofs::Steps::unchanged, crate::proofs::Steps::none_replaced, crate::proofs::Steps::some_replaced))]
 pub fn decoded_value(alloc: Global, value: CowSlice<'_, u8>) -> Result<CowSlice<'_, u8>, AllocError>
     ensures octets { IfOk result (λ octets. cow_slice_items octets ≡ decoded_of (cow_slice_items value.entry)) }
     ensures borrowed { has_word (cow_slice_items value.entry) ≡ false → IsBorrowedSlice value.entry → IfOk result IsBorrowedSlice }
     ensures replaced { has_word (cow_slice_items value.entry) ≡ true → IfOk result IsOwnedSlice }
     ensures owned { IsOwnedSlice value.entry → IfOk result IsOwnedSlice }
-    ensures unwritten { has_written (cow_slice_items value.entry) ≡ false → IsOk result }
     ensures unknown { has_known (cow_slice_items value.entry) ≡ false → IsOk result }
 {
     match value {

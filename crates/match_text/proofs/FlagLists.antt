@@ -157,7 +157,7 @@ union_behind_some a flags items known n new are more within there some =
         let long = length-drop n flags in
         (n + i, omega arith, (omega arith, made ∙ sym (union_known a (take n flags) (take i (drop n flags)) there) ∙ ap (flag_union a) (sym (take-add n i flags))))
 
--- none is left of a slice of the flags from their end on
+-- a slice of the flags from their end on has none
 pub none_behind : (flags items : List (List ℕ)) (n : ℕ) → items ≡ flags → n ≡ length flags → take (length items - n) (drop n items) ≡ []
 none_behind flags items n are end =
     ap (λ l. take (length l - n) (drop n l)) are ∙ ap (take (length flags - n)) (drop_all n flags (omega arith)) ∙ take-nil (length flags - n)

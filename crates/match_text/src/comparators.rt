@@ -173,7 +173,7 @@ pub(crate) fn folded<C: Comparator>(alloc: Global, octets: &[u8]) -> Result<Vec<
 }
 
 /// As [`contains`], in time linear in the octets of `value` and `key`: a key of more than 64 octets is looked for in folded
-/// copies, for which memory may be refused. A shorter one takes none.
+/// copies, for which memory may be refused. One of at most 64 takes no memory.
 #[tactic(auto, using(crate::proofs::Folding::folded_part))]
 pub fn contains_in<C: Comparator>(
     alloc: Global,

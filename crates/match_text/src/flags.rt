@@ -189,7 +189,7 @@ impl FlagList {
     }
 
     /// Adds the flags of another list that aren't there yet (RFC 5232, section 3.2). The first of them, as many as `known`, are there
-    /// and aren't looked at. Where memory is refused, those in front of some place have been added. Where all are there, none is taken.
+    /// and aren't looked at. Where memory is refused, those in front of some place have been added. Takes no memory where all are there.
     pub fn add(&mut self, alloc: Global, flags: &FlagList, known: usize) -> Result<(), AllocError>
         requires within { known ≤ length flags.now }
         requires known { All (λ flag. has_flag self.old flag ≡ true) (take known flags.now) }
@@ -198,16 +198,16 @@ impl FlagList {
         ensures err { OnErr result (SomeIndex flags.now (λ i. (known ≤ i) × (self.new ≡ flag_union self.old (take i flags.now)))) }
         ensures held { All (λ flag. has_flag self.old flag ≡ true) flags.now → IsOk result }
     {
-        let known = self.first_other(flags, known);
+        let known = self.first_missing(flags, known);
         let added = insert_each(alloc, &mut self.flags, &flags.flags.as_slice()[known..]);
         // The set tells here that no two of them are the same.
         let _count = self.flags.len();
         added
     }
 
-    /// The place of the first flag of another list that isn't there, or the length of that list. Those before a place that is known aren't
-    /// looked at. Takes no memory.
-    fn first_other(&self, flags: &FlagList, known: usize) -> usize
+    /// The place of the first flag of another list that isn't there, or the length of that list. The first, as many as `known`, are there
+    /// and aren't looked at. Takes no memory.
+    fn first_missing(&self, flags: &FlagList, known: usize) -> usize
         requires within { known ≤ length flags.now }
         requires known { All (λ flag. has_flag self.now flag ≡ true) (take known flags.now) }
         ensures behind { known ≤ result }
@@ -365,7 +365,7 @@ fn insert_other(
     }
 }
 
-/// The flags as a variable holds them, with one space between two (RFC 5232, section 2). No flag takes no memory.
+/// The flags as a variable holds them, with one space between two (RFC 5232, section 2). Takes no memory where there is no flag.
 #[tactic(auto, unfolding(crate::specs::Flags::flag_text))]
 pub fn flag_text(alloc: Global, list: &FlagList) -> Result<Vec<u8>, AllocError>
     ensures exact { IfOk result (λ text. text.items ≡ flag_text list.now) }

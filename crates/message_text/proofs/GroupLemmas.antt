@@ -97,7 +97,7 @@ are_spans octets spans start found none each =
     let so_far = map (group_at octets) spans in
     record { groups = sym found ∙ ap (λ (rest : List Group). so_far ++ rest) none ∙ append-nil so_far; each = each }
 
--- no groups are those of no line and those of what is behind it
+-- where two lists of groups joined are empty, each is
 pub none_first : (first others : List Group) → first ++ others ≡ [] → first ≡ []
 none_first [] others none = refl
 none_first (group ∷ first) others none = cc

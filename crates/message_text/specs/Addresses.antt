@@ -3,7 +3,7 @@
 use Rattle.std.specs.Prelude.{◌≡◌, ℕ, ◌+◌, ◌-◌, ◌<◌, nat_le, nat_eq, Bool, true, false, not, ◌&&◌, ◌||◌, ◌==◌, if◌then◌else◌, length, List, [], ◌∷◌, ◌++◌, map, filter, Option, None, Some, codes}
 use Rattle.std.specs.List.{after_first, after_last, before_first, before_last, filter_map, list_any, slice_split}
 use lib.Pointwise.{pointwise}
-use Rattle.sieve_base.specs.Octet.{octet_of}
+use Rattle.sieve_base.specs.Octet.{is_white, octet_of}
 use Rattle.message_text.specs.declared.addressing.AddressPart.{AddressPart}
 use Rattle.message_text.specs.declared.addressing.AddressPart.TheVariants as part
 use Rattle.message_text.specs.declared.marks.Inside.{Inside}
@@ -177,10 +177,6 @@ is_quoted mark.QuoteSign = false
 is_quoted mark.Quoted = true
 is_quoted mark.Comment = false
 is_quoted mark.Literal = false
-
--- a space, a tab, a carriage return or a line feed
-abbrev pub is_white : ℕ → Bool
-is_white b = b == octet_of " " || (b == octet_of "\t" || (b == octet_of "\r" || b == octet_of "\n"))
 
 -- white space outside of quoted strings (RFC 5322, section 3.2.2)
 abbrev pub is_gap : Marked → Bool

@@ -2,7 +2,7 @@
 use Rattle.std.specs.Prelude.{◌≡◌, ◌<◌, ◌≤◌, ℕ, Bool, true, false, ◌&&◌, ◌==◌, nat_lt, length, cond, List, [], ◌∷◌, ◌++◌, Some, map, filter}
 use Rattle.std.specs.List.{after_first, before_first, concat, list_all, list_any, slice_get, take_while}
 use Rattle.std.specs.Str.Lines.{lines}
-use Rattle.encoded_words.specs.Scan.{decoded_of, has_known, has_word, has_written}
+use Rattle.encoded_words.specs.Scan.{decoded_of, has_known, has_word}
 use Rattle.match_text.specs.Comparator.{ascii_casemap, same}
 use Rattle.sieve_base.specs.Octet.{is_blank, is_filled, is_visible, octet_of}
 use Rattle.message_text.specs.Blanks.{trim, trim_end}
@@ -100,10 +100,6 @@ IsReplaced message i = slice_get (map has_word (values_of message)) i ≡ Some t
 -- no word is replaced in the value of field i
 abbrev pub IsUnreplaced : List ℕ → ℕ → Type 0
 IsUnreplaced message i = slice_get (map has_word (values_of message)) i ≡ Some false
-
--- no word is written in the value of field i, not even one that can't be decoded
-abbrev pub IsUnwritten : List ℕ → ℕ → Type 0
-IsUnwritten message i = slice_get (map has_written (values_of message)) i ≡ Some false
 
 -- no word of a charset that is known is written in the value of field i
 abbrev pub IsUnknown : List ℕ → ℕ → Type 0

@@ -140,7 +140,6 @@ impl Message {
         ensures unchanged { spec.IsUnfolded self.now i → spec.IsUnreplaced self.now i → IfOk result IsBorrowedSlice }
         ensures folded { spec.IsFolded self.now i → IfOk result IsOwnedSlice }
         ensures replaced { spec.IsReplaced self.now i → IfOk result IsOwnedSlice }
-        ensures unwritten { spec.IsUnfolded self.now i → spec.IsUnwritten self.now i → IsOk result }
         ensures unknown { spec.IsUnfolded self.now i → spec.IsUnknown self.now i → IsOk result }
     {
         let value = self.value(alloc, i)?;

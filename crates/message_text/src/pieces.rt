@@ -4,6 +4,7 @@ ghost use Rattle.std.specs.List.{before_first};
 ghost use Rattle.message_text.specs.Addresses as spec;
 
 use crate::marks::{Mark, Marked};
+use sieve_base::octet::is_white;
 use std::alloc::{AllocError, Global};
 
 /// Whether it is this octet, outside of quoted strings, comments and literals, and no sign of an angle.
@@ -52,7 +53,7 @@ fn without_comments(alloc: Global, piece: &[Marked]) -> Result<Vec<Marked>, Allo
 fn is_gap(marked: Marked) -> bool
     ensures { result ≡ spec.is_gap marked }
 {
-    matches!(marked.octet, b' ' | b'\t' | b'\r' | b'\n') && !matches!(marked.mark, Mark::Quoted)
+    is_white(marked.octet) && !matches!(marked.mark, Mark::Quoted)
 }
 
 // Whether the first octet behind white space is an `@`.

@@ -1,6 +1,6 @@
 pub mod Devices
-pub mod Limits
 pub mod Hex
+pub mod Limits
 pub mod Name
 pub mod Octet
 pub mod Writers

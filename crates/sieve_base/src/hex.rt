@@ -1,10 +1,10 @@
-//! Digits of base 16.
+//! Digits of base 16 (RFC 4648, section 8; RFC 5234, appendix B.1: HEXDIG).
 ghost use Rattle.std.specs.Prelude.{◌≡◌, ◌<◌, IfSome};
 ghost use Rattle.sieve_base.specs.Hex.{hex_digit, hex_octet, hex_value};
 
 use crate::octet::is_digit;
 
-/// The digit of a number, in lower case.
+/// The digit of a number under 16, in lower case.
 pub fn hex_digit(n: u8) -> u8
     requires { n < 16 }
     ensures { result ≡ hex_digit n }
@@ -12,7 +12,7 @@ pub fn hex_digit(n: u8) -> u8
     if n < 10 { b'0' + n } else { b'a' + (n - 10) }
 }
 
-/// The number of a digit, in either case.
+/// The number of a digit, in either case, or nothing where it is none.
 fn hex_value(octet: u8) -> Option<u8>
     ensures value { result ≡ hex_value octet }
     ensures small { IfSome result (λ value. value < 16) }

@@ -1,5 +1,5 @@
-//! Where scripts live and how they are named, the limits of what there is, classes of octets, the devices that are read and
-//! written, and how octets are written to them.
+//! Where scripts live and how they are named, the limits of what there is, classes of octets, digits of base 16, the ends of lines,
+//! the devices that are read and written, and how octets are written to them.
 #![tactic(auto)]
 
 mod devices;

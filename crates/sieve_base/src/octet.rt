@@ -1,6 +1,6 @@
 //! Classes of octets (RFC 5234, appendix B.1; RFC 5228, section 8.1).
 ghost use Rattle.std.specs.Prelude.{◌≡◌};
-ghost use Rattle.sieve_base.specs.Octet.{begins_name, is_blank, is_digit, is_name_octet, is_printable, is_visible};
+ghost use Rattle.sieve_base.specs.Octet.{begins_name, is_blank, is_digit, is_name_octet, is_printable, is_visible, is_white};
 
 /// Whether the octet is a digit (RFC 5234, appendix B.1: DIGIT).
 #[inline]
@@ -16,6 +16,14 @@ pub fn is_blank(octet: u8) -> bool
     ensures { result ≡ is_blank octet }
 {
     matches!(octet, b' ' | b'\t')
+}
+
+/// Whether the octet is one of white space: a space, a tab, a CR or an LF (RFC 5228, section 8.1; RFC 5322, section 3.2.2).
+#[inline]
+pub fn is_white(octet: u8) -> bool
+    ensures { result ≡ is_white octet }
+{
+    matches!(octet, b' ' | b'\t' | b'\r' | b'\n')
 }
 
 /// Whether the octet is a visible character of ASCII (RFC 5234, appendix B.1: VCHAR).

@@ -5,7 +5,3 @@ use Rattle.sieve_base.specs.Octet.{octet_of}
 -- the unit of a number: `K`, `M` or `G` in either case (RFC 5228, section 8.1: QUANTIFIER)
 abbrev pub is_unit : ℕ → Bool
 is_unit octet = octet == octet_of "K" || (octet == octet_of "k" || (octet == octet_of "M" || (octet == octet_of "m" || (octet == octet_of "G" || (octet == octet_of "g")))))
-
--- an octet of white space: space, tab, CR or LF (RFC 5228, section 2.2)
-abbrev pub is_white : ℕ → Bool
-is_white octet = octet == octet_of " " || (octet == octet_of "\t" || (octet == octet_of "\r" || (octet == octet_of "\n")))

@@ -5,7 +5,7 @@ ghost use Rattle.sieve_base.specs.Octet.{octet_of};
 ghost use Rattle.sieve_syntax.specs.White.{begins_with, bracket_comment, comment_length, white_at};
 
 use crate::line::line_length;
-use crate::octet::is_white;
+use sieve_base::octet::is_white;
 
 /// Whether a slash begins the octets.
 fn begins_with_slash(rest: &[u8]) -> bool

@@ -51,5 +51,5 @@ returns-in_err-push_span-clause-no_field c = λ none.
     let filled = slice-filled octets start end (omega arith) c.line_at-line.ensures.end_within in
     let left : field_groups (drop start octets) ≡ [] = none_behind so_far _ (c.loop-start.invariant.0 ∙ none) in
     let both : here ++ others ≡ [] = sym (field_groups-first (drop start octets) (drop next octets) line c.line_at-line.ensures.first filled) ∙ left in
-    let refused : false ≡ true = c.in_err-push_span.ensures.nothing (none_first here others both) in
+    let refused : false ≡ true = c.in_err-push_span.ensures.no_field (none_first here others both) in
     cc

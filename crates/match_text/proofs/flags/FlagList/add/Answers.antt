@@ -5,10 +5,10 @@ use Rattle.match_text.specs.Flags.{flag_union, has_flag}
 use Rattle.match_text.proofs.FlagLists.{none_behind, union_behind_some, union_has, union_slice}
 use Rattle.match_text.proofs.flags.FlagList.add.Goals as goal
 
-joined : (c : goal.After-len-count) → flag_union c.self.inside.flags.keys (take (length c.as_slice.result.now - c.first_other-known.result) (drop c.first_other-known.result c.as_slice.result.now)) ≡ flag_union c.args.self.now c.args.flags.now
+joined : (c : goal.After-len-count) → flag_union c.self.inside.flags.keys (take (length c.as_slice.result.now - c.first_missing-known.result) (drop c.first_missing-known.result c.as_slice.result.now)) ≡ flag_union c.args.self.now c.args.flags.now
 joined c =
-    ap (λ l. flag_union l (take (length c.as_slice.result.now - c.first_other-known.result) (drop c.first_other-known.result c.as_slice.result.now))) c.self.view_is
-    ∙ union_slice c.args.self.now c.args.flags.now c.as_slice.result.now c.first_other-known.result (c.as_slice.ensures.keys ∙ c.flags.view_is) c.first_other-known.ensures.within c.first_other-known.ensures.there
+    ap (λ l. flag_union l (take (length c.as_slice.result.now - c.first_missing-known.result) (drop c.first_missing-known.result c.as_slice.result.now))) c.self.view_is
+    ∙ union_slice c.args.self.now c.args.flags.now c.as_slice.result.now c.first_missing-known.result (c.as_slice.ensures.keys ∙ c.flags.view_is) c.first_missing-known.ensures.within c.first_missing-known.ensures.there
 
 pub returns-clause-union : goal.returns-clause-union
 returns-clause-union c = on_ok_weaker c.insert_each-added.result (λ keys. keys ∙ joined c) c.insert_each-added.ensures.ok
@@ -22,11 +22,11 @@ returns-clause-there c =
 pub returns-clause-err : goal.returns-clause-err
 returns-clause-err c =
     on_err_weaker c.insert_each-added.result
-    (λ some. union_behind_some c.args.self.now c.args.flags.now c.as_slice.result.now c.args.known c.first_other-known.result _ (c.as_slice.ensures.keys ∙ c.flags.view_is) c.first_other-known.ensures.behind c.first_other-known.ensures.within c.first_other-known.ensures.there
-    (subst (λ (l : List (List ℕ)). SomeIndex (take (length c.as_slice.result.now - c.first_other-known.result) (drop c.first_other-known.result c.as_slice.result.now)) (λ i. c.insert_each-added.new.flags.keys ≡ flag_union l (take i (take (length c.as_slice.result.now - c.first_other-known.result) (drop c.first_other-known.result c.as_slice.result.now))))) c.self.view_is some))
+    (λ some. union_behind_some c.args.self.now c.args.flags.now c.as_slice.result.now c.args.known c.first_missing-known.result _ (c.as_slice.ensures.keys ∙ c.flags.view_is) c.first_missing-known.ensures.behind c.first_missing-known.ensures.within c.first_missing-known.ensures.there
+    (subst (λ (l : List (List ℕ)). SomeIndex (take (length c.as_slice.result.now - c.first_missing-known.result) (drop c.first_missing-known.result c.as_slice.result.now)) (λ i. c.insert_each-added.new.flags.keys ≡ flag_union l (take i (take (length c.as_slice.result.now - c.first_missing-known.result) (drop c.first_missing-known.result c.as_slice.result.now))))) c.self.view_is some))
     c.insert_each-added.ensures.err
 
 pub returns-clause-held : goal.returns-clause-held
 returns-clause-held c =
     λ all. c.insert_each-added.ensures.none
-    (none_behind c.args.flags.now c.as_slice.result.now c.first_other-known.result (c.as_slice.ensures.keys ∙ c.flags.view_is) (c.first_other-known.ensures.all all))
+    (none_behind c.args.flags.now c.as_slice.result.now c.first_missing-known.result (c.as_slice.ensures.keys ∙ c.flags.view_is) (c.first_missing-known.ensures.all all))

@@ -1,8 +1,8 @@
 use Rattle.std.proofs.Common.{◌≡◌, take, true}
 use Rattle.std.specs.List.{All}
 use Rattle.match_text.specs.Flags.{has_flag}
-use Rattle.match_text.proofs.flags.FlagList.first_other.Given as goal
+use Rattle.match_text.proofs.flags.FlagList.first_missing.Given as goal
 
--- those in front are there
+-- the flags in front of the place are there
 abbrev pub invariant-loop-place : goal.invariant-loop-place
 invariant-loop-place l = All (λ flag. has_flag l.self flag ≡ true) (take l.place l.flags)

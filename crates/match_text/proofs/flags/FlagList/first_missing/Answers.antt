@@ -2,7 +2,7 @@ use Rattle.std.proofs.Common.{◌≡◌, ◌∙◌, ap, arith, subst, sym, take,
 use Rattle.std.specs.List.{All}
 use Rattle.match_text.specs.Flags.{has_flag}
 use Rattle.match_text.proofs.FlagLists.{one_missing, there_more}
-use Rattle.match_text.proofs.flags.FlagList.first_other.Goals as goal
+use Rattle.match_text.proofs.flags.FlagList.first_missing.Goals as goal
 
 pub loop-place-init : goal.loop-place-init
 loop-place-init c = c.requires.known
