@@ -1,6 +1,5 @@
 //! Encoded words as they are written (RFC 2047, section 2).
 ghost use Rattle.std.specs.Prelude.{◌≡◌, ◌+◌, ◌≤◌, IfSome, length};
-ghost use Rattle.std.specs.List.{take_while};
 ghost use Rattle.std.specs.Option.{option_map};
 ghost use Rattle.encoded_words.specs.Scan.{behind_run, run, word_at};
 ghost use Rattle.encoded_words.specs.Word.{is_b, is_letter, is_word_octet};

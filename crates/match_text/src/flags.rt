@@ -1,5 +1,5 @@
 //! Lists of flags (RFC 5232, sections 2 and 3).
-ghost use Rattle.std.specs.Prelude.{◌≡◌, ◌<◌, ◌≤◌, ◌↔◌, ◌++◌, [], ◌∷◌, IfNone, IfOk, IfSome, IsOk, IsTrue, OnErr, OnOk, Some, SomeIndex, filter, fold, length, remove, slice_get, take, true};
+ghost use Rattle.std.specs.Prelude.{◌≡◌, ◌<◌, ◌≤◌, ◌↔◌, [], ◌∷◌, IfNone, IfOk, IfSome, IsOk, IsTrue, OnErr, OnOk, Some, SomeIndex, filter, fold, length, remove, slice_get, take, true};
 ghost use Rattle.std.specs.List.{All};
 ghost use Rattle.match_text.specs.Comparator.{ascii_casemap, fold_of, same};
 ghost use Rattle.match_text.specs.Flags.{AreDistinct, has_flag, has_key, flag_list, flag_text, flag_union, flags_in};

@@ -1,5 +1,5 @@
 //! Where the lines of a text end.
-ghost use Rattle.std.specs.Prelude.{◌≡◌, ◌<◌, length};
+ghost use Rattle.std.specs.Prelude.{◌<◌, length};
 ghost use Rattle.message_text.specs.view.Positions.{IsLineAt};
 
 use memchr::memchr;

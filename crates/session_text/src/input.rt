@@ -1,5 +1,5 @@
 //! Reads a session's octets in large pieces, and hands them out as lines and counted octets.
-ghost use Rattle.std.specs.Prelude.{◌≡◌, false, true, ◌<◌, ◌≤◌, ◌+◌, ℕ, [], List, length, take, drop, ◌-◌, slice_range, IfOk, OnErr, MatchResult, vec_len};
+ghost use Rattle.std.specs.Prelude.{◌≡◌, false, true, ◌<◌, ◌≤◌, ◌+◌, [], length, take, drop, ◌-◌, slice_range, IfOk, OnErr, MatchResult, vec_len};
 ghost use Rattle.std.specs.Io.KnownBytes.{Keeps, Consumes, IsAtEnd};
 ghost use Rattle.sieve_base.specs.Devices.{HasRisen, next_count};
 ghost use Rattle.session_text.specs.view.Input.{capacity};

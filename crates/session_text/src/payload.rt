@@ -1,5 +1,5 @@
 //! The counted octets of a session's input.
-ghost use Rattle.std.specs.Prelude.{◌≡◌, ⊤, false, true, ◌≤◌, ◌++◌, [], None, IfSome, length};
+ghost use Rattle.std.specs.Prelude.{◌≡◌, ⊤, false, true, ◌≤◌, [], None, IfSome, length};
 ghost use Rattle.std.specs.Option.{option_map};
 ghost use Rattle.sieve_base.specs.Devices.{HasRisen};
 ghost use Rattle.session_text.specs.view.Input.{unused, fuel, Knows, Reads};

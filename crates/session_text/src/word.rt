@@ -1,5 +1,5 @@
 //! The words of a session's lines that may be quoted. Reading them takes no memory, and copying their octets does.
-ghost use Rattle.std.specs.Prelude.{◌≡◌, ◌<◌, ◌≤◌, ℕ, IfOk, Some, None, IfSome, IfNone, is_some, length, take, drop, [], false, true};
+ghost use Rattle.std.specs.Prelude.{◌≡◌, ◌<◌, ℕ, IfOk, Some, None, IfSome, IfNone, is_some, length, [], false, true};
 ghost use Rattle.std.specs.List.{list_all};
 ghost use Rattle.session_text.specs.SessionLine.{is_bare, behind, quoted_value, escaped_value, hex_octets, word_value};
 ghost use Rattle.session_text.specs.view.Word.{MatchNext};
