@@ -7,7 +7,7 @@ use Rattle.sieve_run.specs.Verdict.{Verdict}
 use Rattle.bench.specs.Content.{Content, message_at}
 use Rattle.bench.specs.Stale.{verdict_on}
 
--- what it holds, and the ids of the messages that the next report runs, in the list's order
+-- what a bench holds, and the ids of the messages that the next report runs, in the list's order
 pub record BenchState : Type 0 where
   pub content : Content
   pub stale : List (List ℕ)

@@ -28,7 +28,7 @@ const TURNS: u64 = 1_000_000;
 const SESSION: &[u8] =
     b"script personal main 9\ndiscard;\nmessage m1 0\nmain personal main\nreport\n";
 
-/// What it writes: 159 octets.
+/// What the session writes: 159 octets.
 const REPLIES: &[u8] =
     b"ok\nok\nok\nmain personal \"main\"\nenvelope \"\" \"\" mailbox \"INBOX\"\nscript personal \"main\" ok\nmessage \"m1\"\n  discard\n  read personal \"main\"\ntotal 1 messages 0 errors\n";
 
@@ -66,7 +66,7 @@ fn personal(alloc: Global, name: &[u8]) -> Result<ScriptName, AllocError> {
     Ok(ScriptName::new(Place::Personal, Vec::from_slice(alloc, name)?))
 }
 
-/// So many octets.
+/// The letter n, `count` times.
 fn many(alloc: Global, count: usize) -> Result<Octets, AllocError> {
     Ok(Octets::from_vec(vec![in alloc; b'n'; count]?))
 }

@@ -10,11 +10,11 @@ use sieve_base::octet::is_visible;
 /// An encoded word.
 #[derive(Clone, Copy)]
 pub(crate) struct EncodedWord<'a> {
-    /// The name of its charset.
+    /// The name of the word's charset.
     pub(crate) charset: &'a [u8],
-    /// The letter of its encoding.
+    /// The letter of the word's encoding.
     pub(crate) letter: u8,
-    /// Its text.
+    /// The word's text.
     pub(crate) text: &'a [u8],
 }
 

@@ -36,7 +36,7 @@ pub record IsPart (fold : ℕ → ℕ) (value key : List ℕ) : Type 0 where
   pub within : end ≤ length value
   pub same : Same fold (slice_range value start end) key
 
--- whether they are the same (`:is` of RFC 5228, section 2.7.1)
+-- whether two octet strings are the same (`:is` of RFC 5228, section 2.7.1)
 abbrev pub same : (ℕ → ℕ) → List ℕ → List ℕ → Bool
 same fold a b = pointwise (λ x y. fold x == fold y) a b
 

@@ -55,7 +55,7 @@ impl<'v> Captures<'v> {
 /// meaning from the octet behind it, and at the end of the pattern it stands for itself. The first wildcard takes as little as
 /// it can, then the second, and so on.
 ///
-/// It takes memory in the octets of the value and of the pattern, and fails only for want of it. Its time is linear in both,
+/// A match takes memory in the octets of the value and of the pattern, and fails only for want of it. Its time is linear in both,
 /// however many stars there are, but for octets between two stars with a `?` among them: these are tried at each place, which
 /// takes at worst as many steps as the product of their number and the value's.
 pub fn matches<'v, C: Comparator>(

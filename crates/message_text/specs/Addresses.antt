@@ -122,11 +122,11 @@ is_mark_plain mark.Quoted = false
 is_mark_plain mark.Comment = false
 is_mark_plain mark.Literal = false
 
--- this octet, outside of quoted strings, comments and literals, and no sign of these or of an angle
+-- whether a marked octet is this one, outside of quoted strings, comments and literals, and no sign of these or of an angle
 abbrev pub is_free : ℕ → Marked → Bool
 is_free b m = is_mark_plain m.mark && m.octet == b
 
--- this octet, outside of an angle too
+-- whether a marked octet is this one, outside of an angle too
 abbrev pub is_bare : ℕ → Marked → Bool
 is_bare b m = is_free b m && not m.in_angle
 

@@ -64,7 +64,7 @@ impl Address {
 /// Where nothing is left, there is no address. The last `@` outside of quoted strings and literals
 /// stands between local part and domain, if there are octets on both sides.
 ///
-/// It takes memory for the marks of all octets and for the addresses, and fails only for want of it.
+/// The reading takes memory for the marks of all octets and for the addresses, and fails only for want of it.
 pub fn addresses(alloc: Global, value: &[u8]) -> Result<Vec<Address>, AllocError>
     ensures { IfOk result (λ found. found.items ≡ addresses_of value.now) }
 {

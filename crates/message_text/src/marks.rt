@@ -31,7 +31,7 @@ pub(crate) enum Inside {
     Nothing,
     /// A quoted string.
     QuotedString,
-    /// So many comments, each in the one before.
+    /// Comments, each in the one before, by their number.
     Comment(usize),
     /// A literal, as of a domain.
     DomainLiteral,

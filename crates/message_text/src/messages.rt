@@ -17,10 +17,10 @@ use thiserror::Error;
 /// Why a message was refused.
 #[derive(Clone, Copy, Debug, PartialEq, Eq, Error)]
 pub enum MessageFault {
-    /// It has more than [`MAX_MESSAGE`] octets.
+    /// The message has more than [`MAX_MESSAGE`] octets.
     #[error("the message is too large")]
     TooLarge = 1,
-    /// There was no memory for the places of its fields.
+    /// There was no memory for the places of the message's fields.
     #[error("out of memory")]
     NoMemory = 2,
 }
@@ -52,7 +52,7 @@ impl Model for Message {
 impl Message {
     /// The message of these octets. A refusal gives them back.
     ///
-    /// It is [`TooLarge`](MessageFault::TooLarge) exactly past [`MAX_MESSAGE`]. Octets without a field take no memory.
+    /// The refusal is [`TooLarge`](MessageFault::TooLarge) exactly past [`MAX_MESSAGE`]. Octets without a field take no memory.
     pub fn new(alloc: Global, bytes: Vec<u8>) -> Result<Message, (MessageFault, Vec<u8>)>
         ensures ok { IfOk result (λ message. message ≡ bytes.items) }
         ensures too_large { IsErrAnd result (λ refused. refused.0 ≡ MessageFault.TooLarge)
@@ -112,7 +112,7 @@ impl Message {
     /// The value of field `i`: what follows the colon, the lines joined as they are, without outer
     /// spaces and tabs.
     ///
-    /// It is borrowed from the message, and no memory is taken, where the field stands on one line; where lines
+    /// The value is borrowed from the message, and no memory is taken, where the field stands on one line; where lines
     /// continue the field, it is a copy.
     pub fn value(&self, alloc: Global, i: usize) -> Result<CowSlice<'_, u8>, AllocError>
         requires { i < length (spec.fields_of self.now) }
@@ -131,7 +131,7 @@ impl Message {
     /// A word is replaced wherever it stands in the unfolded and trimmed value, also inside another that can't be
     /// decoded; spaces and tabs between two such words are dropped. The result isn't trimmed again.
     ///
-    /// It is borrowed from the message where the field stands on one line and no word was replaced, and else a copy.
+    /// The result is borrowed from the message where the field stands on one line and no word was replaced, and else a copy.
     /// No memory is taken where the field stands on one line in which no word of a charset that is known is written.
     pub fn decoded(&self, alloc: Global, i: usize) -> Result<CowSlice<'_, u8>, AllocError>
         requires { i < length (spec.fields_of self.now) }

@@ -23,7 +23,7 @@ pub fn name_hash(name: &[u8]) -> u32
 
 /// A name of fields to look for. It is any octets, of which those that can't name a field name none.
 ///
-/// It is prepared once, and then tells most fields of other names without their octets.
+/// A name is prepared once, and then tells most fields of other names without their octets.
 #[derive(Clone, Drop)]
 pub struct FieldName<'a> {
     octets: &'a [u8],

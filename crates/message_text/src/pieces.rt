@@ -7,21 +7,21 @@ use crate::marks::{Mark, Marked};
 use sieve_base::octet::is_white;
 use std::alloc::{AllocError, Global};
 
-/// Whether it is this octet, outside of quoted strings, comments and literals, and no sign of an angle.
+/// Whether a marked octet is this one, outside of quoted strings, comments and literals, and no sign of an angle.
 pub(crate) fn is_free(octet: u8, marked: Marked) -> bool
     ensures { result ≡ spec.is_free octet marked }
 {
     matches!(marked.mark, Mark::Plain) && marked.octet == octet
 }
 
-// Whether it is this octet, outside of angles too.
+// Whether a marked octet is this one, outside of angles too.
 fn is_bare(octet: u8, marked: Marked) -> bool
     ensures { result ≡ spec.is_bare octet marked }
 {
     is_free(octet, marked) && !marked.in_angle
 }
 
-/// Whether it ends a piece.
+/// Whether a marked octet ends a piece.
 pub(crate) fn separates(marked: Marked) -> bool
     ensures { result ≡ spec.separates marked }
 {
@@ -49,7 +49,7 @@ fn without_comments(alloc: Global, piece: &[Marked]) -> Result<Vec<Marked>, Allo
         .collect(alloc)
 }
 
-// Whether it is white space outside of quoted strings.
+// Whether a marked octet is white space outside of quoted strings.
 fn is_gap(marked: Marked) -> bool
     ensures { result ≡ spec.is_gap marked }
 {
@@ -103,7 +103,7 @@ fn up_to_close(inside: &[Marked]) -> &[Marked]
     }
 }
 
-// Whether it is neither white space outside of quoted strings nor a sign of one.
+// Whether a marked octet is neither white space outside of quoted strings nor a sign of one.
 fn stays(marked: Marked) -> bool
     ensures { result ≡ spec.stays marked }
 {

@@ -49,7 +49,7 @@ pub(crate) fn tell_done(rt: &impl Print, done: Result<(), AllocError>) -> io::Re
     }
 }
 
-/// That something was written.
+/// How a write ended, where a failed one is a broken pipe.
 pub(crate) fn written(done: Result<(), WriteFault>) -> io::Result<()> {
     done.map_err(|_| io::Error::from(ErrorKind::BrokenPipe))
 }

@@ -12,7 +12,7 @@ use std::alloc::Global;
 /// How taking octets went.
 #[derive(Drop)]
 pub enum Taken {
-    /// All of them came. They are kept where that was asked for and memory wasn't refused.
+    /// All octets came. They are kept where that was asked for and memory wasn't refused.
     Whole { kept: Option<Vec<u8>> },
     /// The input ended before.
     Truncated,

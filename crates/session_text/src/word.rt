@@ -28,7 +28,7 @@ fn are_bare(octets: &[u8]) -> bool
 /// What a quoted word has next, behind its first quote.
 #[derive(Drop)]
 pub(crate) enum Next<'a> {
-    /// It ends.
+    /// The end of the word.
     End,
     /// An octet, and what is behind it.
     Octet { octet: u8, rest: &'a [u8] },

@@ -26,7 +26,7 @@ place_eq Personal Global = false
 place_eq Global Personal = false
 place_eq Global Global = true
 
--- the same place and the same octets
+-- whether two names have the same place and the same octets
 abbrev pub name_eq : ScriptName → ScriptName → Bool
 name_eq a b = place_eq a.place b.place && pointwise nat_eq a.name b.name
 

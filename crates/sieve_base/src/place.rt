@@ -10,7 +10,7 @@ pub enum Place {
 }
 
 impl Place {
-    /// Its word (RFC 6609, section 3.2, without the colon).
+    /// The word of the place (RFC 6609, section 3.2, without the colon).
     pub fn word(self) -> &'static [u8]
         ensures { result.now ≡ place_word self }
     {

@@ -19,7 +19,7 @@ pub struct WriteFault;
 /// A part of a line.
 #[derive(Clone, Copy)]
 pub enum Piece<'a> {
-    /// These octets.
+    /// Octets as they are.
     Raw(&'a [u8]),
     /// The quoted form of these octets, as `write_quoted` writes it.
     Quoted(&'a [u8]),

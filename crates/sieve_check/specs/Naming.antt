@@ -39,7 +39,7 @@ command_mentions None args = []
 command_mentions (Some kind) args = map sets (names_in_role NameToSet (row_labels (command_row kind) args) args) ++ map declares (names_in_role NamesToDeclare (row_labels (command_row kind) args) args)
 
 abbrev mutual
-  -- those of a command and its block, in the order of the text
+  -- the mentions of a command and its block, in the order of the text
   pub node_mentions : Node → List Mention
   node_mentions (node name line args ts ending) = command_mentions (command_named name) args ++ block_mentions ending
 

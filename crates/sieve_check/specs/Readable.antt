@@ -104,7 +104,7 @@ pub data Mark : Type 0 where
   act_mark : (leaf : Leaf) (line : ℕ) → Mark
   choice_mark : (condition : Condition) → Mark
 
--- those of an abstract script: a choice, then those of its block, then those of the other branches
+-- the marks of an abstract script: a choice, then those of its block, then those of the other branches
 unfoldable pub marks : Commands → List Mark
 marks no_commands = []
 marks (stops rest) = stop_mark ∷ marks rest
@@ -124,7 +124,7 @@ own_marks (Some reading.reads_nothing) line condition = []
 own_marks (Some (reading.reads_act leaf)) line condition = act_mark leaf line ∷ []
 
 unfoldable mutual
-  -- those of a tree: each command's own, and then those of its block
+  -- the marks of a tree: each command's own, and then those of its block
   pub node_marks : Node → List Mark
   node_marks (node name line args ts ending) = own_marks (command_reading (node name line args ts ending)) line (branch_condition (conditions_in ts)) ++ block_marks ending
 

@@ -16,7 +16,7 @@ is_require_command (node name line args ts ending) = requires_kind (command_name
 abbrev pub leading_requires : List Node → List Node
 leading_requires tree = take_while is_require_command tree
 
--- These are required where a command, a test or a string is judged. A number is judged alike everywhere.
+-- The capabilities that are required where a command, a test or a string is judged. A number is judged alike everywhere.
 abbrev pub IsJudgedUnder : Required → Element → Type 0
 IsJudgedUnder required (the_command context name line args ts ending) = context.required ≡ required
 IsJudgedUnder required (the_test context name line args ts) = context.required ≡ required

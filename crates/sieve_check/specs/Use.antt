@@ -121,7 +121,7 @@ tests_fit inner.List no_tests = false
 tests_fit inner.List (one_test t) = false
 tests_fit inner.List (test_list ts) = true
 
--- whether it ends by a block
+-- whether a command ends by a block
 abbrev pub has_block : Block → Bool
 has_block no_block = false
 has_block (block ns) = true

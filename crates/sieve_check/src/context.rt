@@ -25,7 +25,7 @@ pub(crate) struct Required {
 }
 
 impl Required {
-    /// Nothing.
+    /// Nothing is required.
     fn nothing() -> Required
         ensures { required_as result ≡ spec.nothing_required }
     {
@@ -132,14 +132,14 @@ pub(crate) struct Context<'a> {
     pub(crate) scope: &'a Scope,
 }
 
-/// Whether it is `require`.
+/// Whether a command is `require`.
 pub(crate) fn is_require(kind: CommandKind) -> bool
     ensures { result ≡ spec.is_require kind }
 {
     matches!(kind, CommandKind::Require)
 }
 
-/// Whether it goes on with what an `if` began.
+/// Whether a command goes on with what an `if` began.
 pub(crate) fn continues_if(kind: CommandKind) -> bool
     ensures { result ≡ spec.continues_if kind }
 {

@@ -99,7 +99,7 @@ fn declare_arguments(
 }
 
 impl Scope {
-    /// None.
+    /// No names.
     pub(crate) fn new(alloc: Global) -> Scope
         ensures { result ≡ spec.no_names }
     {
@@ -118,7 +118,7 @@ impl Scope {
             .any(|other| name.eq_ignore_ascii_case(other.as_slice()))
     }
 
-    /// Whether it is the name of a variable of the script that isn't set yet.
+    /// Whether a name is that of a variable of the script that isn't set yet.
     fn lacks(&self, alloc: Global, name: &[u8]) -> Result<bool, AllocError>
         ensures { IfOk result (λ lacks. lacks ≡ spec.is_new_local name.now self.now) }
     {
@@ -129,7 +129,7 @@ impl Scope {
         Ok(!declared)
     }
 
-    /// Whether it is the name of one variable of the script too many (RFC 5229, section 6).
+    /// Whether a name is that of one variable of the script too many (RFC 5229, section 6).
     pub(crate) fn is_full_for(&self, alloc: Global, name: &[u8]) -> Result<bool, AllocError>
         ensures { IfOk result (λ full. full ≡ is_past_locals name.now self.now) }
     {

@@ -67,7 +67,7 @@ pub(crate) fn lacks_required(required: Required, row: &Row, labels: &[Label]) ->
     has_lacking(required, row.needs) || has_needy(required, labels)
 }
 
-/// Whether it is a tag that isn't taken.
+/// Whether an argument is a tag that isn't taken.
 fn is_other_tag(label: Label) -> bool
     ensures { result ≡ spec.is_other_tag label }
 {
@@ -77,7 +77,7 @@ fn is_other_tag(label: Label) -> bool
     }
 }
 
-/// Whether it is a tag.
+/// Whether an argument is a tag.
 fn is_tag(label: Label) -> bool
     ensures { result ≡ spec.is_tag label }
 {
@@ -87,7 +87,7 @@ fn is_tag(label: Label) -> bool
     }
 }
 
-/// Whether it is a positional argument.
+/// Whether an argument is a positional one.
 fn is_positional(label: Label) -> bool
     ensures { result ≡ is_positional_label label }
 {
@@ -125,7 +125,7 @@ fn has_late_tag(labels: &[Label]) -> bool
     false
 }
 
-/// Whether it is a tag of that kind.
+/// Whether an argument is a tag of that kind.
 fn is_of_kind(kind: TagKind, label: Label) -> bool
     ensures { result ≡ spec.is_of_kind kind label }
 {
@@ -173,7 +173,7 @@ pub(crate) fn has_bad_tag(labels: &[Label]) -> bool
     has_other_tag(labels) || has_repeated(labels) || has_late_tag(labels)
 }
 
-/// Whether it is a tag that takes an argument itself.
+/// Whether an argument is a tag that takes an argument itself.
 fn awaits(label: Label) -> bool
     ensures { result ≡ spec.awaits label }
 {

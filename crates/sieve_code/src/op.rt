@@ -21,7 +21,7 @@ pub enum Op {
     JumpIfTrue(usize),
     /// Does what a command does that acts (RFC 5228, section 4).
     Command {
-        /// What it does.
+        /// What the command does.
         command: CommandOp,
         /// The command's line.
         line: u64,

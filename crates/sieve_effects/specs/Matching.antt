@@ -38,7 +38,8 @@ pub record Pair : Type 0 where
 abbrev pub values_named : List Field → List ℕ → List (List ℕ)
 values_named fields name = map (λ field. field.value) (filter (is_field_named name) fields)
 
--- the same with their encoded words (RFC 2047) replaced, as a `header` test sees them (RFC 5228, section 2.7.2)
+-- the values of the fields of that name with their encoded words (RFC 2047) replaced, as a `header` test sees them (RFC 5228,
+-- section 2.7.2)
 abbrev pub decoded_named : List Field → List ℕ → List (List ℕ)
 decoded_named fields name = map decoded_of (values_named fields name)
 

@@ -120,7 +120,7 @@ fn has_no_control(name: &[u8]) -> bool
     name.iter().all(|octet| is_no_control(*octet))
 }
 
-/// Whether it is a name that a mailbox may have.
+/// Whether a mailbox may have this name.
 fn is_mailbox(name: &[u8]) -> bool
     ensures { result ≡ spec.is_mailbox name.now }
 {

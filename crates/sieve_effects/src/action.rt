@@ -5,11 +5,11 @@ use sieve_base::Octets;
 /// What is done with a message (RFC 5228, section 2.10).
 #[derive(Drop)]
 pub enum Action {
-    /// It is stored into a mailbox (RFC 5228, sections 4.1 and 4.3), with flags (RFC 5232, section 5).
+    /// The message is stored into a mailbox (RFC 5228, sections 4.1 and 4.3), with flags (RFC 5232, section 5).
     Store { mailbox: Octets, flags: FlagList },
-    /// It is sent on to an address (RFC 5228, section 4.2).
+    /// The message is sent on to an address (RFC 5228, section 4.2).
     Redirect { address: Octets },
-    /// It is discarded (RFC 5228, section 4.4).
+    /// The message is discarded (RFC 5228, section 4.4).
     Discard,
 }
 
@@ -17,6 +17,6 @@ pub enum Action {
 #[derive(Drop)]
 pub struct Deed {
     pub action: Action,
-    /// Whether it leaves the implicit keep as it is (RFC 3894, section 3).
+    /// Whether the action leaves the implicit keep as it is (RFC 3894, section 3).
     pub copy: bool,
 }

@@ -37,7 +37,7 @@ impl Model for MatchValues {
 }
 
 impl MatchValues {
-    /// None, where a match sets nothing.
+    /// No match values, where a match sets nothing.
     fn none(alloc: Global) -> MatchValues
         ensures { result ≡ [] }
     {

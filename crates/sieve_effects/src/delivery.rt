@@ -11,7 +11,7 @@ pub struct Delivery<'a> {
     pub alloc: Global,
     /// The message.
     pub message: &'a Message,
-    /// Its envelope, and the mailbox that `keep` stores into.
+    /// The message's envelope, and the mailbox that `keep` stores into.
     pub envelope: &'a Envelope,
     /// The script that runs.
     pub script: &'a ScriptName,

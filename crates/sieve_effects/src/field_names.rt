@@ -95,7 +95,7 @@ fn prepared_in<'a>(
 }
 
 impl FieldNames {
-    /// These names. Where there are more than four, it takes memory for a number each.
+    /// The names that these strings give. More than four take memory for a number each.
     pub fn new(alloc: Global, strings: Strings) -> Result<FieldNames, AllocError>
         ensures { IfOk result (λ names. names ≡ strings_of strings.items) }
     {

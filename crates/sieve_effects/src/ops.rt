@@ -82,14 +82,14 @@ pub enum TestOp {
 pub struct Said {
     /// The flags of what it stores, where they are named (RFC 5232, section 5).
     pub flags: Option<Strings>,
-    /// Whether its action leaves the implicit keep as it is (RFC 3894, section 3).
+    /// Whether the command's action leaves the implicit keep as it is (RFC 3894, section 3).
     pub copy: bool,
 }
 
 /// What a command that stores or redirects says beside its mailbox or its address.
 #[derive(Drop)]
 pub struct SettingsOp {
-    /// What it says, where it says something.
+    /// What the command says, where it says something.
     pub said: Option<Box<Said>>,
 }
 
@@ -123,7 +123,7 @@ impl SettingsOp {
 pub struct FileintoOp {
     /// The mailbox's name.
     pub mailbox: Parts,
-    /// What it says beside.
+    /// What the command says beside.
     pub settings: SettingsOp,
 }
 
@@ -132,7 +132,7 @@ pub struct FileintoOp {
 pub struct RedirectOp {
     /// The address.
     pub address: Parts,
-    /// What it says beside.
+    /// What the command says beside.
     pub settings: SettingsOp,
 }
 
@@ -150,7 +150,7 @@ pub struct SetOp {
 /// A command that changes flags (RFC 5232, section 3).
 #[derive(Drop)]
 pub struct FlagsOp {
-    /// How it changes them.
+    /// How the command changes them.
     pub change: FlagChange,
     /// The variable that holds them; the internal flags where none is named.
     pub variable: Option<Variable>,
@@ -163,9 +163,9 @@ pub struct FlagsOp {
 pub struct IncludeOp {
     /// Where the script is kept.
     pub place: Place,
-    /// Whether it runs only where it hasn't run yet.
+    /// Whether the script runs only where it hasn't run yet.
     pub once: bool,
-    /// Whether it may be missing.
+    /// Whether the script may be missing.
     pub optional: bool,
     /// The script's name.
     pub name: SmallOctets,
@@ -174,18 +174,18 @@ pub struct IncludeOp {
 /// What a command does that acts.
 #[derive(Drop)]
 pub enum CommandOp {
-    /// It stores into the mailbox of the delivery (RFC 5228, section 4.3), and says this beside.
+    /// A command that stores into the mailbox of the delivery (RFC 5228, section 4.3), and what it says beside.
     Keep(SettingsOp),
-    /// It stores into a mailbox.
+    /// A command that stores into a mailbox.
     Fileinto(Box<FileintoOp>),
-    /// It sends the message on.
+    /// A command that sends the message on.
     Redirect(Box<RedirectOp>),
-    /// It discards the message (RFC 5228, section 4.4).
+    /// A command that discards the message (RFC 5228, section 4.4).
     Discard,
-    /// It gives a variable a value.
+    /// A command that gives a variable a value.
     Set(Box<SetOp>),
-    /// It changes flags.
+    /// A command that changes flags.
     Flags(Box<FlagsOp>),
-    /// It runs another script.
+    /// A command that runs another script.
     Include(Box<IncludeOp>),
 }

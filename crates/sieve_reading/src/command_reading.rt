@@ -157,7 +157,7 @@ fn command_reading_by(kind: CommandKind, args: &[Argument]) -> Option<CommandRea
     }
 }
 
-/// Which command it is. A checked script has no other. Takes no memory.
+/// Which command this is. A checked script has no other. Takes no memory.
 pub fn kind_of(command: &Command) -> Option<CommandKind>
     ensures { result ≡ spec.kind_of (node_of command.now) }
 {

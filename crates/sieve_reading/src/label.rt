@@ -57,7 +57,7 @@ fn fits(form: Form, shape: Shape) -> bool
 }
 
 impl<'a> Expected<'a> {
-    /// These positional arguments are expected.
+    /// The positional arguments that are expected: the one in front, where there is one, and those of the slots.
     pub(crate) fn new(front: Option<Slot>, slots: &'a [Slot]) -> Expected<'a>
         ensures { expected_as result ≡ expecting (in_front front slots.now) }
     {

@@ -102,48 +102,48 @@ pub enum TestReading<'a> {
 /// How a command changes flags (RFC 5232, section 3).
 #[derive(Clone, Copy, PartialEq, Eq)]
 pub enum FlagChange {
-    /// They become those that it names (RFC 5232, section 3.1).
+    /// The flags become those that the command names (RFC 5232, section 3.1).
     Set,
-    /// Those that it names come to them (RFC 5232, section 3.2).
+    /// The flags that the command names are added (RFC 5232, section 3.2).
     Add,
-    /// Those that it names are taken out of them (RFC 5232, section 3.3).
+    /// The flags that the command names are taken out (RFC 5232, section 3.3).
     Remove,
 }
 
 /// What a command that stores or redirects says beside its mailbox or its address.
 #[derive(Clone, Copy)]
 pub struct Settings<'a> {
-    /// The flags of what it stores, where it names them (RFC 5232, section 5).
+    /// The flags of what the command stores, where it names them (RFC 5232, section 5).
     pub flags: Option<&'a [Text]>,
-    /// Whether its action leaves the implicit keep as it is (RFC 3894, section 3).
+    /// Whether the command's action leaves the implicit keep as it is (RFC 3894, section 3).
     pub copy: bool,
 }
 
 /// What a command does that acts.
 #[derive(Clone, Copy)]
 pub enum Leaf<'a> {
-    /// It stores into the mailbox of the delivery (RFC 5228, section 4.3).
+    /// A command that stores into the mailbox of the delivery (RFC 5228, section 4.3).
     Keep {
-        /// What it says beside.
+        /// What the command says beside.
         settings: Settings<'a>,
     },
-    /// It stores into the mailbox of that name (RFC 5228, section 4.1).
+    /// A command that stores into the mailbox of that name (RFC 5228, section 4.1).
     Fileinto {
         /// The name, as its parts.
         mailbox: &'a [Part],
-        /// What it says beside.
+        /// What the command says beside.
         settings: Settings<'a>,
     },
-    /// It sends the message on to that address (RFC 5228, section 4.2).
+    /// A command that sends the message on to that address (RFC 5228, section 4.2).
     Redirect {
         /// The address, as its parts.
         address: &'a [Part],
-        /// What it says beside.
+        /// What the command says beside.
         settings: Settings<'a>,
     },
-    /// It discards the message (RFC 5228, section 4.4).
+    /// A command that discards the message (RFC 5228, section 4.4).
     Discard,
-    /// It gives a variable a value (RFC 5229, section 4).
+    /// A command that gives a variable a value (RFC 5229, section 4).
     Set {
         /// The variable.
         variable: &'a Variable,
@@ -152,22 +152,22 @@ pub enum Leaf<'a> {
         /// The value, as its parts.
         value: &'a [Part],
     },
-    /// It changes flags (RFC 5232, section 3).
+    /// A command that changes flags (RFC 5232, section 3).
     Flags {
-        /// How it changes them.
+        /// How the command changes them.
         change: FlagChange,
         /// The variable that holds them; the internal flags where none is named.
         variable: Option<&'a Variable>,
-        /// The flags that it names.
+        /// The flags that the command names.
         flags: &'a [Text],
     },
-    /// It runs another script (RFC 6609, section 3.2).
+    /// A command that runs another script (RFC 6609, section 3.2).
     Include {
         /// Where the script is kept.
         place: Place,
-        /// Whether it runs only where it hasn't run yet.
+        /// Whether the script runs only where it hasn't run yet.
         once: bool,
-        /// Whether it may be missing.
+        /// Whether the script may be missing.
         optional: bool,
         /// The script's name.
         name: &'a [u8],
@@ -177,18 +177,18 @@ pub enum Leaf<'a> {
 /// What a command is, apart from its test and its block.
 #[derive(Clone, Copy)]
 pub enum CommandReading<'a> {
-    /// It is the first branch of a chain (RFC 5228, section 3.1).
+    /// The first branch of a chain (RFC 5228, section 3.1).
     If,
-    /// It is a branch behind another, with a test (RFC 5228, section 3.1).
+    /// A branch behind another, with a test (RFC 5228, section 3.1).
     Elsif,
-    /// It is the last branch of a chain (RFC 5228, section 3.1).
+    /// The last branch of a chain (RFC 5228, section 3.1).
     Else,
-    /// It ends the run (RFC 5228, section 3.3).
+    /// A command that ends the run (RFC 5228, section 3.3).
     Stop,
-    /// It ends its script (RFC 6609, section 3.3).
+    /// A command that ends its script (RFC 6609, section 3.3).
     Return,
-    /// It does nothing when it runs (RFC 5228, section 3.2; RFC 6609, section 3.4.1).
+    /// A command that does nothing when it runs (RFC 5228, section 3.2; RFC 6609, section 3.4.1).
     Nothing,
-    /// It acts.
+    /// A command that acts.
     Act(Leaf<'a>),
 }

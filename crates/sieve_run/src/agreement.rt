@@ -31,12 +31,7 @@ fn skip_spelling(text: &[u8], octet: u8) -> Option<&[u8]>
         _ if is_printable(octet) => skip_octets(text, &[octet]),
         _ => skip_octets(
             text,
-            &[
-                b'\\',
-                b'x',
-                hex_digit(octet / 16),
-                hex_digit(octet % 16),
-            ],
+            &[b'\\', b'x', hex_digit(octet / 16), hex_digit(octet % 16)],
         ),
     }
 }

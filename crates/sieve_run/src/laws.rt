@@ -25,7 +25,7 @@ pub fn stop_ends_the_commands()
     ensures { (ask : Ask → RunState → spec.Answer) (act : Leaf → ℕ → RunState → Ending) (rest : Commands) (behind : RunState → Ending) (state : RunState) → spec.and_then (spec.exec ask act (stops rest) state) behind ≡ stopped state }
 {}
 
-/// Nor do those behind a `return` (RFC 6609, section 3.3).
+/// Commands behind a `return` change nothing either (RFC 6609, section 3.3).
 #[tactic(auto, using(crate::proofs::Unchanged::return_ends))]
 pub fn return_ends_the_commands()
     ensures { (ask : Ask → RunState → spec.Answer) (act : Leaf → ℕ → RunState → Ending) (rest : Commands) (behind : RunState → Ending) (state : RunState) → spec.and_then (spec.exec ask act (returns rest) state) behind ≡ returned state }

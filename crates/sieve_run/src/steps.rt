@@ -31,7 +31,7 @@ use std::alloc::AllocError;
 /// How an operation ended.
 #[derive(Drop)]
 enum Step {
-    /// It goes on at a place, with a truth in the register.
+    /// The script goes on at a place, with a truth in the register.
     Next { place: usize, register: bool },
     /// The script ended so.
     Ended(Flow),

@@ -18,7 +18,7 @@ pub(crate) fn line_length(rest: &[u8]) -> usize
     rest.len()
 }
 
-/// Whether this is an LF, or a CR and an LF.
+/// Whether octets are an LF, or a CR and an LF.
 #[tactic(auto, unfolding(crate::specs::Line::is_line_end))]
 pub(crate) fn is_line_end(octets: &[u8]) -> bool
     ensures { result ≡ is_line_end octets.now }

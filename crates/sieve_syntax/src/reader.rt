@@ -19,9 +19,9 @@ pub(crate) struct Head {
 /// A command or a test that waits for a test inside it.
 #[derive(Drop)]
 pub(crate) enum Level {
-    /// It waits for its one test.
+    /// A command or a test that waits for its one test.
     One(Head),
-    /// It waits for the next test of its list, after those before.
+    /// A command or a test that waits for the next test of its list, and the tests before that.
     List(Head, Vec<Test>),
 }
 

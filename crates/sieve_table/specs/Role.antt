@@ -7,7 +7,7 @@ use Rattle.sieve_table.specs.view.Number.{role_number}
 abbrev pub same_role : Role → Role → Bool
 same_role a b = nat_eq (role_number a) (role_number b)
 
--- whether it is that role
+-- whether a role is given, and is the wanted one
 abbrev pub has_role : Role → Option Role → Bool
 has_role wanted None = false
 has_role wanted (Some role) = same_role wanted role

@@ -24,9 +24,9 @@ use Rattle.sieve_table.specs.view.Number.{kind_number, tag_number}
 
 -- what a command or a test takes (RFC 5228, section 2.6)
 pub record Row : Type 0 where
-  -- its identifier, in lower case
+  -- the identifier of the command or the test, in lower case
   pub name : List ℕ
-  -- its tags, in any order (RFC 5228, section 2.6.2)
+  -- the tags, in any order (RFC 5228, section 2.6.2)
   pub tags : List Tag
   -- the kind of which exactly one tag is there
   pub one_of : Option TagKind
@@ -36,14 +36,14 @@ pub record Row : Type 0 where
   pub slots : List Slot
   -- the tests behind them (RFC 5228, sections 2.5 and 2.5.1)
   pub tests : Inner
-  -- whether it ends by a block, and not by a semicolon (RFC 5228, sections 2.8 and 2.9)
+  -- whether the command ends by a block, and not by a semicolon (RFC 5228, sections 2.8 and 2.9)
   pub has_block : Bool
-  -- what has to be required for it (RFC 5228, section 2.10.5)
+  -- what has to be required for the command or the test (RFC 5228, section 2.10.5)
   pub needs : List Capability
 
 -- a tag
 pub record TagRow : Type 0 where
-  -- its identifier without the colon, in lower case
+  -- the tag's identifier without the colon, in lower case
   pub name : List ℕ
   -- two of one kind don't stand together
   pub kind : TagKind

@@ -11,7 +11,7 @@ fn same_role(a: Role, b: Role) -> bool
     a as u8 == b as u8
 }
 
-/// Whether it is that role.
+/// Whether a role is given, and is the wanted one.
 pub fn has_role(wanted: Role, role: Option<Role>) -> bool
     ensures { result ≡ has_role wanted role }
 {

@@ -94,10 +94,10 @@ pub enum TagKind {
 /// What is said of a tag.
 #[derive(Clone, Copy)]
 pub struct TagRow {
-    /// Its identifier without the colon, in lower case.
+    /// The tag's identifier without the colon, in lower case.
     pub name: &'static [u8],
     pub kind: TagKind,
-    /// The argument that it takes itself, directly behind it.
+    /// The argument that the tag takes itself, directly behind it.
     pub takes: Option<Slot>,
     /// What has to be required where it is given.
     pub needs: Option<Capability>,
@@ -116,9 +116,9 @@ pub enum Inner {
 /// What a command or a test takes (RFC 5228, section 2.6).
 #[derive(Clone, Copy)]
 pub struct Row {
-    /// Its identifier, in lower case.
+    /// The identifier of the command or the test, in lower case.
     pub name: &'static [u8],
-    /// Its tags, which may stand in any order.
+    /// The tags, which may stand in any order.
     pub tags: &'static [Tag],
     /// The kind of which exactly one tag is there.
     pub one_of: Option<TagKind>,
@@ -127,9 +127,9 @@ pub struct Row {
     /// The positional arguments in order.
     pub slots: &'static [Slot],
     pub tests: Inner,
-    /// Whether it ends by a block, and not by a semicolon.
+    /// Whether the command ends by a block, and not by a semicolon.
     pub has_block: bool,
-    /// What has to be required for it.
+    /// What has to be required for the command or the test.
     pub needs: &'static [Capability],
 }
 

@@ -11,7 +11,7 @@ use crate::table::Tag;
 /// The tags that say how values are compared with keys (RFC 5228, section 2.7).
 const COMPARING_TAGS: [Tag; 4] = [Tag::Comparator, Tag::Is, Tag::Contains, Tag::Matches];
 
-/// Those that name a part of an address too (RFC 5228, section 2.7.4).
+/// The tags that name a part of an address (RFC 5228, section 2.7.4), and those that say how values are compared.
 const ADDRESS_TAGS: [Tag; 7] = [
     Tag::All,
     Tag::LocalPart,

@@ -36,6 +36,6 @@ global_namespace = codes "global"
 abbrev pub global_prefix : List ℕ
 global_prefix = codes "global."
 
--- whether it names one of them
+-- whether a name is that of a variable that scripts share
 abbrev pub is_global_name : List ℕ → Bool
 is_global_name name = str_eq_ignore_ascii_case global_prefix (take (length global_prefix) name) && is_identifier (drop (length global_prefix) name)

@@ -65,12 +65,12 @@ abbrev pub is_reference : TextPiece → Bool
 is_reference (octet c) = false
 is_reference (reference words) = true
 
--- whether it is one with a namespace: of more than one word
+-- whether a piece is a reference with a namespace: of more than one word
 abbrev pub is_namespaced : TextPiece → Bool
 is_namespaced (octet c) = false
 is_namespaced (reference words) = nat_lt 1 (length words)
 
--- whether it is one in another namespace than that of the variables that scripts share (RFC 6609, section 3.4.2)
+-- whether a piece is a reference in another namespace than that of the variables that scripts share (RFC 6609, section 3.4.2)
 abbrev pub is_foreign : TextPiece → Bool
 is_foreign (octet c) = false
 is_foreign (reference []) = false
@@ -78,7 +78,7 @@ is_foreign (reference (name ∷ [])) = false
 is_foreign (reference (namespace ∷ name ∷ [])) = not (is_shared namespace name)
 is_foreign (reference (namespace ∷ word ∷ next ∷ words)) = true
 
--- whether it is one to a match variable whose number is past the limit (RFC 5229, section 6)
+-- whether a piece is a reference to a match variable whose number is past the limit (RFC 5229, section 6)
 abbrev pub is_far : TextPiece → Bool
 is_far (octet c) = false
 is_far (reference []) = false
@@ -89,14 +89,14 @@ is_far (reference (namespace ∷ word ∷ words)) = false
 abbrev pub has_reference : List ℕ → Bool
 has_reference text = list_any is_reference (pieces_of text)
 
--- whether it has one with a namespace
+-- whether a text has a reference with a namespace
 abbrev pub has_namespace : List ℕ → Bool
 has_namespace text = list_any is_namespaced (pieces_of text)
 
--- whether it has one in another namespace than that of the variables that scripts share
+-- whether a text has a reference in another namespace than that of the variables that scripts share
 abbrev pub has_foreign_namespace : List ℕ → Bool
 has_foreign_namespace text = list_any is_foreign (pieces_of text)
 
--- whether it has one to a match variable whose number is past the limit
+-- whether a text has a reference to a match variable whose number is past the limit
 abbrev pub has_far_index : List ℕ → Bool
 has_far_index text = list_any is_far (pieces_of text)

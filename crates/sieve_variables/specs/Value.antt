@@ -10,9 +10,9 @@ use Rattle.sieve_variables.specs.Variable.{Variable, local_variable, global_vari
 
 -- the variables while a script runs
 pub record Values : Type 0 where
-  -- those of the script that it has set, by their names in lower case, each with its value (RFC 5229, section 4)
+  -- the variables of the script that it has set, by their names in lower case, each with its value (RFC 5229, section 4)
   pub locals : List (List ℕ × List ℕ)
-  -- those that scripts share, and that the run has set (RFC 6609, section 3.4)
+  -- the variables that scripts share, and that the run has set (RFC 6609, section 3.4)
   pub globals : List (List ℕ × List ℕ)
   -- what the last successful `:matches` of the script gave: the whole value, and what each wildcard took (RFC 5229, section 3.2)
   pub matched : List (List ℕ)

@@ -37,7 +37,7 @@ fn are_name_octets(octets: &[u8]) -> bool
     octets.iter().all(|octet| is_name_octet(*octet))
 }
 
-/// Whether it is an identifier, which names a variable of the script (RFC 5228, section 8.1; RFC 5229, section 3).
+/// Whether a name is an identifier, which names a variable of the script (RFC 5228, section 8.1; RFC 5229, section 3).
 pub fn is_identifier(name: &[u8]) -> bool
     ensures { result ≡ is_identifier name.now }
 {
@@ -47,7 +47,7 @@ pub fn is_identifier(name: &[u8]) -> bool
     }
 }
 
-/// Whether it is the name of a variable that scripts share: `global.` in any case, and an identifier (RFC 6609, section 3.4.2).
+/// Whether a name is that of a variable that scripts share: `global.` in any case, and an identifier (RFC 6609, section 3.4.2).
 pub fn is_global_name(name: &[u8]) -> bool
     ensures { result ≡ is_global_name name.now }
 {
@@ -80,7 +80,7 @@ fn are_digits(octets: &[u8]) -> bool
     octets.iter().all(|octet| is_digit(*octet))
 }
 
-/// Whether it is the number of a match variable.
+/// Whether a word is the number of a match variable.
 pub(crate) fn is_number(word: &[u8]) -> bool
     ensures { result ≡ is_number word.now }
 {
@@ -90,7 +90,7 @@ pub(crate) fn is_number(word: &[u8]) -> bool
     }
 }
 
-/// Whether it is the name of a variable of the script or the number of a match variable.
+/// Whether a word is the name of a variable of the script or the number of a match variable.
 pub(crate) fn is_name(word: &[u8]) -> bool
     ensures { result ≡ is_name word.now }
 {

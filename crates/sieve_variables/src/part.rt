@@ -13,7 +13,7 @@ use std::default::MadeWith;
 /// A part of a string.
 #[derive(Drop)]
 pub enum Part {
-    /// These octets.
+    /// Octets that stand for themselves.
     Literal(SmallOctets),
     /// The value of a variable (RFC 5229, section 3).
     Variable(Variable),

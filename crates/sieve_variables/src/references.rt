@@ -18,7 +18,7 @@ use std::alloc::{AllocError, Global};
 /// What references a text has.
 #[derive(Clone, Copy, Debug, PartialEq, Eq)]
 pub struct References {
-    /// Whether it has one.
+    /// Whether the text has a reference.
     pub any: bool,
     /// Whether one of them has a namespace.
     pub namespaced: bool,

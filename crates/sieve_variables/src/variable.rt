@@ -76,7 +76,7 @@ impl Model for Names {
 }
 
 impl Names {
-    /// None. Takes no memory.
+    /// No names. Takes no memory.
     #[tactic(auto, unfolding(crate::specs::view::Names::names_of))]
     pub fn new(alloc: Global) -> Names
         ensures { result ≡ [] }

@@ -25,7 +25,7 @@ impl Model for Variables {
 }
 
 impl Variables {
-    /// None is set. Takes no memory.
+    /// No variable is set. Takes no memory.
     #[tactic(auto, unfolding(crate::specs::view::Value::held_of))]
     pub(crate) fn new(alloc: Global) -> Variables
         ensures { result ≡ [] }

@@ -56,7 +56,7 @@ demand_of (dump place name) = asks_dump (record { place = place; name = name })
 demand_of (expect id count) = asks_put count (λ octets. set_expected id octets)
 demand_of (no_expect id) = asks_edit (clear_expected id)
 
--- what it asks for with the octets behind its line; a line of no command says nothing that there is
+-- what a line asks for with the octets behind it; a line of no command says nothing that there is
 abbrev pub request_by : Option Demand → List ℕ → Request
 request_by None rest = unreadable
 request_by (Some asks_nothing) rest = idle rest

@@ -1,6 +1,6 @@
 //! The program over words, input, output and standard error that are made.
 //!
-//! What it writes where nothing fails stands in `examples/rows` and is made in `tools/checks`.
+//! What the program writes where nothing fails stands in `examples/rows` and is made in `tools/checks`.
 
 mod disk;
 mod failing_files;

@@ -4,7 +4,7 @@ use Rattle.bench.specs.Content.{Content}
 use Rattle.bench.specs.declared.fault.EditFault.{EditFault}
 use Rattle.bench.specs.declared.fault.EditFault.TheVariants.{TooLarge, NoSuchScript, NameTaken, NoSuchMessage, Full, NoMemory}
 
--- It is the first refusal of the edits of a job, none of which removes or renames, or else memory was refused, to whichever edit.
+-- A fault is the first refusal of a job's edits, none of which removes or renames, or else memory was refused, to whichever edit.
 abbrev pub Refused : EditFault → Result Content EditFault → Type 0
 Refused NoSuchScript made = ⊥
 Refused NameTaken made = ⊥

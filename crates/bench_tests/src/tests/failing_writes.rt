@@ -87,7 +87,7 @@ impl Output {
         }
     }
 
-    /// Its name in a message.
+    /// The name of the output in a message.
     fn name(self) -> &'static str {
         match self {
             Output::Replies => "replies",

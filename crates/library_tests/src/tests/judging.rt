@@ -40,7 +40,7 @@ fn check_keep(rt: &impl Abort, keep: &Command) {
     );
 }
 
-/// Its test.
+/// The test of the `if`.
 fn check_negation(rt: &impl Abort, negation: &Test) {
     let negates = matches!(read_test(negation), Some(TestReading::Not));
     holds(rt, "the reading of not", negates);
@@ -61,7 +61,7 @@ fn is_over(test: &Test) -> bool {
     }
 }
 
-/// Its block.
+/// The block of the `if`.
 fn check_stop(rt: &impl Abort, block: &[Command]) {
     let [stop] = block else {
         panic!(rt; "not one command");
@@ -71,7 +71,7 @@ fn check_stop(rt: &impl Abort, block: &[Command]) {
     holds(rt, "the reading of stop", stops);
 }
 
-/// Its second command.
+/// The second command, an `if`.
 fn check_choice(rt: &impl Abort, choice: &Command) {
     holds(rt, "the line of if", choice.line == 2);
     holds(

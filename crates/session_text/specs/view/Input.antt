@@ -20,7 +20,7 @@ unused input remaining = prepend_known input.pending remaining
 abbrev pub Knows : Input → Option (List ℕ) → Type 0
 Knows input remaining = IsTrue input.ended → IsAtEnd remaining
 
--- It falls with each octet that is used, and with each read.
+-- What falls with each octet that is used, and with each read.
 abbrev pub fuel : Input → ℕ
 fuel input = input.turns * (capacity + 1) + length input.pending
 

@@ -9,7 +9,7 @@ use Rattle.sieve_table.specs.Table.{Row}
 use Rattle.sieve_table.specs.declared.rule.Rule.{Rule}
 use Rattle.sieve_table.specs.declared.rule.Rule.TheVariants.{ElsePlace}
 
--- whether it breaks a rule, where `alone` says whether it goes on with an `if` that isn't there
+-- whether a use breaks a rule, where `alone` says whether it goes on with an `if` that isn't there
 abbrev pub use_breaks : (alone : Bool) → Required → Row → List Argument → Tests → (ends_by_block : Bool) → Rule → Bool
 use_breaks alone required row args ts ends_by_block ElsePlace = alone
 use_breaks alone required row args ts ends_by_block rule = row_breaks required row args ts ends_by_block rule

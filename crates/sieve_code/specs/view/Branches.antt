@@ -4,7 +4,7 @@ use Rattle.sieve_reading.specs.Tree.{Node, node}
 use Rattle.sieve_code.specs.Choice.{Tail, Branches, block_before, branch_before, first_before}
 use Rattle.sieve_code.specs.declared.command_code.TailFront.{TailFront}
 
--- so many operations of a tail, from the end
+-- the last operations of a tail, `count` of them
 abbrev pub last : ℕ → Tail → Tail
 last count tail = drop (length tail - count) tail
 

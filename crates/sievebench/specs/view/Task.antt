@@ -23,7 +23,7 @@ limit_of (subjects.Script name) = text_limit
 limit_of (subjects.Message id) = message_limit
 limit_of (subjects.Expected id) = expected_limit
 
--- so many octets follow what is asked for, and memory may be refused to it
+-- `count` octets follow what is asked for, and memory may be refused to it
 abbrev pub IsFollowedBy : ℕ → Option Demand → Type 0
 IsFollowedBy count None = ⊥
 IsFollowedBy count (Some asks_nothing) = ⊥

@@ -112,7 +112,7 @@ fn large_files_are_refused(rt: HostRuntime) -> Result<(), Fail> {
     check_failing(&rt, &words, &[], &files, ErrorKind::NotFound, 2, told)
 }
 
-/// So many octets, and an end.
+/// A name of 1,025 octets and an end.
 fn long_name(alloc: Global, end: &str) -> Result<String, AllocError> {
     let mut name = String::new(alloc);
     for _ in 0..1_025 {

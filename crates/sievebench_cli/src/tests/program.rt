@@ -119,7 +119,7 @@ fn check_failing_output(
     check_run(rt, input, room, 3, output, b"sievebench: cannot write\n")
 }
 
-/// So many lines.
+/// A line, `count` times.
 pub(crate) fn lines_of(alloc: Global, line: &[u8], count: usize) -> Result<Vec<u8>, AllocError> {
     let mut lines = Vec::new(alloc);
     for _line in 0..count {

@@ -83,6 +83,15 @@ fn words_that_break_a_rule_stay(rt: HostRuntime) -> Result<(), Fail> {
                 b"A: =?utf-8?Q?=C0=80?=\nB: =?utf-8?Q?=ED=A0=80?=\nC: =?utf-8?Q?=F4=90=80=80?=\n\n",
                 b"=?utf-8?Q?=C0=80?=\n=?utf-8?Q?=ED=A0=80?=\n=?utf-8?Q?=F4=90=80=80?=\n",
             ),
+        ],
+    )
+}
+
+#[test]
+fn unknown_and_broken_words_stay(rt: HostRuntime) -> Result<(), Fail> {
+    check_decoded(
+        &rt,
+        &[
             // Charsets and encodings that aren't known, and signs that are missing.
             (
                 b"A: =?koi8-r?Q?a?=\nB: =?utf8?Q?a?=\nC: =??Q?a?=\n\n",
@@ -199,7 +208,7 @@ fn decoded_len(alloc: Global, octets: &[u8], count: usize) -> Result<usize, Fail
     Ok(message.decoded(alloc, 0)?.as_slice().len())
 }
 
-// Each of these would take hours if each place were read to the value's end.
+// Each of these values would take hours if each place were read to the value's end.
 #[test]
 fn long_values_are_decoded_at_once(rt: HostRuntime) -> Result<(), Fail> {
     let signs = decoded_len(rt.alloc(), b"=?", 1_000_000)?;

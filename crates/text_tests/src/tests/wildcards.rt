@@ -141,7 +141,7 @@ fn check_stars(
     Ok(())
 }
 
-/// So many stars over so many octets take no time to speak of, whether they match or not.
+/// A thousand stars over 100,000 octets take no time to speak of, whether they match or not.
 #[test]
 fn many_stars_are_matched_at_once(rt: HostRuntime) -> Result<(), AllocError> {
     let value = vec![in rt.alloc(); b'a'; 100_000]?;
