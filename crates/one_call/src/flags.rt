@@ -9,7 +9,10 @@ use std::io;
 const FIRST: &[u8] = b"\\Seen a $Label A \\Recent";
 
 // Four flags, two of them among the first three.
-const SECOND: &[u8] = b"$label $Work \\SEEN other-flag-of-many-octets";
+pub(crate) const SECOND: &[u8] = b"$label $Work \\SEEN other-flag-of-many-octets";
+
+// Two flags that are among the first three.
+pub(crate) const HELD: &[u8] = b"$label \\SEEN";
 
 pub(crate) fn read(rt: &impl Host) -> io::Result<()> {
     mark(rt);
@@ -52,9 +55,9 @@ pub(crate) fn take_away(rt: &impl Host) -> io::Result<()> {
 }
 
 /// Behind the answer stands the list: where memory was refused, some flags may have been added.
-pub(crate) fn add(rt: &impl Host) -> io::Result<()> {
+pub(crate) fn add(rt: &impl Host, others: &[u8]) -> io::Result<()> {
     let mut first = flags_of(rt.alloc(), FIRST)?;
-    let second = flags_of(rt.alloc(), SECOND)?;
+    let second = flags_of(rt.alloc(), others)?;
     mark(rt);
     let answer = first.add(rt.alloc(), &second, 0);
     mark(rt);

@@ -7,10 +7,18 @@ use std::borrow::CowSlice;
 use std::io;
 
 // Encoded words under both encodings on two lines, addresses on two lines, and a field of one line.
-const MAIL: &[u8] =
+pub(crate) const MAIL: &[u8] =
     b"From: Ann <ann@a.example>\r\nSubject: =?utf-8?q?caf=C3=A9_?=\r\n =?iso-8859-1?B?6Q==?= late\r\nTo: b@c.example,\r\n\td@e.example\r\nX-Plain: plain\r\n\r\nbody\r\n";
 
-// The places of three of its fields.
+// Octets without a field.
+pub(crate) const BARE: &[u8] = b"\r\nbody\r\n";
+
+// An encoded word, and one of a charset that isn't known.
+pub(crate) const WORD: &[u8] = b"=?us-ascii?Q?a_b?= c";
+
+pub(crate) const UNKNOWN: &[u8] = b"=?koi8-r?Q?a_b?= c";
+
+// The places of three of the mail's fields.
 pub(crate) const SUBJECT: usize = 1;
 
 pub(crate) const TO: usize = 2;
@@ -22,8 +30,8 @@ const ADDRESSES: &[u8] =
     b"Team: \"A. B\" <\"a b\"@b.example>, (note) c@d.example; <@r.example:e@f.example>";
 
 /// The names of the fields, or the octets that come back.
-pub(crate) fn read(rt: &impl Host) -> io::Result<()> {
-    let octets = Vec::from_slice(rt.alloc(), MAIL)?;
+pub(crate) fn read(rt: &impl Host, octets: &[u8]) -> io::Result<()> {
+    let octets = Vec::from_slice(rt.alloc(), octets)?;
     mark(rt);
     let answer = Message::new(rt.alloc(), octets);
     mark(rt);
@@ -81,8 +89,8 @@ pub(crate) fn ask(rt: &impl Host) -> io::Result<()> {
     println!(rt; "{size} {fields} {place:?}")
 }
 
-pub(crate) fn decode(rt: &impl Host) -> io::Result<()> {
-    let value = CowSlice::Borrowed(b"=?us-ascii?Q?a_b?= c".as_slice());
+pub(crate) fn decode(rt: &impl Host, octets: &[u8]) -> io::Result<()> {
+    let value = CowSlice::Borrowed(octets);
     mark(rt);
     let answer = decoded_value(rt.alloc(), value);
     mark(rt);

@@ -7,8 +7,13 @@ use std::io;
 const VALUE: &[u8] =
     b"The quick brown fox jumps over the lazy dog, and then over the lazy cat, twice.";
 
-// A part of the value in other letters. It is too long to be looked for without copies.
-const KEY: &[u8] = b"QUICK BROWN FOX JUMPS OVER THE LAZY DOG, AND THEN OVER THE LAZY CAT";
+// A part of the value in other letters, which is too long to be looked for without copies.
+pub(crate) const KEY: &[u8] =
+    b"QUICK BROWN FOX JUMPS OVER THE LAZY DOG, AND THEN OVER THE LAZY CAT";
+
+// The longest front of that which isn't.
+pub(crate) const SHORT_KEY: &[u8] =
+    b"QUICK BROWN FOX JUMPS OVER THE LAZY DOG, AND THEN OVER THE LAZY ";
 
 const PATTERN: &[u8] = b"THE * fox JUMP? over*cat, \\t*";
 
@@ -26,9 +31,9 @@ pub(crate) fn search(rt: &impl Host) -> io::Result<()> {
     println!(rt; "{answer}")
 }
 
-pub(crate) fn search_in(rt: &impl Host) -> io::Result<()> {
+pub(crate) fn search_in(rt: &impl Host, key: &[u8]) -> io::Result<()> {
     mark(rt);
-    let answer = contains_in::<AsciiCasemap>(rt.alloc(), VALUE, KEY);
+    let answer = contains_in::<AsciiCasemap>(rt.alloc(), VALUE, key);
     mark(rt);
     match answer {
         Ok(found) => println!(rt; "{found}"),

@@ -4,9 +4,9 @@ use crate::telling::Host;
 use crate::{edits, flags, mails, reports, runs, scripts, texts, values};
 use std::io;
 
-const WORDS: &str = "is contains contains_in matches Captures \
-    flags_of union without FlagList::add FlagList \
-    Message::new Message::value Message::decoded decoded_value addresses \
+const WORDS: &str = "is contains contains_in contains_in/short matches Captures \
+    flags_of union without FlagList::add FlagList::add/held FlagList \
+    Message::new Message::new/bare Message::value Message::decoded decoded_value decoded_value/unknown addresses \
     Message Message::value/unfolded Message::decoded/plain Address \
     tokens parse parse/faulty check judge judge/faulty compile dump_text Checked Code write_quoted \
     parts_of_text Values::set Values::expanded Values \
@@ -38,18 +38,22 @@ fn call_texts(rt: &impl Host, word: &str) -> Option<io::Result<()>> {
     Some(match word {
         "is" => texts::compare(rt),
         "contains" => texts::search(rt),
-        "contains_in" => texts::search_in(rt),
+        "contains_in" => texts::search_in(rt, texts::KEY),
+        "contains_in/short" => texts::search_in(rt, texts::SHORT_KEY),
         "matches" => texts::match_pattern(rt),
         "Captures" => texts::ask_captures(rt),
         "flags_of" => flags::read(rt),
         "union" => flags::join(rt),
         "without" => flags::take_away(rt),
-        "FlagList::add" => flags::add(rt),
+        "FlagList::add" => flags::add(rt, flags::SECOND),
+        "FlagList::add/held" => flags::add(rt, flags::HELD),
         "FlagList" => flags::ask(rt),
-        "Message::new" => mails::read(rt),
+        "Message::new" => mails::read(rt, mails::MAIL),
+        "Message::new/bare" => mails::read(rt, mails::BARE),
         "Message::value" => mails::ask_value(rt, mails::TO),
         "Message::decoded" => mails::ask_decoded(rt, mails::SUBJECT),
-        "decoded_value" => mails::decode(rt),
+        "decoded_value" => mails::decode(rt, mails::WORD),
+        "decoded_value/unknown" => mails::decode(rt, mails::UNKNOWN),
         "addresses" => mails::read_addresses(rt),
         "Message" => mails::ask(rt),
         "Message::value/unfolded" => mails::ask_value(rt, mails::PLAIN),
