@@ -13,7 +13,7 @@ hash_at [] i parts is below = let no : ⊥ = omega arith in absurd no
 hash_at (string ∷ strings) zero parts is below = ap (λ (p : SmallVec Part). kept_hash (map part_of p.items)) (sym is)
 hash_at (string ∷ strings) (suc i) parts is below = hash_at strings i parts is (omega arith)
 
--- so is what it stands for
+-- the text that stands at the place of a string is what the string stands for
 pub text_at : (values : Values) (strings : List (SmallVec Part)) (i : ℕ) (parts : SmallVec Part) → parts ≡ slice_index_or strings i parts → i < length (strings_of strings) → slice_get (map (text_value values) (strings_of strings)) i ≡ Some (text_value values (map part_of parts.items))
 text_at values [] i parts is below = let no : ⊥ = omega arith in absurd no
 text_at values (string ∷ strings) zero parts is below = ap (λ (p : SmallVec Part). Some (text_value values (map part_of p.items))) (sym is)

@@ -24,10 +24,10 @@ module _ {X : Type 0} (has : X → Bool) where
   passes_in (n ∷ names) zero name at is = let e : has n ≡ true = cc in sym (ap (λ b. b && list_all has names) e)
   passes_in (n ∷ names) (suc i) name at is = passes_in names i name at is
 
-  -- a name that there isn't
+  -- where a name isn't there, not all from it on are
   pub name_fails : (names : List X) (i : ℕ) (name : X) (b : Bool) → list_all has (drop i names) ≡ b → slice_get names i ≡ Some name → has name ≡ false → false ≡ b
   name_fails names i name b so at is = sym (fails_in names i name at is) ∙ so
 
-  -- one that there is leaves it to those behind it
+  -- where a name is there, whether all from it on are is whether all behind it are
   pub name_passes : (names : List X) (i : ℕ) (name : X) (b : Bool) → list_all has (drop i names) ≡ b → slice_get names i ≡ Some name → has name ≡ true → list_all has (drop (i + 1) names) ≡ b
   name_passes names i name b so at is = ap (λ n. list_all has (drop n names)) (add-one i) ∙ passes_in names i name at is ∙ so

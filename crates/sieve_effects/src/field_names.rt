@@ -1,11 +1,11 @@
 //! The names of fields that a test looks at, as compiled code keeps them.
 ghost use Rattle.std.specs.Prelude.{◌≡◌, ◌<◌, length, map, slice_get, IfOk, Some};
-ghost use Rattle.std.specs.Option.{option_map};
-ghost use Rattle.sieve_effects.specs.view.FieldNames.{kept_hash, literal_octets, only_literal};
+ghost use Rattle.sieve_effects.specs.view.FieldNames.{kept_hash};
 ghost use Rattle.sieve_variables.specs.Value.{text_value};
 ghost use Rattle.sieve_variables.specs.view.Part.{part_of, strings_of};
 
 use message_text::{FieldName, name_hash};
+use sieve_reading::literal_in_parts;
 use sieve_variables::{Part, Parts, Strings, Values};
 use smallvec::SmallVec;
 use std::alloc::{AllocError, Global};
@@ -14,7 +14,7 @@ use std::marker::Model;
 /// A hash for each name. Four, which few tests have more of, lie in the value itself.
 type Hashes = SmallVec<u32, 4>;
 
-/// The names of fields that a test looks at. Contracts see the parts of each. The hash of a name without a variable is made once, and no
+/// The names of fields that a test looks at. Contracts see the parts of each. The hash of a name that is one literal is made once, and no
 /// run makes it again.
 #[derive(Drop)]
 pub struct FieldNames {
@@ -35,32 +35,11 @@ impl Model for FieldNames {
     ghost invariant = { λ n. n.hashes.items ≡ map kept_hash (strings_of n.strings.items) };
 }
 
-/// The octets of a literal.
-fn literal_octets(part: &Part) -> Option<&[u8]>
-    ensures { option_map (λ octets. octets.now) result ≡ literal_octets (part_of part.now) }
-{
-    match part {
-        Part::Literal(octets) => Some(octets.as_slice()),
-        Part::Variable(_) => None,
-        Part::Match(_) => None,
-    }
-}
-
-/// The octets of a string that is one literal.
-fn only_literal(parts: &[Part]) -> Option<&[u8]>
-    ensures { option_map (λ octets. octets.now) result ≡ only_literal (map part_of parts.now) }
-{
-    match parts {
-        [part] => literal_octets(part),
-        _ => None,
-    }
-}
-
 /// What is kept for a name: its hash, where it is one literal.
 fn kept_hash(parts: &[Part]) -> u32
     ensures { result ≡ kept_hash (map part_of parts.now) }
 {
-    match only_literal(parts) {
+    match literal_in_parts(parts) {
         Some(octets) => name_hash(octets),
         None => 0,
     }
@@ -87,7 +66,7 @@ fn prepared_in<'a>(
     requires { hash ≡ kept_hash (map part_of parts.now) }
     ensures { IfOk result (λ name. name ≡ text_value values.now (map part_of parts.now)) }
 {
-    if let Some(octets) = only_literal(parts) {
+    if let Some(octets) = literal_in_parts(parts) {
         return Ok(FieldName::with_hash(octets, hash));
     }
     let octets = values.expanded_in(parts, buffer)?;
@@ -117,7 +96,7 @@ impl FieldNames {
         self.strings.len()
     }
 
-    /// What name `i` stands for, for one name after another. One that is one part takes no memory; one of several is put into the
+    /// What name `i` stands for, for one name after another. One of one part, or of none, takes no memory; one of several is put into the
     /// buffer, in place of what it holds, which takes memory where it has too little room.
     pub(crate) fn name_in<'a>(
         &'a self,

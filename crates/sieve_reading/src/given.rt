@@ -88,8 +88,8 @@ pub(crate) fn given_variable(argument: Option<&Argument>) -> Option<Option<&Vari
     }
 }
 
-/// The octets of parts that are one literal.
-fn literal_in_parts(parts: &[Part]) -> Option<&[u8]>
+/// The octets of a string that is one literal. Takes no memory.
+pub fn literal_in_parts(parts: &[Part]) -> Option<&[u8]>
     ensures { option_map (λ octets. octets.now) result ≡ spec.literal_in_parts (map part_of parts.now) }
 {
     match parts {

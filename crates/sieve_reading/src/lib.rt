@@ -14,6 +14,7 @@ mod test_reading;
 mod tree;
 
 pub use command_reading::{kind_of, read_command};
+pub use given::literal_in_parts;
 pub use label::{Expected, Label, Shape};
 pub use reading::{
     Ask, CommandReading, FlagChange, Leaf, MatchType, Settings, TestReading, ValueSource,
