@@ -6,8 +6,8 @@ use Rattle.bench.proofs.Marks.{stale-marked_twice}
 use Rattle.bench.proofs.Names.{copied_to, text-copied, text-renamed}
 use Rattle.bench.proofs.bench.Bench.rename_script.Goals as goal
 
-pub invariant_of-self : goal.invariant_of-self
-invariant_of-self c =
+pub invariant_of-self-2 : goal.invariant_of-self-2
+invariant_of-self-2 c =
     let scripts : List (ScriptName × List ℕ) = c.self.inside.scripts in
     let found : Option (List ℕ) = text_at scripts c.args.from.now in
     let both : List (ScriptName × List ℕ) = copied_to c.args.to.now found scripts in (

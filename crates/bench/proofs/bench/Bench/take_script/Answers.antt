@@ -5,8 +5,8 @@ use Rattle.bench.proofs.Marks.{stale-marked}
 use Rattle.bench.proofs.Names.{text-with_script}
 use Rattle.bench.proofs.bench.Bench.take_script.Goals as goal
 
-pub invariant_of-self : goal.invariant_of-self
-invariant_of-self c =
+pub invariant_of-self-2 : goal.invariant_of-self-2
+invariant_of-self-2 c =
     let scripts = c.self.inside.scripts in (
       rw c.in_ok-put.ensures.ok
           (c.forget_readers.ensures.due (text_at scripts) (text_at (with_script c.args.name.now c.args.text scripts)) c.self.inside.main c.self.inside.envelope
