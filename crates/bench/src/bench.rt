@@ -89,13 +89,9 @@ impl Bench {
         ensures err { OnErr result (self.new ≡ self.old) }
         ensures refused { Refuses (after self.old.content (edit.put_script name.now text)) result }
     {
-        match self.scripts.put(self.alloc, name, text) {
-            Ok(()) => {
-                forget_readers(&mut self.messages, name);
-                Ok(())
-            }
-            Err(_) => Err(EditFault::NoMemory),
-        }
+        self.scripts.put(self.alloc, name, text)?;
+        forget_readers(&mut self.messages, name);
+        Ok(())
     }
 
     /// Keeps a message's octets at an id, neither of which needs to be copied.
@@ -227,14 +223,10 @@ impl Bench {
         if let Some(fault) = refuse_rename(&self.scripts, from, to) {
             return Err(fault);
         }
-        match self.scripts.rename(self.alloc, from, to) {
-            Ok(()) => {
-                forget_readers(&mut self.messages, to);
-                forget_readers(&mut self.messages, from);
-                Ok(())
-            }
-            Err(_) => Err(EditFault::NoMemory),
-        }
+        self.scripts.rename(self.alloc, from, to)?;
+        forget_readers(&mut self.messages, to);
+        forget_readers(&mut self.messages, from);
+        Ok(())
     }
 
     /// Removes a script. Takes no memory.

@@ -5,16 +5,16 @@ use Rattle.bench.proofs.Marks.{stale-marked}
 use Rattle.bench.proofs.Names.{text-with_script}
 use Rattle.bench.proofs.bench.Bench.take_script.Goals as goal
 
-pub invariant_of-self : goal.invariant_of-self
-invariant_of-self c =
+pub invariant_of-self-2 : goal.invariant_of-self-2
+invariant_of-self-2 c =
     let scripts = c.self.inside.scripts in (
-      rw c.in-Ok.ensures.ok
+      rw c.in_ok-put.ensures.ok
           (c.forget_readers.ensures.due (text_at scripts) (text_at (with_script c.args.name.now c.args.text scripts)) c.self.inside.main c.self.inside.envelope
           (λ other apart. sym (text-with_script c.args.name.now c.args.text other scripts apart)) c.self.invariant.0),
       c.forget_readers.ensures.unique,
     )
 
-pub returns-in-Ok-clause-stale : goal.returns-in-Ok-clause-stale
-returns-in-Ok-clause-stale c =
+pub returns-clause-stale : goal.returns-clause-stale
+returns-clause-stale c =
     rw (← c.self.view_is, c.forget_readers.ensures.entries)
     (stale-marked (verdict_by c.self.inside.main c.self.inside.envelope c.self.inside.scripts) c.args.name.now c.self.inside.messages.entries c.self.invariant.0 c.self.invariant.1)
