@@ -56,7 +56,7 @@ again_row : after_all new_content (rebuild held) ≡ Ok held
 unfolding rebuild
 again_row = refl
 
--- none is named where there is no main script
+-- no edit names a main script where there is none
 no_main_row : rebuild new_content ≡ set_envelope [] [] ∷ set_mailbox (codes "INBOX") ∷ []
 unfolding rebuild
 no_main_row = refl

@@ -44,7 +44,7 @@ messages-insert eq ((other, old) ∷ es) id entry = by (eq id other) (messages-i
     by true rest = refl
     by false rest = ap (λ l. (other, sample_of old) ∷ l) rest
 
--- it is removed as its message is, by a test of its id
+-- an entry is removed as its message is, by a test of its id
 pub messages-remove_entry : (test : List ℕ → Bool) (es : List (List ℕ × Entry)) → messages_of (remove_entry test es) ≡ remove_entry test (messages_of es)
 unfolding messages_of
 messages-remove_entry test [] = refl
@@ -64,7 +64,7 @@ expected-messages es id = ap (option_and_then (λ sample. sample.expected)) (loo
     by None = refl
     by (Some entry) = refl
 
--- it is that of which is expected what was
+-- the entry that is put is the message with the text that was expected of its id
 pub messages-put : (es : List (List ℕ × Entry)) (id bytes : List ℕ) → messages_of (put_entry id bytes es) ≡ with_message id bytes (messages_of es)
 messages-put es id bytes =
     messages-insert (pointwise nat_eq) es id (fresh_entry bytes (expected_in es id))
@@ -86,13 +86,6 @@ put_there es id bytes there = by (lookup (pointwise nat_eq id) es) refl there
     by : (found : Option Entry) → lookup (pointwise nat_eq id) es ≡ found → is_some found ≡ true → changed id (renewed bytes) es ≡ ordered.insert_entry (pointwise nat_eq) es id (fresh_entry bytes (option_and_then (λ entry. entry.expected) found))
     by None is there = absurd cc
     by (Some entry) is there = renewed_is es id bytes entry is
-
-pub put_new : (es : List (List ℕ × Entry)) (id bytes : List ℕ) → is_some (lookup (pointwise nat_eq id) es) ≡ false → ordered.insert_entry (pointwise nat_eq) es id (fresh_entry bytes None) ≡ put_entry id bytes es
-put_new es id bytes absent = by (lookup (pointwise nat_eq id) es) absent
-  where
-    by : (found : Option Entry) → is_some found ≡ false → ordered.insert_entry (pointwise nat_eq) es id (fresh_entry bytes None) ≡ ordered.insert_entry (pointwise nat_eq) es id (fresh_entry bytes (option_and_then (λ entry. entry.expected) found))
-    by None absent = refl
-    by (Some entry) absent = absurd cc
 
 -- a text is expected of it
 pub messages-expecting : (es : List (List ℕ × Entry)) (id : List ℕ) (expected : Option (List ℕ)) → messages_of (changed id (expecting expected) es) ≡ with_expected id expected (messages_of es)

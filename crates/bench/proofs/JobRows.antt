@@ -25,7 +25,7 @@ main = personal (codes "main")
 abbrev other : ScriptName
 other = personal (codes "a")
 
--- so many octets
+-- a text of so many octets
 abbrev many : ℕ → List ℕ
 many count = replicate count (octet_of "n")
 
@@ -50,7 +50,7 @@ crowded = record new_content { scripts = replicate 4096 (other, []) }
 full_row : after_all crowded (put_script main [] ∷ set_main (personal (many 1025)) ∷ put_message (many 1025) [] ∷ []) ≡ Err Full
 full_row = refl
 
--- and the mailbox before them
+-- the mailbox is looked at before the scripts
 too_large_row : after_all crowded (set_mailbox (many 256) ∷ put_script main [] ∷ []) ≡ Err TooLarge
 too_large_row = refl
 
@@ -89,7 +89,7 @@ fault_row : (text : List ℕ) (line : ℕ) (kind : FaultKind) → judgement_of t
 unfolding is_clean
 fault_row text line kind judged = rw judged refl
 
--- or it has none
+-- a script that isn't run has no fault
 sound_row : (text : List ℕ) (tree : List Node) → judgement_of text ≡ sound tree → test_end_of (tested None ((other, text) ∷ [])) ≡ Clean
 unfolding is_clean verdicts outcome_of
 sound_row text tree judged = rw judged refl

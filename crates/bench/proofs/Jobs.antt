@@ -66,7 +66,7 @@ made_is : (refusal : Option EditFault) (content new : Content) → unless refusa
 made_is None content new made = cc
 made_is (Some fault) content new made = absurd cc
 
--- that edits leave no message, unless one of them is refused
+-- edits that leave no message, unless one of them is refused
 abbrev LeavesNone : Result Content EditFault → Type 0
 LeavesNone made = IfOk made (λ content. content.messages ≡ [])
 

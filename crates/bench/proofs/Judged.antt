@@ -28,14 +28,14 @@ all_judged main envelope scripts (e ∷ es) kept none = by e.1.kept kept.0 none 
     by None is none more = absurd cc
     by (Some verdict) is none more = ap (λ v. judged_now v ∷ judged_of es) is ∙ ap (λ l. judged_now (verdict_by main envelope scripts e.1.message) ∷ l) (more none)
 
--- so the report of them is the report of the content
+-- where none is stale, the report of the kept verdicts is the report of the content
 pub report_is : (content : Content) (main : Option ScriptName) (es : List (List ℕ × Entry)) → main ≡ content.main → messages_of es ≡ content.messages → KeepsDue (verdict_by main content.envelope content.scripts) es → stale_of es ≡ []
     → report_with main content.envelope content.scripts (judged_of es) ≡ report_text content
 report_is content main es m same kept none =
     ap (report_with main content.envelope content.scripts) (all_judged main content.envelope content.scripts es kept none ∙ ap (verdicts main content.envelope content.scripts) same)
     ∙ ap (λ x. report_with x content.envelope content.scripts (verdicts x content.envelope content.scripts content.messages)) m
 
--- and what is found in them is found in it
+-- where none is stale, the kept verdicts are clean where the content is
 pub clean_is : (content : Content) (es : List (List ℕ × Entry)) → messages_of es ≡ content.messages → KeepsDue (verdict_by content.main content.envelope content.scripts) es → stale_of es ≡ []
     → is_clean_with content.scripts (judged_of es) ≡ is_clean content
 unfolding is_clean
@@ -61,7 +61,7 @@ judged-errors (e ∷ es) = by e.1.kept (judged-errors es) ∙ sym (sum_by-cons (
     by None rest = rest ∙ sym (zero-add (count_by (λ e. has_error e.1.kept) es))
     by (Some verdict) rest = sum_by-cons (λ (j : Judged). cond (is_some j.verdict.error) 1 0) (record { id = e.0; verdict = verdict; expected = e.1.expected }) (judged_of es) ∙ ap (λ n. cond (is_some verdict.error) 1 0 + n) rest
 
--- the first entry's, and those of the others
+-- the verdicts kept of some entries are the first entry's, and those of the others
 judged_cut : (e : List ℕ × Entry) (es : List (List ℕ × Entry)) → judged_of (e ∷ es) ≡ judged_of (e ∷ []) ++ judged_of es
 unfolding judged_of
 judged_cut e es = by e.1.kept
@@ -73,7 +73,7 @@ judged_cut e es = by e.1.kept
 pub lines_cut : (lines : Judged → List ℕ) (all es : List (List ℕ × Entry)) (e : List ℕ × Entry) → all ≡ e ∷ es → flat_map lines (judged_of all) ≡ flat_map lines (judged_of (e ∷ [])) ++ flat_map lines (judged_of es)
 lines_cut lines all es e cut = ap (λ l. flat_map lines (judged_of l)) cut ∙ ap (flat_map lines) (judged_cut e es) ∙ flat_map-append lines (judged_of (e ∷ [])) (judged_of es)
 
--- those of one entry
+-- the lines of the verdict of one entry
 pub one_lines : (lines : Judged → List ℕ) (id : List ℕ) (entry : Entry) (verdict : Verdict) → entry.kept ≡ Some verdict → flat_map lines (judged_of ((id, entry) ∷ [])) ≡ lines (record { id = id; verdict = verdict; expected = entry.expected })
 unfolding judged_of
 one_lines lines id entry verdict is = ap (λ k. flat_map lines (judged_before id entry.expected k [])) is ∙ append-nil (lines (record { id = id; verdict = verdict; expected = entry.expected }))

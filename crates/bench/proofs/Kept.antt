@@ -79,7 +79,7 @@ module _ {K : Type 0} {cmp : K → K → Ordering} (total : IsTotalOrder cmp) wh
         by Equal is rest = sorted
         by Greater is rest = (all_inserted (λ y. cmp e.0 y ≡ Less) es sorted.0 (below k e.0 is), rest)
 
-    -- it makes one more at most
+    -- an entry that is inserted makes one more at most
     pub one_inserted : (es : List (K × X)) → length (tree.insert_entry cmp es k v) ≤ suc (length es)
     one_inserted [] = omega arith
     one_inserted (e ∷ es) = by (cmp k e.0) (one_inserted es)
@@ -94,7 +94,7 @@ module _ {K : Type 0} {cmp : K → K → Ordering} (total : IsTotalOrder cmp) wh
     absent_below [] all = refl
     absent_below (e ∷ es) all = ap (λ r. cond (is_eq r) (Some e.1) (lookup (tree.is_at (cmp k)) es)) all.0 ∙ absent_below es all.1
 
-    -- and none where there is one at the key
+    -- an entry that is inserted makes none more where there is one at its key
     pub none_inserted : (es : List (K × X)) → IsStrictlySortedBy cmp (keys_of es) → is_none (lookup (tree.is_at (cmp k)) es) ≡ false → length (tree.insert_entry cmp es k v) ≡ length es
     unfolding IsStrictlySortedBy
     none_inserted [] sorted there = absurd cc
@@ -136,7 +136,7 @@ module _ {K X : Type 0} (test : K → Bool) where
       by true rest = distinct.1
       by false rest = (all_removed (λ y. eq e.0 y ≡ false) es distinct.0, rest)
 
-  -- one is less where there is one
+  -- there is one entry less where one is removed that is there
   pub one_removed : (es : List (K × X)) → is_none (lookup test es) ≡ false → suc (length (remove_entry test es)) ≡ length es
   one_removed [] there = absurd cc
   one_removed (e ∷ es) there = by (test e.0) there (one_removed es)
@@ -145,7 +145,7 @@ module _ {K X : Type 0} (test : K → Bool) where
       by true found rest = refl
       by false found rest = ap suc (rest found)
 
-  -- and never more
+  -- there are never more entries behind a removal
   pub none_more : (es : List (K × X)) → length (remove_entry test es) ≤ length es
   none_more [] = omega arith
   none_more (e ∷ es) = by (test e.0) (none_more es)
@@ -244,7 +244,7 @@ pub accepted : (refusal : Option EditFault) (content new : Content) → unless r
 accepted None content new made = (refl, cc)
 accepted (Some fault) content new made = absurd cc
 
--- it keeps the order
+-- an edit keeps the order
 pub order_kept : (content : Content) (edit : Edit) (new : Content) → IsInOrder content → after content edit ≡ Ok new → IsInOrder new
 order_kept content (put_script name text) new order made =
     subst IsInOrder (accepted _ _ new made).1 (record { scripts = sorted_inserted name_total name text content.scripts order.scripts; ids = order.ids })
@@ -275,7 +275,7 @@ order_kept content (clear_expected id) new order made =
 
 -- EDITS IN TURN
 
--- so does one that may be refused
+-- an edit that may be refused keeps the order
 pub order_behind : (content : Content) (edit : Edit) → IsInOrder content → IsInOrder (behind content (after content edit))
 order_behind content edit order = by (after content edit) refl
   where

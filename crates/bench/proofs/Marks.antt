@@ -41,7 +41,7 @@ unlisted id (e ∷ es) apart = by (is_stale e.1) (unlisted id es apart.1)
 abbrev pub Tells : (List ℕ × Sample → Bool) → List (List ℕ × Entry) → Type 0
 Tells test es = AllByRecursion (λ e. test (e.0, sample_of e.1) ≡ is_stale e.1) es
 
--- one more id in front, which is none of theirs
+-- an id in front that no entry has tells nothing of the entries
 more_told : (id : List ℕ) (b : Bool) (ids : List (List ℕ)) (es : List (List ℕ × Entry)) → AllByRecursion (λ k. pointwise nat_eq id k ≡ false) (keys_of es) → Tells (λ m. is_among m.0 ids) es → Tells (λ m. is_among m.0 (cond b (id ∷ ids) ids)) es
 more_told id b ids [] apart told = tt
 more_told id b ids (e ∷ es) apart told = (by b told.0, more_told id b ids es apart.1 told.1)
@@ -72,7 +72,7 @@ passing test (e ∷ es) tells = rw (← tells.0) (by (test (e.0, sample_of e.1))
     by true rest = ap (λ l. e.0 ∷ l) rest
     by false rest = rest
 
--- the same test in other words
+-- a test that is another in other words tells what that tells
 pub tells_too : (test other : List ℕ × Sample → Bool) (es : List (List ℕ × Entry)) → ((m : List ℕ × Sample) → other m ≡ test m) → Tells test es → Tells other es
 tells_too test other [] alike tells = tt
 tells_too test other (e ∷ es) alike tells = (alike (e.0, sample_of e.1) ∙ tells.0, tells_too test other es alike tells.1)

@@ -68,7 +68,7 @@ tied_names a b is = by (place_cmp a.place b.place) refl is
 
 -- TEXTS AT OTHER NAMES
 
--- another name isn't at it
+-- no other name is at a name
 elsewhere : (name other : ScriptName) → name_eq name other ≡ false → tree.is_at (name_cmp other) name ≡ false
 elsewhere name other apart = by (name_cmp other name) refl
   where
@@ -77,7 +77,7 @@ elsewhere name other apart = by (name_cmp other name) refl
     by Greater is = refl
     by Equal is = let e : other ≡ name = tied_names other name is in absurd (let f : name_eq name name ≡ false = rw e at apart in let t = same_name name in cc)
 
--- it has the text that it had, where a text is put at a name
+-- another name has the text that it had, where a text is put at a name
 pub text-with_script : (name : ScriptName) (text : List ℕ) (other : ScriptName) (scripts : List (ScriptName × List ℕ)) → name_eq name other ≡ false → text_at (with_script name text scripts) other ≡ text_at scripts other
 text-with_script name text other [] apart = rw (elsewhere name other apart) refl
 text-with_script name text other (e ∷ es) apart = by (name_cmp name e.0) refl (text-with_script name text other es apart)
@@ -88,7 +88,7 @@ text-with_script name text other (e ∷ es) apart = by (name_cmp name e.0) refl 
     by Equal is rest = let same : name ≡ e.0 = tied_names name e.0 is in let there : tree.is_at (name_cmp other) e.0 ≡ false = rw (← same) (elsewhere name other apart) in rw there refl
     by Greater is rest = rw rest refl
 
--- or where the one at it is removed
+-- another name has the text that it had, where a script is removed
 pub text-without_script : (name other : ScriptName) (scripts : List (ScriptName × List ℕ)) → name_eq name other ≡ false → text_at (without_script name scripts) other ≡ text_at scripts other
 text-without_script name other [] apart = refl
 text-without_script name other (e ∷ es) apart = by (name_cmp name e.0) refl (text-without_script name other es apart)
@@ -110,7 +110,7 @@ pub text-copied : (to : ScriptName) (found : Option (List ℕ)) (other : ScriptN
 text-copied to None other scripts apart = refl
 text-copied to (Some text) other scripts apart = sym (text-with_script to text other scripts apart)
 
--- and then without the old one
+-- another name than the old one has behind a copy what it has behind a rename
 pub text-renamed : (from : ScriptName) (found : Option (List ℕ)) (to other : ScriptName) (scripts : List (ScriptName × List ℕ)) → name_eq from other ≡ false
     → text_at (copied_to to found scripts) other ≡ text_at (with_renamed from found to scripts) other
 text-renamed from None to other scripts apart = refl

@@ -133,7 +133,7 @@ put_behind id bytes messages apart =
     ap (λ found. ordered.insert_entry (pointwise nat_eq) messages id (record { octets = bytes; expected = option_and_then (λ s. s.expected) found })) (none_there id messages apart)
     ∙ insert_behind id (plain bytes) messages apart
 
--- it is there then, and what is expected of it is set
+-- a message that is put is there then, and what is expected of it is set
 there_behind : (id : List ℕ) (sample : Sample) (messages : List (List ℕ × Sample)) → AllByRecursion (λ other. pointwise nat_eq other id ≡ false) (keys_of messages) → message_at (messages ++ (id, sample) ∷ []) id ≡ Some sample
 there_behind id sample [] apart = ap (λ b. if b then Some sample else None) (same_id id)
 there_behind id sample (e ∷ messages) apart = ap (λ b. if b then Some e.1 else message_at (messages ++ (id, sample) ∷ []) id) (other_id e.0 id apart.0) ∙ there_behind id sample messages apart.1
@@ -257,7 +257,7 @@ module _ (content : Content) (order : IsInOrder content) (limits : IsWithinLimit
       (messages_again scripts_there [] content.messages order.ids limits.messages.count limits.messages.ids limits.messages.octets limits.messages.expected)
       ∙ set_again
 
--- so it is with what edits make of a new bench's content
+-- the edits that build anew what edits make of a new bench's content make it again
 pub rebuilt : (edits : List Edit) → after_all new_content (rebuild (content_after new_content edits)) ≡ Ok (content_after new_content edits)
 rebuilt edits = made_again (content_after new_content edits) (stays_in_order new_content edits new_in_order) (stays_within new_content edits new_in_order new_within)
 

@@ -62,7 +62,7 @@ module _ (due : List ℕ → Verdict) where
       by true fresh more = absurd cc
       by false fresh more = more fresh
 
-  -- where it was stale it was the first that was
+  -- an entry that is made anew, and was stale, was the first that was
   pub stale-refreshed : (es : List (List ℕ × Entry)) (i : ℕ) (entry : Entry) → slice_get (values_of es) i ≡ Some entry → is_stale entry ≡ true → stale_of (take i es) ≡ []
       → (id : List ℕ) × (stale_of es ≡ id ∷ stale_of (set_value_at es i (refreshed due entry)))
   unfolding stale_of
@@ -79,7 +79,7 @@ module _ (due : List ℕ → Verdict) where
       by true fresh more = absurd cc
       by false fresh more = more fresh
 
-  -- where it wasn't nothing changes
+  -- an entry that is made anew, and wasn't stale, changes nothing of what is stale
   pub same-refreshed : (es : List (List ℕ × Entry)) (i : ℕ) (entry : Entry) → slice_get (values_of es) i ≡ Some entry → is_stale entry ≡ false → stale_of (set_value_at es i (refreshed due entry)) ≡ stale_of es
   unfolding stale_of
   same-refreshed [] i entry at fresh = refl
@@ -155,7 +155,7 @@ unfolding messages_of
 keys-messages [] = refl
 keys-messages (e ∷ es) = ap (λ l. e.0 ∷ l) (keys-messages es)
 
--- the same messages have the same ids, each once
+-- entries of the same messages have the same ids, each once
 pub distinct-messages : (old new : List (List ℕ × Entry)) → messages_of new ≡ messages_of old → IsDistinct (pointwise nat_eq) (keys_of old) → IsDistinct (pointwise nat_eq) (keys_of new)
 distinct-messages old new same distinct = subst (IsDistinct (pointwise nat_eq)) (sym (keys-messages old) ∙ ap keys_of (sym same) ∙ keys-messages new) distinct
 

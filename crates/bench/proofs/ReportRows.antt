@@ -10,7 +10,7 @@ use Rattle.bench.specs.Report.{Judged, indent, message_line, message_lines, unex
 abbrev discarded : Option (List ℕ) → Judged
 discarded expected = record { id = codes "m1"; verdict = record { actions = Discard ∷ []; implicit = None; error = None; reads = (record { place = Personal; name = codes "main" }, true) ∷ [] }; expected = expected }
 
--- where nothing is expected, no line says so
+-- a message of which nothing is expected has no line that says so
 plain_row : message_lines (codes "INBOX") (discarded None) ≡ codes "message \"m1\"\n  discard\n  read personal \"main\"\n"
 unfolding message_line indent action_line read_line name_text quoted
 plain_row = refl
@@ -28,7 +28,7 @@ no_count_row : unexpected_count [] (discarded None ∷ discarded None ∷ []) �
 unfolding unexpected_count
 no_count_row = refl
 
--- and where something is, those of which nothing is expected are no part of it
+-- messages of which nothing is expected don't count where something is expected of others
 none_row : unexpected_count [] (discarded None ∷ discarded (Some (codes "discard\n")) ∷ []) ≡ Some 0
 unfolding unexpected_count agrees action_line
 none_row = refl

@@ -47,11 +47,11 @@ behind (Err fault) old edit stale = stale
 abbrev marks : Content → Edit → List (List ℕ) → List (List ℕ)
 marks content edit stale = behind (after content edit) content edit stale
 
--- where none was
+-- the messages that an edit makes stale where none was
 abbrev touched : Content → Edit → List (List ℕ)
 touched content edit = marks content edit []
 
--- both messages, and the first
+-- the ids of both messages, and of the first
 abbrev both : List (List ℕ)
 both = codes "m1" ∷ codes "m2" ∷ []
 
@@ -87,7 +87,7 @@ remove_missing_row = refl
 
 -- THE MAIN SCRIPT IS THERE
 
--- its text is this
+-- a bench whose main script has this text
 abbrev present : List ℕ → Content
 present text = bench ((main, text) ∷ (y, codes "keep;") ∷ [])
 
@@ -95,7 +95,7 @@ present text = bench ((main, text) ∷ (y, codes "keep;") ∷ [])
 abbrev IsAlone : List ℕ → Type 0
 IsAlone text = (bytes : List ℕ) → (verdict_on (present text) bytes).reads ≡ (main, true) ∷ []
 
--- so it is where the text is past the limit, has a fault, or is one keep
+-- a main script whose text is past the limit, has a fault, or is one keep, looks up no other
 long_row : (text : List ℕ) → nat_lt text_limit (length text) ≡ true → IsAlone text
 unfolding outcome_of
 long_row text long bytes = rw long refl
@@ -212,7 +212,7 @@ module _ (text : List ℕ) (alone : IsAlone text) where
 
 -- A REPORT THAT MEMORY WAS REFUSED TO
 
--- it can't leave nothing stale
+-- a report that memory is refused to can't leave nothing stale
 left_row : (old : List (List ℕ)) (runs later : ℕ) → RefusedAmong old [] runs later → ⊥
 left_row old runs later refused = omega (arith, refused.more)
 

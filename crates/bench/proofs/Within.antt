@@ -24,7 +24,7 @@ not_past limit n is = grind (arith, nat_tests)
 not_full : (limit n : ℕ) → nat_le limit n ≡ false → n < limit
 not_full limit n is = grind (arith, nat_tests)
 
--- as many as there were, or one more where there was room
+-- a count that was within a limit is within it where it is what it was, or one more where there was room
 counted : (limit old new : ℕ) (fresh : Bool) → (fresh ≡ true → nat_le limit old ≡ false) → new ≤ suc old → (fresh ≡ false → new ≡ old) → old ≤ limit → new ≤ limit
 counted limit old new true room more same within = let below : old < limit = not_full limit old (room refl) in omega arith
 counted limit old new false room more same within = let is : new ≡ old = same refl in omega arith
@@ -112,7 +112,7 @@ module _ (scripts : List (ScriptName × List ℕ)) (order : AreOrdered scripts) 
 abbrev IsTextWithin : Option (List ℕ) → Type 0
 IsTextWithin expected = IfSome expected (λ text. length text ≤ expected_limit)
 
--- so with messages that are put and removed, and with what is expected of them
+-- messages stay within the limits where some are put and removed, and where texts are expected of them
 module _ (messages : List (List ℕ × Sample)) (limits : AreMessagesWithin messages) where
   text_within : (id : List ℕ) → IsTextWithin (expected_at messages id)
   text_within id = by (message_at messages id) (IfSome-lookup_from_All (λ s. IsTextWithin s.expected) (pointwise nat_eq id) messages limits.expected)

@@ -32,7 +32,7 @@ goes_on contents fault_count a b c part left all so_far step = record {
   whole = append_assoc so_far.done part left ∙ so_far.whole;
 }
 
--- the same, where what is left begins with it
+-- a text is written on, where what is left begins with a part that was written
 pub goes_on_from : {S : Type 0} (contents : S → Option (List ℕ)) (fault_count : S → ℕ) (a b c : S) (part rest left all : List ℕ)
     → Writing contents fault_count a b left all → left ≡ part ++ rest → Wrote contents fault_count b c part → Writing contents fault_count a c rest all
 goes_on_from contents fault_count a b c part rest left all so_far cut step = goes_on contents fault_count a b c part rest all (rw (← cut) so_far) step
@@ -51,7 +51,7 @@ breaks_off contents fault_count a b c part left all so_far step =
     (wrote_front_of contents fault_count a c (so_far.done ++ part) left
     (wrote_then_front contents fault_count a b c so_far.done part so_far.wrote step))
 
--- the same, where an error is passed on
+-- a text is written no further, where an error of its next part is passed on
 pub stops : {S T E : Type 0} (contents : S → Option (List ℕ)) (fault_count : S → ℕ) (r : Result T E) → IsErr r → (a b c : S) (part rest left all : List ℕ)
     → Writing contents fault_count a b left all → left ≡ part ++ rest → WroteFront contents fault_count b c part → Writes contents fault_count r a c all
 stops contents fault_count r is_err a b c part rest left all so_far cut step =

@@ -50,14 +50,14 @@ pub record AreScriptsWithin (scripts : List (ScriptName × List ℕ)) : Type 0 w
   pub names : All (λ name. length name.name ≤ name_limit) (keys_of scripts)
   pub texts : All (λ text. length text ≤ text_limit) (values_of scripts)
 
--- so with messages, and with the texts that are expected of them
+-- there are no more messages than there may be, and no id, no message and no text that is expected of one is longer than it may be
 pub record AreMessagesWithin (messages : List (List ℕ × Sample)) : Type 0 where
   pub count : length messages ≤ message_count_limit
   pub ids : All (λ id. length id ≤ id_limit) (keys_of messages)
   pub octets : All (λ sample. length sample.octets ≤ message_limit) (values_of messages)
   pub expected : All (λ sample. IfSome sample.expected (λ text. length text ≤ expected_limit)) (values_of messages)
 
--- all is within the limits
+-- a content is within all its limits
 pub record IsWithinLimits (content : Content) : Type 0 where
   pub main : IfSome content.main (λ name. length name.name ≤ name_limit)
   pub envelope : IsEnvelopeWithin content.envelope

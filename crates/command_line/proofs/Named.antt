@@ -189,7 +189,7 @@ job_met first second third fourth top (Some p) named is_fourth no_alias elsewher
     (λ answers. not_answering p.0 elsewhere (sym (ap₂ (λ (n : Text) (alias : List Text). answers_to p.0 (n, alias)) is_fourth no_alias) ∙ answers))
     named met
 
--- the same of any program that has these four
+-- the words of any program that has these four subcommands name one of them
 job_in : (a : App) (first second third fourth : Shape) (stop : Option (Text × List Text)) → a.subs ≡ first ∷ second ∷ third ∷ fourth ∷ []
     → AreNamed first second third → fourth.name ≡ codes "help" → fourth.aliases ≡ [] → StopsElsewhere stop → is_some (entered a stop) ≡ true
     → is_some (job_of (entered a stop)) ≡ true

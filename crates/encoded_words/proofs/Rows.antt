@@ -82,7 +82,7 @@ space_of_a_word_row : decoded_of (codes "(=?ISO-8859-1?Q?a?= =?ISO-8859-2?Q?_b?=
 unfolding word_at pieces_from meaning in_utf8 q_octets encode
 space_of_a_word_row = refl
 
--- and with one that is known it is as there
+-- a space in front of a second word of a known charset is the word's own
 space_of_the_second_row : decoded_of (codes "(=?ISO-8859-1?Q?a?= =?ISO-8859-1?Q?_b?=)") ≡ codes "(a b)"
 unfolding word_at pieces_from meaning in_utf8 q_octets encode
 space_of_the_second_row = refl

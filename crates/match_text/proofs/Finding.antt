@@ -14,7 +14,7 @@ octet_folds a b is =
     let s = (same-Decides octet a b).0 is in
     (same-Decides ascii_casemap a b).1 (record { equal_lengths = s.equal_lengths; equal_octets = λ i below. ap ascii_casemap (s.equal_octets i below) })
 
--- and what isn't equal with no regard to case isn't octet for octet
+-- texts that aren't equal with no regard to case aren't equal octet for octet
 differs : (a b : List ℕ) → same ascii_casemap b a ≡ false → same octet a b ≡ false
 differs a b none = by (same octet a b) refl
   where
@@ -38,7 +38,7 @@ has_key-none (x ∷ flags) key none =
     let split = or_none (same ascii_casemap key x) (has_flag flags key) none in
     λ j. differs x key split.0 j || has_key-none flags key split.1 j
 
--- those that differ from a flag are no key that is that flag with no regard to case
+-- flags that differ from one aren't a key that is that one with no regard to case
 others_differ : (x key : List ℕ) → same ascii_casemap key x ≡ true → (flags : List (List ℕ)) → AllByRecursion (λ y. same ascii_casemap x y ≡ false) flags → has_flag flags key ≡ false
 others_differ x key is [] all = refl
 others_differ x key is (y ∷ flags) all = λ j. (same_equiv.congr key x y is ∙ all.0) j || others_differ x key is flags all.1 j
@@ -60,7 +60,7 @@ has_key-found (x ∷ flags) key found h is = by (same ascii_casemap key x) refl 
         ap (λ b. same octet x key || b) (has_key-none flags key (others_differ x key e flags h.0)) ∙ or_false (same octet x key) ∙ ap (λ y. same octet y key) it
     by false e at more = ap (λ b. b || has_key octet flags key) (differs x key e) ∙ more at
 
--- where none is found
+-- a key of which no flag is found is none of the flags
 found_none : (flags : List (List ℕ)) (key : List ℕ) → find (same ascii_casemap key) flags ≡ None → has_flag flags key ≡ false
 found_none [] key none = refl
 found_none (x ∷ flags) key none = by (same ascii_casemap key x) refl none (λ at. found_none flags key at)
@@ -96,7 +96,7 @@ taken_out (x ∷ flags) flag (suc i) d h below at before =
     let more = taken_out flags flag i d h.1 (omega arith) at (λ k lt. before (suc k) (omega arith)) in
     λ j. cond (not (e j || false)) (x ∷ more j) (more j)
 
--- one that isn't there leaves all
+-- a flag that isn't there leaves all where it is taken
 pub none_taken : (flags : List (List ℕ)) (flag : List ℕ) → has_flag flags flag ≡ false → flags_without flags (flag ∷ []) ≡ flags
 unfolding flags_without
 none_taken [] flag none = refl

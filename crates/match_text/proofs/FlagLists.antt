@@ -92,7 +92,7 @@ has_one_more a flag x = by (has_flag a flag) refl
     by true h = ap (λ l. has_flag l x) (append-nil a) ∙ there (same ascii_casemap x flag) refl h
     by false h = list_any-append (same ascii_casemap x) a (flag ∷ []) ∙ or_swap (same ascii_casemap x flag) (has_flag a x)
 
--- one flag after the other
+-- a union takes one flag after the other
 pub union_step : (a : List (List ℕ)) (flag : List ℕ) (flags : List (List ℕ))
     → flag_union (flag_union a (flag ∷ [])) flags ≡ flag_union a (flag ∷ flags)
 unfolding flag_union distinct flags_without
@@ -102,14 +102,14 @@ union_step a flag flags =
     ∙ append_assoc a (flags_without (flag ∷ []) a) (flags_without (flags_without (distinct flags) (flag ∷ [])) a)
     ∙ ap (λ l. a ++ l) (sym (without-cons flag (flags_without (distinct flags) (flag ∷ [])) a))
 
--- one list after the other
+-- a union takes one list after the other
 pub union_append : (a b c : List (List ℕ)) → flag_union (flag_union a b) c ≡ flag_union a (b ++ c)
 union_append a [] c = ap (λ l. flag_union l c) (union_nil a)
 union_append a (flag ∷ b) c =
     ap (λ l. flag_union l c) (sym (union_step a flag b))
     ∙ union_append (flag_union a (flag ∷ [])) b c ∙ union_step a flag (b ++ c)
 
--- one flag more of those in front
+-- a union with the flags in front takes one flag more of them
 pub union_so_far : (a flags : List (List ℕ)) (i : ℕ) (d : List ℕ) (old new : List (List ℕ)) → i < length flags → new ≡ flag_union old (get_or flags i d ∷ [])
     → old ≡ flag_union a (take i flags) → new ≡ flag_union a (take (i + 1) flags)
 union_so_far a flags i d old new below made is =
@@ -136,7 +136,7 @@ in_two (suc n) (x ∷ xs) = ap (λ l. x ∷ l) (in_two n xs)
 pub union_behind : (a flags : List (List ℕ)) (n : ℕ) → n ≤ length flags → All (λ flag. has_flag a flag ≡ true) (take n flags) → flag_union a (drop n flags) ≡ flag_union a flags
 union_behind a flags n within known = sym (union_known a (take n flags) (drop n flags) known) ∙ ap (flag_union a) (in_two n flags)
 
--- the same of what a slice has of the flags
+-- a union with the flags of a slice that are behind those that are there is the union with all
 pub union_slice : (a flags items : List (List ℕ)) (n : ℕ) → items ≡ flags → n ≤ length flags → All (λ flag. has_flag a flag ≡ true) (take n flags)
     → flag_union a (take (length items - n) (drop n items)) ≡ flag_union a flags
 union_slice a flags items n are within known =
@@ -162,7 +162,7 @@ pub none_behind : (flags items : List (List ℕ)) (n : ℕ) → items ≡ flags 
 none_behind flags items n are end =
     ap (λ l. take (length l - n) (drop n l)) are ∙ ap (take (length flags - n)) (drop_all n flags (omega arith)) ∙ take-nil (length flags - n)
 
--- one more of those in front is there
+-- one flag more of those in front is there
 pub there_more : (a flags : List (List ℕ)) (i : ℕ) (flag : List ℕ) → slice_get flags i ≡ Some flag → has_flag a flag ≡ true
     → All (λ x. has_flag a x ≡ true) (take i flags) → All (λ x. has_flag a x ≡ true) (take (i + 1) flags)
 there_more a flags i flag at there before =
@@ -200,7 +200,7 @@ module _ {X : Type 0} (F : List X → List (List ℕ)) where
       ap (λ l. flag_union l (F rest)) made ∙ union_append old (each x) (F rest)
       ∙ ap (flag_union old) (sym (at_drop_more F items i d below ∙ first x rest)) ∙ is
 
-  -- none are left
+  -- no items are left: the union is whole
   pub union_end : F [] ≡ [] → (items : List X) (n : ℕ) (old whole : List (List ℕ)) → length items ≤ n
       → flag_union old (F (drop n items)) ≡ whole → old ≡ whole
   union_end none items n old whole past is =

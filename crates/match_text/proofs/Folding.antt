@@ -4,7 +4,7 @@ use Rattle.std.proofs.lemmas.List.{length-map, take-map}
 use Rattle.match_text.specs.Comparator.{is_part, octet, same}
 
 module _ (fold : ℕ → ℕ) where
-  -- they are equal where the texts are after folding
+  -- texts are equal where they are octet for octet after folding
   pub folded_same : (a b : List ℕ) → same octet (map fold a) (map fold b) ≡ same fold a b
   folded_same [] [] = refl
   folded_same [] (y ∷ b) = refl
@@ -17,7 +17,7 @@ module _ (fold : ℕ → ℕ) where
       ∙ ap (λ l. same octet l (map fold key)) (take-map fold (length key) xs)
       ∙ folded_same (take (length key) xs) key
 
-  -- and one is part of the other where the texts are
+  -- one text is part of another where it is octet for octet after folding
   pub folded_part : (value key : List ℕ) → is_part octet (map fold value) (map fold key) ≡ is_part fold value key
   folded_part [] key = folded_same [] key
   folded_part (x ∷ rest) key =

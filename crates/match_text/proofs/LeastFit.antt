@@ -177,7 +177,7 @@ module _ (fold : ℕ → ℕ) where
   fit_lengths (Star ∷ items) value [] fits = absurd fits
   fit_lengths (Star ∷ items) value (n ∷ lengths) fits = ap suc (fit_lengths items (drop n value) lengths fits.1)
 
-  -- and each length takes a slice
+  -- as many slices are taken as there are lengths
   taken_count : (items : List Item) (lengths value : List ℕ) → length lengths ≡ wildcard_count items → length (taken items lengths value) ≡ wildcard_count items
   taken_count [] lengths value same = refl
   taken_count (Literal b ∷ items) lengths value same = taken_count items lengths (drop 1 value) same

@@ -38,18 +38,10 @@ continues-lines b text =
     (λ is. continues-empty parts ∙ sym (ap is_blank (eqb-true b (octet_of "\n") is)))
     (λ _. continues-onto b parts)
 
-pub continues-drop : (octets : List ℕ) (start : ℕ) → start < length octets → continues (lines (drop start octets)) ≡ is_blank (slice_index octets start)
-continues-drop octets start below =
-    ap (λ (rest : List ℕ). continues (lines rest)) (drop_more octets start 0 below) ∙ continues-lines (get_or octets start 0) (drop (start + 1) octets)
-
 pub concat-continuation : (text more : List (List ℕ)) (line : List ℕ) → text ≡ line ∷ more → is_continuation line ≡ true → concat (take_while is_continuation text) ≡ line ++ concat (take_while is_continuation more)
 concat-continuation text more line is continued =
     ap (λ (all : List (List ℕ)). concat (take_while is_continuation all)) is
     ∙ ap concat (take_while-cons is_continuation line more ∙ cond-true (is_continuation line) (line ∷ take_while is_continuation more) [] continued)
-
--- a text without octets has no line
-pub continues-end : (octets : List ℕ) (start : ℕ) → length octets ≤ start → continues (lines (drop start octets)) ≡ false
-continues-end octets start end = ap (λ (rest : List ℕ). continues (lines rest)) (drop_all start octets end)
 
 pub none_continues : (text : List (List ℕ)) → (length (take_while is_continuation text) == 0) ≡ not (continues text)
 none_continues [] = refl

@@ -27,7 +27,7 @@ marks_from-drop spot xs i within =
     ap (marks_from spot) (drop_more xs i 0 within)
     ∙ ap (λ is_last. marked_at spot is_last b ∷ marks_from (surroundings_behind spot b) rest) (last_by (length rest) i (length xs) (length-drop (i + 1) xs) within)
 
--- one more octet is marked
+-- the marks of the octets in front have one more, with the surroundings behind it
 pub marks_more : (so_far : List Marked) (m : Marked) (spot next : Surroundings) (xs : List ℕ) (i : ℕ) → i < length xs → m ≡ marked_at spot (i + 1 == length xs) (get_or xs i 0) → next ≡ surroundings_behind spot (get_or xs i 0) → so_far ++ marks_from spot (drop i xs) ≡ marks_of xs → (so_far ++ m ∷ []) ++ marks_from next (drop (i + 1) xs) ≡ marks_of xs
 marks_more so_far m spot next xs i within is behind so =
     append_assoc so_far (m ∷ []) (marks_from next (drop (i + 1) xs))

@@ -18,7 +18,7 @@ none_by : (within : Bool) (n : ℕ) → None ≡ cond within (Some n) None → w
 none_by true n is = absurd cc
 none_by false n is = refl
 
--- where it answers a place, that is the first one that passes
+-- the place that is found is the first one that passes
 pub place_is : {X : Type 0} (p : X → Bool) (xs : List X) (k : ℕ) → Some k ≡ first_place p xs → position_or_len p xs ≡ k
 place_is p xs k is = (place_by _ _ k is).1
 
@@ -31,7 +31,7 @@ some_passes p (x ∷ xs) k is =
     let within = place_within p (x ∷ xs) k is in
     list_any_at p (x ∷ xs) (position_or_len p (x ∷ xs)) x within (passes_at_first p (x ∷ xs) x within)
 
--- where it answers none, none passes
+-- where no place is found, none passes
 pub none_before : {X : Type 0} (p : X → Bool) (xs : List X) → None ≡ first_place p xs → length xs ≤ position_or_len p xs
 none_before p xs is = ltb-false _ _ (none_by _ _ is)
 

@@ -103,7 +103,7 @@ impl Message {
         ensures some { IfSome result (spec.IsNextNamed (spec.fields_of self.now) name.now start) }
         ensures none { IfNone result ((k : ℕ) → start ≤ k → k < length (spec.fields_of self.now)
             → slice_get (map (spec.is_field_named name.now) (spec.fields_of self.now)) k ≡ Some false) }
-        // So a search can go on behind it.
+        // A search can go on behind the place.
         ensures countable { IfSome result (λ i. i < 2 ^ 64 - 1) }
     {
         next_named(self.octets.as_slice(), &self.fields, name, start)

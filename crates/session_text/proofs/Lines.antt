@@ -63,7 +63,7 @@ some_at b bs more true line rest later found =
     ap (λ l. Some (l, bs ++ more)) same ∙ ap (λ t. Some (line, t ++ more)) left
 some_at b bs more false line rest later found = mapped_some b more (cut_line bs) (cut_line (bs ++ more)) line rest later found
 
--- where one is found, what follows the octets follows the line
+-- where an LF is found, what follows the octets follows the line
 pub cut_line-some : (bs more line rest : List ℕ) → cut_line bs ≡ Some (line, rest) → cut_line (bs ++ more) ≡ Some (line, rest ++ more)
 cut_line-some [] more line rest found = absurd (apart _ _ found refl)
 cut_line-some (b ∷ bs) more line rest found = some_at b bs more (eqb b (octet_of "\n")) line rest (cut_line-some bs more) found
@@ -84,7 +84,7 @@ cut_line-front (b ∷ bs) rest none =
     let later = cut_line-front bs rest (λ k within. none (suc k) (omega arith)) in
     grind (arith, nat_tests, later)
 
--- the first LF
+-- a line ends at the first LF
 pub cut_line-at : (bs : List ℕ) (i : ℕ) → i < length bs → ((k : ℕ) → k < i → get_or bs k 0 ≢ octet_of "\n") → get_or bs i 0 ≡ octet_of "\n" → cut_line bs ≡ Some (take i bs, drop (i + 1) bs)
 cut_line-at bs i within before here =
     ap cut_line (sym (take-append-drop i bs) ∙ ap (λ l. take i bs ++ l) (drop_more bs i 0 within ∙ ap (λ b. b ∷ drop (i + 1) bs) here))
@@ -111,7 +111,7 @@ without_cr-last (a ∷ c ∷ bs) b = ap (λ l. a ∷ l) (without_cr-last (c ∷ 
     more true = refl
     more false = refl
 
--- the same, of the octets before a place
+-- the CR is dropped at the end of the octets before a place
 pub without_cr-take : (bs : List ℕ) (i : ℕ) → i < length bs → without_cr (take (i + 1) bs) ≡ cond (eqb (get_or bs i 0) (octet_of "\r")) (take i bs) (take (i + 1) bs)
 without_cr-take bs i within =
     ap without_cr (take_more bs i 0 within) ∙ without_cr-last (take i bs) (get_or bs i 0) ∙ ap (cond (eqb (get_or bs i 0) (octet_of "\r")) (take i bs)) (sym (take_more bs i 0 within))

@@ -12,7 +12,7 @@ use Rattle.session_text.specs.SessionLine.{behind, escaped_value, hex_octets, qu
 digit_value : (n : ℕ) → n < 16 → hex_value (hex_digit n) ≡ Some n
 digit_value n small = grind (arith, nat_tests)
 
--- and two have that of their octet
+-- two digits of an octet have the octet's value
 octet_value : (b : ℕ) → b < 256 → hex_octet (hex_digit (b / 16)) (hex_digit (b % 16)) ≡ Some b
 octet_value b small =
     let high : b / 16 < 16 = omega arith in
@@ -50,7 +50,7 @@ end_value : quoted_value (octet_of "\"" ∷ []) ≡ Some []
 unfolding quoted_value
 end_value = refl
 
--- so are some octets
+-- some octets are what their spellings are read as
 spellings_value : (octets : List ℕ) → AllByRecursion (λ b. b < 256) octets → quoted_value (flat_map octet_spelling octets ++ octet_of "\"" ∷ []) ≡ Some octets
 spellings_value [] small = end_value
 spellings_value (b ∷ bs) small =

@@ -53,14 +53,6 @@ calls_both t u v c d e first second = (omega (arith, first.0, second.0), omega (
     either (inr p) (inl q) = inr (omega (arith, p, q, second.0))
     either (inr p) (inr q) = inr q
 
--- one call
-pub call_made : (t u c d : ℕ) → u + 1 ≡ t → d ≡ next_count c → CallsMade t u c d
-call_made t u c d one counted = (omega (arith, one), omega (arith, one, counted), by_room (cases_lt c (2 ^ 64 - 1)))
-  where
-    by_room : (c < 2 ^ 64 - 1) ⊎ (2 ^ 64 - 1 ≤ c) → (c + t ≤ d + u) ⊎ (2 ^ 64 - 1 ≤ d)
-    by_room (inl less) = inl (omega (arith, one, counted, less))
-    by_room (inr more) = inr (omega (arith, counted, more))
-
 -- nothing is read
 pub reads_nothing : {S : Type 0} (remaining : S → Option (List ℕ)) (fault_count call_count : S → ℕ) (i : Input) (s : S) → Reads remaining fault_count call_count i i s s
 reads_nothing remaining fault_count call_count i s = record {

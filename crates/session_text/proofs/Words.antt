@@ -10,7 +10,7 @@ pub line_words-space : (bs : List ℕ) → line_words (octet_of " " ∷ bs) ≡ 
 unfolding line_words
 line_words-space bs = refl
 
--- one space of those in front is passed over
+-- a space in front of words is passed over
 pub line_words-drop : (line : List ℕ) (i : ℕ) → i < length line → get_or line i 0 ≡ octet_of " " → line_words (drop (i + 1) line) ≡ line_words (drop i line)
 line_words-drop line i within is =
     sym (ap line_words (drop_more line i 0 within) ∙ ap (λ b. line_words (b ∷ drop (i + 1) line)) is ∙ line_words-space (drop (i + 1) line))
@@ -29,7 +29,7 @@ piece_length-within quoting (b ∷ bs) = by_gap (is_gap quoting b) refl (piece_l
     by_gap true is later = rw is (omega arith)
     by_gap false is later = rw is (omega (arith, later))
 
--- the first piece, and those behind it
+-- the pieces of a line are the first one, and those behind it
 pieces_from-first : (quoting : Quoting) (line : List ℕ) → pieces_from quoting line ≡ take (piece_length quoting line) line ∷ behind_space (drop (piece_length quoting line) line)
 pieces_from-first quoting [] = refl
 pieces_from-first quoting (b ∷ bs) = by_gap (is_gap quoting b) refl (pieces_from-first (quoting_behind quoting b) bs)

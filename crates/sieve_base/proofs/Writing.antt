@@ -85,7 +85,7 @@ pub first_failed : {S T E : Type 0} (contents : S → Option (List ℕ)) (fault_
 first_failed contents fault_count r a b s t u same is_err front =
     writes_as contents fault_count r a b (s ++ t) u same (writes_failed contents fault_count r a b (s ++ t) is_err (wrote_front_of contents fault_count a b s t front))
 
--- the first was written, and the second tried
+-- the first of two texts was written, and the second tried
 pub then_last : {S T E : Type 0} (contents : S → Option (List ℕ)) (fault_count : S → ℕ) (r : Result T E) (a b c : S) (s t u : List ℕ)
     → s ++ t ≡ u → Wrote contents fault_count a b s → Writes contents fault_count r b c t → Writes contents fault_count r a c u
 then_last contents fault_count r a b c s t u same first second =
@@ -117,7 +117,7 @@ wrote_items_then_front contents fault_count a b c f xs i d within first second =
     wrote_front_of_items contents fault_count a c f xs (i + 1)
     (subst (WroteFront contents fault_count a c) (sym joined) (wrote_then_front contents fault_count a b c _ _ first second))
 
--- the same, where that item is known by another name
+-- items were written, and then a front of one that is known by another name
 pub wrote_items_then_front_at : {S X : Type 0} (contents : S → Option (List ℕ)) (fault_count : S → ℕ) (a b c : S) (f : X → List ℕ) (xs : List X) (i : ℕ) (d x : X)
     → i < length xs → x ≡ get_or xs i d → Wrote contents fault_count a b (flat_map f (take i xs)) → WroteFront contents fault_count b c (f x)
     → WroteFront contents fault_count a c (flat_map f xs)

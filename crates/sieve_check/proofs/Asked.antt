@@ -127,7 +127,7 @@ module _ (tags : List Tag) (slots : List Slot) (args : List Argument) where
       → is_some (texts_in (in_role wanted its_labels args)) ≡ true
   texts_are_read wanted own take comes filled keep = texts_read (in_role wanted its_labels args) (texts_fit wanted own take keep) (is_there wanted comes filled)
 
-  -- those that may be left out
+  -- texts that may be left out are read where they are given
   pub given_texts_are_read : (wanted : Role) → tags_may_take wanted form.List ≡ true → all_may_take wanted form.List slots ≡ true → AllKeep its_labels args → is_some (given_texts (in_role wanted its_labels args)) ≡ true
   given_texts_are_read wanted own take keep = given_texts_read (in_role wanted its_labels args) (texts_fit wanted own take keep)
 

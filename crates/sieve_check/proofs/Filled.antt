@@ -51,7 +51,7 @@ module _ (cutting : Cutting) where
       ∙ ap (λ l. shape_of tags a ∷ l) (same_shapes tags (drop 1 labels) args)
 
 module _ (cutting : Cutting) (context : Context) where
-  -- where none of their elements has a breach, their strings name comparators where they have to, and numbers have a value
+  -- arguments without a breach name comparators where they have to, and their numbers have a value
   names_well : (r : Option Role) (octets : List ℕ) → (has_role role.ComparatorName r && is_none (collation_named octets)) ≡ false → (has_role role.ComparatorName r && is_none (option_and_then collation_named (literal_in_parts (parts_in cutting r octets)))) ≡ false
   names_well r octets fine = by_role r (has_role role.ComparatorName r) refl fine
     where
@@ -127,7 +127,7 @@ module _ (cutting : Cutting) (context : Context) (row : Row) (args : List syntax
         keep = arguments_keep cutting context labels args (sym (ap (λ w. breaches_in (labelled_elements context (judged_labels w row args) args)) (well_used (has_bad_tag labels) (has_bad_arguments row shapes ts b) fine well)) ∙ none);
       }
 
-  -- and so are they when their strings are cut
+  -- arguments without a breach are as their row says when their strings are cut, too
   pub as_parted : has_bad_tag (row_labels row args) ≡ false → has_bad_arguments row (shapes_of row.tags args) ts b ≡ false → breaches_in (row_elements context row args ts b) ≡ [] → AsRowSays row (map (shape_of row.tags) parted_args) parted_args ts b
   as_parted fine well none = subst (λ shapes. AsRowSays row shapes parted_args ts b) (sym (same_shapes cutting row.tags (row_labels row args) args)) (as_judged fine well none)
 
@@ -167,7 +167,7 @@ not_one n = grind (arith, nat_tests)
 two_are_no_text : (n : ℕ) (bracketed : Bool) → fits form.One (texts_shape (suc (suc n)) bracketed) ≡ true → ⊥
 two_are_no_text n bracketed fit = no_list (nat_eq (suc (suc n)) 1 && not bracketed) (ap (λ b. b && not bracketed) (not_one n)) fit
 
--- one string without brackets
+-- an argument that is one string without brackets names well
 pub text_good_alone : (tags : List Tag) (r : Option Role) (a : Argument) → Keeps r a → fits form.One (shape_of tags a) ≡ true → is_some (text_in (Some a)) ≡ true
 text_good_alone tags r (strings [] bracketed) keeps fit = absurd (no_list (nat_eq 0 1 && not bracketed) refl fit)
 text_good_alone tags r (strings (t ∷ []) bracketed) keeps fit = refl

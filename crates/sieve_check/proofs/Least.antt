@@ -11,7 +11,7 @@ use Rattle.sieve_table.specs.declared.rule.Rule.{Rule}
 abbrev broken_by : Element → List Rule → List Breach
 broken_by element rules = breaches_by (breaks element) (line_of element) rules
 
--- the first rule that it breaks
+-- the first of some rules that an element breaks
 record IsFirstRule (element : Element) (rules : List Rule) (breach : Breach) : Type 0 where
   line : breach.line ≡ line_of element
   lower : List Rule
@@ -20,7 +20,7 @@ record IsFirstRule (element : Element) (rules : List Rule) (breach : Breach) : T
   breaks : breaks element breach.rule ≡ true
   none_lower : broken_by element lower ≡ []
 
--- it breaks one of the rules first, or none
+-- an element breaks one of the rules first, or none
 data Finding (element : Element) (rules : List Rule) (rest : List Breach) (breach : Breach) : Type 0 where
   here : IsFirstRule element rules breach → Finding element rules rest breach
   later : broken_by element rules ≡ [] → slice_get rest 0 ≡ Some breach → Finding element rules rest breach

@@ -81,7 +81,7 @@ module _ (r : Required) where
 
   -- COMMANDS BEHIND THE REQUIRES
 
-  -- behind a command that is none of them no more is required
+  -- behind a command that requires nothing no more is required
   kind_requires_none : (context : Context) (k : Option CommandKind) (args : List Argument) → (context.leads && requires_kind k) ≡ false → context.required ≡ r → ((behind_kind context k args).leads ≡ false) × ((behind_kind context k args).required ≡ r)
   kind_requires_none context None args other same = (refl, same)
   kind_requires_none context (Some kind) args other same = (other, ap (λ b. if b then requiring_arguments context.required args else context.required) other ∙ same)
@@ -128,7 +128,7 @@ never : (b : Bool) → (b && false) ≡ false
 never true = refl
 never false = refl
 
--- behind one of them what it names is required too
+-- behind a command that requires something what it names is required too
 kind_requires : (context : Context) (k : Option CommandKind) (args : List Argument) → context.leads ≡ true → requires_kind k ≡ true → ((behind_kind context k args).leads ≡ true) × ((behind_kind context k args).required ≡ requiring_arguments context.required args)
 kind_requires context None args leads is = absurd (not_both is)
 kind_requires context (Some kind) args leads is =

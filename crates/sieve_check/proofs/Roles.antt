@@ -36,7 +36,7 @@ abbrev pub NamesWell : Option Role → List Text → Type 0
 NamesWell r [] = Unit {0}
 NamesWell r (t ∷ ts) = ((has_role role.ComparatorName r && is_none (option_and_then collation_named (literal_in_parts t.string))) ≡ false) × ((has_role role.NameToSet r && is_none (variable_in_parts t.string)) ≡ false) × ((has_role role.ScriptName r && is_none (literal_in_parts t.string)) ≡ false) × NamesWell r ts
 
--- and a number has a value
+-- an argument in a role names what it has to, and a number has a value
 abbrev pub Keeps : Option Role → Argument → Type 0
 Keeps r (strings items bracketed) = NamesWell r items
 Keeps r (number value line) = is_none value ≡ false
@@ -50,7 +50,7 @@ AllKeep labels (a ∷ args) = Keeps (first_role labels) a × AllKeep (drop 1 lab
 -- WHAT SLOTS OF A ROLE TAKE
 
 module _ (wanted : Role) (form : Form) where
-  -- one of that role takes that form
+  -- a slot of the role takes the form
   abbrev pub Takes : Slot → Type 0
   Takes slot = same_role wanted slot.role ≡ true → slot.form ≡ form
 
@@ -98,7 +98,7 @@ module _ (wanted : Role) (form : Form) where
   left_take None slots s all = fewer_take slots all
   left_take (Some own) slots s all = own_left slots (fits own.form s) all
 
-  -- behind an argument the same goes
+  -- behind an argument the slots that are left take the form too
   slots_behind : (expected : Expected) (s : Shape) → AllTake expected.slots → AllTake (expected_behind expected s).slots
   slots_behind expected (shape.Tag None) all = all
   slots_behind expected (shape.Tag (Some taken)) all = all
@@ -115,7 +115,7 @@ module _ (wanted : Role) (form : Form) where
 
 -- THE FIRST ARGUMENT IN A ROLE
 
--- it passes a test, or there is none
+-- an argument passes a test, or there is none
 abbrev pub none_or : (Argument → Bool) → Option Argument → Bool
 none_or good None = true
 none_or good (Some a) = good a
@@ -161,7 +161,7 @@ module _ (wanted : Role) where
   value_still None slots s fit not is = slot_still slots s fit not is
   value_still (Some own) slots s fit not is = own_still own slots s (fits own.form s) fit not is
 
-  -- behind an argument that isn't in that role it is still to come
+  -- behind an argument that isn't in the role the role is still to come
   still : (expected : Expected) (s : Shape) → is_unfit (label_at expected s) ≡ false → has_role wanted (role_of (label_at expected s)) ≡ false → is_to_come expected.slots ≡ true → is_to_come (expected_behind expected s).slots ≡ true
   still expected (shape.Tag None) fit not is = is
   still expected (shape.Tag (Some taken)) fit not is = is

@@ -61,7 +61,7 @@ front_passes xs ys none = in_turn xs ys ∙ ap (λ bs. bs ++ breaches_in ys) non
 pub finds_past : {A : Type 0} (xs ys : List Element) (answer : Result A CheckFault) → breaches_in xs ≡ [] → FindsIn ys answer → FindsIn (xs ++ ys) answer
 finds_past xs ys answer none h = subst (λ bs. Finds bs answer) (sym (front_passes xs ys none)) h
 
--- the first of some rules that is broken, or that none is
+-- a rule in front of others is the first that is broken, or one of the others is
 rule_first : (broken : Rule → Bool) (line : ℕ) (rule : Rule) (rules : List Rule) (does : Bool) (first : Rule) → broken rule ≡ does → (if does then Some rule else find broken rules) ≡ Some first → (find broken rules ≡ Some first → slice_get (breaches_by broken line rules) 0 ≡ Some (record { line = line; rule = first }))
     → slice_get (breach_if does line rule ++ breaches_by broken line rules) 0 ≡ Some (record { line = line; rule = first })
 rule_first broken line rule rules true first is found below = ap (λ r. Some (record { line = line; rule = r })) (one_of rule first found)

@@ -71,7 +71,7 @@ no_token kinds.CloseBracket is = not_both is
 no_token kinds.Comma is = not_both is
 no_token kinds.Bad is = not_both is
 
--- so a spelling has an octet
+-- a spelling of a token has an octet
 not_empty : (kind : TokenKind) (text : List ℕ) (start n : ℕ) → IsTrue (spells kind (take n (drop start text))) → 0 < n
 not_empty kind text start zero is = absurd (no_token kind is)
 not_empty kind text start (suc n) is = suc-le-suc zero-le
@@ -164,7 +164,7 @@ element_lines : (es : List Element) → map line_of es ≡ map symbol_line (map 
 element_lines [] = refl
 element_lines (e ∷ es) = ap (λ n. n ∷ map line_of es) (element_line e) ∙ ap (λ l. symbol_line (written_by e) ∷ l) (element_lines es)
 
--- it is the line of its token
+-- the line of a symbol that writes an element is that of its token
 token_line : (kind : TokenKind) (octets : List ℕ) (line : ℕ) → writes_element (symbol_at kind octets line) ≡ true → symbol_line (symbol_at kind octets line) ≡ line
 unfolding symbol_at
 token_line kinds.Identifier octets line is = refl

@@ -51,7 +51,7 @@ test_breaks context None args ts UnknownCommand = true
 test_breaks context None args ts rule = false
 test_breaks context (Some kind) args ts rule = row_breaks context.required (test_row kind) args ts false rule
 
--- one that has no reference in it is known before the script runs
+-- a string that has no reference in it is known before the script runs
 abbrev pub is_known : Required → Option Role → List ℕ → Bool
 is_known required role octets = not (takes_references required role && has_reference octets)
 

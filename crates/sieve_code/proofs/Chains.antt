@@ -73,7 +73,7 @@ acts_before leaf line tail behind walk g = record {
 
 -- BRANCHES
 
--- behind a block: what is behind the branches
+-- what goes on behind a block is what is behind the branches
 past_goes : (has : Bool) (w r behind : Tail) (other after : Walk) → Goes r after → GoesBefore w r other → (has ≡ false → w ≡ r) → GoesBefore (past_branches (record { has_branch = has; with_branch = w; behind_branches = r })) w after
 past_goes true w r behind other after rest branch alone = record {
   ends = ends_more (jump_op (length r)) w w (ends_self w);

@@ -56,7 +56,7 @@ same_target n same front op rest r left le f =
     ∙ ap (λ t. walk_from (placed t) n (length (front ++ op ∷ take k rest)) r) whole
     ∙ same (front ++ op ∷ take k rest) (drop k rest) r (forward_drop k rest f)
 
--- one operation
+-- one operation does the same where it stands among others
 same_step : (n : ℕ) → Same n → (front : Tail) (op : Operation) (rest : Tail) (r : Bool) → Forward (op ∷ rest) → step (walk_from (placed (front ++ op ∷ rest)) n) (Some (put (length (front ++ op ∷ rest)) op)) (length front) r ≡ tail_step (tail_walk n) (op ∷ rest) r
 same_step n same front (set_op truth) rest r f = same_next n same front (set_op truth) rest truth f.1
 same_step n same front invert_op rest r f = same_next n same front invert_op rest (not r) f.1

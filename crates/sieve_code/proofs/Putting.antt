@@ -29,7 +29,7 @@ use Rattle.sieve_variables.specs.declared.part.Part as parts
 pub on_ok_along : {T E X : Type 0} (r : Result T E) (a b c : X) → b ≡ c → OnOk r (a ≡ b) → OnOk r (a ≡ c)
 on_ok_along r a b c same h = subst (λ x. OnOk r (a ≡ x)) same h
 
--- so may the branches behind a front
+-- the branches behind a front may be told in other words
 pub fronts_along : {E : Type 0} (r : Result TailFront E) (tail : Tail) (b c : Branches) → b ≡ c → IfOk r (λ front. branches_as front tail ≡ b) → IfOk r (λ front. branches_as front tail ≡ c)
 fronts_along r tail b c same h = subst (λ (x : Branches). IfOk r (λ (front : TailFront). branches_as front tail ≡ x)) same h
 

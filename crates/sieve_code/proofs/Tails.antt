@@ -6,7 +6,7 @@ use Rattle.sieve_code.specs.Operation.{Operation, set_op, invert_op, test_op, ju
 use Rattle.sieve_code.specs.Walk.{Walk, at_end, by_stop, by_return, cut_off, asked, acted}
 use Rattle.sieve_code.specs.view.Branches.{last}
 
--- one operation of a tail
+-- what one operation of a tail does
 abbrev pub tail_step : (Tail → Bool → Walk) → Tail → Bool → Walk
 tail_step go [] r = at_end
 tail_step go (set_op truth ∷ rest) r = go rest truth
@@ -97,7 +97,7 @@ walks_stops rest = walks_more stop_op rest _ (λ n le r. refl)
 pub walks_returns : (rest : Tail) → Walks (return_op ∷ rest) (λ r. by_return)
 walks_returns rest = walks_more return_op rest _ (λ n le r. refl)
 
--- where a jump with that truth leads: there, or on
+-- where a jump that goes by a truth leads: there, or on
 abbrev pub landed : (truth r : Bool) → (there on : Walk) → Walk
 landed true r there on = if r then there else on
 landed false r there on = if r then on else there

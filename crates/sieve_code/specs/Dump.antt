@@ -107,7 +107,7 @@ abbrev pub given_word : Bool → List ℕ → List ℕ
 given_word false word = []
 given_word true word = word
 
--- that an action is a copy
+-- the word that says that an action is a copy
 unfoldable pub copy_word : Bool → List ℕ
 copy_word copy = given_word copy (codes " copy")
 

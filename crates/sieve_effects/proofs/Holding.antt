@@ -31,7 +31,7 @@ of_one fold keys value =
     first_plain (λ (pair : Pair). match_of Is fold pair.value pair.key) (λ pair. same fold pair.value pair.key) (λ pair. refl) (pairs_with keys value)
     ∙ ap plain (any_map (λ (pair : Pair). same fold pair.value pair.key) (λ key. record { value = value; key = key }) keys)
 
--- one test or another of a list's members
+-- some member passes one of two tests where some member passes the one or the other
 either : {X : Type 0} (p q : X → Bool) (xs : List X) → list_any (λ x. p x || q x) xs ≡ (list_any p xs || list_any q xs)
 either p q [] = refl
 either p q (x ∷ xs) = ap (λ b. (p x || q x) || b) (either p q xs) ∙ turned (p x) (q x) (list_any p xs) (list_any q xs)

@@ -30,14 +30,6 @@ pub any_store : (mailbox : List ℕ) (flags : List (List ℕ)) (actions : List A
 any_store mailbox flags [] = refl
 any_store mailbox flags (action ∷ actions) = λ j. same_store mailbox flags action j || any_store mailbox flags actions j
 
--- one that stores into no such mailbox stays as it is
-pub joined_other : (mailbox : List ℕ) (flags : List (List ℕ)) (there : Action) → stores_into mailbox there ≡ false → there ≡ joined_with (Store mailbox flags) there
-joined_other mailbox flags there other = sym (ap (λ b. if b then with_flags_of (Store mailbox flags) there else there) (same_store mailbox flags there ∙ other))
-
--- and one into this has the flags of both
-pub joined_store : (mailbox : List ℕ) (flags : List (List ℕ)) (own : List ℕ) (held : List (List ℕ)) → stores_into mailbox (Store own held) ≡ true → Store own (flag_union held flags) ≡ joined_with (Store mailbox flags) (Store own held)
-joined_store mailbox flags own held is = sym (ap (λ b. if b then Store own (flag_union held flags) else Store own held) is)
-
 -- WHAT IS KNOWN
 
 -- flags that are among a store's own stay there
@@ -144,19 +136,10 @@ pub all_lowered_so : (place : ℕ) (numbers : List ℕ) (i : ℕ) → length num
 all_lowered_so place numbers i past =
     ap (λ l. map (lowered place) (take i numbers) ++ l) (drop_all i numbers past) ∙ append-nil (map (lowered place) (take i numbers)) ∙ ap (map (lowered place)) (take_all i numbers past)
 
--- and they are all that was there
+-- the numbers that were written are all that were there
 pub all_written : (len : ℕ) (new numbers wanted : List ℕ) → length new ≡ length numbers → length numbers ≡ len → new ≡ wanted → take len (new ++ drop (length new) numbers) ≡ wanted
 all_written len new numbers wanted long whole is =
     ap (λ l. take len (new ++ l)) (drop_all (length new) numbers (omega (arith, long))) ∙ ap (take len) (append-nil new) ∙ take_all len new (omega (arith, long, whole)) ∙ is
-
--- nothing is known of an action
-pub known_none : (flags : List (List ℕ)) (action : Action) → IsKnown flags 0 action
-known_none flags action = record { within = omega arith; among = by action }
-  where
-    by : (action : Action) → AreAmong flags 0 action
-    by (Store mailbox own) = All-nil (λ x. has_flag own x ≡ true)
-    by (Redirect address) = tt
-    by Discard = tt
 
 -- what is known of one action more
 pub known_push : (flags : List (List ℕ)) (numbers : List ℕ) (actions : List Action) (n : ℕ) (action : Action) → length numbers ≡ length actions → AreKnown flags numbers actions → IsKnown flags n action
@@ -166,7 +149,7 @@ known_push flags [] (there ∷ actions) n action long known one = absurd (omega 
 known_push flags (m ∷ numbers) [] n action long known one = absurd (omega (arith, long))
 known_push flags (m ∷ numbers) (there ∷ actions) n action long known one = (known.0, known_push flags numbers actions n action (omega (arith, long)) known.1 one)
 
--- the same of lists that are pushed to
+-- what is known of two lists is known of one action more, where both are pushed to
 pub both_pushed : (flags : List (List ℕ)) (numbers numbers' : List ℕ) (actions actions' : List Action) (n : ℕ) (action : Action) → numbers' ≡ numbers ++ n ∷ [] → actions' ≡ actions ++ action ∷ []
     → length numbers ≡ length actions → AreKnown flags numbers actions → IsKnown flags n action → (length numbers' ≡ length actions') × AreKnown flags numbers' actions'
 both_pushed flags numbers numbers' actions actions' n action more one long known is =
@@ -195,7 +178,7 @@ module _ (none : (flags : List (List ℕ)) → flags_without flags [] ≡ flags)
       ∙ ap (λ n. record old { flags = flags_without (flags_without old.flags (flag ∷ [])) (drop n named) }) (add-one i)
       ∙ ap (λ (l : List (List ℕ)). record old { flags = l }) (sym (more old.flags (drop (suc i) named) flag) ∙ ap (flags_without old.flags) (sym (drop_at named i flag at))) ∙ so
 
-  -- and none is left
+  -- no flag is left to be taken out
   pub none_further : (old wanted : ActionsAndFlags) (named : List (List ℕ)) (i : ℕ) → length named ≤ i → record old { flags = flags_without old.flags (drop i named) } ≡ wanted → old ≡ wanted
   none_further old wanted named i past so =
       ap (λ (l : List (List ℕ)). record old { flags = l }) (sym (none old.flags) ∙ ap (flags_without old.flags) (sym (drop_all i named past))) ∙ so

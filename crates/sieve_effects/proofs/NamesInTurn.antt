@@ -9,7 +9,7 @@ module _ {X Y : Type 0} (find : X → Option Y) (names : List X) (i : ℕ) (name
   pub name_gives : (y : Y) → find name ≡ Some y → Some y ≡ o
   name_gives y is = first_at find names i y o so (get_map find names i name at ∙ ap Some is)
 
-  -- one that gives nothing leaves it to those behind it
+  -- a name that gives nothing leaves the answer to those behind it
   pub name_gives_none : find name ≡ None → first_some find (drop (i + 1) names) ≡ o
   name_gives_none is = first_after find names i o so (get_map find names i name at ∙ ap Some is)
 

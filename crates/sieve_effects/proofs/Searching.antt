@@ -64,7 +64,7 @@ module _ {X Y : Type 0} (f : X → Option Y) where
   first_past (x ∷ xs) zero at = let e : f x ≡ None = cc in sym (ap (λ a. option_or a (first_some f xs)) e)
   first_past (x ∷ xs) (suc i) at = first_past xs i at
 
-  -- one that gives nothing leaves it to those behind it
+  -- an item that gives nothing leaves the answer to those behind it
   pub first_after : (xs : List X) (i : ℕ) (o : Option Y) → first_some f (drop i xs) ≡ o → slice_get (map f xs) i ≡ Some None → first_some f (drop (i + 1) xs) ≡ o
   first_after xs i o so at = ap (λ n. first_some f (drop n xs)) (add-one i) ∙ first_past xs i at ∙ so
 
@@ -84,7 +84,7 @@ module _ {X Y : Type 0} (p : X → Bool) (f : X → Option Y) where
       ap (λ n. first_some (λ x. if p x then f x else None) (drop n xs)) (sym is)
       ∙ skips_by xs i (j - i) (λ k low high. fail k low (omega arith))
 
-  -- where it fails for all that are left, they give nothing
+  -- items that all fail the test give nothing
   pub gives_none : (xs : List X) (i : ℕ) → i ≤ length xs → ((k : ℕ) → i ≤ k → k < length xs → slice_get (map p xs) k ≡ Some false) → first_some (λ x. if p x then f x else None) (drop i xs) ≡ None
   gives_none xs i ordered fail = sym (skips xs i (length xs) ordered fail) ∙ nothing xs
     where

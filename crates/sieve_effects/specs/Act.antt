@@ -72,7 +72,7 @@ pub data Performed : Type 0 where
   performed : (actions : List Action) → Performed
   one_too_many : Performed
 
--- one that is there already adds no entry, and none is taken away (RFC 5228, sections 2.10.1 and 2.10.3); past so many there is one
+-- an action that is there already adds no entry, and none is taken away (RFC 5228, sections 2.10.1 and 2.10.3); past so many there is one
 -- too many (section 2.10.4)
 abbrev pub with_action : Action → List Action → Performed
 with_action action actions =

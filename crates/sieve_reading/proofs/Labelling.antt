@@ -298,7 +298,7 @@ module _ (row : Row) (shapes : List Shape) where
 
 -- AS MANY AS THE SLOTS
 
--- none of the labels is that of what doesn't fit, and no slot is left
+-- all arguments fit, and no slot is left
 abbrev are_filled : (unfit : Bool) → Expected → List Shape → Bool
 are_filled unfit e shapes = not (unfit || list_any is_unfit (labels_from e shapes)) && no_slots (slots_left e shapes)
 

@@ -44,7 +44,7 @@ pub record IsKept (Holds : RunState → Type 0) : Type 0 where
   pub enters : (name : ScriptName) (s : RunState) → nat_lt include_limit (length s.entered) ≡ false → Holds s → Holds (entering name s)
 
 module _ (Holds : RunState → Type 0) (kept : IsKept Holds) where
-  -- it holds where commands ended
+  -- the property holds of the state in which commands ended
   abbrev Ends : Ending → Type 0
   Ends e = Holds (state_behind e)
 

@@ -54,7 +54,7 @@ module _ (find : ScriptName → Lookup) (delivery : Delivery) (name : ScriptName
   full_of : IsDeepest delivery → nat_lt (length delivery.including) include_depth ≡ false
   full_of deep = grind (arith, nat_tests, deep)
 
-  -- and none is where so many do
+  -- no script is entered where as many include as may
   pub none_deeper : IsDeepest delivery → (state_behind (included find (depth_left delivery) delivery name once optional line s)).entered ≡ s.entered
   none_deeper deep =
       ap (λ e. (state_behind e).entered) (by_room false (full_of deep))
@@ -73,7 +73,7 @@ module _ (beyond : Delivery → List Node → RunState → Ending) (find : Scrip
   by_depth depth delivery tree s false shallow alike =
       ap (λ (include : ScriptName → Bool → Bool → ℕ → RunState → Ending). exec (answer_of delivery) (act_by include delivery) (script_of tree) s) (λ i name once optional line t. alike name once optional line t i)
 
-  -- so does a script that isn't too deep what it does
+  -- a script that isn't too deep does alike
   script_alike : (depth : ℕ) (delivery : Delivery) (tree : List Node) (s : RunState) → length delivery.including ≤ include_depth → DoAlike depth delivery
       → watched beyond (watched_include beyond find depth delivery) delivery tree s ≡ running find depth delivery tree s
   script_alike depth delivery tree s shallow alike = by_depth depth delivery tree s (nat_lt include_depth (length delivery.including)) (grind (arith, nat_tests, shallow)) alike

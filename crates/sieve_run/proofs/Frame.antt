@@ -133,7 +133,7 @@ resumed_reads before (failed error s) = refl
 -- OVER TWO LIBRARIES
 
 module _ (find other : ScriptName → Lookup) where
-  -- they find the same at each name that was read
+  -- two libraries find the same at each name that was read
   abbrev AgreeOn : List (ScriptName × Bool) → Type 0
   AgreeOn reads = (name : ScriptName) → is_read name reads ≡ true → find name ≡ other name
 

@@ -47,17 +47,17 @@ module _ (find : ScriptName → Lookup) (delivery : Delivery) (name : ScriptName
       both true b is_a is_b = is_b
       both false b is_a is_b = is_a
 
-  -- one that runs is an error
+  -- an include of a script that runs is an error
   pub fails_running : (depth : ℕ) → (once && is_script name s.entered) ≡ false → is_running name delivery ≡ true → fails_at delivery line RecursiveInclude s ≡ included find depth delivery name once optional line s
   fails_running depth first is = at_depth depth (fails_at delivery line RecursiveInclude s) (λ enter. at_running enter true first is)
 
-  -- so is one too deep
+  -- an include that is too deep is an error
   pub fails_deep : (depth : ℕ) → (once && is_script name s.entered) ≡ false → is_running name delivery ≡ false → depth ≡ 0 → fails_at delivery line IncludeDepth s ≡ included find depth delivery name once optional line s
   unfolding included
   fails_deep zero first second none = at_running None false first second
   fails_deep (suc depth) first second none = absurd cc
 
-  -- and one too many
+  -- an include too many is an error
   pub fails_many : (depth : ℕ) → (once && is_script name s.entered) ≡ false → is_running name delivery ≡ false → (depth ≡ 0 → ⊥) → nat_lt include_limit (length s.entered) ≡ true → fails_at delivery line IncludeCount s ≡ included find depth delivery name once optional line s
   unfolding included
   fails_many zero first second deep many = absurd (deep refl)
@@ -115,9 +115,3 @@ enters_by find depth delivery name ops old begun ended after flow back is_begun 
     ∙ resumes old.values flow ended
     ∙ ap (resumed old.values) (sym runs)
     ∙ ap (λ t. resumed old.values (doing (act_of find depth (inside name delivery)) (inside name delivery) (code_walk ops (length ops)) t)) is_begun
-
--- the state in which it begins
-pub entering_by : (old : RunState) (name other : ScriptName) (entered : List ScriptName) (values : Values) → entered ≡ old.entered ++ other ∷ [] → other ≡ name → values ≡ begun_values old.values → record old { entered = entered; values = values } ≡ entering name old
-entering_by old name other entered values is_entered is_name is_values =
-    ap (λ e. record old { entered = e; values = values }) (is_entered ∙ ap (λ n. old.entered ++ n ∷ []) is_name)
-    ∙ ap (λ v. record old { entered = old.entered ++ name ∷ []; values = v }) is_values

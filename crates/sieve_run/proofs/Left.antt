@@ -92,7 +92,7 @@ pub no_item : {X : Type 0} (f : X → List ℕ) (xs : List X) (i : ℕ) (x : X) 
 no_item f xs i x text all within is so_far none =
     sym (skip_none (f x) (flat_map f (drop (i + 1) xs)) text none) ∙ ap (λ front. behind_front front text) (sym (cut f xs i x within is)) ∙ so_far
 
--- the same for an item that is looked up
+-- what is left behind an item that is looked up
 pub next_at : {X : Type 0} (f : X → List ℕ) (xs : List X) (i : ℕ) (d : X) (text left all : List ℕ) → i < length xs
     → behind_front (flat_map f (drop i xs)) text ≡ behind_front (flat_map f xs) all → behind_front (f (get_or xs i d)) text ≡ Some left → behind_front (flat_map f (drop (i + 1) xs)) left ≡ behind_front (flat_map f xs) all
 next_at f xs i d text left all within so_far some =
@@ -139,26 +139,6 @@ says_nothing text none = sym (ap (λ t. says t []) none)
 
 pub says_something : (text line left : List ℕ) → lines text ≡ line ∷ lines left → false ≡ says text []
 says_something text line left is = sym (ap (λ l. pointwise (pointwise nat_eq) l []) is)
-
--- LINES OF ITEMS
-
-module _ {X : Type 0} (f : X → List ℕ) (xs : List X) (i : ℕ) (x : X) (within : i < length xs) (is : x ≡ get_or xs i x) where
-  lines_cut : (wanted : List (List ℕ)) → map f (drop i xs) ++ wanted ≡ f x ∷ (map f (drop (i + 1) xs) ++ wanted)
-  lines_cut wanted = ap (λ l. map f l ++ wanted) (drop_more xs i x within) ∙ ap (λ y. f y ∷ (map f (drop (i + 1) xs) ++ wanted)) (sym is)
-
-  pub next_says : (text all left : List ℕ) (answer : Option (List ℕ)) → ((wanted : List (List ℕ)) → says text (map f (drop i xs) ++ wanted) ≡ says all (map f xs ++ wanted))
-      → ((wanted : List (List ℕ)) → left_says answer wanted ≡ says text (f x ∷ wanted)) → answer ≡ Some left → (wanted : List (List ℕ)) → says left (map f (drop (i + 1) xs) ++ wanted) ≡ says all (map f xs ++ wanted)
-  next_says text all left answer so_far one some wanted =
-      ap (λ a. left_says a (map f (drop (i + 1) xs) ++ wanted)) (sym some) ∙ one (map f (drop (i + 1) xs) ++ wanted) ∙ ap (says text) (sym (lines_cut wanted)) ∙ so_far wanted
-
-  pub none_says : (text all : List ℕ) (answer : Option (List ℕ)) → ((wanted : List (List ℕ)) → says text (map f (drop i xs) ++ wanted) ≡ says all (map f xs ++ wanted))
-      → ((wanted : List (List ℕ)) → left_says answer wanted ≡ says text (f x ∷ wanted)) → answer ≡ None → (wanted : List (List ℕ)) → false ≡ says all (map f xs ++ wanted)
-  none_says text all answer so_far one none wanted =
-      ap (λ a. left_says a (map f (drop (i + 1) xs) ++ wanted)) (sym none) ∙ one (map f (drop (i + 1) xs) ++ wanted) ∙ ap (says text) (sym (lines_cut wanted)) ∙ so_far wanted
-
-pub last_says : {X : Type 0} (f : X → List ℕ) (xs : List X) (i : ℕ) (text all : List ℕ) → length xs ≤ i
-    → ((wanted : List (List ℕ)) → says text (map f (drop i xs) ++ wanted) ≡ says all (map f xs ++ wanted)) → (wanted : List (List ℕ)) → says text wanted ≡ says all (map f xs ++ wanted)
-last_says f xs i text all over so_far wanted = ap (λ rest. says text (map f rest ++ wanted)) (sym (drop_all i xs over)) ∙ so_far wanted
 
 -- parts of lines in turn
 pub part_some : (first rest : List (List ℕ)) (text left : List ℕ) (answer : Option (List ℕ)) → ((wanted : List (List ℕ)) → left_says answer wanted ≡ says text (first ++ wanted)) → answer ≡ Some left → says left rest ≡ says text (first ++ rest)

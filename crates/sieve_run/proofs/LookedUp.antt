@@ -16,7 +16,7 @@ lookup_read is name ((other, there) ∷ reads) same =
     by true rest = refl
     by false rest = rest
 
--- one that wasn't is put at the end
+-- a name that wasn't looked up is put at the end
 insert_read : (eq : ScriptName → ScriptName → Bool) (name : ScriptName) (there : Bool) (reads : List (ScriptName × Bool)) → is_some (lookup (eq name) reads) ≡ false → ordered.insert_entry eq reads name there ≡ reads ++ (name, there) ∷ []
 insert_read eq name there [] none = refl
 insert_read eq name there ((other, old) ∷ reads) none = by (eq name other) none (insert_read eq name there reads)
@@ -26,11 +26,11 @@ insert_read eq name there ((other, old) ∷ reads) none = by (eq name other) non
     by true none rest = absurd cc
     by false none rest = ap (λ entries. (other, old) ∷ entries) (rest none)
 
--- what stands where the name is found
+-- what was looked up stays where the name is found
 pub read_stays : (name : ScriptName) (there : Bool) (reads : List (ScriptName × Bool)) → is_read name reads ≡ true → reads ≡ with_read name there reads
 read_stays name there reads is = sym (ap (λ b. if b then reads else reads ++ (name, there) ∷ []) is)
 
--- and where it isn't
+-- a look-up of a name that wasn't looked up is recorded
 pub read_is_new : (eq : ScriptName → ScriptName → Bool) (name other : ScriptName) (there : Bool) (reads new : List (ScriptName × Bool)) → is_some (lookup (eq name) reads) ≡ false → is_read name reads ≡ false → other ≡ name
     → new ≡ ordered.insert_entry eq reads other there → new ≡ with_read name there reads
 read_is_new eq name other there reads new none is same made =

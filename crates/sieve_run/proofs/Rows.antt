@@ -206,7 +206,7 @@ either_row : (ask : Ask → RunState → Answer) (c : Condition) (state : RunSta
 unfolding decide
 either_row ask c state = refl
 
--- and it is where the first doesn't
+-- the second of two tests is asked where the first doesn't decide
 second_row : (ask : Ask → RunState → Answer) (a : Ask) (state : RunState) → decide ask (both always (either never (asks a))) state ≡ ask a state
 unfolding decide
 second_row ask a state = refl

@@ -146,12 +146,12 @@ matched_row : answer_of (delivered []) matches_second (begun main) ≡ record { 
 unfolding truth_of values_behind match_found matched least_fit
 matched_row = refl
 
--- where none matches they stay
+-- the match variables stay where no pair matches
 unmatched_row : (matched : List (List ℕ)) → values_behind (delivered []) (holding (with_matched matched no_values)) (compares (string_values (text (codes "x") ∷ [])) Matches Octet (text (codes "y*") ∷ [])) ≡ with_matched matched no_values
 unfolding values_behind match_found matched least_fit
 unmatched_row matched = refl
 
--- so they do under another match type
+-- the match variables stay under another match type
 plain_row : (matched : List (List ℕ)) → values_behind (delivered []) (holding (with_matched matched no_values)) (compares (string_values (text (codes "x") ∷ [])) Is Octet (text (codes "x") ∷ [])) ≡ with_matched matched no_values
 unfolding values_behind match_found
 plain_row matched = refl
@@ -270,7 +270,7 @@ return_row : done_over (having script_a (plain (codes "return") ∷ plain (codes
 unfolding exec included chain_of chain_with block_commands conditions_in command_named
 return_row = refl
 
--- and where it is `stop;`: the run ends
+-- a script that is included and is `stop;` ends the run
 stop_inside_row : done_over (having script_a (plain (codes "stop") ∷ [])) (acts (include_leaf Personal false false (codes "a")) 2 (acts discard_leaf 3 no_commands)) ≡ stopped (entered_a [] false)
 unfolding exec included chain_of chain_with block_commands conditions_in command_named
 stop_inside_row = refl
@@ -365,7 +365,7 @@ long_name_row : (find : ScriptName → Lookup) (name : ScriptName) (message : Li
 unfolding outcome_of
 long_name_row find name message is = ap (λ n. verdict_at find envelope message name (if nat_lt name_limit n then missing else find name)) is
 
--- and one of 1,024 octets is looked up
+-- a name of 1,024 octets is looked up
 limit_name_row : (find : ScriptName → Lookup) (name : ScriptName) (message : List ℕ) → length name.name ≡ 1024 → outcome_of find (Some name) envelope message ≡ verdict_at find envelope message name (find name)
 unfolding outcome_of
 limit_name_row find name message is = ap (λ n. verdict_at find envelope message name (if nat_lt name_limit n then missing else find name)) is

@@ -105,7 +105,7 @@ module _ (act : Acts) (delivery : Delivery) where
     at_none zero place register s is = ap (λ o. doing act delivery (at_limit o) s) is
     at_none (suc n) place register s is = ap (λ o. doing act delivery (walk.step (walk_from ops n) o place register) s) is
 
-    -- behind the last operation
+    -- the walk ends behind the last operation
     pub past_end : (n place : ℕ) (register : Bool) (s : RunState) → length ops ≤ place → doing act delivery (walk_from ops n place register) s ≡ goes_on s
     past_end n place register s past = at_none n place register s (slice_get_past ops place past)
 
@@ -126,7 +126,7 @@ module _ (act : Acts) (delivery : Delivery) where
     unfolding walk_from
     more n place register op old is = ap (λ o. doing act delivery (walk.step (walk_from ops n) o place register) old) is
 
-    -- one turn
+    -- one turn makes one step of the walk
     pub turns : (turn place : ℕ) (register : Bool) (op : Operation) (old : RunState) (step : Step) (new : RunState) → turn < length ops → slice_get ops place ≡ Some op → StepsTo act delivery op (place + 1) register old step new →
         doing act delivery (walk_from ops (length ops - turn) place register) old ≡ doing_after act delivery (walk_from ops (length ops - (turn + 1))) step new
     turns turn place register op old step new below is does =

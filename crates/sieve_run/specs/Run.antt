@@ -127,7 +127,7 @@ with_found_script delivery optional line enter name missing state = if optional 
 with_found_script delivery optional line enter name invalid state = fails_at delivery line InvalidScript state
 with_found_script delivery optional line enter name (present tree) state = resumed state.values (enter tree (entering name state))
 
--- one that isn't too deep is too many where so many were entered, beside the main script; else its name is looked up
+-- an include that isn't too deep is one too many where so many scripts were entered, beside the main one; else its name is looked up
 abbrev pub includes : (ScriptName → Lookup) → Delivery → (enter : Option (ScriptName → List Node → RunState → Ending)) → ScriptName → (optional : Bool) → ℕ → RunState → Ending
 includes find delivery None name optional line state = fails_at delivery line IncludeDepth state
 includes find delivery (Some enter) name optional line state =

@@ -67,7 +67,7 @@ pub fn tests_set_match_variables_at_most()
 
 /// What running a checked tree's commands does is what doing the leaves of its walk in turn gives, up to the first that ends
 /// the run, the answers being what tests ask; whatever tests ask, and whatever commands that act do.
-/// So it is with the list of answers: what the walk meets with them, done in turn.
+/// The same comes of the list of answers that the tests give: what the walk meets with them is done in turn.
 #[tactic(auto, using(crate::proofs::Performing::walking))]
 pub fn a_run_does_its_walk()
     ensures same { (ask : Ask → RunState → spec.Answer) (act : Leaf → ℕ → RunState → Ending) (tree : List Node) (state : RunState) → spec.exec ask act (script_of tree) state ≡ perform ask act (tree_walk tree) state }

@@ -71,7 +71,7 @@ number_length-most (c ∷ cs) (suc m) h =
 
 -- QUOTED STRINGS
 
--- so many octets lie in the text and end a quoted string
+-- a number of octets lie in the text and end a quoted string
 pub record IsEnd (ends : List ℕ → Bool) (cs : List ℕ) (n : ℕ) : Type 0 where
   pub some : 0 < n
   pub inside : n ≤ length cs

@@ -261,7 +261,7 @@ module _ (depth room : ℕ) where
     symbols = argument_symbols o ls h a ∙ ap (λ x. (outer_symbols o ++ (level_symbols ls ++ head_symbols h)) ++ x) e;
   }
 
-  -- where there is depth for a test, it is what the innermost one may use and one more
+  -- the depth that is there for a test is what the innermost one may use and one more
   deeper : (ls : List Level) (d : ℕ) → IsLevels depth ls d → length ls < depth → (n : ℕ) × (d ≡ suc n)
   deeper ls zero is fits = absurd (omega (arith, levels_left ls 0 is))
   deeper ls (suc n) is fits = (n, refl)

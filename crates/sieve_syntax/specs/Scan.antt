@@ -50,7 +50,7 @@ opening_stop (c ∷ cs) =
     else (if c == octet_of "#" then Some (line_length (c ∷ cs))
     else None))
 
--- and the blanks in front of them
+-- how many octets end the first line of a multi-line string, with the blanks in front of them
 unfoldable pub opening_end : List ℕ → Option ℕ
 opening_end [] = None
 opening_end (c ∷ cs) = if is_blank c then option_map suc (opening_end cs) else opening_stop (c ∷ cs)

@@ -74,7 +74,7 @@ are_multi_line (line ∷ lines) = is_opening line && end_at_dot lines
 unfoldable pub is_multi_line : List ℕ → Bool
 is_multi_line symbol = are_multi_line (lines_of symbol)
 
--- one octet alone
+-- a symbol is one octet alone
 unfoldable pub is_one : ℕ → List ℕ → Bool
 is_one octet [] = false
 is_one octet (c ∷ []) = c == octet

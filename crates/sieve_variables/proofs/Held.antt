@@ -54,7 +54,7 @@ put_held variables es new name octets value is named made =
     ap held_of made ∙ held-insert es name value
     ∙ ap (λ n. ordered.insert_entry (pointwise nat_eq) (held_of es) n value) named ∙ ap (with_held octets value) is
 
--- so does a value that is written
+-- a value that is written is held
 pub set_held : (variables : List (List ℕ × List ℕ)) (es new : List (Vec ℕ Global × List ℕ)) (name value held : List ℕ) → held_of es ≡ variables
     → lookup (λ k. pointwise nat_eq name k.items) es ≡ Some held → new ≡ set_value (λ k. pointwise nat_eq name k.items) es value → held_of new ≡ with_held name value variables
 set_held variables es new name value held is found made =
@@ -72,7 +72,7 @@ pub room_there : (variables : List (List ℕ × List ℕ)) (es : List (Vec ℕ G
 room_there variables es name found is says there =
     there ∙ sym (ap (λ b. b || nat_lt (length variables) 128) (found_held variables es name found is says ∙ there))
 
--- and else where there are few entries
+-- there is room for a name that isn't there where there are few entries
 pub room_left : (variables : List (List ℕ × List ℕ)) (es : List (Vec ℕ Global × List ℕ)) (name : List ℕ) (found : Bool) (count : ℕ) → held_of es ≡ variables
     → found ≡ is_some (lookup (λ k. pointwise nat_eq name k.items) es) → found ≡ false → count ≡ length es → nat_lt count 128 ≡ has_room_under name variables
 room_left variables es name found count is says missing counted =

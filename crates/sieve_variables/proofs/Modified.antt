@@ -79,7 +79,7 @@ module _ (test : ℕ → Bool) (same : (one : LetterCase) (c : ℕ) → test (in
 pub characters-cased : (case first : Option LetterCase) (value : List ℕ) → character_count (with_first first (with_case case value)) ≡ character_count value
 characters-cased case first value = count-cased (λ c. not (goes_on c)) in_case-goes_on case first value
 
--- so is the number of wild octets
+-- the number of wild octets is the same in any case
 pub wild-cased : (case first : Option LetterCase) (value : List ℕ) → length (filter is_wild (with_first first (with_case case value))) ≡ length (filter is_wild value)
 wild-cased case first value = count-cased is_wild in_case-is_wild case first value
 

@@ -16,7 +16,7 @@ decimal_from-capped n digits = ⊎_elim
     (λ (high : 100 ≤ n). omega (arith, decimal_from-grows n digits, decimal_from-grows (min n 100) digits))
     (cases_lt n 100)
 
--- one digit more
+-- a number takes one digit more
 pub digit_step : (digits : List ℕ) (i index next : ℕ) → i < length digits → next ≡ min (10 * index + (get_or digits i 0 - octet_of "0")) 100 → min (decimal_from next (drop (suc i) digits)) 100 ≡ min (decimal_from index (drop i digits)) 100
 digit_step [] i index next within is = absurd (omega arith)
 digit_step (c ∷ cs) zero index next within is =

@@ -123,7 +123,7 @@ shared_or_written : (namespace name : List ℕ) (b : Bool) → not b ≡ true
 shared_or_written namespace name true foreign = absurd (false≢true foreign)
 shared_or_written namespace name false foreign = refl
 
--- one in another namespace stands as it is written
+-- a reference in another namespace stands as it is written
 foreign_part : (words : List (List ℕ)) → is_foreign (reference words) ≡ true → part_of_words words ≡ literal (written words)
 foreign_part [] foreign = absurd (false≢true foreign)
 foreign_part (word ∷ []) foreign = absurd (false≢true foreign)

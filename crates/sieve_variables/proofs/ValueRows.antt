@@ -51,7 +51,7 @@ inside : text_value ended (local_part (codes "name") ∷ global_part (codes "nam
 unfolding ended shared
 inside = refl
 
--- behind it the script has its own again, and the shared one as it was set last
+-- behind an include the script has its own variable again, and the shared one as it was set last
 resumed : text_value (with_own (own_of shared) ended) (local_part (codes "name") ∷ global_part (codes "name") ∷ match_part 0 ∷ []) ≡ codes "ownnew"
 unfolding ended shared
 resumed = refl
@@ -64,7 +64,7 @@ numbered : ℕ → List (List ℕ × List ℕ)
 numbered zero = []
 numbered (suc n) = (0 ∷ n ∷ [], []) ∷ numbered n
 
--- as many of them are shared
+-- values of which as many are shared as there may be
 crowded : ℕ → Values
 crowded n = record { locals = numbered n; globals = numbered n; matched = [] }
 

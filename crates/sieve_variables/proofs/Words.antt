@@ -140,7 +140,7 @@ pub legal_some : (words : List (List ℕ)) → is_legal words ≡ true → 0 < l
 legal_some [] is = absurd (false≢true is)
 legal_some (word ∷ words) is = omega arith
 
--- where the words are cut
+-- where the words of a reference are cut
 
 pub cut_here : (inside : List ℕ) (i : ℕ) → i < length inside → ((k : ℕ) → k < i → is_dot (get_or inside k 0) ≡ false) → is_dot (get_or inside i 0) ≡ true → words_of inside ≡ take i inside ∷ words_of (drop (suc i) inside)
 cut_here [] i within before is = absurd (omega arith)
@@ -194,7 +194,7 @@ only_word (word ∷ next ∷ words) inside some one is = absurd (grind (arith, n
 pub one_word : (inside : List ℕ) → nat_lt 1 (length (words_of inside)) ≡ false → words_of inside ≡ inside ∷ []
 one_word inside one = only_word (words_of inside) inside (some_words inside) one (dotted-words_of inside)
 
--- one that is far
+-- a reference that is far
 
 pub far_word : (inside : List ℕ) → nat_lt 1 (length (words_of inside)) ≡ false → is_far (reference (words_of inside)) ≡ (is_number inside && nat_lt 99 (index_of inside))
 far_word inside one = ap (λ words. is_far (reference words)) (one_word inside one)
@@ -205,7 +205,7 @@ far_no inside one not_digits = sym (far_word inside one ∙ ap (λ b. b && nat_l
 pub far_yes : (inside : List ℕ) → nat_lt 1 (length (words_of inside)) ≡ false → is_number inside ≡ true → nat_lt 99 (index_of inside) ≡ is_far (reference (words_of inside))
 far_yes inside one is = sym (far_word inside one ∙ ap (λ b. b && nat_lt 99 (index_of inside)) is)
 
--- one in a namespace, by what stands before and behind the first dot
+-- a reference in a namespace, by what stands before and behind the first dot
 
 no_and : (b : Bool) → (b && false) ≡ false
 no_and true = refl
@@ -240,7 +240,7 @@ is_not : (b : Bool) → not b ≡ false → b ≡ true
 is_not true e = refl
 is_not false e = sym e
 
--- one that scripts share
+-- a name behind `global.` is that of a variable that scripts share
 pub shared_cut : (inside namespace name : List ℕ) → words_of inside ≡ namespace ∷ words_of name → is_foreign (reference (words_of inside)) ≡ false → global_part (folded_name name) ≡ part_of_words (words_of inside)
 shared_cut inside namespace name cut own =
     let shared : is_shared namespace name ≡ true = is_not (is_shared namespace name) (foreign_cut inside namespace name cut ∙ own) in

@@ -51,7 +51,7 @@ module _ (find : List ℕ → Option (List (List ℕ))) where
   abbrev pub part_found : AddressPart → AddrSpec → Option (List (List ℕ))
   part_found part address = option_and_then find (part_of_address part address)
 
-  -- that part of an envelope's address, and of the address in the envelope's part of a name
+  -- a part of an envelope's address, and of the address in the envelope's part of a name
   abbrev pub path_found : AddressPart → List ℕ → Option (List (List ℕ))
   path_found part text = part_found part (envelope_address_of text)
 

@@ -14,7 +14,7 @@ with_cr bs end some within is =
     let step = without_cr-take bs i (omega arith) in
     ap (λ n. without_cr (take n bs)) e ∙ step ∙ ap (λ b. cond (eqb b (octet_of "\r")) (take i bs) (take (i + 1) bs)) is
 
--- another octet before the place
+-- another octet than a CR before the place stays
 without : (bs : List ℕ) (end : ℕ) → 0 < end → end ≤ length bs → get_or bs (end - 1) 0 ≢ octet_of "\r" → without_cr (take end bs) ≡ take end bs
 without bs end some within is =
     let i = end - 1 in
