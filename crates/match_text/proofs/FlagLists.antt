@@ -41,7 +41,7 @@ without_twice flags a b =
     filter_twice (other a) (other b) (other (a ++ b))
     (λ flag. either_not (has_flag a flag) (has_flag b flag) ∙ ap not (sym (list_any-append (same ascii_casemap flag) a b))) flags
 
-without_alike : (a b : List (List ℕ)) → ((flag : List ℕ) → has_flag a flag ≡ has_flag b flag) → (flags : List (List ℕ))
+pub without_alike : (a b : List (List ℕ)) → ((flag : List ℕ) → has_flag a flag ≡ has_flag b flag) → (flags : List (List ℕ))
     → flags_without flags a ≡ flags_without flags b
 unfolding flags_without
 without_alike a b alike flags = filter_agree (other a) (other b) (λ flag. ap not (alike flag)) flags
@@ -118,7 +118,7 @@ union_so_far a flags i d old new below made is =
 
 -- FLAGS THAT ARE THERE
 
-union_present : (a : List (List ℕ)) (flag : List ℕ) → has_flag a flag ≡ true → flag_union a (flag ∷ []) ≡ a
+pub union_present : (a : List (List ℕ)) (flag : List ℕ) → has_flag a flag ≡ true → flag_union a (flag ∷ []) ≡ a
 union_present a flag there = sym (union_one a flag) ∙ ap (λ b. if b then a else a ++ flag ∷ []) there
 
 -- flags that are there already bring nothing
@@ -176,7 +176,7 @@ one_missing a flags i flag at missing all =
     (sym (All-get_or (λ x. has_flag a x ≡ true) flags i [] (slice_get_within flags i flag at) all) ∙ ap (has_flag a) (get_or_from_slice_get flags i flag [] at) ∙ missing)
 
 -- what is there stays there
-union_keeps : (a b : List (List ℕ)) (x : List ℕ) → has_flag a x ≡ true → has_flag (flag_union a b) x ≡ true
+pub union_keeps : (a b : List (List ℕ)) (x : List ℕ) → has_flag a x ≡ true → has_flag (flag_union a b) x ≡ true
 unfolding flag_union
 union_keeps a b x there = list_any-append (same ascii_casemap x) a (flags_without (distinct b) a) ∙ ap (λ s. s || has_flag (flags_without (distinct b) a) x) there
 

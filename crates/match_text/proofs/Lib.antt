@@ -11,6 +11,8 @@ pub mod Taking
 pub mod Passing
 pub mod Slices
 pub mod FlagLists
+pub mod Pieces
+pub mod Turns
 pub mod Keywords
 mod FlagRows
 mod Rows

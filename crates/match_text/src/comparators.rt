@@ -165,7 +165,7 @@ const MAX_SHORT_KEY: usize = 64;
 pub(crate) fn folded<C: Comparator>(alloc: Global, octets: &[u8]) -> Result<Vec<u8>, AllocError>
     ensures { IfOk result (λ copy. copy.items ≡ map C.folded octets.now) }
 {
-    let mut copy = Vec::new(alloc);
+    let mut copy = Vec::with_capacity(alloc, octets.len())?;
     for octet in octets {
         copy.push(C::fold(*octet))?;
     }

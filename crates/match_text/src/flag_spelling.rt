@@ -1,12 +1,12 @@
 //! Which texts are flags, and how texts are cut (RFC 5232, section 2).
-ghost use Rattle.std.specs.Prelude.{◌≡◌, IfOk};
+ghost use Rattle.std.specs.Prelude.{◌≡◌, ◌∷◌, ◌<◌, [], IfNone, IfSome, length};
 ghost use Rattle.std.specs.List.{list_all};
-ghost use Rattle.match_text.specs.Flags.{is_flag, is_flag_octet, is_keyword, is_special, is_system_flag, pieces};
-ghost use Rattle.match_text.specs.view.Segment.{texts_of};
+ghost use Rattle.match_text.specs.Flags.{flags_in, is_flag, is_flag_octet, is_keyword, is_special, is_system_flag, pieces};
+ghost use Rattle.match_text.specs.view.Pieces.{pieces_behind};
 
 use crate::comparators::{AsciiCasemap, is};
+use memchr::memchr;
 use sieve_base::octet::is_visible;
-use std::alloc::{AllocError, Global};
 
 // Whether an octet may stand in a keyword.
 fn is_flag_octet(octet: u8) -> bool
@@ -57,13 +57,49 @@ fn are_flag_octets(text: &[u8]) -> bool
     text.iter().all(|octet| is_flag_octet(*octet))
 }
 
-// What stands between the spaces of a text.
-pub(crate) fn pieces(alloc: Global, text: &[u8]) -> Result<Vec<&[u8]>, AllocError>
-    ensures { IfOk result (λ found. texts_of found.items ≡ pieces text.now) }
+// The first piece of a text, and what stands behind the space that ends it, where one does.
+pub(crate) fn next_piece(text: &[u8]) -> (&[u8], Option<&[u8]>)
+    ensures pieces { pieces text.now ≡ result.0.now ∷ pieces_behind result.1 }
+    ensures shorter { IfSome result.1 (λ rest. length rest.now < length text.now) }
+    ensures alone { IfNone result.1 (result.0.now ≡ text.now) }
 {
-    let mut found = Vec::new(alloc);
-    for piece in text.split(|octet| *octet == b' ') {
-        found.push(piece)?;
+    match memchr(b' ', text) {
+        Some(space) => (&text[..space], Some(&text[space + 1..])),
+        None => (text, None),
     }
-    Ok(found)
+}
+
+/// The first flag of a text, and what stands behind it (RFC 5232, section 2). Takes no memory.
+pub fn next_flag(text: &[u8]) -> Option<(&[u8], &[u8])>
+    ensures some { IfSome result (λ found. flags_in text.now ≡ found.0.now ∷ flags_in found.1.now) }
+    ensures shorter { IfSome result (λ found. length found.1.now < length text.now) }
+    ensures none { IfNone result (flags_in text.now ≡ []) }
+{
+    let mut rest = text;
+    'pieces: loop {
+        let (piece, behind) = next_piece(rest);
+        match behind {
+            Some(behind) => {
+                if is_flag(piece) {
+                    return Some((piece, behind));
+                }
+                rest = behind;
+            }
+            None => return last_flag(piece),
+        }
+    }
+}
+
+// The flag that a text without a space is, if it is one, and nothing behind it.
+fn last_flag(piece: &[u8]) -> Option<(&[u8], &[u8])>
+    requires { pieces piece.now ≡ piece.now ∷ [] }
+    ensures some { IfSome result (λ found. flags_in piece.now ≡ found.0.now ∷ flags_in found.1.now) }
+    ensures shorter { IfSome result (λ found. length found.1.now < length piece.now) }
+    ensures none { IfNone result (flags_in piece.now ≡ []) }
+{
+    if is_flag(piece) {
+        Some((piece, &[]))
+    } else {
+        None
+    }
 }

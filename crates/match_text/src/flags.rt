@@ -1,15 +1,15 @@
 //! Lists of flags (RFC 5232, sections 2 and 3).
-ghost use Rattle.std.specs.Prelude.{◌≡◌, ◌<◌, ◌≤◌, ◌↔◌, [], ◌∷◌, IfNone, IfOk, IfSome, IsOk, IsTrue, OnErr, OnOk, Some, SomeIndex, filter, fold, length, remove, slice_get, take, true};
+ghost use Rattle.std.specs.Prelude.{◌≡◌, ◌<◌, ◌≤◌, ◌↔◌, [], ◌∷◌, IfNone, IfOk, IfSome, IsOk, IsTrue, OnErr, OnOk, Some, SomeIndex, fold, length, remove, slice_get, take, true};
 ghost use Rattle.std.specs.List.{All};
 ghost use Rattle.match_text.specs.Comparator.{ascii_casemap, fold_of, same};
 ghost use Rattle.match_text.specs.Flags.{AreDistinct, has_flag, has_key, flag_list, flag_text, flag_union, flags_in};
-ghost use Rattle.match_text.specs.Flags.{flags_of_texts, flags_without, is_flag, pieces};
+ghost use Rattle.match_text.specs.Flags.{flags_of_texts, flags_without};
 ghost use Rattle.match_text.specs.view.Hashing.{flag_hash, same_alike, same_equiv, same_per};
 ghost use Rattle.std.specs.Cmp.{on_equiv, partial_equiv_from_equiv};
 ghost use Rattle.sieve_base.specs.view.Texts.{octets_of_each};
 
 use crate::comparators::{AsciiCasemap, Collation, Comparator, Octet, is};
-use crate::flag_spelling::{is_flag, pieces};
+use crate::flag_spelling::next_flag;
 use indexmap::{Equivalent, IndexSet};
 use sieve_base::Octets;
 use std::alloc::{AllocError, Global};
@@ -226,6 +226,19 @@ impl FlagList {
         flags.len()
     }
 
+    /// Adds the flags of a text that aren't there yet (RFC 5232, sections 2 and 3.2). Where memory is refused, those in front of some place
+    /// have been added. Takes no memory where all are there.
+    pub fn add_text(&mut self, alloc: Global, text: &[u8]) -> Result<(), AllocError>
+        ensures union { OnOk result (self.new ≡ flag_union self.old (flags_in text.now)) }
+        ensures err { OnErr result (SomeIndex (flags_in text.now) (λ i. self.new ≡ flag_union self.old (take i (flags_in text.now)))) }
+        ensures held { All (λ flag. has_flag self.old flag ≡ true) (flags_in text.now) → IsOk result }
+    {
+        let added = insert_text(alloc, &mut self.flags, text);
+        // The set tells here that no two of them are the same.
+        let _count = self.flags.len();
+        added
+    }
+
     /// Takes a flag out, in whatever case it is spelled, and gives the place where it stood (RFC 5232, section 3.3). The others stay in
     /// their order. Takes no memory.
     pub fn take_out(&mut self, flag: &[u8]) -> Option<usize>
@@ -281,25 +294,28 @@ fn insert_each(alloc: Global, flags: &mut IndexSet<Flag>, list: &[Flag]) -> Resu
     Ok(())
 }
 
-// Adds a piece, if it is a flag.
-#[tactic(auto, using(crate::proofs::FlagLists::union_nil))]
-fn insert_piece(alloc: Global, flags: &mut IndexSet<Flag>, piece: &[u8]) -> Result<(), AllocError>
-    ensures { OnOk result (flags.new.keys ≡ flag_union flags.old.keys (filter is_flag (piece.now ∷ []))) }
+// Adds a flag at the end, where it isn't there yet. One that is there isn't copied.
+fn insert_missing(alloc: Global, flags: &mut IndexSet<Flag>, flag: &[u8]) -> Result<(), AllocError>
+    ensures ok { OnOk result (flags.new.keys ≡ flag_union flags.old.keys (flag.now ∷ [])) }
+    ensures err { OnErr result (flags.new.keys ≡ flags.old.keys) }
+    ensures there { has_flag flags.old.keys flag.now ≡ true → IsOk result }
 {
-    if is_flag(piece) {
-        insert(alloc, flags, piece)
-    } else {
-        Ok(())
+    if flags.contains(SoughtFlag { spelling: flag }) {
+        return Ok(());
     }
+    insert(alloc, flags, flag)
 }
 
-// Adds the flags of a text.
+// Adds each flag of a text that isn't there yet.
 fn insert_text(alloc: Global, flags: &mut IndexSet<Flag>, text: &[u8]) -> Result<(), AllocError>
-    ensures { OnOk result (flags.new.keys ≡ flag_union flags.old.keys (flags_in text.now)) }
+    ensures ok { OnOk result (flags.new.keys ≡ flag_union flags.old.keys (flags_in text.now)) }
+    ensures err { OnErr result (SomeIndex (flags_in text.now) (λ i. flags.new.keys ≡ flag_union flags.old.keys (take i (flags_in text.now)))) }
+    ensures there { All (λ flag. has_flag flags.old.keys flag ≡ true) (flags_in text.now) → IsOk result }
 {
-    let pieces = pieces(alloc, text)?;
-    for piece in &pieces {
-        insert_piece(alloc, flags, piece)?;
+    let mut rest = text;
+    while let Some((flag, behind)) = next_flag(rest) {
+        insert_missing(alloc, flags, flag)?;
+        rest = behind;
     }
     Ok(())
 }

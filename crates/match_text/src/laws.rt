@@ -2,7 +2,7 @@
 ghost use Rattle.std.specs.Prelude.{◌≡◌, ◌∷◌, ◌↔◌, ℕ, List, [], None, Some, length, map, true};
 ghost use Rattle.std.specs.List.{All};
 ghost use Rattle.match_text.specs.Comparator.{IsPart, Same, is_part, same};
-ghost use Rattle.match_text.specs.Flags.{AreDistinct, distinct, flag_list, flag_union, flags_of_texts, flags_without, is_flag};
+ghost use Rattle.match_text.specs.Flags.{AreDistinct, distinct, flag_list, flag_union, flags_in, flags_of_texts, flags_without, is_flag};
 ghost use Rattle.match_text.specs.Wildcard.{Fits, IsLeastFit, TakeInTurn, least_fit, taken};
 ghost use Rattle.match_text.specs.declared.pattern.Item.{Item};
 
@@ -46,6 +46,14 @@ pub fn each_of_a_list_is_a_flag()
 pub fn distinct_flags_stay()
     ensures distinct { (flags : List (List ℕ)) → AreDistinct flags → distinct flags ≡ flags }
     ensures union { (flags : List (List ℕ)) → AreDistinct flags → flag_union [] flags ≡ flags }
+{}
+
+/// To add the flags of some texts, or to take them out, is to do that with the flags of each text in turn (RFC 5232, sections 3.2 and 3.3).
+pub fn texts_are_changed_in_turn()
+    ensures none_added { (flags : List (List ℕ)) → flag_union flags (flags_of_texts []) ≡ flags }
+    ensures added { (flags : List (List ℕ)) (text : List ℕ) (texts : List (List ℕ)) → flag_union flags (flags_of_texts (text ∷ texts)) ≡ flag_union (flag_union flags (flags_in text)) (flags_of_texts texts) }
+    ensures none_taken { (flags : List (List ℕ)) → flags_without flags (flags_of_texts []) ≡ flags }
+    ensures taken { (flags : List (List ℕ)) (text : List ℕ) (texts : List (List ℕ)) → flags_without flags (flags_of_texts (text ∷ texts)) ≡ flags_without (flags_without flags (flags_in text)) (flags_of_texts texts) }
 {}
 
 /// To take flags out is to take each of them out in turn (RFC 5232, section 3.3).

@@ -25,7 +25,7 @@ pub(crate) fn folded_items<C: Comparator>(
 ) -> Result<Vec<Item>, AllocError>
     ensures { IfOk result (λ items. items.items ≡ map (folded_item C.folded) (items_of pattern.now)) }
 {
-    let mut items = Vec::new(alloc);
+    let mut items = Vec::with_capacity(alloc, pattern.len())?;
     let mut is_protected = false;
     for octet in pattern {
         if let Some(item) = item_at::<C>(is_protected, *octet) {

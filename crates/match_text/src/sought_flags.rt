@@ -4,7 +4,7 @@ ghost use Rattle.std.specs.Prelude.{◌≡◌, ◌++◌, ◌∷◌, [], IfOk, On
 ghost use Rattle.match_text.specs.Flags.{flag_keys, flag_keys_of_texts};
 ghost use Rattle.sieve_base.specs.view.Texts.{octets_of_each};
 
-use crate::flag_spelling::pieces;
+use crate::flag_spelling::next_piece;
 use std::alloc::{AllocError, Global};
 use std::borrow::CowSlice;
 
@@ -14,7 +14,7 @@ pub fn flag_keys(alloc: Global, key: &[u8]) -> Result<Vec<CowSlice<'_, u8>>, All
     ensures { IfOk result (λ keys. octets_of_each keys.items ≡ flag_keys key.now) }
 {
     let mut keys = Vec::new(alloc);
-    push_keys(alloc, &mut keys, key)?;
+    push_keys(&mut keys, key)?;
     Ok(keys)
 }
 
@@ -28,29 +28,29 @@ pub fn flag_keys_of_texts<'a>(
 {
     let mut found = Vec::new(alloc);
     for key in keys {
-        push_keys(alloc, &mut found, key.as_slice())?;
+        push_keys(&mut found, key.as_slice())?;
     }
     Ok(found)
 }
 
 // Adds what a key stands for.
 #[tactic(auto, unfolding(crate::specs::Flags::flag_keys))]
-fn push_keys<'a>(
-    alloc: Global,
-    found: &mut Vec<CowSlice<'a, u8>>,
-    key: &'a [u8],
-) -> Result<(), AllocError>
+fn push_keys<'a>(found: &mut Vec<CowSlice<'a, u8>>, key: &'a [u8]) -> Result<(), AllocError>
     ensures { OnOk result (octets_of_each found.new.items ≡ octets_of_each found.old.items ++ flag_keys key.now) }
 {
     if key.is_empty() {
         found.push(CowSlice::Borrowed(key))?;
         return Ok(());
     }
-    let pieces = pieces(alloc, key)?;
-    for piece in &pieces {
+    let mut rest = key;
+    'pieces: loop {
+        let (piece, behind) = next_piece(rest);
         push_filled(found, piece)?;
+        match behind {
+            Some(behind) => rest = behind,
+            None => return Ok(()),
+        }
     }
-    Ok(())
 }
 
 // Adds a piece that has octets.

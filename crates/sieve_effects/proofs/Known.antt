@@ -1,5 +1,5 @@
 -- How many of the internal flags are known to be among an action's own, through what becomes of both.
-use Rattle.std.proofs.Common.{◌≡◌, ℕ, zero, suc, ◌+◌, ◌<◌, ◌≤◌, length, take, drop, get_or, remove, Bool, true, false, not, Some, slice_get, ◌||◌, List, [], ◌∷◌, ◌++◌, map, slice_set, refl, add-one, append-nil, append_assoc, sym, ap, subst, ◌∙◌, arith}
+use Rattle.std.proofs.Common.{◌≡◌, ℕ, zero, suc, ◌+◌, ◌<◌, ◌≤◌, length, take, drop, get_or, remove, Bool, true, false, not, ◌||◌, List, [], ◌∷◌, ◌++◌, map, slice_set, refl, add-one, append-nil, append_assoc, sym, ap, subst, ◌∙◌, arith}
 use Rattle.std.specs.Prelude.{if◌then◌else◌}
 use Rattle.std.specs.List.{All, list_any}
 use Rattle.std.proofs.lemmas.List.{drop_all, length-append, take-append-le, take_all}
@@ -163,25 +163,18 @@ pub one_remade : (f : Action → Action) (done done' left left' whole : List Act
 one_remade f done done' left left' whole there made one is split so =
     ap (λ l. l ++ map f left') one ∙ append_assoc done (made ∷ []) (map f left') ∙ ap (λ x. done ++ x ∷ map f left') is ∙ ap (λ l. done ++ map f l) (sym split) ∙ so
 
-drop_at : (named : List (List ℕ)) (i : ℕ) (flag : List ℕ) → slice_get named i ≡ Some flag → drop i named ≡ flag ∷ drop (suc i) named
-drop_at [] i flag at = cc
-drop_at (x ∷ named) zero flag at = let it : x ≡ flag = cc in ap (λ y. y ∷ named) it
-drop_at (x ∷ named) (suc i) flag at = drop_at named i flag at
+-- FLAGS THAT ARE CHANGED IN TURN
 
-module _ (none : (flags : List (List ℕ)) → flags_without flags [] ≡ flags)
-    (more : (flags others : List (List ℕ)) (flag : List ℕ) → flags_without flags (flag ∷ others) ≡ flags_without (flags_without flags (flag ∷ [])) others) where
-  -- one flag more is taken out
-  pub one_further_out : (old new wanted : ActionsAndFlags) (named : List (List ℕ)) (flag : List ℕ) (i : ℕ) → slice_get named i ≡ Some flag → new ≡ record old { flags = flags_without old.flags (flag ∷ []) }
-      → record old { flags = flags_without old.flags (drop i named) } ≡ wanted → record new { flags = flags_without new.flags (drop (i + 1) named) } ≡ wanted
-  one_further_out old new wanted named flag i at is so =
-      ap (λ (a : ActionsAndFlags). record a { flags = flags_without a.flags (drop (i + 1) named) }) is
-      ∙ ap (λ n. record old { flags = flags_without (flags_without old.flags (flag ∷ [])) (drop n named) }) (add-one i)
-      ∙ ap (λ (l : List (List ℕ)). record old { flags = l }) (sym (more old.flags (drop (suc i) named) flag) ∙ ap (flags_without old.flags) (sym (drop_at named i flag at))) ∙ so
+module _ (change : List (List ℕ) → List (List ℕ) → List (List ℕ)) where
+  -- flags are changed by the first of some, and then by the others
+  pub changed_on : (old new wanted : ActionsAndFlags) (all first others : List (List ℕ)) → ((flags : List (List ℕ)) → change flags all ≡ change (change flags first) others)
+      → new ≡ record old { flags = change old.flags first } → record old { flags = change old.flags all } ≡ wanted → record new { flags = change new.flags others } ≡ wanted
+  changed_on old new wanted all first others more made so =
+      ap (λ (a : ActionsAndFlags). record a { flags = change a.flags others }) made ∙ ap (λ (l : List (List ℕ)). record old { flags = l }) (sym (more old.flags)) ∙ so
 
-  -- no flag is left to be taken out
-  pub none_further : (old wanted : ActionsAndFlags) (named : List (List ℕ)) (i : ℕ) → length named ≤ i → record old { flags = flags_without old.flags (drop i named) } ≡ wanted → old ≡ wanted
-  none_further old wanted named i past so =
-      ap (λ (l : List (List ℕ)). record old { flags = l }) (sym (none old.flags) ∙ ap (flags_without old.flags) (sym (drop_all i named past))) ∙ so
+  -- no flags are left to change by
+  pub changed_all : (old wanted : ActionsAndFlags) (left : List (List ℕ)) → ((flags : List (List ℕ)) → change flags left ≡ flags) → record old { flags = change old.flags left } ≡ wanted → old ≡ wanted
+  changed_all old wanted left none so = ap (λ (l : List (List ℕ)). record old { flags = l }) (sym (none old.flags)) ∙ so
 
 -- HOW A COMMAND ENDS THAT PERFORMS AN ACTION
 

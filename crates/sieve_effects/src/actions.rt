@@ -1,18 +1,17 @@
 //! The actions of a run (RFC 5228, section 2.10), and the internal flags that its stores take (RFC 5232, section 5).
 ghost use Rattle.std.specs.Prelude.{◌≡◌, ◌∷◌, List, ℕ, ◌++◌, IfOk, OnErr, OnOk, false, map, []};
 ghost use Rattle.std.specs.List.{list_any};
-ghost use Rattle.sieve_effects.specs.Act.{changed_flags, joined_with, same_action, with_action};
+ghost use Rattle.sieve_effects.specs.Act.{joined_with, same_action, with_action};
 ghost use Rattle.sieve_effects.specs.declared.action.Action as acts;
 ghost use Rattle.sieve_effects.specs.declared.action.Action.TheVariants.{Store};
 ghost use Rattle.sieve_effects.specs.view.Actions.{AreKnown, IsKnown, lowered, performed_as, stores_into};
-ghost use Rattle.match_text.specs.Flags.{flags_without};
+ghost use Rattle.match_text.specs.Flags.{flag_union, flags_in, flags_without};
 
 use crate::action::Action;
-use match_text::FlagList;
 use match_text::laws::flags_are_taken_out_in_turn;
+use match_text::{FlagList, next_flag};
 use sieve_base::Octets;
 use sieve_base::limits::MAX_ACTIONS;
-use sieve_reading::FlagChange;
 use std::alloc::{AllocError, Global};
 use std::marker::Model;
 use std::mem;
@@ -129,53 +128,33 @@ impl Actions {
         Ok(())
     }
 
-    /// Changes the internal flags (RFC 5232, section 3).
-    pub(crate) fn change_flags(
-        &mut self,
-        alloc: Global,
-        change: FlagChange,
-        named: FlagList,
-    ) -> Result<(), AllocError>
-        ensures { OnOk result (self.new ≡ record self.old { flags = changed_flags change self.old.flags named }) }
-    {
-        match change {
-            FlagChange::Set => {
-                self.set_flags(named);
-                Ok(())
-            }
-            FlagChange::Add => self.add_flags(alloc, &named),
-            FlagChange::Remove => {
-                self.remove_flags(&named);
-                Ok(())
-            }
-        }
-    }
-
-    /// Puts flags in the place of the internal ones.
-    fn set_flags(&mut self, named: FlagList)
+    /// Puts flags in the place of the internal ones (RFC 5232, section 3.1).
+    pub(crate) fn set_flags(&mut self, named: FlagList)
         ensures { self.new ≡ record self.old { flags = named } }
     {
         self.known.clear();
         self.flags = named;
     }
 
-    /// Adds flags to the internal ones.
-    fn add_flags(&mut self, alloc: Global, named: &FlagList) -> Result<(), AllocError>
-        ensures { OnOk result (self.new ≡ record self.old { flags = changed_flags FlagChange.Add self.old.flags named.now }) }
+    /// Adds the flags of a text to the internal ones (RFC 5232, section 3.2).
+    pub(crate) fn add_text(&mut self, alloc: Global, text: &[u8]) -> Result<(), AllocError>
+        ensures { OnOk result (self.new ≡ record self.old { flags = flag_union self.old.flags (flags_in text.now) }) }
     {
         let known = mem::replace(&mut self.known, Vec::new(alloc));
-        self.flags.add(alloc, named, 0)?;
+        self.flags.add_text(alloc, text)?;
         self.known = known;
         Ok(())
     }
 
-    /// Takes flags out of the internal ones.
-    fn remove_flags(&mut self, named: &FlagList)
-        ensures { self.new ≡ record self.old { flags = flags_without self.old.flags named.now } }
+    /// Takes the flags of a text out of the internal ones (RFC 5232, section 3.3).
+    pub(crate) fn remove_text(&mut self, text: &[u8])
+        ensures { self.new ≡ record self.old { flags = flags_without self.old.flags (flags_in text.now) } }
     {
         flags_are_taken_out_in_turn();
-        for i in 0..named.len() {
-            self.remove_flag(named.get(i));
+        let mut rest = text;
+        while let Some((flag, behind)) = next_flag(rest) {
+            self.remove_flag(flag);
+            rest = behind;
         }
     }
 

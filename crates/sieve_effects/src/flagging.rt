@@ -1,22 +1,25 @@
 //! What commands do with flags (RFC 5232, sections 3 and 5).
-ghost use Rattle.std.specs.Prelude.{◌≡◌, IfOk, Some, None};
+ghost use Rattle.std.specs.Prelude.{◌≡◌, IfOk, OnOk, Some, None, map};
 ghost use Rattle.std.specs.Option.{option_map};
-ghost use Rattle.match_text.specs.Flags.{flag_list};
+ghost use Rattle.match_text.specs.Flags.{flag_list, flag_union, flags_of_texts, flags_without};
 ghost use Rattle.sieve_effects.specs.Act.{changed_flags, changes, flags_named, held_flags};
 ghost use Rattle.sieve_effects.specs.view.Delivery.{delivery_as};
 ghost use Rattle.sieve_effects.specs.view.Flow.{ending_by};
 ghost use Rattle.sieve_effects.specs.view.State.{state_of};
+ghost use Rattle.sieve_variables.specs.Value.{text_value};
 ghost use Rattle.sieve_variables.specs.view.Part.{strings_of, variable_of};
 
 use crate::acting::give;
+use crate::actions::Actions;
 use crate::delivery::Delivery;
 use crate::flow::Flow;
 use crate::state::State;
+use match_text::laws::texts_are_changed_in_turn;
 use match_text::{FlagList, flag_text, flags_of, flags_of_texts, union, without};
 use sieve_base::Octets;
 use sieve_base::limits::MAX_VALUE;
 use sieve_reading::FlagChange;
-use sieve_variables::{Parts, Variable};
+use sieve_variables::{Parts, Values, Variable};
 use std::alloc::{AllocError, Global};
 
 /// The flags that strings name (RFC 5232, section 2).
@@ -104,6 +107,42 @@ fn change_variable(
     give(delivery, variable, value, line, state)
 }
 
+/// Adds the flags that strings name to the internal ones, one string after the other.
+fn add_named(
+    alloc: Global,
+    values: &Values,
+    texts: &[Parts],
+    actions: &mut Actions,
+) -> Result<(), AllocError>
+    ensures { OnOk result (actions.new ≡ record actions.old { flags = flag_union actions.old.flags (flags_of_texts (map (text_value values.now) (strings_of texts.now))) }) }
+{
+    texts_are_changed_in_turn();
+    let mut buffer = Vec::new(alloc);
+    for parts in texts {
+        let text = values.expanded_in(parts, &mut buffer)?;
+        actions.add_text(alloc, text)?;
+    }
+    Ok(())
+}
+
+/// Takes the flags that strings name out of the internal ones, one string after the other.
+fn remove_named(
+    alloc: Global,
+    values: &Values,
+    texts: &[Parts],
+    actions: &mut Actions,
+) -> Result<(), AllocError>
+    ensures { OnOk result (actions.new ≡ record actions.old { flags = flags_without actions.old.flags (flags_of_texts (map (text_value values.now) (strings_of texts.now))) }) }
+{
+    texts_are_changed_in_turn();
+    let mut buffer = Vec::new(alloc);
+    for parts in texts {
+        let text = values.expanded_in(parts, &mut buffer)?;
+        actions.remove_text(text);
+    }
+    Ok(())
+}
+
 /// Changes the internal flags.
 fn change_internal(
     delivery: &Delivery<'_>,
@@ -114,8 +153,19 @@ fn change_internal(
 ) -> Result<Flow, AllocError>
     ensures { IfOk result (λ flow. ending_by flow (state_of state.new) ≡ changes (delivery_as delivery.now) line change None (strings_of texts.now) (state_of state.old)) }
 {
-    let named = flags_named(delivery, &*state, texts)?;
-    state.actions.change_flags(delivery.alloc, change, named)?;
+    match change {
+        FlagChange::Set => {
+            let named = flags_named(delivery, &*state, texts)?;
+            state.actions.set_flags(named);
+        }
+        FlagChange::Add => add_named(delivery.alloc, &state.values, texts, &mut state.actions)?,
+        FlagChange::Remove => remove_named(
+            delivery.alloc,
+            &state.values,
+            texts,
+            &mut state.actions,
+        )?,
+    }
     Ok(Flow::GoesOn)
 }
 

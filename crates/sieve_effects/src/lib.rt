@@ -34,7 +34,7 @@ pub use field_reads::FieldReads;
 pub use flagging::change;
 pub use flow::{Flow, fail};
 pub use ops::{
-    CommandOp, FileintoOp, FlagsOp, IncludeOp, RedirectOp, Said, SetOp, SettingsOp, SourceOp,
-    TestOp,
+    CommandOp, FileintoOp, FlagsOp, IncludeOp, KeepOp, RedirectOp, Said, SetOp, SettingsOp,
+    SourceOp, TestOp,
 };
 pub use state::State;

@@ -2,7 +2,7 @@
 //! large, lies behind a pointer, so that each operation takes little room.
 ghost use Rattle.std.specs.Prelude.{◌≡◌};
 ghost use Rattle.std.specs.Option.{option_map};
-ghost use Rattle.sieve_effects.specs.view.Ops.{settings_op_as};
+ghost use Rattle.sieve_effects.specs.view.Ops.{line_of, settings_op_as};
 ghost use Rattle.sieve_variables.specs.view.Part.{strings_of};
 
 use crate::field_names::FieldNames;
@@ -118,9 +118,20 @@ impl SettingsOp {
     }
 }
 
+/// A command that stores into the mailbox of the delivery (RFC 5228, section 4.3), where it says something beside.
+#[derive(Drop)]
+pub struct KeepOp {
+    /// The command's line.
+    pub line: u64,
+    /// What the command says beside.
+    pub settings: SettingsOp,
+}
+
 /// A command that stores into a mailbox (RFC 5228, section 4.1).
 #[derive(Drop)]
 pub struct FileintoOp {
+    /// The command's line.
+    pub line: u64,
     /// The mailbox's name.
     pub mailbox: Parts,
     /// What the command says beside.
@@ -130,6 +141,8 @@ pub struct FileintoOp {
 /// A command that sends the message on (RFC 5228, section 4.2).
 #[derive(Drop)]
 pub struct RedirectOp {
+    /// The command's line.
+    pub line: u64,
     /// The address.
     pub address: Parts,
     /// What the command says beside.
@@ -139,6 +152,8 @@ pub struct RedirectOp {
 /// A command that gives a variable a value (RFC 5229, section 4).
 #[derive(Drop)]
 pub struct SetOp {
+    /// The command's line.
+    pub line: u64,
     /// The variable.
     pub variable: Variable,
     /// What is done to the value.
@@ -150,6 +165,8 @@ pub struct SetOp {
 /// A command that changes flags (RFC 5232, section 3).
 #[derive(Drop)]
 pub struct FlagsOp {
+    /// The command's line.
+    pub line: u64,
     /// How the command changes them.
     pub change: FlagChange,
     /// The variable that holds them; the internal flags where none is named.
@@ -161,6 +178,8 @@ pub struct FlagsOp {
 /// A command that runs another script (RFC 6609, section 3.2).
 #[derive(Drop)]
 pub struct IncludeOp {
+    /// The command's line.
+    pub line: u64,
     /// Where the script is kept.
     pub place: Place,
     /// Whether the script runs only where it hasn't run yet.
@@ -171,21 +190,47 @@ pub struct IncludeOp {
     pub name: SmallOctets,
 }
 
-/// What a command does that acts.
+/// What a command does that acts, with its line. It takes two words, so that an operation takes three.
 #[derive(Drop)]
 pub enum CommandOp {
-    /// A command that stores into the mailbox of the delivery (RFC 5228, section 4.3), and what it says beside.
-    Keep(SettingsOp),
+    /// A command that stores into the mailbox of the delivery (RFC 5228, section 4.3), and says nothing beside.
+    Keep {
+        /// The command's line.
+        line: u64,
+    },
+    /// A command that stores into the mailbox of the delivery, and what it says beside.
+    KeepWith(Box<KeepOp>),
     /// A command that stores into a mailbox.
     Fileinto(Box<FileintoOp>),
     /// A command that sends the message on.
     Redirect(Box<RedirectOp>),
     /// A command that discards the message (RFC 5228, section 4.4).
-    Discard,
+    Discard {
+        /// The command's line.
+        line: u64,
+    },
     /// A command that gives a variable a value.
     Set(Box<SetOp>),
     /// A command that changes flags.
     Flags(Box<FlagsOp>),
     /// A command that runs another script.
     Include(Box<IncludeOp>),
+}
+
+impl CommandOp {
+    /// The command's line. Takes no memory.
+    pub fn line(&self) -> u64
+        ensures { result ≡ line_of self.now }
+    {
+        match self {
+            CommandOp::Keep { line } => *line,
+            CommandOp::KeepWith(op) => op.line,
+            CommandOp::Fileinto(op) => op.line,
+            CommandOp::Redirect(op) => op.line,
+            CommandOp::Discard { line } => *line,
+            CommandOp::Set(op) => op.line,
+            CommandOp::Flags(op) => op.line,
+            CommandOp::Include(op) => op.line,
+        }
+    }
 }

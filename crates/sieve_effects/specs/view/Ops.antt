@@ -1,10 +1,10 @@
 -- What compiled code keeps of tests and commands.
-use Rattle.std.specs.Prelude.{List, Option, None, Some, false, map}
+use Rattle.std.specs.Prelude.{ℕ, List, Option, None, Some, false, map}
 use Rattle.std.specs.Option.{option_map}
 use Rattle.std.specs.declared.alloc.Global.{Global}
 use Rattle.std.specs.declared.boxed.Box.{Box}
 use Rattle.smallvec.specs.SmallVec.{SmallVec}
-use Rattle.sieve_reading.specs.Reading.{Ask, compares, exists_ask, over_ask, under_ask, Settings, Leaf, keep_leaf, fileinto_leaf, redirect_leaf, discard_leaf, set_leaf, flag_leaf, include_leaf}
+use Rattle.sieve_reading.specs.Reading.{Ask, compares, exists_ask, over_ask, under_ask, Settings, plain_settings, Leaf, keep_leaf, fileinto_leaf, redirect_leaf, discard_leaf, set_leaf, flag_leaf, include_leaf}
 use Rattle.sieve_reading.specs.Reading as reading
 use Rattle.sieve_variables.specs.Part as part
 use Rattle.sieve_variables.specs.view.Part.{part_of, strings_of, variable_of}
@@ -47,10 +47,22 @@ abbrev pub settings_op_as : SettingsOp → Settings
 settings_op_as s = said_as s.said
 
 abbrev pub command_op_as : CommandOp → Leaf
-command_op_as (command.Keep settings) = keep_leaf (settings_op_as settings)
+command_op_as (command.Keep line) = keep_leaf plain_settings
+command_op_as (command.KeepWith op) = keep_leaf (settings_op_as op.value.settings)
 command_op_as (command.Fileinto op) = fileinto_leaf (held_parts op.value.mailbox) (settings_op_as op.value.settings)
 command_op_as (command.Redirect op) = redirect_leaf (held_parts op.value.address) (settings_op_as op.value.settings)
-command_op_as command.Discard = discard_leaf
+command_op_as (command.Discard line) = discard_leaf
 command_op_as (command.Set op) = set_leaf (variable_of op.value.variable) op.value.modifiers (held_parts op.value.value)
 command_op_as (command.Flags op) = flag_leaf op.value.change (option_map variable_of op.value.variable) (strings_of op.value.flags.items)
 command_op_as (command.Include op) = include_leaf op.value.place op.value.once op.value.optional op.value.name.items
+
+-- the line of a command
+abbrev pub line_of : CommandOp → ℕ
+line_of (command.Keep line) = line
+line_of (command.KeepWith op) = op.value.line
+line_of (command.Fileinto op) = op.value.line
+line_of (command.Redirect op) = op.value.line
+line_of (command.Discard line) = line
+line_of (command.Set op) = op.value.line
+line_of (command.Flags op) = op.value.line
+line_of (command.Include op) = op.value.line

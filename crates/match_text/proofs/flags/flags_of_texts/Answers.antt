@@ -12,7 +12,7 @@ loop-text-preserved c =
     union_more (λ (l : List (CowSlice ℕ Global)). flat_map flags_in (octets_of_each l))
     (λ x. flags_in (cow_slice_items x)) (λ x rest. refl)
     c.args.texts.now c.loop-text.text-index c.text-item.result c.loop-text.flags.keys c.insert_text.new.flags.keys _
-    c.loop-text-test.true (rw (← c.text-item.is, ← c.as_slice.ensures.value) c.in_ok-insert_text.ensures) c.loop-text.invariant
+    c.loop-text-test.true (rw (← c.text-item.is, ← c.as_slice.ensures.value) c.in_ok-insert_text.ensures.ok) c.loop-text.invariant
 
 pub returns : goal.returns
 returns c =

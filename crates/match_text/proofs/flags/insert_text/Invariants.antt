@@ -1,10 +1,11 @@
-use Rattle.std.proofs.Common.{◌≡◌, drop, filter}
-use Rattle.match_text.specs.Flags.{flag_union, flags_in, is_flag}
-use Rattle.match_text.specs.view.Segment.{texts_of}
+use Rattle.std.proofs.Common.{length}
+use Rattle.match_text.specs.Flags.{flags_in}
+use Rattle.match_text.proofs.Pieces.{AddedSoFar}
 use Rattle.match_text.proofs.flags.insert_text.Given as goal
 
--- the flags so far, with those of the pieces that are left
-abbrev pub invariant-loop-piece : goal.invariant-loop-piece
-invariant-loop-piece l =
-    flag_union l.flags.keys (filter is_flag (texts_of (drop l.piece-index l.piece-items)))
-    ≡ flag_union l.initial.flags.keys (flags_in l.text)
+-- the flags in front of what is left have been added
+abbrev pub invariant-loop-flag : goal.invariant-loop-flag
+invariant-loop-flag l = AddedSoFar (flags_in l.text) (flags_in l.rest) l.initial.flags.keys l.flags.keys
+
+abbrev pub decreases-loop-flag : goal.decreases-loop-flag
+decreases-loop-flag l = length l.rest

@@ -1,0 +1,10 @@
+use Rattle.std.proofs.Common.{◌≡◌, ◌≤◌, length}
+use Rattle.match_text.specs.Flags.{flags_in}
+use Rattle.match_text.proofs.flag_spelling.next_flag.Given as goal
+
+-- the flags of the text are those of what is left
+abbrev pub invariant-pieces : goal.invariant-pieces
+invariant-pieces l = (flags_in l.text ≡ flags_in l.rest) × (length l.rest ≤ length l.text)
+
+abbrev pub decreases-pieces : goal.decreases-pieces
+decreases-pieces l = length l.rest
