@@ -16,7 +16,7 @@ place_seen count (Test test) = refl
 place_seen count (Jump left) = refl
 place_seen count (JumpIfFalse left) = refl
 place_seen count (JumpIfTrue left) = refl
-place_seen count (Command command line) = refl
+place_seen count (Command command) = refl
 place_seen count Stop = refl
 place_seen count Return = refl
 

@@ -116,11 +116,8 @@ fn put_command(
             })
         }
         Some(CommandReading::Act(leaf)) => {
-            let op = Op::Command {
-                command: command_op(alloc, leaf)?,
-                line: command.line,
-            };
-            put_alone(op, front, tail)
+            let op = command_op(alloc, leaf, command.line)?;
+            put_alone(Op::Command(op), front, tail)
         }
         Some(CommandReading::Stop) => put_alone(Op::Stop, front, tail),
         Some(CommandReading::Return) => put_alone(Op::Return, front, tail),

@@ -3,7 +3,7 @@ ghost use Rattle.std.specs.Prelude.{◌++◌, codes, decimal};
 ghost use Rattle.sieve_base.specs.Writers.{Writes};
 ghost use Rattle.sieve_code.specs.Dump.{at_line, leaf_text, line_text, operation_text};
 ghost use Rattle.sieve_code.specs.view.Op.{op_as};
-ghost use Rattle.sieve_effects.specs.view.Ops.{command_op_as};
+ghost use Rattle.sieve_effects.specs.view.Ops.{command_op_as, line_of};
 
 use crate::dump_commands::write_command;
 use crate::dump_tests::{write_number, write_test};
@@ -13,11 +13,11 @@ use sieve_effects::CommandOp;
 
 /// Writes what a command does, and its line.
 #[tactic(auto, using(sieve_base::proofs::Writing::writing))]
-fn write_act<W: Sink>(command: &CommandOp, line: u64, writer: &mut W) -> Result<(), WriteFault>
-    ensures { Writes W.contents W.fault_count result writer.old writer.new (leaf_text (command_op_as command.now) ++ at_line line) }
+fn write_act<W: Sink>(command: &CommandOp, writer: &mut W) -> Result<(), WriteFault>
+    ensures { Writes W.contents W.fault_count result writer.old writer.new (leaf_text (command_op_as command.now) ++ at_line (line_of command.now)) }
 {
     write_command(command, writer)?;
-    write_number(b" @", line, writer)
+    write_number(b" @", command.line(), writer)
 }
 
 /// Writes an operation.
@@ -33,7 +33,7 @@ fn write_op<W: Sink>(op: &Op, writer: &mut W) -> Result<(), WriteFault>
         Op::Jump(target) => write_number(b"jump ", *target as u64, writer),
         Op::JumpIfFalse(target) => write_number(b"jump-if-false ", *target as u64, writer),
         Op::JumpIfTrue(target) => write_number(b"jump-if-true ", *target as u64, writer),
-        Op::Command { command, line } => write_act(command, *line, writer),
+        Op::Command(command) => write_act(command, writer),
         Op::Stop => write_out(b"stop", writer),
         Op::Return => write_out(b"return", writer),
     }

@@ -259,10 +259,13 @@ pub(crate) fn write_command<W: Sink>(command: &CommandOp, writer: &mut W) -> Res
     ensures { Writes W.contents W.fault_count result writer.old writer.new (spec.leaf_text (command_op_as command.now)) }
 {
     match command {
-        CommandOp::Keep(settings) => write_worded_settings(b"keep", settings, writer),
+        CommandOp::Keep { .. } => {
+            write_worded_settings(b"keep", &SettingsOp { said: None }, writer)
+        }
+        CommandOp::KeepWith(op) => write_worded_settings(b"keep", &op.settings, writer),
         CommandOp::Fileinto(op) => write_fileinto(&op.mailbox, &op.settings, writer),
         CommandOp::Redirect(op) => write_redirect(&op.address, &op.settings, writer),
-        CommandOp::Discard => write_out(b"discard", writer),
+        CommandOp::Discard { .. } => write_out(b"discard", writer),
         CommandOp::Set(op) => write_set(&op.variable, op.modifiers, &op.value, writer),
         CommandOp::Flags(op) => write_flags(op.change, &op.variable, &op.flags, writer),
         CommandOp::Include(op) => write_include(op.place, op.once, op.optional, &op.name, writer),

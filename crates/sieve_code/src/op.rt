@@ -1,6 +1,7 @@
 //! The operations of code.
 
 use sieve_effects::{CommandOp, TestOp};
+use std::mem::size_of;
 
 /// An operation. Code has one truth register, which tests set.
 #[derive(Drop)]
@@ -20,14 +21,12 @@ pub enum Op {
     /// Goes on there where the register is true, and else behind this operation.
     JumpIfTrue(usize),
     /// Does what a command does that acts (RFC 5228, section 4).
-    Command {
-        /// What the command does.
-        command: CommandOp,
-        /// The command's line.
-        line: u64,
-    },
+    Command(CommandOp),
     /// Ends the run (RFC 5228, section 3.3).
     Stop,
     /// Ends its script (RFC 6609, section 3.3).
     Return,
 }
+
+/// An operation takes three words, since a script of a few octets has one for each five of them.
+const _: () = prove!(size_of::<Op>() == 24);

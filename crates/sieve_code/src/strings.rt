@@ -1,15 +1,15 @@
 //! What code keeps of tests and commands: copies of what is read, with strings of their own.
 ghost use Rattle.std.specs.Prelude.{◌≡◌, map, IfOk};
 ghost use Rattle.std.specs.Option.{option_map};
-ghost use Rattle.sieve_reading.specs.Reading.{fileinto_leaf, flag_leaf, include_leaf, redirect_leaf, set_leaf};
+ghost use Rattle.sieve_reading.specs.Reading.{fileinto_leaf, flag_leaf, include_leaf, keep_leaf, redirect_leaf, set_leaf};
 ghost use Rattle.sieve_reading.specs.view.Reading.{ask_as, leaf_as, settings_as, source_as, texts_as};
-ghost use Rattle.sieve_effects.specs.view.Ops.{command_op_as, given_strings, held_parts, settings_op_as, source_op_as, test_op_as};
+ghost use Rattle.sieve_effects.specs.view.Ops.{command_op_as, given_strings, held_parts, line_of, settings_op_as, source_op_as, test_op_as};
 ghost use Rattle.sieve_variables.specs.view.Part.{part_of, strings_of, variable_of};
 
 use sieve_base::{Place, SmallOctets};
 use sieve_effects::{
-    CommandOp, FieldNames, FileintoOp, FlagsOp, IncludeOp, RedirectOp, Said, SetOp, SettingsOp,
-    SourceOp, TestOp,
+    CommandOp, FieldNames, FileintoOp, FlagsOp, IncludeOp, KeepOp, RedirectOp, Said, SetOp,
+    SettingsOp, SourceOp, TestOp,
 };
 use sieve_reading::{Ask, FlagChange, Leaf, Settings, Text, ValueSource};
 use sieve_variables::{Modifiers, Part, Parts, Strings, Variable};
@@ -142,17 +142,37 @@ fn settings_op(alloc: Global, settings: Settings<'_>) -> Result<SettingsOp, Allo
     }
 }
 
+/// A `keep` with strings of its own.
+fn keep_op(alloc: Global, settings: Settings<'_>, line: u64) -> Result<CommandOp, AllocError>
+    ensures leaf { IfOk result (λ op. command_op_as op ≡ keep_leaf (settings_as settings.entry)) }
+    ensures line { IfOk result (λ op. line_of op ≡ line) }
+{
+    match settings_op(alloc, settings)? {
+        SettingsOp { said: None } => Ok(CommandOp::Keep { line }),
+        settings => Ok(CommandOp::KeepWith(Box::new(alloc, KeepOp { line, settings })?)),
+    }
+}
+
 /// A `fileinto` with strings of its own.
 fn fileinto_op(
     alloc: Global,
     mailbox: &[Part],
     settings: Settings<'_>,
+    line: u64,
 ) -> Result<CommandOp, AllocError>
-    ensures { IfOk result (λ op. command_op_as op ≡ fileinto_leaf (map part_of mailbox.now) (settings_as settings.entry)) }
+    ensures leaf { IfOk result (λ op. command_op_as op ≡ fileinto_leaf (map part_of mailbox.now) (settings_as settings.entry)) }
+    ensures line { IfOk result (λ op. line_of op ≡ line) }
 {
     let mailbox = copied_parts(alloc, mailbox)?;
     let settings = settings_op(alloc, settings)?;
-    Ok(CommandOp::Fileinto(Box::new(alloc, FileintoOp { mailbox, settings })?))
+    Ok(CommandOp::Fileinto(Box::new(
+        alloc,
+        FileintoOp {
+            line,
+            mailbox,
+            settings,
+        },
+    )?))
 }
 
 /// A `redirect` with strings of its own.
@@ -160,12 +180,21 @@ fn redirect_op(
     alloc: Global,
     address: &[Part],
     settings: Settings<'_>,
+    line: u64,
 ) -> Result<CommandOp, AllocError>
-    ensures { IfOk result (λ op. command_op_as op ≡ redirect_leaf (map part_of address.now) (settings_as settings.entry)) }
+    ensures leaf { IfOk result (λ op. command_op_as op ≡ redirect_leaf (map part_of address.now) (settings_as settings.entry)) }
+    ensures line { IfOk result (λ op. line_of op ≡ line) }
 {
     let address = copied_parts(alloc, address)?;
     let settings = settings_op(alloc, settings)?;
-    Ok(CommandOp::Redirect(Box::new(alloc, RedirectOp { address, settings })?))
+    Ok(CommandOp::Redirect(Box::new(
+        alloc,
+        RedirectOp {
+            line,
+            address,
+            settings,
+        },
+    )?))
 }
 
 /// A `set` with strings of its own.
@@ -174,12 +203,15 @@ fn set_op(
     variable: &Variable,
     modifiers: Modifiers,
     value: &[Part],
+    line: u64,
 ) -> Result<CommandOp, AllocError>
-    ensures { IfOk result (λ op. command_op_as op ≡ set_leaf (variable_of variable.now) modifiers (map part_of value.now)) }
+    ensures leaf { IfOk result (λ op. command_op_as op ≡ set_leaf (variable_of variable.now) modifiers (map part_of value.now)) }
+    ensures line { IfOk result (λ op. line_of op ≡ line) }
 {
     let variable = variable.copied(alloc)?;
     let value = copied_parts(alloc, value)?;
     let op = SetOp {
+        line,
         variable,
         modifiers,
         value,
@@ -193,12 +225,15 @@ fn flags_op(
     change: FlagChange,
     variable: Option<&Variable>,
     flags: &[Text],
+    line: u64,
 ) -> Result<CommandOp, AllocError>
-    ensures { IfOk result (λ op. command_op_as op ≡ flag_leaf change (option_map (λ one. variable_of one.now) variable.entry) (texts_as flags.now)) }
+    ensures leaf { IfOk result (λ op. command_op_as op ≡ flag_leaf change (option_map (λ one. variable_of one.now) variable.entry) (texts_as flags.now)) }
+    ensures line { IfOk result (λ op. line_of op ≡ line) }
 {
     let variable = given_variable(alloc, variable)?;
     let flags = copied_strings(alloc, flags)?;
     let op = FlagsOp {
+        line,
         change,
         variable,
         flags,
@@ -213,11 +248,14 @@ fn include_op(
     once: bool,
     optional: bool,
     name: &[u8],
+    line: u64,
 ) -> Result<CommandOp, AllocError>
-    ensures { IfOk result (λ op. command_op_as op ≡ include_leaf place once optional name.now) }
+    ensures leaf { IfOk result (λ op. command_op_as op ≡ include_leaf place once optional name.now) }
+    ensures line { IfOk result (λ op. line_of op ≡ line) }
 {
     let name = SmallOctets::from_slice(alloc, name)?;
     let op = IncludeOp {
+        line,
         place,
         once,
         optional,
@@ -226,30 +264,31 @@ fn include_op(
     Ok(CommandOp::Include(Box::new(alloc, op)?))
 }
 
-/// What a command does, with strings of its own.
-pub(crate) fn command_op(alloc: Global, leaf: Leaf<'_>) -> Result<CommandOp, AllocError>
-    ensures { IfOk result (λ op. command_op_as op ≡ leaf_as leaf.entry) }
+/// What a command of a line does, with strings of its own.
+pub(crate) fn command_op(alloc: Global, leaf: Leaf<'_>, line: u64) -> Result<CommandOp, AllocError>
+    ensures leaf { IfOk result (λ op. command_op_as op ≡ leaf_as leaf.entry) }
+    ensures line { IfOk result (λ op. line_of op ≡ line) }
 {
     match leaf {
-        Leaf::Keep { settings } => Ok(CommandOp::Keep(settings_op(alloc, settings)?)),
-        Leaf::Fileinto { mailbox, settings } => fileinto_op(alloc, mailbox, settings),
-        Leaf::Redirect { address, settings } => redirect_op(alloc, address, settings),
-        Leaf::Discard => Ok(CommandOp::Discard),
+        Leaf::Keep { settings } => keep_op(alloc, settings, line),
+        Leaf::Fileinto { mailbox, settings } => fileinto_op(alloc, mailbox, settings, line),
+        Leaf::Redirect { address, settings } => redirect_op(alloc, address, settings, line),
+        Leaf::Discard => Ok(CommandOp::Discard { line }),
         Leaf::Set {
             variable,
             modifiers,
             value,
-        } => set_op(alloc, variable, modifiers, value),
+        } => set_op(alloc, variable, modifiers, value, line),
         Leaf::Flags {
             change,
             variable,
             flags,
-        } => flags_op(alloc, change, variable, flags),
+        } => flags_op(alloc, change, variable, flags, line),
         Leaf::Include {
             place,
             once,
             optional,
             name,
-        } => include_op(alloc, place, once, optional, name),
+        } => include_op(alloc, place, once, optional, name, line),
     }
 }

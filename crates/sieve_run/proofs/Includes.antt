@@ -1,5 +1,5 @@
 -- What an include does, by what it looks at.
-use Rattle.std.proofs.Common.{◌≡◌, ℕ, zero, suc, Bool, true, false, ◌&&◌, Option, None, Some, List, [], ◌∷◌, ◌++◌, ◌-◌, nat_lt, length, refl, sym, ap, ◌∙◌, arith}
+use Rattle.std.proofs.Common.{◌≡◌, ℕ, zero, suc, Bool, true, false, ◌&&◌, Option, None, Some, List, ◌-◌, nat_lt, length, refl, sym, ap, ◌∙◌, arith}
 use Rattle.std.specs.Prelude.{if◌then◌else◌}
 use Rattle.sieve_base.specs.Limits.{include_limit}
 use Rattle.sieve_reading.specs.Script.{script_of}
@@ -18,7 +18,7 @@ use Rattle.sieve_effects.specs.declared.error.ErrorKind.TheVariants.{IncludeCoun
 use Rattle.sieve_effects.specs.view.Flow.{ending_by}
 use Rattle.sieve_run.specs.view.Include.{enters, looks_up, resumed_by}
 use Rattle.sieve_run.specs.view.Step.{doing}
-use Rattle.sieve_variables.specs.Value.{Values, begun_values}
+use Rattle.sieve_variables.specs.Value.{Values}
 use Rattle.sieve_run.proofs.Performing.{by_found_code}
 
 abbrev Enter : Type 0

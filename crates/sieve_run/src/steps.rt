@@ -23,8 +23,8 @@ use sieve_base::limits::MAX_INCLUDES;
 use sieve_base::{Octets, ScriptName};
 use sieve_code::{Code, Op};
 use sieve_effects::{
-    CommandOp, Delivery, ErrorKind, FieldReads, Flow, State, change, discard, fail, file_into,
-    holds, keep, redirect, set,
+    CommandOp, Delivery, ErrorKind, FieldReads, Flow, SettingsOp, State, change, discard, fail,
+    file_into, holds, keep, redirect, set,
 };
 use std::alloc::AllocError;
 
@@ -112,8 +112,9 @@ fn carry_out<L: Library>(
         Op::Jump(target) => Ok(proceed(register, *target)),
         Op::JumpIfFalse(target) => Ok(proceed(register, chosen(register, behind, *target))),
         Op::JumpIfTrue(target) => Ok(proceed(register, chosen(register, *target, behind))),
-        Op::Command { command, line } => {
-            let flow = act(lib, depth, delivery, command, *line, fields, state);
+        Op::Command(command) => {
+            let line = command.line();
+            let flow = act(lib, depth, delivery, command, line, fields, state);
             acted(flow, behind, register)
         }
         Op::Stop => Ok(Step::Ended(Flow::Stopped)),
@@ -137,10 +138,11 @@ fn act<L: Library>(
     ensures ending { IfOk result (λ flow. ending_by flow (state_of state.new) ≡ act_of (library_of (L.texts lib.now)) depth (delivery_as delivery.now) (command_op_as command.now) line (state_of state.old)) }
 {
     match command {
-        CommandOp::Keep(settings) => keep(delivery, settings, line, state),
+        CommandOp::Keep { .. } => keep(delivery, &SettingsOp { said: None }, line, state),
+        CommandOp::KeepWith(op) => keep(delivery, &op.settings, line, state),
         CommandOp::Fileinto(op) => file_into(delivery, &op.mailbox, &op.settings, line, state),
         CommandOp::Redirect(op) => redirect(delivery, &op.address, &op.settings, line, state),
-        CommandOp::Discard => discard(delivery, line, state),
+        CommandOp::Discard { .. } => discard(delivery, line, state),
         CommandOp::Set(op) => set(delivery, &op.variable, op.modifiers, &op.value, line, state),
         CommandOp::Flags(op) => change(delivery, op.change, &op.variable, &op.flags, line, state),
         CommandOp::Include(op) => {

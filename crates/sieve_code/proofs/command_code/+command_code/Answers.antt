@@ -2,15 +2,13 @@ use Rattle.std.proofs.Common.{◌≡◌, ◌+◌, ◌-◌, ◌<◌, true, false,
 use Rattle.sieve_reading.specs.Reading as reading
 use Rattle.sieve_reading.specs.view.Reading.{command_reading_as, leaf_as}
 use Rattle.sieve_reading.specs.view.Tree.{node_of}
-use Rattle.sieve_syntax.specs.declared.tree.Command.TheViews as command_views
+use Rattle.sieve_effects.specs.view.Ops.{line_of}
 use Rattle.sieve_code.specs.Choice.{no_branch}
 use Rattle.sieve_code.specs.Operation.{act_op, jump_if_op}
 use Rattle.sieve_code.specs.view.Branches.{block_at, branch_at, branches_as, first_at, last}
 use Rattle.sieve_code.proofs.Tails.{ends_below}
 use Rattle.sieve_code.proofs.Putting.{alone, block_at_ends, block_none, block_some, branch_at_ends, branches_on, command_listed, command_put, commands_none, first_seen, fronts_along, last_branch, length_last, line_seen, made, on_ok_along, with_front}
 use Rattle.sieve_code.proofs.command_code.+command_code.Goals as goal
-use Rattle.smallvec.specs.SmallVec.{SmallVec}
-use Rattle.sieve_variables.specs.declared.part.Part as parts
 
 pub put_block-returns-in-Some : goal.put_block-returns-in-Some
 put_block-returns-in-Some t c =
@@ -70,14 +68,14 @@ put_command-returns-in_ok-put_block-in-Some-Else-clause-value t c =
     ∙ command_put n (Some reading.reads_else) (branches_as c.args.front c.args.tail.now)
     (ap (λ r. Some (command_reading_as r)) (sym c.in-Some-Else.field-0-is) ∙ c.in-Some-Else.ensures)
 
-pub put_command-returns-in_ok-command_op-in-Some-Act-clause-value :
-    goal.put_command-returns-in_ok-command_op-in-Some-Act-clause-value
-put_command-returns-in_ok-command_op-in-Some-Act-clause-value t c =
+pub put_command-returns-in_ok-op-in-Some-Act-clause-value :
+    goal.put_command-returns-in_ok-op-in-Some-Act-clause-value
+put_command-returns-in_ok-op-in-Some-Act-clause-value t c =
     let b = branches_as c.args.front c.args.tail.now in
     let leaf = leaf_as c.in-Some-Act.leaf in
     fronts_along _ _ _ _
-    (ap (λ kept. no_branch (act_op kept (command_views.out-Command (SmallVec parts.Part) c.args.command.now).line ∷ b.behind_branches)) c.in_ok-command_op-in-Some-Act.ensures
-    ∙ ap (λ line. no_branch (act_op leaf line ∷ b.behind_branches)) (sym (line_seen c.args.command.now))
+    (ap (λ kept. no_branch (act_op kept (line_of c.in_ok-op-in-Some-Act.op) ∷ b.behind_branches)) c.in_ok-op-in-Some-Act.ensures.leaf
+    ∙ ap (λ line. no_branch (act_op leaf line ∷ b.behind_branches)) (c.in_ok-op-in-Some-Act.ensures.line ∙ sym (line_seen c.args.command.now))
     ∙ command_put (node_of c.args.command.now) (Some (reading.reads_act leaf)) b
     (ap (λ r. Some (command_reading_as r)) (sym c.in-Some-Act.field-0-is) ∙ c.in-Some-Act.ensures))
     c.put_alone.ensures.value

@@ -1,7 +1,7 @@
 use Rattle.std.proofs.Common.{◌≡◌, ◌&&◌, ◌∙◌, ◌<◌, ◌≤◌, ◌+◌, ◌-◌, true, false, IfOk, List, length, map, nat_lt, sym, ap, subst, arith, Bor}
 use Rattle.std.proofs.lemmas.Bool.Decides.{nat_tests}
 use Rattle.std.proofs.lemmas.Result.{IfOk-weaker}
-use Rattle.sieve_code.specs.Operation.{test_op}
+use Rattle.sieve_code.specs.Operation.{act_op, test_op}
 use Rattle.sieve_code.specs.Walk.{code_walk, walk_from}
 use Rattle.sieve_code.specs.view.Code.{ops_of}
 use Rattle.sieve_code.specs.view.Op.{op_as}
@@ -9,7 +9,7 @@ use Rattle.sieve_effects.specs.view.Ops.{command_op_as, settings_op_as, test_op_
 use Rattle.sieve_variables.specs.view.Part.{part_of, strings_of, variable_of}
 use Rattle.std.specs.Option.{option_map}
 use Rattle.sieve_base.specs.Limits.{include_limit}
-use Rattle.sieve_reading.specs.Reading.{discard_leaf, fileinto_leaf, flag_leaf, include_leaf, keep_leaf, redirect_leaf, set_leaf}
+use Rattle.sieve_reading.specs.Reading.{discard_leaf, fileinto_leaf, flag_leaf, include_leaf, keep_leaf, plain_settings, redirect_leaf, set_leaf}
 use Rattle.sieve_run.specs.Library.{Lookup, found_at, library_of}
 use Rattle.sieve_run.specs.Run.{act_of, included, is_script}
 use Rattle.sieve_effects.specs.declared.flow.Flow.{Flow}
@@ -41,22 +41,30 @@ carry_out-returns-in-Command-clause-step g t c =
     let find : ScriptName → Lookup = library_of (g.L.Library.texts c.args.lib.now) in
     let d = delivery_as c.args.delivery.now in
     let i = c.in-Command in
-    acts_follow (act_of find c.args.depth d) d (command_op_as i.command) i.line _ _ _ _ _ _ _ (ap op_as i.is) c.act-flow.ensures.ending c.acted.ensures
+    acts_follow (act_of find c.args.depth d) d (command_op_as i.command) c.line-line.result _ _ _ _ _ _ _ (ap op_as i.is ∙ ap (act_op (command_op_as i.command)) (sym c.line-line.ensures)) c.act-flow.ensures.ending c.acted.ensures
 
 pub act-returns-in-Keep-clause-ending : goal.act-returns-in-Keep-clause-ending
 act-returns-in-Keep-clause-ending g t c =
     let find : ScriptName → Lookup = library_of (g.L.Library.texts c.args.lib.now) in
     let d = delivery_as c.args.delivery.now in
-    does_so c.keep.result (state_of c.keep.new.state) (act_of find c.args.depth d) (keep_leaf (settings_op_as c.in-Keep.settings)) _ c.args.line (state_of c.args.state.now)
+    does_so c.keep.result (state_of c.keep.new.state) (act_of find c.args.depth d) (keep_leaf plain_settings) _ c.args.line (state_of c.args.state.now)
     (ap command_op_as (sym c.in-Keep.is))
     c.keep.ensures
+
+pub act-returns-in-KeepWith-clause-ending : goal.act-returns-in-KeepWith-clause-ending
+act-returns-in-KeepWith-clause-ending g t c =
+    let find : ScriptName → Lookup = library_of (g.L.Library.texts c.args.lib.now) in
+    let d = delivery_as c.args.delivery.now in
+    does_so c.keep-in-KeepWith.result (state_of c.keep-in-KeepWith.new.state) (act_of find c.args.depth d) (keep_leaf (settings_op_as c.deref.result.now.settings)) (command_op_as c.args.command.now) c.args.line (state_of c.args.state.now)
+    (rw c.deref.ensures (ap command_op_as (sym c.in-KeepWith.is)))
+    c.keep-in-KeepWith.ensures
 
 pub act-returns-in-Fileinto-clause-ending : goal.act-returns-in-Fileinto-clause-ending
 act-returns-in-Fileinto-clause-ending g t c =
     let find : ScriptName → Lookup = library_of (g.L.Library.texts c.args.lib.now) in
     let d = delivery_as c.args.delivery.now in
-    does_so c.file_into.result (state_of c.file_into.new.state) (act_of find c.args.depth d) (fileinto_leaf (map part_of c.deref-in-Fileinto.result.now) (settings_op_as c.deref-in-Fileinto-2.result.now.settings)) (command_op_as c.args.command.now) c.args.line (state_of c.args.state.now)
-    (rw (c.deref-in-Fileinto.ensures, c.deref-in-Fileinto-2.ensures, c.deref.ensures) (ap command_op_as (sym c.in-Fileinto.is)))
+    does_so c.file_into.result (state_of c.file_into.new.state) (act_of find c.args.depth d) (fileinto_leaf (map part_of c.deref-in-Fileinto-2.result.now) (settings_op_as c.deref-in-Fileinto-3.result.now.settings)) (command_op_as c.args.command.now) c.args.line (state_of c.args.state.now)
+    (rw (c.deref-in-Fileinto-2.ensures, c.deref-in-Fileinto-3.ensures, c.deref-in-Fileinto.ensures) (ap command_op_as (sym c.in-Fileinto.is)))
     c.file_into.ensures
 
 pub act-returns-in-Redirect-clause-ending : goal.act-returns-in-Redirect-clause-ending
