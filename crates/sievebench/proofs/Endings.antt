@@ -115,7 +115,8 @@ by_request : (n : ℕ) (old : Served) (stream : List ℕ) (request : Request) �
 by_request n old stream over go few less is = ends_here old stream [] ends.Done (rw is (refl, refl))
 by_request n old stream unreadable go few less is = ends_here old stream (codes "no syntax\n") ends.Syntax (rw is (refl, refl))
 by_request n old stream truncated go few less is = ends_here old stream (codes "no truncated\n") ends.Truncated (rw is (refl, refl))
-by_request n old stream (asks question rest) go few less is = goes_on old old stream (answer_to old.bench.content question) rest (rw is (inl refl, refl, refl)) (go old rest (omega (arith, few, less)))
+by_request n old stream (asks question rest) go few less is =
+    goes_on old old stream (answer_to old.bench.content question) rest (rw is (inl refl, refl, refl)) (go old rest (omega (arith, few, less)))
 by_request n old stream (edits edit rest) go few less is =
     let said = edit_replies edit (takes_memory edit) (after old.bench.content edit) old in
     goes_on old said.1 stream said.0 rest (rw is (said.2, refl)) (go said.1 rest (omega (arith, few, less)))

@@ -251,7 +251,8 @@ refused_report_replies old new None refused = tt
 refused_report_replies old new (Some xs) refused = (inr (refl, refused), refl)
 
 -- the answer to a question
-pub question_replies : (question : Question) (old : Served) (unused : Option (List ℕ)) → RepliesTo (λ rest. asks question rest) old unused (answer_to old.bench.content question) old unused
+pub question_replies : (question : Question) (old : Served) (unused : Option (List ℕ))
+    → RepliesTo (λ rest. asks question rest) old unused (answer_to old.bench.content question) old unused
 question_replies question old None = tt
 question_replies question old (Some xs) = (inl refl, refl, refl)
 
