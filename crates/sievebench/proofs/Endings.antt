@@ -8,7 +8,7 @@ use Rattle.sieve_run.specs.Meter.{runs_after}
 use Rattle.bench.specs.Content.{Content, Edit, after}
 use Rattle.bench.specs.Report.{report_text}
 use Rattle.bench.specs.Stale.{stale_after}
-use Rattle.sievebench.specs.Session.{Demand, asks_nothing, asks_put, asks_edit, asks_report, asks_dump, demand_at, BrokenSession, CutSession, Ends, IsFront, dump_of, Replies, Request, Served, SessionText, Step, Steps, none_yet, one_more, over, unreadable, truncated, idle, edits, reports, dumps, refusal_line, request_at, request_by, request_of, request_so_far, takes_memory, with_octets}
+use Rattle.sievebench.specs.Session.{Demand, asks_question, asks_put, asks_edit, asks_report, answer_to, demand_at, BrokenSession, CutSession, Ends, IsFront, Replies, Request, Served, SessionText, Step, Steps, none_yet, one_more, over, unreadable, truncated, asks, edits, reports, refusal_line, request_at, request_by, request_of, request_so_far, takes_memory, with_octets}
 use Rattle.bench.specs.declared.fault.EditFault.{EditFault}
 use Rattle.sievebench.proofs.Requests.{asked_with_more}
 use Rattle.sievebench.specs.declared.status.SessionEnd.{SessionEnd}
@@ -21,10 +21,9 @@ abbrev LeavesFewer : ℕ → Request → Type 0
 LeavesFewer n over = Unit {0}
 LeavesFewer n unreadable = Unit {0}
 LeavesFewer n truncated = Unit {0}
-LeavesFewer n (idle rest) = length rest < n
+LeavesFewer n (asks question rest) = length rest < n
 LeavesFewer n (edits edit rest) = length rest < n
 LeavesFewer n (reports rest) = length rest < n
-LeavesFewer n (dumps name rest) = length rest < n
 
 put_fewer : (n count : ℕ) (rest : List ℕ) (edit : List ℕ → Edit) → length rest < n → LeavesFewer n (with_octets count rest edit)
 put_fewer n count rest edit less = by_room (nat_lt (length rest) count)
@@ -35,11 +34,10 @@ put_fewer n count rest edit less = by_room (nat_lt (length rest) count)
 
 ask_fewer : (n : ℕ) (ask : Option Demand) (rest : List ℕ) → length rest < n → LeavesFewer n (request_by ask rest)
 ask_fewer n None rest less = tt
-ask_fewer n (Some asks_nothing) rest less = less
+ask_fewer n (Some (asks_question question)) rest less = less
 ask_fewer n (Some (asks_put count edit)) rest less = put_fewer n count rest edit less
 ask_fewer n (Some (asks_edit edit)) rest less = less
 ask_fewer n (Some asks_report) rest less = less
-ask_fewer n (Some (asks_dump name)) rest less = less
 
 -- what follows the first LF
 abbrev CutsFewer : ℕ → Option (List ℕ × List ℕ) → Type 0
@@ -117,12 +115,12 @@ by_request : (n : ℕ) (old : Served) (stream : List ℕ) (request : Request) �
 by_request n old stream over go few less is = ends_here old stream [] ends.Done (rw is (refl, refl))
 by_request n old stream unreadable go few less is = ends_here old stream (codes "no syntax\n") ends.Syntax (rw is (refl, refl))
 by_request n old stream truncated go few less is = ends_here old stream (codes "no truncated\n") ends.Truncated (rw is (refl, refl))
-by_request n old stream (idle rest) go few less is = goes_on old old stream [] rest (rw is (refl, refl, refl)) (go old rest (omega (arith, few, less)))
+by_request n old stream (asks question rest) go few less is =
+    goes_on old old stream (answer_to old.bench.content question) rest (rw is (inl refl, refl, refl)) (go old rest (omega (arith, few, less)))
 by_request n old stream (edits edit rest) go few less is =
     let said = edit_replies edit (takes_memory edit) (after old.bench.content edit) old in
     goes_on old said.1 stream said.0 rest (rw is (said.2, refl)) (go said.1 rest (omega (arith, few, less)))
 by_request n old stream (reports rest) go few less is = goes_on old (reported old) stream (report_text old.bench.content) rest (rw is (inl (refl, (refl, refl, refl)), refl)) (go (reported old) rest (omega (arith, few, less)))
-by_request n old stream (dumps name rest) go few less is = goes_on old old stream (dump_of old.bench.content name) rest (rw is (inl refl, refl, refl)) (go old rest (omega (arith, few, less)))
 
 comes_to_end : (n : ℕ) (old : Served) (stream : List ℕ) → length stream ≤ n → ComesToEnd old stream
 unfolding request_of

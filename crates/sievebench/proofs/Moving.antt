@@ -26,10 +26,9 @@ pub tasks_move : (task : Task) (ask : Option Demand) (old new : BenchState) (run
 tasks_move (tasks.Made outcome) ask old new runs is =
     let made = tried ask outcome old new is in
     edit_moves made.0 outcome old new runs made.2
-tasks_move tasks.Idle ask old new runs is = same_moves old new runs is.1
+tasks_move (tasks.Ask question) ask old new runs is = same_moves old new runs is.1
 tasks_move (tasks.Put subject count) ask old new runs is = same_moves old new runs is.1
 tasks_move tasks.Report ask old new runs is = same_moves old new runs is.1
-tasks_move (tasks.Dump name) ask old new runs is = same_moves old new runs is.1
 tasks_move (tasks.Forgotten count) ask old new runs is = same_moves old new runs is.1
 tasks_move tasks.Unreadable ask old new runs is = same_moves old new runs is.1
 

@@ -10,11 +10,11 @@ use Rattle.std.specs.Option.{option_map}
 use Rattle.sieve_base.specs.Limits.{line_limit}
 use Rattle.bench.specs.Content.{Edit}
 use Rattle.session_text.specs.view.Line.{IsCutOff, IsEnded, IsLine, IsWithin}
-use Rattle.sievebench.specs.Session.{Demand, asks_nothing, asks_put, asks_edit, asks_report, asks_dump, demand_at, Request, Served, Step, request_behind, request_of, request_at, request_by, request_so_far, with_octets, edits, truncated, unreadable}
+use Rattle.sievebench.specs.Session.{Demand, asks_question, asks_put, asks_edit, asks_report, demand_at, Request, Served, Step, request_behind, request_of, request_at, request_by, request_so_far, with_octets, edits, truncated, unreadable}
 use Rattle.session_text.specs.SessionLine.{cut_line, ended_line, first_line, in_front, is_long_so_far, line_from, line_so_far, without_cr}
 use Rattle.sievebench.specs.view.Task.{IsFollowedBy}
 use Rattle.sievebench.specs.view.Progress.{AsksAlone, BreakFrom, CutFrom, StepFrom, EndFrom, MayBeRefused, ServesFrom}
-use Rattle.sievebench.proofs.Serving.{EndsAt, dump_refused, put_refused, short}
+use Rattle.sievebench.proofs.Serving.{EndsAt, put_refused, question_refused, short}
 use Rattle.session_text.specs.declared.line.Line.TheVariants.{Over, Whole, TooLong}
 use Rattle.sievebench.specs.declared.status.SessionEnd.{SessionEnd}
 use Rattle.sievebench.specs.declared.status.SessionEnd.TheVariants as ends
@@ -22,16 +22,10 @@ use Rattle.sievebench.specs.declared.status.SessionEnd.TheVariants as ends
 -- memory may be refused to what is forgotten
 pub forgotten : (ask : Option Demand) (count : ℕ) → IsFollowedBy count ask → MayBeRefused count (request_by ask)
 forgotten None count is = absurd is
-forgotten (Some asks_nothing) count is = absurd is
+forgotten (Some (asks_question question)) count is = rw is.0 (question_refused question is.1)
 forgotten (Some (asks_put n edit)) count is = rw is.0 (put_refused count edit is.1)
 forgotten (Some (asks_edit edit)) count is = absurd is
 forgotten (Some asks_report) count is = absurd is
-forgotten (Some (asks_dump name)) count is = rw is (dump_refused name)
-
--- a line of no words
-pub idle_step : (content : Served) (unused written : Option (List ℕ)) → StepFrom (request_by (Some asks_nothing)) content unused written content unused written
-idle_step content None written = tt
-idle_step content (Some xs) written = ([], (refl, refl, refl), Appends-nil written)
 
 -- a line that asks for nothing that there is
 pub unreadable_ends : (unused : Option (List ℕ)) → EndsAt (request_by None) unused ends.Syntax (codes "no syntax\n")
@@ -67,11 +61,10 @@ put_alone count edit old new xs ys reply step = by_room (cases_lt (length xs) co
 
 step_alone : (ask : Option Demand) (old new : Served) (xs ys reply : List ℕ) → Step old (request_by ask xs) reply new ys → Alone (request_by ask) old xs reply new ys
 step_alone None old new xs ys reply step = absurd step
-step_alone (Some asks_nothing) old new xs ys reply step = ([], sym step.2, λ more. (step.0, step.1, refl))
+step_alone (Some (asks_question question)) old new xs ys reply step = ([], sym step.2, λ more. (step.0, step.1, refl))
 step_alone (Some (asks_put count edit)) old new xs ys reply step = put_alone count edit old new xs ys reply step
 step_alone (Some (asks_edit edit)) old new xs ys reply step = ([], sym step.1, λ more. (step.0, refl))
 step_alone (Some asks_report) old new xs ys reply step = ([], sym step.1, λ more. (step.0, refl))
-step_alone (Some (asks_dump name)) old new xs ys reply step = ([], sym step.2, λ more. (step.0, step.1, refl))
 
 -- THE NEXT LINE
 

@@ -9,8 +9,7 @@ use Rattle.sieve_base.specs.Writers.{Wrote, WroteFront}
 use Rattle.bench.specs.Bench.{BenchState}
 use Rattle.bench.specs.Content.{Content, Edit, after, unless, is_long, is_long_id, text_at, message_at, with_script, with_message, with_expected}
 use Rattle.session_text.specs.view.Payload.{BreaksOff, Takes, FallsShort}
-use Rattle.sievebench.specs.Session.{dump_of, Ends, MatchFault, MatchSessionEnd, Reported, ReportRefused, Request, Served, served, Step, takes_memory, with_octets, dumps, edits, reports, truncated, Replies, refusal_line}
-use Rattle.sieve_base.specs.declared.name.ScriptName.{ScriptName}
+use Rattle.sievebench.specs.Session.{answer_to, asks, Ends, MatchFault, MatchSessionEnd, question_takes_memory, Reported, ReportRefused, Request, Served, served, Step, takes_memory, with_octets, edits, reports, truncated, Replies, refusal_line}
 use Rattle.bench.specs.Report.{report_text}
 use Rattle.bench.specs.Stale.{stale_after}
 use Rattle.sievebench.specs.view.Task.{edit_of, limit_of}
@@ -20,6 +19,7 @@ use Rattle.sievebench.proofs.Moving.{edit_moves, report_moves, stays}
 use Rattle.sievebench.specs.declared.server.Progress.TheVariants as ways
 use Rattle.bench.specs.declared.fault.EditFault.{EditFault}
 use Rattle.bench.specs.declared.fault.EditFault.TheVariants.{TooLarge, NoSuchMessage, Full, NoMemory}
+use Rattle.sievebench.specs.declared.task.Question.{Question}
 use Rattle.sievebench.specs.declared.task.Subject.{Subject}
 use Rattle.sievebench.specs.declared.task.Subject.TheVariants as subjects
 use Rattle.sievebench.specs.declared.status.SessionEnd.{SessionEnd}
@@ -226,10 +226,10 @@ put_refused count edit takes = record {
   where_short = short count edit;
 }
 
--- and to a dump
-pub dump_refused : (name : ScriptName) → MayBeRefused 0 (λ rest. dumps name rest)
-dump_refused name = record {
-  where_whole = λ old rest within. (inr refl, refl, refl);
+-- and to a question that takes some
+pub question_refused : (question : Question) → question_takes_memory question ≡ true → MayBeRefused 0 (λ rest. asks question rest)
+question_refused question takes = record {
+  where_whole = λ old rest within. (inr (takes, refl), refl, refl);
   where_short = λ rest less. absurd (omega (arith, less));
 }
 
@@ -250,9 +250,10 @@ pub refused_report_replies : (old new : Served) (unused : Option (List ℕ)) →
 refused_report_replies old new None refused = tt
 refused_report_replies old new (Some xs) refused = (inr (refl, refused), refl)
 
--- the code of a script, or why there is none
-pub dump_replies : (name : ScriptName) (old : Served) (unused : Option (List ℕ)) → RepliesTo (λ rest. dumps name rest) old unused (dump_of old.bench.content name) old unused
-dump_replies name old None = tt
-dump_replies name old (Some xs) = (inl refl, refl, refl)
+-- the answer to a question
+pub question_replies : (question : Question) (old : Served) (unused : Option (List ℕ))
+    → RepliesTo (λ rest. asks question rest) old unused (answer_to old.bench.content question) old unused
+question_replies question old None = tt
+question_replies question old (Some xs) = (inl refl, refl, refl)
 
-pub ruleset serving = (answered, answer_faults, tried_replies, no_memory_replies, put_takes, put_replies, falls_short, breaks_off, unkept_replies, edit_replies, report_replies, refused_report_replies, dump_replies, edit_moves, report_moves, stays)
+pub ruleset serving = (answered, answer_faults, tried_replies, no_memory_replies, put_takes, put_replies, falls_short, breaks_off, unkept_replies, edit_replies, report_replies, refused_report_replies, question_replies, edit_moves, report_moves, stays)

@@ -2,7 +2,8 @@
 use Rattle.std.proofs.Common.{◌≡◌, [], refl, codes}
 use Rattle.session_text.specs.SessionLine.{command_of_line, first_line, is_text, line_so_far, line_words, word_value}
 use Rattle.bench.specs.Content.{put_message, set_expected, clear_expected}
-use Rattle.sievebench.specs.Session.{edits, idle, over, reports, request_of, request_so_far, truncated, unreadable}
+use Rattle.sievebench.specs.Session.{asks, edits, over, reports, request_of, request_so_far, truncated, unreadable}
+use Rattle.sievebench.specs.declared.task.Question.TheVariants.{Nothing}
 
 -- nothing is no command yet, and at the end it is none
 nothing_row : request_so_far [] ≡ truncated
@@ -27,7 +28,7 @@ ended_row : request_so_far (codes "report\r\nre") ≡ reports (codes "re")
 unfolding request_so_far line_so_far command_of_line line_words is_text
 ended_row = refl
 
-empty_row : request_so_far (codes "\n") ≡ idle []
+empty_row : request_so_far (codes "\n") ≡ asks Nothing []
 unfolding request_so_far line_so_far command_of_line line_words is_text
 empty_row = refl
 

@@ -4,7 +4,7 @@ use Rattle.bench.specs.Bench.{BenchState}
 use Rattle.bench.specs.Content.{Content, Edit, Answers, Refuses}
 use Rattle.bench.specs.declared.fault.EditFault.{EditFault}
 use Rattle.bench.specs.declared.fault.EditFault.TheVariants.{NoMemory}
-use Rattle.sievebench.specs.Session.{Demand, asks_nothing, asks_put, asks_edit, asks_report, asks_dump, edits, request_by}
+use Rattle.sievebench.specs.Session.{Demand, asks_question, asks_put, asks_edit, asks_report, edits, request_by}
 use Rattle.sievebench.specs.view.Progress.{Tries}
 use Rattle.sievebench.specs.view.Task.{IsTried}
 
@@ -25,8 +25,7 @@ pub ruleset trying = (by_call, by_answer)
 -- the edit that was tried is what is asked for
 pub tried : (ask : Option Demand) (outcome : Result Unit EditFault) (old new : BenchState) → IsTried ask outcome old new → (edit : Edit) × (request_by ask ≡ (λ rest. edits edit rest)) × Tries edit outcome old new
 tried None outcome old new is = absurd is
-tried (Some asks_nothing) outcome old new is = absurd is
+tried (Some (asks_question question)) outcome old new is = absurd is
 tried (Some (asks_put count edit)) outcome old new is = absurd is
 tried (Some (asks_edit edit)) outcome old new is = (edit, refl, is)
 tried (Some asks_report) outcome old new is = absurd is
-tried (Some (asks_dump name)) outcome old new is = absurd is

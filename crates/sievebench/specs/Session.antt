@@ -16,32 +16,32 @@ use Rattle.bench.specs.declared.fault.EditFault.{EditFault}
 use Rattle.bench.specs.declared.fault.EditFault.TheVariants.{NoSuchScript, NameTaken, NoSuchMessage, Full, TooLarge, NoMemory}
 use Rattle.sievebench.specs.declared.status.SessionEnd.{SessionEnd}
 use Rattle.sievebench.specs.declared.status.SessionEnd.TheVariants as ends
+use Rattle.sievebench.specs.declared.task.Question.{Question}
+use Rattle.sievebench.specs.declared.task.Question.TheVariants.{Nothing, Code}
 
--- what a stream begins with: nothing; a line that says nothing that there is; octets that end too early; a line of
--- no words; an edit; a report; or a dump; and what follows
+-- what a stream begins with: nothing; a line that says nothing that there is; octets that end too early; a question; an edit;
+-- or a report; and what follows
 pub data Request : Type 0 where
   over : Request
   unreadable : Request
   truncated : Request
-  idle : (rest : List ℕ) → Request
+  asks : (question : Question) (rest : List ℕ) → Request
   edits : (edit : Edit) (rest : List ℕ) → Request
   reports : (rest : List ℕ) → Request
-  dumps : (name : ScriptName) (rest : List ℕ) → Request
 
 -- an edit of so many octets, which follow the line directly
 abbrev pub with_octets : ℕ → List ℕ → (List ℕ → Edit) → Request
 with_octets count rest edit = if nat_lt (length rest) count then truncated else edits (edit (take count rest)) (drop count rest)
 
--- what a command asks for, whatever follows its line: nothing; to put so many octets, which follow it directly; another edit; a report; a dump
+-- what a command asks for, whatever follows its line: the answer to a question; to put so many octets, which follow it directly; another edit; a report
 pub data Demand : Type 0 where
-  asks_nothing : Demand
+  asks_question : (question : Question) → Demand
   asks_put : (count : ℕ) (edit : List ℕ → Edit) → Demand
   asks_edit : (edit : Edit) → Demand
   asks_report : Demand
-  asks_dump : (name : ScriptName) → Demand
 
 abbrev pub demand_of : SessionCommand → Demand
-demand_of nothing = asks_nothing
+demand_of nothing = asks_question Nothing
 demand_of (script place name count) = asks_put count (λ octets. put_script (record { place = place; name = name }) octets)
 demand_of (message id count) = asks_put count (λ octets. put_message id octets)
 demand_of (main place name) = asks_edit (set_main (record { place = place; name = name }))
@@ -52,18 +52,17 @@ demand_of (drop_message id) = asks_edit (remove_message id)
 demand_of (envelope from to) = asks_edit (set_envelope from to)
 demand_of (mailbox box) = asks_edit (set_mailbox box)
 demand_of report = asks_report
-demand_of (dump place name) = asks_dump (record { place = place; name = name })
+demand_of (dump place name) = asks_question (Code (record { place = place; name = name }))
 demand_of (expect id count) = asks_put count (λ octets. set_expected id octets)
 demand_of (no_expect id) = asks_edit (clear_expected id)
 
 -- what a line asks for with the octets behind it; a line of no command says nothing that there is
 abbrev pub request_by : Option Demand → List ℕ → Request
 request_by None rest = unreadable
-request_by (Some asks_nothing) rest = idle rest
+request_by (Some (asks_question question)) rest = asks question rest
 request_by (Some (asks_put count edit)) rest = with_octets count rest edit
 request_by (Some (asks_edit edit)) rest = edits edit rest
 request_by (Some asks_report) rest = reports rest
-request_by (Some (asks_dump name)) rest = dumps name rest
 
 -- what a line asks for
 abbrev pub demand_at : List ℕ → Option Demand
@@ -109,6 +108,16 @@ dump_reply (present tree) = script_code tree ++ codes "ok\n"
 -- the reply to a dump of a script of a bench, as an `include` of that name finds it
 abbrev pub dump_of : Content → ScriptName → List ℕ
 dump_of content name = dump_reply (found_at (library_of (text_at content.scripts)) name)
+
+-- The answer to a question. A line of no words asks nothing, and its answer is empty.
+abbrev pub answer_to : Content → Question → List ℕ
+answer_to content Nothing = []
+answer_to content (Code name) = dump_of content name
+
+-- whether memory may be refused to a question
+abbrev pub question_takes_memory : Question → Bool
+question_takes_memory Nothing = false
+question_takes_memory (Code name) = true
 
 -- whether memory may be refused to an edit of a session; three take none
 abbrev pub takes_memory : Edit → Bool
@@ -163,10 +172,10 @@ abbrev pub Step : Served → Request → List ℕ → Served → List ℕ → Ty
 Step old over reply new left = ⊥
 Step old unreadable reply new left = ⊥
 Step old truncated reply new left = ⊥
-Step old (idle rest) reply new left = (reply ≡ []) × (new ≡ old) × (left ≡ rest)
+Step old (asks question rest) reply new left =
+    ((reply ≡ answer_to old.bench.content question) ⊎ ((question_takes_memory question ≡ true) × (reply ≡ refusal_line NoMemory))) × (new ≡ old) × (left ≡ rest)
 Step old (edits edit rest) reply new left = Replies edit (takes_memory edit) (after old.bench.content edit) old reply new × (left ≡ rest)
 Step old (reports rest) reply new left = (((reply ≡ report_text old.bench.content) × Reported old new) ⊎ ((reply ≡ refusal_line NoMemory) × ReportRefused old new)) × (left ≡ rest)
-Step old (dumps name rest) reply new left = ((reply ≡ dump_of old.bench.content name) ⊎ (reply ≡ refusal_line NoMemory)) × (new ≡ old) × (left ≡ rest)
 
 -- some commands in turn, each what the octets then ask for: their replies, what is after them, and the octets behind them
 pub data Steps (request : List ℕ → Request) (old : Served) (stream : List ℕ) : List ℕ → Served → List ℕ → Type 0 where
@@ -178,10 +187,9 @@ abbrev pub Ends : Request → SessionEnd → List ℕ → Type 0
 Ends over end reply = (end ≡ ends.Done) × (reply ≡ [])
 Ends unreadable end reply = (end ≡ ends.Syntax) × (reply ≡ codes "no syntax\n")
 Ends truncated end reply = (end ≡ ends.Truncated) × (reply ≡ codes "no truncated\n")
-Ends (idle rest) end reply = ⊥
+Ends (asks question rest) end reply = ⊥
 Ends (edits edit rest) end reply = ⊥
 Ends (reports rest) end reply = ⊥
-Ends (dumps name rest) end reply = ⊥
 
 -- the text of a session over a stream, its end, and the bench that its commands leave, with the runs that were made
 pub record SessionText (old : Served) (stream : List ℕ) (text : List ℕ) (end : SessionEnd) (new : Served) : Type 0 where

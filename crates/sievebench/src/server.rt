@@ -12,10 +12,10 @@ ghost use Rattle.sievebench.specs.view.Task.{IsTried, Tasks, edit_of};
 ghost use Rattle.sievebench.specs.view.Progress as progress;
 
 use crate::status::SessionEnd;
-use crate::task::{Subject, Task, limit_of, task_of};
+use crate::task::{Question, Subject, Task, limit_of, task_of};
 use bench::{Bench, EditFault, ReportFault, write_code};
 use session_text::{Input, Line, Taken, take_octets};
-use sieve_base::{Octets, ScriptName, Sink, Source, WriteFault, write_out};
+use sieve_base::{Octets, Sink, Source, WriteFault, write_out};
 use sieve_run::{Found, Meter};
 use std::alloc::Global;
 
@@ -203,15 +203,30 @@ fn write_dump<W: Sink>(found: Found<'_>, writer: &mut W) -> Result<(), WriteFaul
     }
 }
 
-/// Prints the code of a script, or replies why not.
+/// Writes the answer to a question.
+#[tactic(auto, using(sieve_base::proofs::Writing::writing))]
+fn write_answer<W: Sink>(
+    bench: &Bench,
+    writer: &mut W,
+    question: &Question,
+) -> Result<(), WriteFault>
+    ensures { Writes W.contents W.fault_count result writer.old writer.new (spec.answer_to bench.now.content question.now) }
+{
+    match question {
+        Question::Nothing => Ok(()),
+        Question::Code { name } => write_dump(bench.code(name), writer),
+    }
+}
+
+/// Answers a question.
 #[tactic(auto, using(crate::proofs::Serving::serving))]
-fn serve_dump<W: Sink>(bench: &Bench, writer: &mut W, name: &ScriptName) -> Progress
-    ensures goes { (runs : ℕ) (unused rest : Option (List ℕ)) → progress.GoesFrom (λ rest. spec.dumps name.now rest) result
+fn serve_question<W: Sink>(bench: &Bench, writer: &mut W, question: &Question) -> Progress
+    ensures goes { (runs : ℕ) (unused rest : Option (List ℕ)) → progress.GoesFrom (λ rest. spec.asks question.now rest) result
         (spec.served bench.now runs) unused (W.contents writer.old) (spec.served bench.now runs) unused rest (W.contents writer.new) }
     ensures faults { progress.MatchProgress result (W.fault_count writer.old ≤ W.fault_count writer.new) ⊥ (HasRisen (W.fault_count writer.old) (W.fault_count writer.new)) ⊥ }
     ensures end { progress.AtLast result ⊥ }
 {
-    match write_dump(bench.code(name), writer) {
+    match write_answer(bench, writer, question) {
         Ok(()) => Progress::Continues,
         Err(_) => Progress::Ends(SessionEnd::Write),
     }
@@ -239,11 +254,10 @@ fn perform<R: Source, W: Sink>(
     ensures end { progress.AtLast result (IsAtEnd (R.remaining reader.new)) }
 {
     match task {
-        Task::Idle => Progress::Continues,
+        Task::Ask { question } => serve_question(bench, writer, &question),
         Task::Put { subject, count } => serve_put(bench, input, reader, writer, subject, count),
         Task::Made { outcome } => serve_made(outcome, writer),
         Task::Report => serve_report(bench, meter, writer),
-        Task::Dump { name } => serve_dump(bench, writer, &name),
         Task::Forgotten { count } => {
             serve_forgotten(bench.allocator(), input, reader, writer, count)
         }

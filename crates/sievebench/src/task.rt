@@ -19,17 +19,25 @@ pub(crate) enum Subject {
     Expected(Octets),
 }
 
+/// What a line asks of the bench. The answer changes nothing.
+#[derive(Drop)]
+pub(crate) enum Question {
+    /// A line of no words asks nothing, and its answer is empty.
+    Nothing,
+    /// The code of a script.
+    Code { name: ScriptName },
+}
+
 /// What a line asks for, with copies of its words.
 #[derive(Drop)]
 pub(crate) enum Task {
-    Idle,
+    /// To answer a question.
+    Ask { question: Question },
     /// To put the octets that follow.
     Put { subject: Subject, count: u64 },
     /// An edit that no octets follow is made already, or why it isn't.
     Made { outcome: Result<(), EditFault> },
     Report,
-    /// To print the code of a script.
-    Dump { name: ScriptName },
     /// Memory was refused for the words of a command, which so many octets follow.
     Forgotten { count: u64 },
     Unreadable,
@@ -84,12 +92,14 @@ fn expect_task(alloc: Global, id: &Word<'_>, count: u64) -> Task
     }
 }
 
-/// To print the code of a script.
+/// To answer with the code of a script.
 fn dump_task(alloc: Global, place: Place, name: &Word<'_>) -> Task
     ensures { (state : BenchState) → Tasks result (Some (demand_of (line.dump place name.now))) state state }
 {
     match copied_name(alloc, place, name) {
-        Ok(name) => Task::Dump { name },
+        Ok(name) => Task::Ask {
+            question: Question::Code { name },
+        },
         Err(_) => Task::Forgotten { count: 0 },
     }
 }
@@ -188,7 +198,9 @@ pub(crate) fn task_of(bench: &mut Bench, line: &[u8]) -> Task
         return Task::Unreadable;
     };
     let outcome = match command {
-        SessionCommand::Nothing => return Task::Idle,
+        SessionCommand::Nothing => return Task::Ask {
+            question: Question::Nothing,
+        },
         SessionCommand::Report => return Task::Report,
         SessionCommand::Dump { place, name } => return dump_task(alloc, place, &name),
         SessionCommand::Script { place, name, count } => return script_task(

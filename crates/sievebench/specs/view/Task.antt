@@ -4,7 +4,7 @@ use Rattle.sieve_base.specs.Limits.{expected_limit, text_limit, message_limit}
 use Rattle.bench.specs.Bench.{BenchState}
 use Rattle.bench.specs.Content.{Edit, put_script, put_message, set_expected}
 use Rattle.bench.specs.declared.fault.EditFault.{EditFault}
-use Rattle.sievebench.specs.Session.{Demand, asks_nothing, asks_put, asks_edit, asks_report, asks_dump, takes_memory}
+use Rattle.sievebench.specs.Session.{Demand, asks_question, asks_put, asks_edit, asks_report, question_takes_memory, takes_memory}
 use Rattle.sievebench.specs.view.Progress.{Tries}
 use Rattle.sievebench.specs.declared.task.Subject.{Subject}
 use Rattle.sievebench.specs.declared.task.Subject.TheVariants as subjects
@@ -26,27 +26,24 @@ limit_of (subjects.Expected id) = expected_limit
 -- `count` octets follow what is asked for, and memory may be refused to it
 abbrev pub IsFollowedBy : ℕ → Option Demand → Type 0
 IsFollowedBy count None = ⊥
-IsFollowedBy count (Some asks_nothing) = ⊥
+IsFollowedBy count (Some (asks_question question)) = (count ≡ 0) × (question_takes_memory question ≡ true)
 IsFollowedBy count (Some (asks_put n edit)) = (n ≡ count) × ((octets : List ℕ) → takes_memory (edit octets) ≡ true)
 IsFollowedBy count (Some (asks_edit edit)) = ⊥
 IsFollowedBy count (Some asks_report) = ⊥
-IsFollowedBy count (Some (asks_dump name)) = count ≡ 0
 
 -- the edit that is asked for was tried
 abbrev pub IsTried : Option Demand → Result Unit EditFault → BenchState → BenchState → Type 0
 IsTried None outcome old new = ⊥
-IsTried (Some asks_nothing) outcome old new = ⊥
+IsTried (Some (asks_question question)) outcome old new = ⊥
 IsTried (Some (asks_put count edit)) outcome old new = ⊥
 IsTried (Some (asks_edit edit)) outcome old new = Tries edit outcome old new
 IsTried (Some asks_report) outcome old new = ⊥
-IsTried (Some (asks_dump name)) outcome old new = ⊥
 
 -- the task is to do what a line asks for, and nothing is done of it yet; or it is the edit that was tried
 abbrev pub Tasks : Task → Option Demand → BenchState → BenchState → Type 0
-Tasks tasks.Idle ask old new = (ask ≡ Some asks_nothing) × (new ≡ old)
+Tasks (tasks.Ask question) ask old new = (ask ≡ Some (asks_question question)) × (new ≡ old)
 Tasks (tasks.Put subject count) ask old new = (ask ≡ Some (asks_put count (λ octets. edit_of subject octets))) × (new ≡ old)
 Tasks (tasks.Made outcome) ask old new = IsTried ask outcome old new
 Tasks tasks.Report ask old new = (ask ≡ Some asks_report) × (new ≡ old)
-Tasks (tasks.Dump name) ask old new = (ask ≡ Some (asks_dump name)) × (new ≡ old)
 Tasks (tasks.Forgotten count) ask old new = IsFollowedBy count ask × (new ≡ old)
 Tasks tasks.Unreadable ask old new = (ask ≡ None) × (new ≡ old)

@@ -1,8 +1,8 @@
 use Rattle.std.proofs.Common.{◌≡◌, None, Some}
 use Rattle.sievebench.specs.declared.status.SessionEnd.TheVariants.{Syntax}
-use Rattle.sievebench.specs.Session.{asks_nothing, asks_put, asks_report, asks_dump, request_by, served}
+use Rattle.sievebench.specs.Session.{asks_put, asks_question, asks_report, request_by, served}
 use Rattle.sievebench.specs.view.Task.{IsFollowedBy, IsTried, edit_of}
-use Rattle.sievebench.proofs.Requests.{forgotten, idle_step, unreadable_ends}
+use Rattle.sievebench.proofs.Requests.{forgotten, unreadable_ends}
 use Rattle.sievebench.proofs.Serving.{ended}
 use Rattle.sievebench.proofs.server.perform.Goals as goal
 
@@ -16,20 +16,15 @@ returns-in-Report-clause-goes g c = λ ask old is.
     let is' : (ask ≡ Some asks_report) × (c.args.bench.now ≡ old) = rw c.in-Report.is at is in
     rw is'.0 (rw (← is'.1) (c.serve_report.ensures.goes _ _))
 
-pub returns-in-Dump-clause-goes : goal.returns-in-Dump-clause-goes
-returns-in-Dump-clause-goes g c = λ ask old is.
-    let is' : (ask ≡ Some (asks_dump c.in-Dump.name)) × (c.args.bench.now ≡ old) = rw c.in-Dump.is at is in
-    rw is'.0 (rw (← is'.1) (c.serve_dump.ensures.goes _ _ _))
+pub returns-in-Ask-clause-goes : goal.returns-in-Ask-clause-goes
+returns-in-Ask-clause-goes g c = λ ask old is.
+    let is' : (ask ≡ Some (asks_question c.in-Ask.question)) × (c.args.bench.now ≡ old) = rw c.in-Ask.is at is in
+    rw is'.0 (rw (← is'.1) (c.serve_question.ensures.goes _ _ _))
 
 pub returns-in-Forgotten-clause-goes : goal.returns-in-Forgotten-clause-goes
 returns-in-Forgotten-clause-goes g c = λ ask old is.
     let is' : IsFollowedBy c.in-Forgotten.count ask × (c.args.bench.now ≡ old) = rw c.in-Forgotten.is at is in
     rw (← is'.1) (c.serve_forgotten.ensures.goes _ _ (forgotten ask c.in-Forgotten.count is'.0))
-
-pub returns-in-Idle-clause-goes : goal.returns-in-Idle-clause-goes
-returns-in-Idle-clause-goes g c = λ ask old is.
-    let is' : (ask ≡ Some asks_nothing) × (c.args.bench.now ≡ old) = rw c.in-Idle.is at is in
-    rw is'.0 (rw (← is'.1) (idle_step (served c.args.bench.now c.args.meter.now) _ _))
 
 pub returns-in-Put-clause-goes : goal.returns-in-Put-clause-goes
 returns-in-Put-clause-goes g c = λ ask old is.
