@@ -65,6 +65,16 @@ pub(crate) fn add(rt: &impl Host, others: &[u8]) -> io::Result<()> {
     tell_flags(rt, &first)
 }
 
+/// Behind the answer stands the list: where memory was refused, some flags may have been added.
+pub(crate) fn add_text(rt: &impl Host, text: &[u8]) -> io::Result<()> {
+    let mut first = flags_of(rt.alloc(), FIRST)?;
+    mark(rt);
+    let answer = first.add_text(rt.alloc(), text);
+    mark(rt);
+    tell_done(rt, answer)?;
+    tell_flags(rt, &first)
+}
+
 /// Whether a flag is there, where one stood that is taken out, and the list behind that.
 pub(crate) fn ask(rt: &impl Host) -> io::Result<()> {
     let mut flags = flags_of(rt.alloc(), FIRST)?;

@@ -5,7 +5,8 @@ use crate::{edits, flags, mails, reports, runs, scripts, texts, values};
 use std::io;
 
 const WORDS: &str = "is contains contains_in contains_in/short matches Captures \
-    flags_of union without FlagList::add FlagList::add/held FlagList \
+    flags_of union without FlagList::add FlagList::add/held \
+    FlagList::add_text FlagList::add_text/held FlagList \
     Message::new Message::new/bare Message::value Message::decoded decoded_value decoded_value/unknown addresses \
     Message Message::value/unfolded Message::decoded/plain Address \
     tokens parse parse/faulty check judge judge/faulty compile dump_text Checked Code write_quoted \
@@ -47,6 +48,8 @@ fn call_texts(rt: &impl Host, word: &str) -> Option<io::Result<()>> {
         "without" => flags::take_away(rt),
         "FlagList::add" => flags::add(rt, flags::SECOND),
         "FlagList::add/held" => flags::add(rt, flags::HELD),
+        "FlagList::add_text" => flags::add_text(rt, flags::SECOND),
+        "FlagList::add_text/held" => flags::add_text(rt, flags::HELD),
         "FlagList" => flags::ask(rt),
         "Message::new" => mails::read(rt, mails::MAIL),
         "Message::new/bare" => mails::read(rt, mails::BARE),

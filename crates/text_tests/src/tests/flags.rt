@@ -1,8 +1,8 @@
 //! Rows of lists of flags, by RFC 5232.
 use super::{Row, holds, push_ended, same};
 use match_text::{
-    Collation, FlagList, flag_keys, flag_keys_of_texts, flag_text, flags_of, flags_of_texts, union,
-    without,
+    Collation, FlagList, flag_keys, flag_keys_of_texts, flag_text, flags_of, flags_of_texts,
+    next_flag, union, without,
 };
 use std::alloc::{AllocError, Global};
 use std::borrow::CowSlice;
@@ -126,7 +126,9 @@ fn check_changes(
     holds(rt, b"a place", list.take_out(b"B") == Some(1));
     check_list(rt, &*list, b"a c")?;
     holds(rt, b"no place", list.take_out(b"b").is_none());
-    check_list(rt, &*list, b"a c")
+    check_list(rt, &*list, b"a c")?;
+    list.add_text(rt.alloc(), b" C b] $x  \\Recent b")?;
+    check_list(rt, &*list, b"a c $x b")
 }
 
 #[test]
@@ -134,6 +136,15 @@ fn a_list_grows_and_shrinks(rt: HostRuntime) -> Result<(), AllocError> {
     let mut list = flags_of(rt.alloc(), b"a b")?;
     let more = flags_of(rt.alloc(), b"B c")?;
     check_changes(&rt, &mut list, &more)
+}
+
+/// A text's first flag stands in front of the first space behind it; what isn't a flag is passed over.
+#[test]
+fn a_text_gives_its_first_flag(rt: HostRuntime) {
+    let (flag, rest) = next_flag(b" b] x y  z").unwrap_or((b"", b""));
+    same(&rt, b"flag", flag, b"x");
+    same(&rt, b"rest", rest, b"y  z");
+    holds(&rt, b"none", next_flag(b"b] \\Recent ").is_none());
 }
 
 /// Compares keys, each in front of a bar.
