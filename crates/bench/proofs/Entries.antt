@@ -87,7 +87,7 @@ put_there es id bytes there = by (lookup (pointwise nat_eq id) es) refl there
     by None is there = absurd cc
     by (Some entry) is there = renewed_is es id bytes entry is
 
--- a text is expected of it
+-- the message of an id has a text that is expected of it, or none
 pub messages-expecting : (es : List (List ℕ × Entry)) (id : List ℕ) (expected : Option (List ℕ)) → messages_of (changed id (expecting expected) es) ≡ with_expected id expected (messages_of es)
 unfolding messages_of
 messages-expecting [] id expected = refl

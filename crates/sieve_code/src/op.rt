@@ -28,5 +28,5 @@ pub enum Op {
     Return,
 }
 
-/// An operation takes three words, since a script of a few octets has one for each five of them.
+/// An operation takes three words. Code can have about one for each three octets of its text, so their size is most of what is kept.
 const _: () = prove!(size_of::<Op>() == 24);

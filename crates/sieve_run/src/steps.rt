@@ -8,7 +8,7 @@ ghost use Rattle.sieve_run.specs.Run.{act_of, included};
 ghost use Rattle.sieve_effects.specs.Delivery.{inside};
 ghost use Rattle.sieve_effects.specs.view.Delivery.{delivery_as};
 ghost use Rattle.sieve_effects.specs.view.Flow.{ending_by};
-ghost use Rattle.sieve_effects.specs.view.Ops.{command_op_as};
+ghost use Rattle.sieve_effects.specs.view.Ops.{command_op_as, line_of};
 ghost use Rattle.sieve_run.specs.view.Step.{step_after, Follows, StepsTo, doing};
 ghost use Rattle.sieve_run.specs.view.Include.{enters, looks_up};
 ghost use Rattle.sieve_effects.specs.view.State.{state_of};
@@ -113,8 +113,7 @@ fn carry_out<L: Library>(
         Op::JumpIfFalse(target) => Ok(proceed(register, chosen(register, behind, *target))),
         Op::JumpIfTrue(target) => Ok(proceed(register, chosen(register, *target, behind))),
         Op::Command(command) => {
-            let line = command.line();
-            let flow = act(lib, depth, delivery, command, line, fields, state);
+            let flow = act(lib, depth, delivery, command, fields, state);
             acted(flow, behind, register)
         }
         Op::Stop => Ok(Step::Ended(Flow::Stopped)),
@@ -129,14 +128,14 @@ fn act<L: Library>(
     depth: usize,
     delivery: &Delivery<'_>,
     command: &CommandOp,
-    line: u64,
     fields: &mut FieldReads<'_>,
     state: &mut State,
 ) -> Result<Flow, AllocError>
     requires { fields.old ≡ (delivery_as delivery.now).message }
     ensures message { fields.new ≡ fields.old }
-    ensures ending { IfOk result (λ flow. ending_by flow (state_of state.new) ≡ act_of (library_of (L.texts lib.now)) depth (delivery_as delivery.now) (command_op_as command.now) line (state_of state.old)) }
+    ensures ending { IfOk result (λ flow. ending_by flow (state_of state.new) ≡ act_of (library_of (L.texts lib.now)) depth (delivery_as delivery.now) (command_op_as command.now) (line_of command.now) (state_of state.old)) }
 {
+    let line = command.line();
     match command {
         CommandOp::Keep { .. } => keep(delivery, &SettingsOp { said: None }, line, state),
         CommandOp::KeepWith(op) => keep(delivery, &op.settings, line, state),

@@ -83,7 +83,7 @@ pub answer_faults : {T : Type 0} (contents : T → Option (List ℕ)) (fault_cou
 answer_faults contents fault_count w w' ways.Continues reply P R said = said.faults_kept
 answer_faults contents fault_count w w' (ways.Ends end) reply P R said = rw said.0 said.1.fault_counted
 
--- those that a last reply tells
+-- the faults that a last reply tells
 pub end_faults : {T : Type 0} (contents : T → Option (List ℕ)) (fault_count : T → ℕ) (w w' : T) (wanted : SessionEnd) (way : Progress) (reply : List ℕ) (P Q R : Type 0)
     → MatchFault wanted P (HasRisen (fault_count w) (fault_count w')) R → EndsBy wanted way (Wrote contents fault_count w w' reply) (WroteFront contents fault_count w w' reply)
     → MatchProgress way Q P (HasRisen (fault_count w) (fault_count w')) R
@@ -115,7 +115,7 @@ where_broken (ways.Ends ends.TurnLimit) P R S N A B G F Q known h = (known.0, h)
 
 -- REPLIES TO EDITS
 
--- where it is made
+-- the reply to an edit that is made
 replies_ok : (edit : Edit) (takes : Bool) (content : Content) (old new : BenchState) (runs : ℕ) → content ≡ new.content → new.stale ≡ stale_after old.content edit old.stale new.content
     → Replies edit takes (Ok content) (served old runs) (codes "ok\n") (served new runs)
 replies_ok edit takes content old new runs same stale =
@@ -226,7 +226,7 @@ put_refused count edit takes = record {
   where_short = short count edit;
 }
 
--- and to a question that takes some
+-- memory may be refused to a question that takes some
 pub question_refused : (question : Question) → question_takes_memory question ≡ true → MayBeRefused 0 (λ rest. asks question rest)
 question_refused question takes = record {
   where_whole = λ old rest within. (inr (takes, refl), refl, refl);
@@ -245,7 +245,7 @@ pub report_replies : (old new : Served) (unused : Option (List ℕ)) → Reporte
 report_replies old new None made = tt
 report_replies old new (Some xs) made = (inl (refl, made), refl)
 
--- or the reply that memory was refused
+-- the reply that memory was refused to a report
 pub refused_report_replies : (old new : Served) (unused : Option (List ℕ)) → ReportRefused old new → RepliesTo (λ rest. reports rest) old unused (refusal_line NoMemory) new unused
 refused_report_replies old new None refused = tt
 refused_report_replies old new (Some xs) refused = (inr (refl, refused), refl)

@@ -14,7 +14,7 @@ by_call takes meaning (Ok done) is refused = tt
 by_call takes (Ok content) (Err fault) is refused = inr (is, refused)
 by_call takes (Err refusal) (Err fault) is refused = inl (ap Err (sym refused))
 
--- and where it takes none
+-- what an edit answers that takes no memory
 pub by_answer : (takes : Bool) (meaning : Result Content EditFault) (outcome : Result Unit EditFault) → Answers meaning outcome → IfErr outcome (λ fault. (meaning ≡ Err fault) ⊎ ((takes ≡ true) × (fault ≡ NoMemory)))
 by_answer takes meaning (Ok done) answers = tt
 by_answer takes (Ok content) (Err fault) answers = absurd answers

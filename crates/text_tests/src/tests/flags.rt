@@ -145,6 +145,10 @@ fn a_text_gives_its_first_flag(rt: HostRuntime) {
     same(&rt, b"flag", flag, b"x");
     same(&rt, b"rest", rest, b"y  z");
     holds(&rt, b"none", next_flag(b"b] \\Recent ").is_none());
+    holds(&rt, b"no last one", next_flag(b" b]").is_none());
+    let (last, nothing) = next_flag(b"b] a").unwrap_or((b"", b"b]"));
+    same(&rt, b"last", last, b"a");
+    same(&rt, b"nothing", nothing, b"");
 }
 
 /// Compares keys, each in front of a bar.

@@ -1,11 +1,11 @@
 use Rattle.std.proofs.Common.{◌≡◌, ◌&&◌, ◌∙◌, ◌<◌, ◌≤◌, ◌+◌, ◌-◌, true, false, IfOk, List, length, map, nat_lt, sym, ap, subst, arith, Bor}
 use Rattle.std.proofs.lemmas.Bool.Decides.{nat_tests}
 use Rattle.std.proofs.lemmas.Result.{IfOk-weaker}
-use Rattle.sieve_code.specs.Operation.{act_op, test_op}
+use Rattle.sieve_code.specs.Operation.{test_op}
 use Rattle.sieve_code.specs.Walk.{code_walk, walk_from}
 use Rattle.sieve_code.specs.view.Code.{ops_of}
 use Rattle.sieve_code.specs.view.Op.{op_as}
-use Rattle.sieve_effects.specs.view.Ops.{command_op_as, settings_op_as, test_op_as}
+use Rattle.sieve_effects.specs.view.Ops.{command_op_as, line_of, settings_op_as, test_op_as}
 use Rattle.sieve_variables.specs.view.Part.{part_of, strings_of, variable_of}
 use Rattle.std.specs.Option.{option_map}
 use Rattle.sieve_base.specs.Limits.{include_limit}
@@ -25,7 +25,7 @@ use Rattle.sieve_effects.specs.view.State.{state_of}
 use Rattle.sieve_run.specs.view.Step.{doing, doing_after}
 use Rattle.sieve_variables.specs.Value.{with_own}
 use Rattle.sieve_run.proofs.Includes.{enters_by, fails_deep, fails_many, fails_running, looks_included, looks_present, not_entered, not_once, skips_included}
-use Rattle.sieve_run.proofs.Stepping.{acts_follow, asks_follow, does_so, past_end, runs_out, turns}
+use Rattle.sieve_run.proofs.Stepping.{acts_follow, asks_follow, does_at, past_end, runs_out, turns}
 use Rattle.sieve_run.proofs.steps.+execute.Goals as goal
 use Rattle.sieve_run.proofs.steps.+execute.Goals.{include-else-once-via-then-once+else-is_script, include-else-once-via-else-once}
 
@@ -41,13 +41,13 @@ carry_out-returns-in-Command-clause-step g t c =
     let find : ScriptName → Lookup = library_of (g.L.Library.texts c.args.lib.now) in
     let d = delivery_as c.args.delivery.now in
     let i = c.in-Command in
-    acts_follow (act_of find c.args.depth d) d (command_op_as i.command) c.line-line.result _ _ _ _ _ _ _ (ap op_as i.is ∙ ap (act_op (command_op_as i.command)) (sym c.line-line.ensures)) c.act-flow.ensures.ending c.acted.ensures
+    acts_follow (act_of find c.args.depth d) d (command_op_as i.command) (line_of i.command) _ _ _ _ _ _ _ (ap op_as i.is) c.act-flow.ensures.ending c.acted.ensures
 
 pub act-returns-in-Keep-clause-ending : goal.act-returns-in-Keep-clause-ending
 act-returns-in-Keep-clause-ending g t c =
     let find : ScriptName → Lookup = library_of (g.L.Library.texts c.args.lib.now) in
     let d = delivery_as c.args.delivery.now in
-    does_so c.keep.result (state_of c.keep.new.state) (act_of find c.args.depth d) (keep_leaf plain_settings) _ c.args.line (state_of c.args.state.now)
+    does_at c.keep.result (state_of c.keep.new.state) (act_of find c.args.depth d) (keep_leaf plain_settings) _ c.line-line.result (line_of c.args.command.now) (state_of c.args.state.now) c.line-line.ensures
     (ap command_op_as (sym c.in-Keep.is))
     c.keep.ensures
 
@@ -55,7 +55,7 @@ pub act-returns-in-KeepWith-clause-ending : goal.act-returns-in-KeepWith-clause-
 act-returns-in-KeepWith-clause-ending g t c =
     let find : ScriptName → Lookup = library_of (g.L.Library.texts c.args.lib.now) in
     let d = delivery_as c.args.delivery.now in
-    does_so c.keep-in-KeepWith.result (state_of c.keep-in-KeepWith.new.state) (act_of find c.args.depth d) (keep_leaf (settings_op_as c.deref.result.now.settings)) (command_op_as c.args.command.now) c.args.line (state_of c.args.state.now)
+    does_at c.keep-in-KeepWith.result (state_of c.keep-in-KeepWith.new.state) (act_of find c.args.depth d) (keep_leaf (settings_op_as c.deref.result.now.settings)) (command_op_as c.args.command.now) c.line-line.result (line_of c.args.command.now) (state_of c.args.state.now) c.line-line.ensures
     (rw c.deref.ensures (ap command_op_as (sym c.in-KeepWith.is)))
     c.keep-in-KeepWith.ensures
 
@@ -63,7 +63,7 @@ pub act-returns-in-Fileinto-clause-ending : goal.act-returns-in-Fileinto-clause-
 act-returns-in-Fileinto-clause-ending g t c =
     let find : ScriptName → Lookup = library_of (g.L.Library.texts c.args.lib.now) in
     let d = delivery_as c.args.delivery.now in
-    does_so c.file_into.result (state_of c.file_into.new.state) (act_of find c.args.depth d) (fileinto_leaf (map part_of c.deref-in-Fileinto-2.result.now) (settings_op_as c.deref-in-Fileinto-3.result.now.settings)) (command_op_as c.args.command.now) c.args.line (state_of c.args.state.now)
+    does_at c.file_into.result (state_of c.file_into.new.state) (act_of find c.args.depth d) (fileinto_leaf (map part_of c.deref-in-Fileinto-2.result.now) (settings_op_as c.deref-in-Fileinto-3.result.now.settings)) (command_op_as c.args.command.now) c.line-line.result (line_of c.args.command.now) (state_of c.args.state.now) c.line-line.ensures
     (rw (c.deref-in-Fileinto-2.ensures, c.deref-in-Fileinto-3.ensures, c.deref-in-Fileinto.ensures) (ap command_op_as (sym c.in-Fileinto.is)))
     c.file_into.ensures
 
@@ -71,7 +71,7 @@ pub act-returns-in-Redirect-clause-ending : goal.act-returns-in-Redirect-clause-
 act-returns-in-Redirect-clause-ending g t c =
     let find : ScriptName → Lookup = library_of (g.L.Library.texts c.args.lib.now) in
     let d = delivery_as c.args.delivery.now in
-    does_so c.redirect.result (state_of c.redirect.new.state) (act_of find c.args.depth d) (redirect_leaf (map part_of c.deref-in-Redirect-2.result.now) (settings_op_as c.deref-in-Redirect-3.result.now.settings)) (command_op_as c.args.command.now) c.args.line (state_of c.args.state.now)
+    does_at c.redirect.result (state_of c.redirect.new.state) (act_of find c.args.depth d) (redirect_leaf (map part_of c.deref-in-Redirect-2.result.now) (settings_op_as c.deref-in-Redirect-3.result.now.settings)) (command_op_as c.args.command.now) c.line-line.result (line_of c.args.command.now) (state_of c.args.state.now) c.line-line.ensures
     (rw (c.deref-in-Redirect-2.ensures, c.deref-in-Redirect-3.ensures, c.deref-in-Redirect.ensures) (ap command_op_as (sym c.in-Redirect.is)))
     c.redirect.ensures
 
@@ -79,7 +79,7 @@ pub act-returns-in-Discard-clause-ending : goal.act-returns-in-Discard-clause-en
 act-returns-in-Discard-clause-ending g t c =
     let find : ScriptName → Lookup = library_of (g.L.Library.texts c.args.lib.now) in
     let d = delivery_as c.args.delivery.now in
-    does_so c.discard.result (state_of c.discard.new.state) (act_of find c.args.depth d) (discard_leaf) _ c.args.line (state_of c.args.state.now)
+    does_at c.discard.result (state_of c.discard.new.state) (act_of find c.args.depth d) (discard_leaf) _ c.line-line.result (line_of c.args.command.now) (state_of c.args.state.now) c.line-line.ensures
     (ap command_op_as (sym c.in-Discard.is))
     c.discard.ensures
 
@@ -87,7 +87,7 @@ pub act-returns-in-Set-clause-ending : goal.act-returns-in-Set-clause-ending
 act-returns-in-Set-clause-ending g t c =
     let find : ScriptName → Lookup = library_of (g.L.Library.texts c.args.lib.now) in
     let d = delivery_as c.args.delivery.now in
-    does_so c.set.result (state_of c.set.new.state) (act_of find c.args.depth d) (set_leaf (variable_of c.deref-in-Set.result.now.variable) c.deref-in-Set-2.result.now.modifiers (map part_of c.deref-in-Set-4.result.now)) (command_op_as c.args.command.now) c.args.line (state_of c.args.state.now)
+    does_at c.set.result (state_of c.set.new.state) (act_of find c.args.depth d) (set_leaf (variable_of c.deref-in-Set.result.now.variable) c.deref-in-Set-2.result.now.modifiers (map part_of c.deref-in-Set-4.result.now)) (command_op_as c.args.command.now) c.line-line.result (line_of c.args.command.now) (state_of c.args.state.now) c.line-line.ensures
     (rw (c.deref-in-Set-4.ensures, c.deref-in-Set-3.ensures, c.deref-in-Set-2.ensures, c.deref-in-Set.ensures) (ap command_op_as (sym c.in-Set.is)))
     c.set.ensures
 
@@ -95,7 +95,7 @@ pub act-returns-in-Flags-clause-ending : goal.act-returns-in-Flags-clause-ending
 act-returns-in-Flags-clause-ending g t c =
     let find : ScriptName → Lookup = library_of (g.L.Library.texts c.args.lib.now) in
     let d = delivery_as c.args.delivery.now in
-    does_so c.change.result (state_of c.change.new.state) (act_of find c.args.depth d) (flag_leaf c.deref-in-Flags.result.now.change (option_map variable_of c.deref-in-Flags-2.result.now.variable) (strings_of c.deref-in-Flags-4.result.now)) (command_op_as c.args.command.now) c.args.line (state_of c.args.state.now)
+    does_at c.change.result (state_of c.change.new.state) (act_of find c.args.depth d) (flag_leaf c.deref-in-Flags.result.now.change (option_map variable_of c.deref-in-Flags-2.result.now.variable) (strings_of c.deref-in-Flags-4.result.now)) (command_op_as c.args.command.now) c.line-line.result (line_of c.args.command.now) (state_of c.args.state.now) c.line-line.ensures
     (rw (c.deref-in-Flags-4.ensures, c.deref-in-Flags-3.ensures, c.deref-in-Flags-2.ensures, c.deref-in-Flags.ensures) (ap command_op_as (sym c.in-Flags.is)))
     c.change.ensures
 
@@ -103,7 +103,7 @@ pub act-returns-in_ok-copied-in-Include-clause-ending : goal.act-returns-in_ok-c
 act-returns-in_ok-copied-in-Include-clause-ending g t c =
     let find : ScriptName → Lookup = library_of (g.L.Library.texts c.args.lib.now) in
     let d = delivery_as c.args.delivery.now in
-    does_so c.include.result (state_of c.include.new.state) (act_of find c.args.depth d) (include_leaf c.deref-in-Include.result.now.place c.deref-in-Include-4.result.now.once c.deref-in-Include-5.result.now.optional c.in_ok-copied-in-Include.field-0) (command_op_as c.args.command.now) c.args.line (state_of c.args.state.now)
+    does_at c.include.result (state_of c.include.new.state) (act_of find c.args.depth d) (include_leaf c.deref-in-Include.result.now.place c.deref-in-Include-4.result.now.once c.deref-in-Include-5.result.now.optional c.in_ok-copied-in-Include.field-0) (command_op_as c.args.command.now) c.line-line.result (line_of c.args.command.now) (state_of c.args.state.now) c.line-line.ensures
     (rw (c.in_ok-copied-in-Include.ensures, c.deref-in-Include-5.ensures, c.deref-in-Include-4.ensures, c.deref-in-Include-3.ensures, c.deref-in-Include-2.ensures, c.deref-in-Include.ensures) (ap command_op_as (sym c.in-Include.is)))
     c.include.ensures.ending
 
