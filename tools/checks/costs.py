@@ -11,7 +11,7 @@ import subprocess
 from .runs import Run, lines, put
 
 SOURCE = pathlib.Path(__file__).with_name("refuse.c")
-LEEWAY, RUNS, SECONDS, KILOBYTES = 4, 3, 30, 65_536
+LEEWAY, RUNS, SECONDS, KILOBYTES = 4, 3, 30, 32_768
 # A read asks for 65,536 octets without those of a line that isn't whole yet, which are 16,386 at most; so much is held of replies, too.
 ROOM, LINE = 65_536, 16_386
 
@@ -113,15 +113,23 @@ class Devices:
 
 
 def of_memory(room):
-    """What is replaced makes room again, and what is put takes no more than its octets: each session puts more than the memory that it has,
-    or nearly as much."""
-    large = [put(b"script personal main", b"#" * 1_000_000 + b"\nkeep;"), put(b"message m", b"x" * 2_000_000), put(b"expect m", b"x" * 65_536)]
-    names = [b"main personal " + b"n" * 1_024 + b"\n", b"envelope " + b"a" * 1_024 + b" " + b"b" * 1_024 + b"\n", b"mailbox " + b"b" * 255 + b"\n"]
-    for command, count in [*zip(large, (150, 75, 2_000)), *zip(names, (150_000, 75_000, 500_000))]:
-        yield bounded(room, f"what is replaced, {command.split()[0].decode()}", [b"message m 0\n", *[command] * count])
-    renames = [put(b"script personal a", b"#" * 1_000_000), *[b"rename personal a global b\n", b"rename global b personal a\n"] * 75]
-    yield bounded(room, "what is renamed", renames)
-    yield bounded(room, "messages as large as nearly all memory", [put(b"message m%d" % number, b"x" * 8_500_000) for number in range(5)])
+    """What is replaced or dropped makes room again, and what is put takes no more than its octets: each session puts more than the memory
+    that it has, or nearly as much."""
+    script, expected = put(b"script personal a", b"#" * 1_000_000), put(b"expect m", b"x" * 65_536)
+    main, envelope, mailbox = (b"%s %s\n" % it for it in ((b"main personal", b"n" * 1_024), (b"envelope a", b"b" * 1_024), (b"mailbox", b"b" * 255)))
+    for title, commands, count in [
+        ("a script that is replaced", [script], 50),
+        ("one that is dropped", [script, b"drop-script personal a\n"], 50),
+        ("one that is renamed", [script, b"rename personal a global b\n", b"drop-script global b\n"], 50),
+        ("a message that is replaced", [put(b"message m", b"x" * 1_000_000)], 50),
+        ("an expected text that is replaced", [expected], 750),
+        ("one that is dropped", [expected, b"no-expect m\n"], 750),
+        ("the name of a main script", [main], 50_000),
+        ("an address of the envelope", [envelope], 50_000),
+        ("a mailbox", [mailbox], 200_000),
+    ]:
+        yield bounded(room, title, [b"message m 0\n", *commands * count])
+    yield bounded(room, "messages as large as nearly all memory", [put(b"message m%d" % number, b"x" * 8_500_000) for number in range(3)])
 
 
 def bounded(room, title, commands):
