@@ -47,6 +47,11 @@ def of_odd_names(room):
         "sievebench test --personal scripts 'a script.sieve' empty",
         report([plain, 'personal "link" ok', 'personal "x" ok'], "a script", "empty", ["discard"]),
     )
+    (folder / "linked").symlink_to("scripts")
+    for words, place in ("--personal linked", "personal"), ("--global linked/", "global"):
+        scripts = [plain, f'{place} "link" ok', f'{place} "x" ok']
+        told = report(scripts, "a script", "empty", ["discard"])
+        yield Run(f"a folder behind a symbolic link: {words}", folder, f"sievebench test {words} 'a script.sieve' empty", told)
     far = b'sievebench: cannot read "far/x.sieve"\n'
     yield Run("a script of which nobody knows what it is", folder, "sievebench test --personal far 'a script.sieve' empty", b"", far, 3)
     yield Run("a word that begins with a dash", folder, "sievebench test -- -x.sieve empty", b"", b'sievebench: cannot read "-x.sieve"\n', 3)
@@ -222,6 +227,11 @@ def of_order(room):
             (case / name).unlink()
             (case / name).symlink_to("/proc/self/mem")
         yield Run(f"the first file that can't be read, {path}", case, words, b"", f'sievebench: cannot read "{path}"\n'.encode(), 3)
+    case = room / "broken"
+    write(case, {"p/x": b"", "g/x": b"", **script})
+    for number in range(40):
+        (case / f"p/{number:02}.sieve").symlink_to("/proc/self/mem")
+    yield Run("the first of forty files that can't be read", case, words, b"", b'sievebench: cannot read "p/00.sieve"\n', 3)
     order = ["mail.txt", "main.sieve", "g/c.sieve", "p/b.sieve", "p/a.sieve"]
     for number, path in enumerate(order):
         case = room / f"large{number}"
