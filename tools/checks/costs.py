@@ -119,14 +119,14 @@ def of_memory(room):
     main, envelope, mailbox = (b"%s %s\n" % it for it in ((b"main personal", b"n" * 1_024), (b"envelope a", b"b" * 1_024), (b"mailbox", b"b" * 255)))
     for title, commands, count in [
         ("a script that is replaced", [script], 50),
-        ("one that is dropped", [script, b"drop-script personal a\n"], 50),
-        ("one that is renamed", [script, b"rename personal a global b\n", b"drop-script global b\n"], 50),
+        ("a script that is dropped", [script, b"drop-script personal a\n"], 50),
+        ("a script that is renamed and dropped", [script, b"rename personal a global b\n", b"drop-script global b\n"], 50),
         ("a message that is replaced", [put(b"message m", b"x" * 1_000_000)], 50),
         ("an expected text that is replaced", [expected], 750),
-        ("one that is dropped", [expected, b"no-expect m\n"], 750),
-        ("the name of a main script", [main], 50_000),
-        ("an address of the envelope", [envelope], 50_000),
-        ("a mailbox", [mailbox], 200_000),
+        ("an expected text that is dropped", [expected, b"no-expect m\n"], 750),
+        ("the name of a main script that is replaced", [main], 50_000),
+        ("an address of the envelope that is replaced", [envelope], 50_000),
+        ("a mailbox that is replaced", [mailbox], 200_000),
     ]:
         yield bounded(room, title, [b"message m 0\n", *commands * count])
     yield bounded(room, "messages as large as nearly all memory", [put(b"message m%d" % number, b"x" * 8_500_000) for number in range(3)])
