@@ -100,10 +100,9 @@ class Devices:
     def differences(self, path):
         """What came where a read or a write failed that need not have been made."""
         reads = len(self.octets) // (ROOM - LINE) + 2
-        writes = reads + len(self.replies) // ROOM + 1
         given, found = self.library.with_name("devices"), []
         given.write_bytes(self.octets)
-        for name, count in ("FAIL_READ", reads), ("FAIL_WRITE", writes):
+        for name, count in ("FAIL_READ", reads), ("FAIL_WRITE", reads + len(self.replies) // ROOM + 1):
             env = {**os.environ, "PATH": path, "LD_PRELOAD": str(self.library), name: str(count + 1)}
             with given.open("rb") as octets:
                 done = subprocess.run(["sievebench", "session"], stdin=octets, env=env, capture_output=True, timeout=SECONDS)
