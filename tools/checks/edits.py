@@ -123,8 +123,8 @@ def served(path, octets):
 
 
 def last_report(replies):
-    """The report at the end of some replies, behind the lines that say that edits were made."""
-    return replies[replies.rindex(b"main ", 0, replies.index(b"\nenvelope ")) :]
+    """The report at the end of some replies, behind the lines that say that edits were made, or all of them where there is none."""
+    return replies[replies.rfind(b"main ", 0, replies.find(b"\nenvelope ")) :] if b"\nenvelope " in replies else replies
 
 
 class Walk:

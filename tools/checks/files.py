@@ -47,6 +47,11 @@ def of_odd_names(room):
         "sievebench test --personal scripts 'a script.sieve' empty",
         report([plain, 'personal "link" ok', 'personal "x" ok'], "a script", "empty", ["discard"]),
     )
+    (folder / "linked").symlink_to("scripts")
+    for words, place in ("--personal linked", "personal"), ("--global linked/", "global"):
+        scripts = [plain, f'{place} "link" ok', f'{place} "x" ok']
+        told = report(scripts, "a script", "empty", ["discard"])
+        yield Run(f"a folder behind a symbolic link: {words}", folder, f"sievebench test {words} 'a script.sieve' empty", told)
     far = b'sievebench: cannot read "far/x.sieve"\n'
     yield Run("a script of which nobody knows what it is", folder, "sievebench test --personal far 'a script.sieve' empty", b"", far, 3)
     yield Run("a word that begins with a dash", folder, "sievebench test -- -x.sieve empty", b"", b'sievebench: cannot read "-x.sieve"\n', 3)
@@ -161,6 +166,7 @@ def of_dumps(room):
         (folder / path).write_bytes(octets)
     yield Run("a script with code", folder, "sievebench dump code", b"0: discard @1\n")
     yield Run("code to an output that is full", folder, "sievebench dump code > /dev/full", b"", b"sievebench: cannot write\n", 3)
+    yield Run("a fault to an output that is full", folder, "sievebench dump a.sieve > /dev/full", b"", b"sievebench: cannot write\n", 3)
     yield Run("no code to an output that is full", folder, "sievebench dump none > /dev/full")
     yield Run("no code", folder, "sievebench dump none")
     yield Run("no code at the limit", folder, "sievebench dump at")
@@ -188,6 +194,8 @@ def of_trials(room):
     invalid = ['implicit "INBOX"', 'error personal "" line 0 invalid-script']
     fault = report(['personal "" line 1 unknown-command'], "", "mail.txt", invalid, 1)
     yield Run("a script `.sieve` with a fault", folder, "sievebench test home/.sieve mail.txt", fault, status=1)
+    full = "sievebench test home/.sieve mail.txt > /dev/full"
+    yield Run("a report of a fault to an output that is full", folder, full, b"", b"sievebench: cannot write\n", 3)
     words = "sievebench test --personal p --global g/ main.sieve mail.txt"
     personal = {"a.sieve": b"stop;", "b.sieve": b"stop\n", "main.sieve": b"keep;", "notes.txt": b"x", ".sieve": b"x", "folder.sieve/x": b"x", b"\xff": b"x"}
     write(folder / "p", personal)
@@ -219,6 +227,11 @@ def of_order(room):
             (case / name).unlink()
             (case / name).symlink_to("/proc/self/mem")
         yield Run(f"the first file that can't be read, {path}", case, words, b"", f'sievebench: cannot read "{path}"\n'.encode(), 3)
+    case = room / "broken"
+    write(case, {"p/x": b"", "g/x": b"", **script})
+    for number in range(40):
+        (case / f"p/{number:02}.sieve").symlink_to("/proc/self/mem")
+    yield Run("the first of forty files that can't be read", case, words, b"", b'sievebench: cannot read "p/00.sieve"\n', 3)
     order = ["mail.txt", "main.sieve", "g/c.sieve", "p/b.sieve", "p/a.sieve"]
     for number, path in enumerate(order):
         case = room / f"large{number}"
@@ -245,8 +258,9 @@ def of_folders(room):
     write(folder / "many", {"z.sieve": b"", "0.sieve": b""})
     scripts = ['personal "0" ok', main, 'personal "z" ok']
     yield Run("two scripts among many files", folder, "sievebench test --personal many main.sieve m", report(scripts, "main", "m", kept))
-    write(folder / "long", {f"{'n' * 240}{number:03}.sieve": b"" for number in range(1_000)})
-    scripts = [main, *(f'personal "{"n" * 240}{number:03}" ok' for number in range(1_000))]
+    # Names of 255 octets, and no file may have a longer one.
+    write(folder / "long", {f"{'n' * 246}{number:03}.sieve": b"" for number in range(1_000)})
+    scripts = [main, *(f'personal "{"n" * 246}{number:03}" ok' for number in range(1_000))]
     yield Run("many scripts with long names", folder, "sievebench test --personal long main.sieve m", report(scripts, "main", "m", kept))
     for words, script, mail, mailbox in [
         ("-m '' main.sieve m", "main", "m", ""),
@@ -270,8 +284,18 @@ def write(folder, files):
         path.write_bytes(octets)
 
 
+def of_sessions(room):
+    """Sessions that end in each way, to an output that is full."""
+    folder = room / "sessions"
+    endings = {"done": b"no-main\n", "syntax": b"frobnicate\n", "truncated": b"message m 9\nab"}
+    write(folder, endings)
+    for name in endings:
+        yield Run(f"replies to an output that is full: {name}", folder, f"sievebench session < {name} > /dev/full", b"", b"sievebench: cannot write\n", 3)
+
+
 def of_files(room):
     """All of them."""
+    yield from of_sessions(room)
     yield from of_trials(room)
     yield from of_order(room)
     yield from of_dumps(room)

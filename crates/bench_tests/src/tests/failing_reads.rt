@@ -19,6 +19,51 @@ pub(super) const MESSAGE_REPORT: &[u8] =
 pub(super) const MAIN_REPORT: &[u8] =
     b"main personal \"main\"\nenvelope \"\" \"\" mailbox \"INBOX\"\nscript personal \"main\" ok\nmessage \"m1\"\n  discard\n  read personal \"main\"\ntotal 1 messages 0 errors\n";
 
+/// Each kind of error but an interruption.
+pub(super) const LASTING: &[ErrorKind] = &[
+    ErrorKind::NotFound,
+    ErrorKind::PermissionDenied,
+    ErrorKind::ConnectionRefused,
+    ErrorKind::ConnectionReset,
+    ErrorKind::HostUnreachable,
+    ErrorKind::NetworkUnreachable,
+    ErrorKind::ConnectionAborted,
+    ErrorKind::NotConnected,
+    ErrorKind::AddrInUse,
+    ErrorKind::AddrNotAvailable,
+    ErrorKind::NetworkDown,
+    ErrorKind::BrokenPipe,
+    ErrorKind::AlreadyExists,
+    ErrorKind::WouldBlock,
+    ErrorKind::NotADirectory,
+    ErrorKind::IsADirectory,
+    ErrorKind::DirectoryNotEmpty,
+    ErrorKind::ReadOnlyFilesystem,
+    ErrorKind::FilesystemLoop,
+    ErrorKind::StaleNetworkFileHandle,
+    ErrorKind::InvalidInput,
+    ErrorKind::InvalidData,
+    ErrorKind::TimedOut,
+    ErrorKind::WriteZero,
+    ErrorKind::StorageFull,
+    ErrorKind::NotSeekable,
+    ErrorKind::QuotaExceeded,
+    ErrorKind::FileTooLarge,
+    ErrorKind::ResourceBusy,
+    ErrorKind::ExecutableFileBusy,
+    ErrorKind::Deadlock,
+    ErrorKind::CrossesDevices,
+    ErrorKind::TooManyLinks,
+    ErrorKind::InvalidFilename,
+    ErrorKind::ArgumentListTooLong,
+    ErrorKind::Unsupported,
+    ErrorKind::UnexpectedEof,
+    ErrorKind::OutOfMemory,
+    ErrorKind::InProgress,
+    ErrorKind::Other,
+    ErrorKind::Uncategorized,
+];
+
 /// The calls at which a device fails: so many in a row, behind so many at which it works.
 #[derive(Clone, Copy)]
 pub(super) struct Failures {
@@ -164,6 +209,23 @@ fn a_read_that_fails_ends_the_session(rt: HostRuntime) -> Result<(), Fail> {
     // There is no read behind that of the end.
     let run = (72, 1, TURNS, 71, SessionEnd::Done, 72, 0);
     check_run(&rt, ("no reset", ErrorKind::ConnectionReset), run)
+}
+
+/// Compares sessions of which one read fails in some way, be it any but an interruption, each behind one more read.
+fn check_lasting(rt: &(impl AllocGlobal + Abort)) -> Result<(), Fail> {
+    for (place, kind) in LASTING.iter().enumerate() {
+        let before = place as u64;
+        let calls = before.saturating_add(1);
+        let run = (before, 1, TURNS, before, SessionEnd::Read, calls, 1);
+        check_run(rt, ("no interruption", *kind), run)?;
+    }
+    Ok(())
+}
+
+/// No read is tried again but one that was interrupted.
+#[test]
+fn a_read_that_fails_in_any_other_way_is_the_last(rt: HostRuntime) -> Result<(), Fail> {
+    check_lasting(&rt)
 }
 
 /// Compares runs of which reads are interrupted.

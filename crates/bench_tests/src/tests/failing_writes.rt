@@ -1,6 +1,6 @@
 //! Sessions and dumps over writers that fail at some calls and work at every other.
 
-use super::failing_reads::{Failures, MAIN_REPORT, MESSAGE_REPORT, SCRIPT_REPORT};
+use super::failing_reads::{Failures, LASTING, MAIN_REPORT, MESSAGE_REPORT, SCRIPT_REPORT};
 use super::{At, REPLIES, REPORT, SESSION, TURNS, check_report, holds, personal};
 use sievebench::{Bench, Counted, End, Faults, Meter, SessionEnd, TestEnd, dump_text, session};
 use std::alloc::Global;
@@ -225,6 +225,20 @@ fn a_write_that_fails_ends_the_output(rt: HostRuntime) -> Result<(), Fail> {
     check_kind(&rt, Some(ErrorKind::Other))?;
     check_kind(&rt, Some(ErrorKind::WouldBlock))?;
     check_kind(&rt, None)
+}
+
+/// Compares replies of which one write fails in some way, be it any but an interruption.
+fn check_lasting(rt: &(impl AllocGlobal + Abort)) -> Result<(), Fail> {
+    for kind in LASTING {
+        check_each_call(rt, Output::Replies, usize::MAX, Some(*kind))?;
+    }
+    Ok(())
+}
+
+/// No write is tried again but one that was interrupted.
+#[test]
+fn a_write_that_fails_in_any_other_way_is_the_last(rt: HostRuntime) -> Result<(), Fail> {
+    check_lasting(&rt)
 }
 
 /// An output, and how many interruptions there are behind how many octets.

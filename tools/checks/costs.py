@@ -1,0 +1,149 @@
+"""What answers rightly and costs too much: work that is done again, more reads and writes than there need be, and memory for what is gone.
+
+Of two sessions the one with more octets may take so many times more processor time as it has more octets, and LEEWAY times that, since all of
+it is linear in what is given: each is the least of three runs. What is made again for each test, report or key takes as many times more as
+there are tests, reports or keys. The bounds on reads, writes and memory are reckoned from the octets that are given and answered.
+"""
+import os
+import pathlib
+import subprocess
+
+from .runs import Run, lines, put
+
+SOURCE = pathlib.Path(__file__).with_name("refuse.c")
+LEEWAY, RUNS, SECONDS, KILOBYTES = 4, 3, 30, 32_768
+# A read asks for 65,536 octets without those of a line that isn't whole yet, which are 16,386 at most; so much is held of replies, too.
+ROOM, LINE = 65_536, 16_386
+
+
+class Linear:
+    """Two sessions of one kind that report so many mails, with little and with much of something."""
+
+    def __init__(self, room, title, sessions, mails=1):
+        self.title, self.command, self.sessions = f"no work is done again: {title}", "sievebench session", sessions
+        self.last = lines(f"total {mails} messages 0 errors")
+        self.paths = [room / f"{len(list(room.iterdir()))}.{number}" for number in range(2)]
+
+    def spent(self, path, name):
+        """The processor time of a session, in seconds, or what is wrong with it."""
+        with name.open("rb") as given, name.with_suffix(".replies").open("w+b") as replies:
+            command, env = ["sh", "-c", f"ulimit -t {SECONDS}; exec sievebench session"], {**os.environ, "PATH": path}
+            done = subprocess.Popen(command, stdin=given, stdout=replies, env=env)
+            _, status, usage = os.wait4(done.pid, 0)
+            done.returncode = os.waitstatus_to_exitcode(status)
+            replies.seek(0)
+            told = replies.read()
+        if done.returncode or not told.endswith(self.last) or b"no no-memory" in told:
+            raise ValueError(f"status {done.returncode}, and at the end {told[-200:]!r}")
+        return usage.ru_utime + usage.ru_stime
+
+    def differences(self, path):
+        """The times, if the second is past its bound."""
+        for name, octets in zip(self.paths, self.sessions):
+            name.write_bytes(octets)
+        try:
+            few, many = (min(self.spent(path, name) for _ in range(RUNS)) for name in self.paths)
+        except ValueError as fault:
+            return [str(fault)]
+        more = LEEWAY * len(self.sessions[1]) / len(self.sessions[0])
+        told = f"{few:.4f} seconds for {len(self.sessions[0])} octets, {many:.4f} for {len(self.sessions[1])}"
+        return [] if many <= more * few else [f"{told}, which is {many / few:.1f} times as much, where {more:.1f} are allowed"]
+
+
+def judged(script, mails, reports=1):
+    """A session of a main script, mails and so many reports."""
+    puts = b"".join(put(b"message m%d" % number, mail) for number, mail in enumerate(mails))
+    return put(b"script personal main", script) + puts + b"main personal main\n" + b"report\n" * reports
+
+
+def anyof(test, count):
+    """A script with so many tests, of which none holds."""
+    return b"if anyof (%s) { discard; }" % b", ".join(test % number for number in range(count))
+
+
+def of_times(room):
+    """Tests, keys, flags, reports and tokens: many of each, over what a test, a key, a flag, a report or a token must not make again."""
+    mail = [b"To: (" + b"a" * 1_000_000 + b") a@b.example\n\n"]
+    yield Linear(room, "the addresses of a field for each test", [judged(anyof(b'address "to" "%d"', count), mail) for count in (3, 300)])
+    mail = [b"Subject: =?utf-8?q?a?=" + b"=" * 1_000_000 + b"\n\n"]
+    yield Linear(room, "the value of a field for each test", [judged(anyof(b'header "subject" "%d"', count), mail) for count in (3, 300)])
+    mail = [b"".join(b"x" * 5_000 + b"%04d: v\n" % number for number in range(1_000))]
+    names = [b'exists "' + b"x" * 5_000 + b'y%03d"' % number for number in range(60)]
+    yield Linear(room, "the octets of names for each name", [judged(b"if anyof (%s) {}" % b", ".join(names[:count]), mail) for count in (2, 60)])
+    mails = [b"A: b\n\n"] * 2_000
+    yield Linear(room, "the hash of a name for each run", [judged(b'if exists "' + b"x" * size + b'" {}', mails) for size in (1, 500_000)], len(mails))
+    script = b'require "variables"; set "a" "x"; if header "x" "' + b"${a}" * 20_000 + b'" { discard; }'
+    yield Linear(room, "a key for each value", [judged(script, [b"X: v\n" * count]) for count in (3, 1_500)])
+    require = b'require ["imap4flags", "variables"];\n'
+    stores = [require + b"".join(b'addflag "flag%d"; keep;\n' % number for number in range(count)) for count in (500, 10_000)]
+    yield Linear(room, "flags that a store has for each store", [judged(script, [b""]) for script in stores])
+    flags = b'setflag ["%s"]; if hasflag [' % b" ".join(b"a-flag-of-many-octets%d" % number for number in range(10_000, 15_000))
+    keys = [b'"a-flag-of-many-octets%d"' % number for number in range(20_000, 23_000)]
+    tests = [require + flags + b", ".join(keys[:count]) + b"] { discard; }" for count in (3, 3_000)]
+    yield Linear(room, "a comparison with each flag for each key", [judged(script, [b""]) for script in tests])
+    yield Linear(room, "a message for each report", [judged(b"", [b"x" * 10_000_000], count) for count in (3, 300)])
+    yield Linear(room, "the lines of a text for each token", [judged(b"keep;\n" * count, [b""]) for count in (1_000, 50_000)])
+    sizes = [(b"a" * size, b"a" * 10 * size) for size in (1_000, 20_000)]
+    searches = [judged(b'if header :contains "subject" "%sb" { discard; }' % key, [b"Subject: %s\n\n" % value]) for key, value in sizes]
+    yield Linear(room, "a long key at each place of a value", searches)
+
+
+class Devices:
+    """A session whose input comes at once makes so few reads and writes that one behind these fails unseen."""
+
+    title, command = "few reads and writes", "sievebench session"
+
+    def __init__(self, library):
+        self.library, self.octets = library, put(b"message m", b"x" * 4_000_000) + b"no-main\n" * 100_000
+        self.replies = lines(*["ok"] * 100_001)
+
+    def differences(self, path):
+        """What came where a read or a write failed that need not have been made."""
+        reads = len(self.octets) // (ROOM - LINE) + 2
+        given, found = self.library.with_name("devices"), []
+        given.write_bytes(self.octets)
+        for name, count in ("FAIL_READ", reads), ("FAIL_WRITE", reads + len(self.replies) // ROOM + 1):
+            env = {**os.environ, "PATH": path, "LD_PRELOAD": str(self.library), name: str(count + 1)}
+            with given.open("rb") as octets:
+                done = subprocess.run(["sievebench", "session"], stdin=octets, env=env, capture_output=True, timeout=SECONDS)
+            if done.returncode or done.stdout != self.replies:
+                found.append(f"{name} {count + 1}: status {done.returncode}, {len(done.stdout)} octets of {len(self.replies)}, {done.stderr!r:.200}")
+        return found
+
+
+def of_memory(room):
+    """What is replaced or dropped makes room again, and what is put takes no more than its octets: each session puts more than the memory
+    that it has, or nearly as much."""
+    script, expected = put(b"script personal a", b"#" * 1_000_000), put(b"expect m", b"x" * 65_536)
+    main, envelope, mailbox = (b"%s %s\n" % it for it in ((b"main personal", b"n" * 1_024), (b"envelope a", b"b" * 1_024), (b"mailbox", b"b" * 255)))
+    for title, commands, count in [
+        ("a script that is replaced", [script], 50),
+        ("a script that is dropped", [script, b"drop-script personal a\n"], 50),
+        ("a script that is renamed and dropped", [script, b"rename personal a global b\n", b"drop-script global b\n"], 50),
+        ("a message that is replaced", [put(b"message m", b"x" * 1_000_000)], 50),
+        ("an expected text that is replaced", [expected], 750),
+        ("an expected text that is dropped", [expected, b"no-expect m\n"], 750),
+        ("the name of a main script that is replaced", [main], 50_000),
+        ("an address of the envelope that is replaced", [envelope], 50_000),
+        ("a mailbox that is replaced", [mailbox], 200_000),
+    ]:
+        yield bounded(room, title, [b"message m 0\n", *commands * count])
+    yield bounded(room, "messages as large as nearly all memory", [put(b"message m%d" % number, b"x" * 8_500_000) for number in range(3)])
+
+
+def bounded(room, title, commands):
+    """A session with little memory of which no command is refused."""
+    path = room / f"{len(list(room.iterdir()))}.session"
+    path.write_bytes(b"".join(commands))
+    return Run(f"memory for {title}", room, f"ulimit -v {KILOBYTES}; sievebench session < {path.name}", lines("ok") * len(commands))
+
+
+def of_sessions(room):
+    """All of them."""
+    room = room / "costs"
+    room.mkdir()
+    library = room / "refuse.so"
+    yield Run("what lets reads and writes fail is built", room, f"cc -shared -fPIC -O2 -o {library} {SOURCE}")
+    yield from of_times(room)
+    yield Devices(library)
+    yield from of_memory(room)
