@@ -1,4 +1,4 @@
--- How what was written in one step after another joins.
+-- What texts written one after another make when they are joined: a text that was written, or a front of one.
 use Rattle.std.proofs.Common.{◌≡◌, ℕ, ◌≤◌, List, [], ◌∷◌, ◌++◌, sym, ap, ◌∙◌, subst, append_assoc, append-nil, arith, Option, Result, Ok, Err, OnErr, IsErr, take, drop, length, get_or, ◌<◌, ◌+◌, take-append-drop}
 use Rattle.std.specs.List.{flat_map}
 use Rattle.std.proofs.lemmas.Grind.{flat_map-append}
@@ -8,7 +8,7 @@ use Rattle.std.proofs.KnownBytes.{Appends-nil, Appends-trans}
 use Rattle.sieve_base.specs.Devices.{HasRisen}
 use Rattle.sieve_base.specs.Writers.{Wrote, WroteFront, Writes}
 
--- the front of what is left goes to what is done
+-- a front of the rest goes to the end of what is done, and the two still make the whole
 pub front_moves : (all done rest after : List ℕ) (n : ℕ) → after ≡ drop n rest → done ++ rest ≡ all → (done ++ take n rest) ++ after ≡ all
 front_moves all done rest after n cut split =
     append_assoc done (take n rest) after ∙ ap (λ l. done ++ (take n rest ++ l)) cut ∙ ap (λ l. done ++ l) (take-append-drop n rest) ∙ split
@@ -64,7 +64,7 @@ wrote_front_of contents fault_count a b s t first = record {
   fault_counted = first.fault_counted;
 }
 
--- what holds at an error holds on an error
+-- what holds in any case holds on an error
 pub on_err_from : {T E P : Type 0} (r : Result T E) → P → OnErr r P
 on_err_from (Ok x) p = tt
 on_err_from (Err e) p = p
@@ -74,7 +74,7 @@ pub writes_failed : {S T E : Type 0} (contents : S → Option (List ℕ)) (fault
     → IsErr r → WroteFront contents fault_count a b s → Writes contents fault_count r a b s
 writes_failed contents fault_count r a b s is_err front = MatchResult-from_err r _ _ is_err (λ _. front)
 
--- what was written may be said otherwise
+-- a text that was tried may be named by an equal one
 pub writes_as : {S T E : Type 0} (contents : S → Option (List ℕ)) (fault_count : S → ℕ) (r : Result T E) (a b : S) (s t : List ℕ)
     → s ≡ t → Writes contents fault_count r a b s → Writes contents fault_count r a b t
 writes_as contents fault_count r a b s t same writes = subst (Writes contents fault_count r a b) same writes
@@ -106,7 +106,7 @@ wrote_front_of_items contents fault_count a b f xs n front =
     (subst (WroteFront contents fault_count a b) (sym (flat_map-append f (take n xs) (drop n xs)))
     (wrote_front_of contents fault_count a b _ (flat_map f (drop n xs)) front))
 
--- the texts of the items before one were written, and then a front of that one's
+-- the texts of the items before an item were written, and then a front of the text of that item
 pub wrote_items_then_front : {S X : Type 0} (contents : S → Option (List ℕ)) (fault_count : S → ℕ) (a b c : S) (f : X → List ℕ) (xs : List X) (i : ℕ) (d : X)
     → i < length xs → Wrote contents fault_count a b (flat_map f (take i xs)) → WroteFront contents fault_count b c (f (get_or xs i d))
     → WroteFront contents fault_count a c (flat_map f xs)
@@ -117,7 +117,7 @@ wrote_items_then_front contents fault_count a b c f xs i d within first second =
     wrote_front_of_items contents fault_count a c f xs (i + 1)
     (subst (WroteFront contents fault_count a c) (sym joined) (wrote_then_front contents fault_count a b c _ _ first second))
 
--- items were written, and then a front of one that is known by another name
+-- the texts of the items before an item were written, and then a front of the text of what equals that item
 pub wrote_items_then_front_at : {S X : Type 0} (contents : S → Option (List ℕ)) (fault_count : S → ℕ) (a b c : S) (f : X → List ℕ) (xs : List X) (i : ℕ) (d x : X)
     → i < length xs → x ≡ get_or xs i d → Wrote contents fault_count a b (flat_map f (take i xs)) → WroteFront contents fault_count b c (f x)
     → WroteFront contents fault_count a c (flat_map f xs)
