@@ -1,4 +1,4 @@
--- The numbers of the rules, of the roles, of the tags and of the kinds of tags.
+-- The rules, the roles, the tags and the kinds of tags stand at their numbers in the lists of all.
 use Rattle.std.proofs.Common.{◌≡◌, ◌-◌, Some, refl, slice_get}
 use Rattle.sieve_table.specs.Rule.{rule_number, all_rules}
 use Rattle.sieve_table.specs.view.Number.{all_roles, role_number, all_tags, tag_number, all_kinds, kind_number}

@@ -31,7 +31,7 @@ own_kind k = own_number (kind_number k)
     own_number : (n : ℕ) → nat_eq n n ≡ true
     own_number n = grind (arith, nat_tests)
 
--- what holds in a role, where it is that one
+-- a role that is the wanted one is not bad where the wanted one is not bad
 in_role_alone : (wanted : Role) (bad : Option Role → Bool) (r : Role) (is : Bool) → same_role wanted r ≡ is → bad (Some wanted) ≡ false → (is && bad (Some r)) ≡ false
 in_role_alone wanted bad r false e fine = refl
 in_role_alone wanted bad r true e fine = ap (λ x. bad (Some x)) (sym (one_role wanted r e)) ∙ fine
@@ -40,7 +40,6 @@ pub only_in_role : (wanted : Role) (bad : Option Role → Bool) (r : Option Role
 only_in_role wanted bad None fine = refl
 only_in_role wanted bad (Some r) fine = in_role_alone wanted bad r (same_role wanted r) refl fine
 
--- a test that all of a list pass
 both_true : (a b : Bool) → (a && b) ≡ true → (a ≡ true) × (b ≡ true)
 both_true true b e = (refl, e)
 both_true false b e = absurd (untrue e)
@@ -48,6 +47,7 @@ both_true false b e = absurd (untrue e)
     untrue : false ≡ true → ⊥
     untrue e = cc
 
+-- a test that all items of a list pass is passed by the item at each place
 at_place : {X : Type 0} (passes : X → Bool) (xs : List X) (i : ℕ) (x : X) → list_all passes xs ≡ true → slice_get xs i ≡ Some x → passes x ≡ true
 at_place passes [] i x all is = absurd (nothing is)
   where
