@@ -26,7 +26,7 @@ not_both e = cc
 abbrev behind_one : Option Shape → List Slot → Expected
 behind_one before slots = record { awaited = taken_by before; slots = slots }
 
--- the slots that are left behind one more
+-- the slots that are left behind one more argument
 abbrev slots_past : Option Shape → List Slot → Shape → List Slot
 slots_past before slots looks = (expected_behind (behind_one before slots) looks).slots
 
@@ -40,7 +40,7 @@ next_one before slots shape.Number = refl
 next_labels : (before : Option Shape) (slots : List Slot) (looks : Shape) (shapes : List Shape) → labels_from (expected_behind (behind_one before slots) looks) shapes ≡ labels_from (behind_one (Some looks) (slots_past before slots looks)) shapes
 next_labels before slots looks shapes = ap (λ e. labels_from e shapes) (next_one before slots looks)
 
--- the argument right before a place, behind one or at the beginning
+-- the argument right before a place, which at place 0 is a given one, or none at the beginning
 abbrev before_from : Option Shape → List Shape → ℕ → Option Shape
 before_from first shapes zero = first
 before_from first shapes (suc place) = slice_get shapes place
@@ -104,7 +104,7 @@ own_in (Some (Own slot)) = Some slot
 own_in (Some (InSlot slot)) = None
 own_in (Some Unfit) = None
 
--- what is taken, where an argument fits it
+-- the slot that a tag takes, where an argument of that shape fits it
 abbrev fitting : Option Slot → Shape → Option Slot
 fitting None looks = None
 fitting (Some slot) looks = if fits slot.form looks then Some slot else None
@@ -153,7 +153,7 @@ own_each (looks ∷ shapes) before slots (suc place) =
     ∙ own_each shapes (Some looks) (slots_past before slots looks) place
     ∙ ap (λ b. own_at b (slice_get shapes place)) (before_next looks shapes place)
 
--- a label that says so
+-- a label that gives the slot of a tag's own argument is the label of that argument
 own_label : (label : Option Label) (slot : Slot) → own_in label ≡ Some slot → label ≡ Some (Own slot)
 own_label None slot is = cc
 own_label (Some (Tagged tag)) slot is = cc
@@ -162,7 +162,7 @@ own_label (Some (Own own)) slot is = cc
 own_label (Some (InSlot other)) slot is = cc
 own_label (Some Unfit) slot is = cc
 
--- what is taken, and that it fits
+-- where an argument fits the slot that is taken, the slot found is that one, and the argument fits its form
 fitting_is : (own : Option Slot) (looks : Shape) (slot : Slot) → fitting own looks ≡ Some slot → (own ≡ Some slot) × (fits slot.form looks ≡ true)
 fitting_is None looks slot is = cc
 fitting_is (Some own) looks slot is = by_fit (fits own.form looks) refl is
@@ -174,7 +174,7 @@ fitting_is (Some own) looks slot is = by_fit (fits own.form looks) refl is
 is_fitting : (own : Option Slot) (looks : Shape) (slot : Slot) → own ≡ Some slot → fits slot.form looks ≡ true → fitting own looks ≡ Some slot
 is_fitting own looks slot takes fit = ap (λ o. fitting o looks) takes ∙ ap (λ b. if b then Some slot else None) fit
 
--- a tag that takes an argument
+-- an argument that takes another is a tag whose row takes it
 taken_is : (before : Option Shape) (slot : Slot) → taken_by before ≡ Some slot → (tag : Tag) × (before ≡ Some (shape.Tag (Some tag))) × ((tag_row tag).takes ≡ Some slot)
 taken_is None slot is = cc
 taken_is (Some shape.Text) slot is = cc
@@ -249,7 +249,7 @@ positional_each (looks ∷ shapes) before slots (suc place) =
     ∙ positional_each shapes (Some looks) (slots_past before slots looks) place
     ∙ ap (λ b. option_map (is_positional b) (slice_get shapes place)) (before_next looks shapes place)
 
--- each by the first of the slots that are left
+-- the labels of positional arguments, each by the first of the slots that are left
 abbrev slot_labels : List Slot → List Shape → List Label
 slot_labels slots [] = []
 slot_labels slots (looks ∷ shapes) = slot_label slots looks ∷ slot_labels (drop 1 slots) shapes
@@ -298,7 +298,7 @@ module _ (row : Row) (shapes : List Shape) where
 
 -- AS MANY AS THE SLOTS
 
--- all arguments fit, and no slot is left
+-- the argument before these and all of these fit, and no slot is left
 abbrev are_filled : (unfit : Bool) → Expected → List Shape → Bool
 are_filled unfit e shapes = not (unfit || list_any is_unfit (labels_from e shapes)) && no_slots (slots_left e shapes)
 
