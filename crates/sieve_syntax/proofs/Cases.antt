@@ -1,4 +1,4 @@
--- Cases on a test.
+-- Cases on a test and on an option, and the two sides of `&&` and of `||`.
 use Rattle.std.proofs.Common.{◌≡◌, ◌&&◌, ◌||◌, Bool, true, false, Option, Some, None, refl}
 
 -- what holds of both outcomes, each with its equation, holds of the test

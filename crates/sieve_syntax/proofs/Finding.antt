@@ -11,14 +11,14 @@ use Rattle.sieve_syntax.specs.declared.token.TokenKind.TheVariants.{Bad}
 use Rattle.sieve_syntax.proofs.Longest.{IsFound, longest_at-found}
 use Rattle.sieve_syntax.proofs.Spelling.{step_white, step_token, step_bad, step_end, unique_from}
 
--- white space at the place goes to the place behind it
+-- where white space stands at the place, the tokens go on from the place behind it
 pub goes_white : (text : List ℕ) (from place n : ℕ) (rest : List ℕ) → rest ≡ drop place text → white_at rest ≡ Some n → GoesTo text from place → GoesTo text from (place + n)
 goes_white text from place n rest e w so = record { goes = λ more h. so.goes more (step_white text place n more (ap white_at (sym e) ∙ w) h) }
 
 pub end_next : (text : List ℕ) (from place : ℕ) → GoesTo text from place → place ≡ length text → SpellsFrom text from []
 end_next text from place so e = so.goes [] (step_end text place e)
 
--- a spelling is the next token
+-- the longest spelling at the place is the next token
 pub good_next : (text : List ℕ) (from : ℕ) (start behind : Cursor) (token : Token) (kind : TokenKind) (n : ℕ) (rest : List ℕ) → rest ≡ drop start.place text → longest_at rest ≡ Some (kind, n)
     → IsCursor text start → IsCursor text behind → from ≤ start.place → GoesTo text from start.place → token ≡ token_at text start.place kind (start.place + n) → behind.place ≡ start.place + n
     → IsNext text from token behind
@@ -41,7 +41,7 @@ good_next text from start behind token kind n rest e l is_start is_behind low so
           (step_token text start.place (kind, n) more within found (subst (λ p. SpellsFrom text p more) place h)));
     }
 
--- the rest of the text is the next token, where nothing begins
+-- where neither white space nor a spelling begins, the rest of the text is the next token
 pub bad_next : (text : List ℕ) (from : ℕ) (start behind : Cursor) (token : Token) (rest : List ℕ) → rest ≡ drop start.place text → longest_at rest ≡ None → white_at (drop start.place text) ≡ None
     → start.place < length text → IsCursor text behind → from ≤ start.place → GoesTo text from start.place → token ≡ token_at text start.place Bad (start.place + (length text - start.place)) → behind.place ≡ start.place + (length text - start.place)
     → IsNext text from token behind

@@ -45,7 +45,7 @@ line_short (c ∷ cs) (suc n) h =
     by_cases (c == octet_of "\n") (λ b. suc n < (if b then 1 else suc (line_length cs)) → (if b then 1 else suc (line_length (take n cs))) ≡ suc n)
     (λ e less. absurd (omega arith)) (λ e less. ap suc (line_short cs n (omega arith))) h
 
--- a line has no LF
+-- in front of a line's last octet stands no LF
 line_bare : (xs : List ℕ) (n : ℕ) → n < line_length xs → list_any (λ c. c == octet_of "\n") (take n xs) ≡ false
 unfolding line_length
 line_bare [] n h = absurd (omega arith)
@@ -283,7 +283,7 @@ either_letter c a b p q e =
     by_cases (c == a) (λ t. (c == a) ≡ t → (t || (c == b)) ≡ true → begins_name c ≡ true)
     (λ x f g. ap begins_name (eqb-true c a f) ∙ p) (λ x f g. ap begins_name (eqb-true c b g) ∙ q) refl e
 
--- a text that begins a multi-line string begins with four letters and a colon
+-- the text begins with four octets that may begin a name, and a colon, as a multi-line string does
 pub record IsTextColon (xs : List ℕ) : Type 0 where
   pub t : ℕ
   pub e : ℕ

@@ -1,4 +1,4 @@
--- What begins a text, against the spellings and the white space.
+-- What is found at the front of a text, against the spellings and the white space.
 use Rattle.std.proofs.Common.{◌≡◌, ℕ, zero, suc, ◌<◌, ◌≤◌, ◌==◌, ◌||◌, ◌&&◌, true, false, if◌then◌else◌, List, [], ◌∷◌, length, take, Option, Some, None, refl, sym, ap, ◌∙◌, subst, arith}
 use Rattle.std.proofs.lemmas.Option.{same_Some}
 use Rattle.std.specs.List.{list_all}
@@ -157,7 +157,7 @@ longest_at-found (c ∷ cs) found =
 
 -- NOTHING LONGER
 
--- no spelling is longer than what is found, and none of that length is of another kind
+-- a spelling of this kind and length is no longer than what is found; where it is as long, its kind is the one found
 pub record IsAtMost (rest : List ℕ) (kind : TokenKind) (m : ℕ) : Type 0 where
   pub found : TokenKind × ℕ
   pub is : longest_at rest ≡ Some found
@@ -185,7 +185,7 @@ at_quote : (cs : List ℕ) → longest_at (octet_of "\"" ∷ cs) ≡ option_map 
 unfolding longest_at
 at_quote cs = refl
 
--- what is found is known
+-- a spelling that is what is found is no longer than what is found
 exactly : (rest : List ℕ) (kind : TokenKind) (m : ℕ) → longest_at rest ≡ Some (kind, m) → IsAtMost rest kind m
 exactly rest kind m e = record { found = (kind, m); is = e; most = omega arith; only = λ s. refl }
 
@@ -200,7 +200,7 @@ name_colon : (rest : List ℕ) → name_length (octet_of ":" ∷ rest) ≡ 0
 unfolding name_length
 name_colon rest = refl
 
--- the name in front of a colon has four letters
+-- the name in front of the colon has three octets behind its first
 text_name : (c : ℕ) (cs : List ℕ) → IsTextColon (c ∷ cs) → name_length cs ≡ 3
 text_name c cs h =
     let tail : cs ≡ h.e ∷ h.x ∷ h.u ∷ octet_of ":" ∷ h.rest = (let is = h.is in cc) in

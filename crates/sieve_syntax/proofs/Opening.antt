@@ -100,7 +100,7 @@ end_is (c ∷ cs) =
     (λ q e. stop_is c cs ∙ ap (λ b. given b (line_length (c ∷ cs))) (sym (ends_step c cs (line_length (c ∷ cs)) (line_some (c ∷ cs) (omega arith)) e)))
     refl
 
--- no front of these is the first line of a multi-line string
+-- no front of a text that doesn't begin with `text:` is the first line of a multi-line string
 no_opening : (t e x u c : ℕ) (cs : List ℕ) (n : ℕ) → (spells_text t e x u && (c == octet_of ":")) ≡ false → is_opening (take n (t ∷ e ∷ x ∷ u ∷ c ∷ cs)) ≡ false
 unfolding is_opening
 no_opening t e x u c cs zero h = refl
@@ -183,7 +183,7 @@ lines_first (c ∷ cs) =
     plain n None = refl
     plain n (Some m) = refl
 
--- a multi-line string from its first line
+-- the length of a multi-line string is that of its first line and of the lines up to a dot alone
 pub multi_line_is : (xs : List ℕ) → multi_line_length (lines_of xs) ≡ elim (opening_length xs) as (λ z. Option ℕ) [ Some k ↦ shifted k (dot_length (lines_of (drop k xs))) | None ↦ None ]
 multi_line_is xs =
     lines_first xs

@@ -134,7 +134,7 @@ module _ (depth room : ℕ) where
   -- THE MACHINE AND THE TOKENS OF A TEXT
 
   module _ (text : List ℕ) where
-    -- what is read from a state that the machine reaches
+    -- where tokens lead from one state to another, what is read behind them is read from the other state
     read-run : (xs ys : List Token) (s t : ParserState) → run depth room s (symbols_of text xs) ≡ Some t → read depth room text s (xs ++ ys) ≡ read depth room text t ys
     unfolding run read
     read-run [] ys s t e = let same : s ≡ t = cc in ap (λ x. read depth room text x ys) same
@@ -168,7 +168,7 @@ module _ (depth room : ℕ) where
         ∙ run-append (symbols_of text front) (symbol_of text token ∷ []) start s e
         ∙ run-one s t (symbol_of text token) f
 
-    -- a token that the state does not take begins nothing
+    -- the tokens up to one that the state does not take begin nothing that a tree writes
     stuck_stops : (front : List Token) (token : Token) (s : ParserState) → run depth room start (symbols_of text front) ≡ Some s → step depth room s (symbol_of text token) ≡ None → Begins depth room (symbols_of text (front ++ token ∷ [])) → ⊥
     stuck_stops front token s e f h =
         let b = begins_run _ h in
@@ -180,7 +180,7 @@ module _ (depth room : ℕ) where
         let clash : Some b.0 ≡ None = sym some ∙ none in
         cc
 
-    -- what has no whole state is no tree
+    -- no tree writes the tokens where the state behind them is not whole
     part_stops : (tokens : List Token) (s : ParserState) → run depth room start (symbols_of text tokens) ≡ Some s → whole s ≡ None → (tree : List Node) → WritesSymbols depth room tree (symbols_of text tokens) → ⊥
     unfolding whole
     part_stops tokens s e f tree h =
@@ -202,7 +202,7 @@ module _ (depth room : ℕ) where
     whole_ended (before_test o ls) tree e = cc
     whole_ended (after_tests o ls h ts) tree e = cc
 
-    -- what is read, in the symbols of the grammar
+    -- what is read of tokens: a tree that writes their symbols, or the line of their fault
     abbrev pub IsRead : List Token → Result (List Node) ℕ → Type 0
     IsRead tokens (Ok tree) = WritesSymbols depth room tree (symbols_of text tokens)
     IsRead tokens (Err line) = IsFaultAt depth room text tokens line ⊎ IsFaultAtEnd depth room text tokens line

@@ -1,4 +1,4 @@
--- Worked rows of the definitions.
+-- Worked rows of spellings, of what they stand for, and of white space.
 use Rattle.std.proofs.Common.{◌≡◌, true, false, Some, None, refl, codes}
 use Rattle.sieve_syntax.specs.Line.{lines_of, is_dot_line, is_line_end}
 use Rattle.sieve_syntax.specs.Spelling.{is_identifier, is_tag, is_number, ends_number, is_quoted, ends_quoted, is_multi_line, are_multi_line, is_opening, ends_opening, end_at_dot}

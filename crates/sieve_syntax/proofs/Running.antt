@@ -37,11 +37,11 @@ read-end : (text : List ℕ) (s : ParserState) (o : Option (List Node)) → whol
 unfolding read
 read-end text s o e = ap (λ x. elim x as (λ z. Result (List Node) ℕ) [ Some tree ↦ Ok tree | None ↦ Err (line_at text (length text)) ]) e
 
--- a token that is taken goes on
+-- behind a token that the state takes, the next state gives what the text means
 pub next_means : (text : List ℕ) (s next : ParserState) (place : ℕ) (token : Token) (behind : Cursor) → IsNext text place token behind → step test_depth block_room s (symbol_of text token) ≡ Some next → Means text s place → Means text next behind.place
 next_means text s next place token behind is e so more h = sym (read-next text s next token more e) ∙ so (token ∷ more) (is.goes more h)
 
--- a token that isn't taken is the fault
+-- the line of a token that the state doesn't take is that of the text's fault
 pub stop_means : (text : List ℕ) (s : ParserState) (place : ℕ) (token : Token) (behind : Cursor) (fault : SyntaxFault) (o : outers.Outer) → IsNext text place token behind → Goes o (Err fault) (step test_depth block_room s (symbol_of text token)) token.line → Means text s place → Parses (Err fault) (syntax_of text)
 stop_means text s place token behind (Syntax line) o is h so =
     let more = some_tokens text behind.place is.is.within in
@@ -49,7 +49,7 @@ stop_means text s place token behind (Syntax line) o is h so =
 stop_means text s place token behind TooLarge o is h so = absurd h
 stop_means text s place token behind NoMemory o is h so = tt
 
--- the end
+-- at the end of the text, what the state gives is what the text means
 pub end_means : (text : List ℕ) (s : ParserState) (place : ℕ) (r : Result scripts.ParsedScript SyntaxFault) → SpellsFrom text place [] → Means text s place → Finishes r (whole s) (line_at text (length text)) → Parses r (syntax_of text)
 end_means text s place (Ok script) h so e = sym (so [] h) ∙ read-end text s _ e
 end_means text s place (Err (Syntax line)) h so e = sym (so [] h) ∙ read-end text s None e.0 ∙ ap (λ n. Err n) (sym e.1)

@@ -1,4 +1,4 @@
--- What `longest_at` finds in a text, kind by kind, against the spellings.
+-- The lengths of names, of numbers and of quoted strings in a text, against the spellings.
 use Rattle.std.proofs.Common.{◌≡◌, ℕ, zero, suc, ◌<◌, ◌≤◌, ◌==◌, ◌&&◌, Bool, true, false, if◌then◌else◌, List, [], ◌∷◌, length, take, Option, Some, None, refl, sym, ap, ◌∙◌, subst, arith}
 use Rattle.std.specs.List.{list_all}
 use Rattle.std.specs.Option.{option_map}
@@ -71,7 +71,7 @@ number_length-most (c ∷ cs) (suc m) h =
 
 -- QUOTED STRINGS
 
--- a number of octets lie in the text and end a quoted string
+-- the test holds of so many octets at the front of the text, and there is at least one
 pub record IsEnd (ends : List ℕ → Bool) (cs : List ℕ) (n : ℕ) : Type 0 where
   pub some : 0 < n
   pub inside : n ≤ length cs

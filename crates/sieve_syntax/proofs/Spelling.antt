@@ -19,7 +19,7 @@ pub step_white : (text : List ℕ) (place n : ℕ) (tokens : List Token) → whi
 step_white text place n [] e h = white place n (length text) e h
 step_white text place n (t ∷ ts) e h = (white place n t.start e h.0, h.1, h.2)
 
--- what a spelling of some length at a place says of the text there
+-- a range of the text is a front of what stands from the place on
 range-take : (text : List ℕ) (place n : ℕ) → slice_range text place (place + n) ≡ take n (drop place text)
 range-take text place n =
     let e : (place + n) - place ≡ n = omega arith in
@@ -153,7 +153,7 @@ bare-here text token more less (inl h) =
     let starts = there.starts in let inside = h.0.inside in (there.bare, omega arith)
 bare-here text token more less (inr h) = (h.0.no_white, h.0.start)
 
--- two tokens at one place are one
+-- two longest spellings at one place have one kind and one end
 longest-same : (text : List ℕ) (t u : Token) → t.start ≡ u.start → IsLongest text t → IsLongest text u → (t.kind ≡ u.kind) × (t.end ≡ u.end)
 longest-same text t u e h k =
     let a : IsThere text t = longest-there text t h in

@@ -1,4 +1,4 @@
--- The recursions that give values, one octet on.
+-- The recursions that give values, each taken on by an octet or by a line.
 use Rattle.std.proofs.Common.{◌≡◌, ℕ, ◌+◌, ◌-◌, ◌*◌, ◌^◌, ◌<◌, ◌≤◌, ◌==◌, ◌||◌, ◌&&◌, Bool, true, false, not, nat_lt, if◌then◌else◌, List, [], ◌∷◌, ◌++◌, length, take, drop, get_or, Some, None, refl, sym, ap, ◌∙◌, arith, append_assoc, append-nil}
 use Rattle.std.specs.List.{list_any, slice_range}
 use Rattle.std.proofs.lemmas.Bool.{lt-ltb}
@@ -24,7 +24,7 @@ unit_some c =
     by_cases (c == octet_of "K" || (c == octet_of "k")) (λ b. 1 ≤ (if b then 1024 else (if c == octet_of "M" || (c == octet_of "m") then 1048576 else 1073741824))) (λ e. omega arith)
     (λ e. by_cases (c == octet_of "M" || (c == octet_of "m")) (λ b. 1 ≤ (if b then 1048576 else 1073741824)) (λ f. omega arith) (λ f. omega arith))
 
--- the digits so far are no more than the number
+-- the number that the digits so far give is no greater than the whole number
 pub number_grows : (xs : List ℕ) (n : ℕ) → n ≤ number_from n xs
 unfolding number_from
 number_grows [] n = omega arith
@@ -74,14 +74,14 @@ unfolding unprotected
 kept-end xs i true h = at_drop_all first_kept xs i h
 kept-end xs i false h = at_drop_all unprotected xs i h
 
--- a quoted string of fewer than two octets
+-- a quoted string of fewer than two octets stands for no octets
 pub no_octets : (symbol : List ℕ) → length symbol < 2 → quoted_octets symbol ≡ []
 unfolding quoted_octets unprotected with_cr
 no_octets [] h = refl
 no_octets (c ∷ []) h = refl
 no_octets (c ∷ d ∷ ds) h = absurd (omega arith)
 
--- octets of which each stands for itself
+-- octets of which each stands for itself are kept as they are
 plain_kept : (xs : List ℕ) (after_cr : Bool) → list_any is_changed xs ≡ false → unprotected (with_cr after_cr xs) ≡ xs
 unfolding unprotected with_cr
 plain_kept [] after_cr e = refl

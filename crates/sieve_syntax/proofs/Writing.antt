@@ -164,7 +164,7 @@ pub record Takes (depth room : ℕ) (front : List Symbol) (w : Symbol) (s : Pars
 block_end : (a b c d e : List Symbol) → a ++ (b ++ ((c ++ d) ++ (open_brace ∷ (e ++ close_brace ∷ [])))) ≡ ((a ++ (b ++ (c ++ (d ++ open_brace ∷ [])))) ++ e) ++ close_brace ∷ []
 block_end a b c d e = simp append_assoc
 
--- the head of a command or a test with one more argument
+-- the symbols of the last argument of a command or a test are the last of all
 argument_end : (a b c d : List Symbol) (w : Symbol) → a ++ (b ++ (w ∷ (c ++ d))) ≡ (a ++ (b ++ w ∷ c)) ++ d
 argument_end a b c d w = simp append_assoc
 
@@ -187,7 +187,7 @@ module _ (depth room : ℕ) where
   levels_left (for_one g ∷ ls) d h = omega (arith, levels_left ls (suc d) h.1)
   levels_left (for_list g before ∷ ls) d h = omega (arith, levels_left ls (suc d) h.2)
 
-  -- into a block
+  -- where there is room for one more block, the state inside it is in order
   enter : (o : Outer) (h : Head) (ts : Tests) (r : ℕ) → IsBlocks depth room o.blocks r → NestsNodes depth (nodes o.done) r → length o.blocks < room → AreArguments h.args → NestsTests ts depth → IsOuter depth room (inside_block o h ts)
   unfolding NestsNodes
   enter o h ts zero blocks done fits args nests = absurd (omega (arith, blocks_left o.blocks 0 blocks))
@@ -244,7 +244,7 @@ module _ (depth room : ℕ) where
             ∙ block_end (block_symbols bs) (written_nodes (nodes b.done)) (head_symbols b.head) (written_tests b.tests) (written_nodes (nodes done));
       }
 
-  -- an argument is read
+  -- a command or a test whose arguments are being read stays in order with one more argument
   argument_takes : (o : Outer) (ls : List Level) (h : Head) (a : Argument) → IsOpen depth room o ls h → IsArgument a → IsOpen depth room o ls (with_argument h a)
   argument_takes o ls h a is k = record { outer = is.outer; left = is.left; levels = is.levels; args = arguments_are h.args a is.args k }
 
@@ -261,7 +261,7 @@ module _ (depth room : ℕ) where
     symbols = argument_symbols o ls h a ∙ ap (λ x. (outer_symbols o ++ (level_symbols ls ++ head_symbols h)) ++ x) e;
   }
 
-  -- the depth that is there for a test is what the innermost one may use and one more
+  -- where fewer levels are open than there may be, depth is left for one more
   deeper : (ls : List Level) (d : ℕ) → IsLevels depth ls d → length ls < depth → (n : ℕ) × (d ≡ suc n)
   deeper ls zero is fits = absurd (omega (arith, levels_left ls 0 is))
   deeper ls (suc n) is fits = (n, refl)
