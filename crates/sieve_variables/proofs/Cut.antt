@@ -1,4 +1,4 @@
--- The computed cut is the one cut.
+-- The computed cut of a text into references and octets is the one cut.
 use Rattle.sieve_base.specs.Octet.{octet_of}
 use Rattle.std.proofs.Common.{◌≡◌, ℕ, zero, suc, ◌+◌, Bool, true, false, ◌&&◌, ◌==◌, cond, List, [], ◌∷◌, ◌++◌, length, drop, Option, None, Some, refl, sym, ◌∙◌, ap, subst, append_assoc, length-append, arith}
 use Rattle.std.specs.List.{list_all}
@@ -9,7 +9,7 @@ use Rattle.sieve_variables.specs.Scan.{before_brace, first_piece, further_octets
 use Rattle.sieve_variables.proofs.Words.{dotted-words_of, dotted_inside, legal_octets, legal_some, not_brace, words_of-dotted}
 use Rattle.sieve_base.proofs.Both.{first_of_both, last_of_both}
 
--- in front of a brace
+-- what stands in front of the first `}`
 
 pub before_brace-is : (inside rest : List ℕ) → list_all is_inside inside ≡ true → before_brace (inside ++ octet_of "}" ∷ rest) ≡ Some inside
 unfolding before_brace
@@ -21,7 +21,7 @@ before_brace-is (c ∷ cs) rest is =
     ∙ ap (λ b. cond b (option_map (λ inside. c ∷ inside) (before_brace (cs ++ octet_of "}" ∷ rest))) None) here
     ∙ ap (option_map (λ inside. c ∷ inside)) behind
 
--- a text with what stands before its brace
+-- a text begins with what stands inside a reference and the `}` behind it
 abbrev EndsIn : List ℕ → List ℕ → Type 0
 EndsIn text inside = text ≡ inside ++ octet_of "}" ∷ drop (suc (length inside)) text
 
@@ -42,7 +42,7 @@ before_brace-ends [] inside is = absurd cc
 before_brace-ends (c ∷ cs) inside is =
     brace_step c cs inside (c == octet_of "}") (is_inside c) (before_brace cs) refl (λ within found. before_brace-ends cs within found) is
 
--- at the beginning of a text
+-- the reference at the beginning of a text
 
 legal_is : (inside : List ℕ) → is_legal (words_of inside) ≡ true → if_legal (Some inside) ≡ Some inside
 legal_is inside legal = ap (λ b. cond b (Some inside) None) legal
@@ -126,7 +126,7 @@ no_reference text none begins =
     let is : inside_at text ≡ Some (dotted begins.words) = ap inside_at same ∙ found in
     cc
 
--- the pieces
+-- the pieces of a text
 
 pub pieces_from-drop : (skip : ℕ) (text : List ℕ) → pieces_from skip text ≡ pieces_from 0 (drop skip text)
 unfolding pieces_from
@@ -161,7 +161,7 @@ pieces-written words rest legal =
     ∙ ap (λ text. reference (words_of (dotted words)) ∷ pieces_from 0 text) (drop_inside (dotted words) rest)
     ∙ ap (λ one. reference one ∷ pieces_from 0 rest) same
 
--- each cut is the computed one
+-- each cut of a text is the computed one
 
 pub cut_is : (pieces : List TextPiece) (text : List ℕ) → Cuts pieces text → pieces ≡ pieces_from 0 text
 unfolding pieces_from
@@ -176,7 +176,7 @@ cut_is (octet c ∷ pieces) text (nowhere, rest, is, cut) =
     ∙ sym (pieces-octet c rest none)
     ∙ ap (pieces_from 0) (sym is)
 
--- the computed cut is one
+-- the computed cut is a cut of the text
 
 drop_two : (n : ℕ) (rest : List ℕ) → drop (suc (suc n)) rest ≡ drop (suc n) (drop 1 rest)
 drop_two n [] = refl

@@ -33,7 +33,7 @@ held-insert ((other, old) ∷ es) name value = by (pointwise nat_eq name.items o
     by true rest = refl
     by false rest = ap (λ l. (other.items, old) ∷ l) rest
 
--- what is written to the entry of a name that is set is what is put there
+-- a value that is written to the entry of a name that is set is put under that name
 held-set : (es : List (Vec ℕ Global × List ℕ)) (name value held : List ℕ) → lookup (λ k. pointwise nat_eq name k.items) es ≡ Some held
     → held_of (set_value (λ k. pointwise nat_eq name k.items) es value) ≡ ordered.insert_entry (pointwise nat_eq) (held_of es) name value
 unfolding held_of
@@ -47,14 +47,14 @@ held-set ((other, old) ∷ es) name value held found = by (pointwise nat_eq name
     by true there rest = refl
     by false there rest = ap (λ l. (other.items, old) ∷ l) (rest there)
 
--- an entry that is put sets its name
+-- an entry that is put holds its value under its name
 pub put_held : (variables : List (List ℕ × List ℕ)) (es new : List (Vec ℕ Global × List ℕ)) (name : Vec ℕ Global) (octets value : List ℕ) → held_of es ≡ variables → name.items ≡ octets
     → new ≡ ordered.insert_entry (λ x y. pointwise nat_eq x.items y.items) es name value → held_of new ≡ with_held octets value variables
 put_held variables es new name octets value is named made =
     ap held_of made ∙ held-insert es name value
     ∙ ap (λ n. ordered.insert_entry (pointwise nat_eq) (held_of es) n value) named ∙ ap (with_held octets value) is
 
--- a value that is written is held
+-- a value that is written to the entry of a name is held under that name
 pub set_held : (variables : List (List ℕ × List ℕ)) (es new : List (Vec ℕ Global × List ℕ)) (name value held : List ℕ) → held_of es ≡ variables
     → lookup (λ k. pointwise nat_eq name k.items) es ≡ Some held → new ≡ set_value (λ k. pointwise nat_eq name k.items) es value → held_of new ≡ with_held name value variables
 set_held variables es new name value held is found made =
@@ -66,13 +66,13 @@ pub found_held : (variables : List (List ℕ × List ℕ)) (es : List (Vec ℕ G
 found_held variables es name found is says =
     ap (λ l. is_some (lookup (pointwise nat_eq name) l)) (sym is) ∙ ap is_some (lookup_held name es) ∙ sym says
 
--- there is room where the name's entry is
+-- there is room for a name whose entry is there
 pub room_there : (variables : List (List ℕ × List ℕ)) (es : List (Vec ℕ Global × List ℕ)) (name : List ℕ) (found : Bool) → held_of es ≡ variables
     → found ≡ is_some (lookup (λ k. pointwise nat_eq name k.items) es) → found ≡ true → found ≡ has_room_under name variables
 room_there variables es name found is says there =
     there ∙ sym (ap (λ b. b || nat_lt (length variables) 128) (found_held variables es name found is says ∙ there))
 
--- there is room for a name that isn't there where there are few entries
+-- there is room for a name that isn't there exactly where there are fewer than 128 entries
 pub room_left : (variables : List (List ℕ × List ℕ)) (es : List (Vec ℕ Global × List ℕ)) (name : List ℕ) (found : Bool) (count : ℕ) → held_of es ≡ variables
     → found ≡ is_some (lookup (λ k. pointwise nat_eq name k.items) es) → found ≡ false → count ≡ length es → nat_lt count 128 ≡ has_room_under name variables
 room_left variables es name found count is says missing counted =

@@ -15,7 +15,7 @@ use Rattle.sieve_variables.specs.declared.modifier.Modifiers.{Modifiers}
 
 -- FIRST LETTERS
 
--- the first octet is written where there is one
+-- a value whose first octet is written in a case is the value with its first letter in that case
 pub first_written : (one : LetterCase) (value : List ℕ) → 0 < length value → set value 0 (in_case one (get_or value 0 0)) ≡ with_first (Some one) value
 first_written one [] some = absurd (omega arith)
 first_written one (c ∷ cs) some = refl
@@ -39,7 +39,7 @@ in_case-goes_on : (one : LetterCase) (c : ℕ) → not (goes_on (in_case one c))
 in_case-goes_on Lower c = ap not (lower-goes_on c)
 in_case-goes_on Upper c = ap not (upper-goes_on c)
 
--- nor is one wild in one case and not in the other
+-- no octet is wild in one case and not in the other
 in_case-is_wild : (one : LetterCase) (c : ℕ) → is_wild (in_case one c) ≡ is_wild c
 in_case-is_wild Lower c = lower-is_wild c
 in_case-is_wild Upper c = upper-is_wild c
@@ -87,19 +87,19 @@ with_one : (b : Bool) (c : ℕ) (a d : List ℕ) (n : ℕ) → length a ≡ leng
 with_one true c a d n e = omega arith
 with_one false c a d n e = e
 
--- an octet in front, which is quoted if it is wild: so does `\` begin a character, and is one
+-- an octet in front, with a `\` before it where it is wild, adds to the characters what it counts itself, and one for the `\`
 quoted_one : (wild : Bool) (c : ℕ) (cs : List ℕ) → character_count (flat_map quoted_wildcard cs) ≡ character_count cs + length (filter is_wild cs)
     → character_count ((if wild then octet_of "\\" ∷ c ∷ [] else c ∷ []) ++ flat_map quoted_wildcard cs) ≡ character_count (c ∷ cs) + length (cond wild (c ∷ filter is_wild cs) (filter is_wild cs))
 quoted_one true c cs rest =
     let one = with_one (not (goes_on c)) c (filter (λ d. not (goes_on d)) (flat_map quoted_wildcard cs)) (filter (λ d. not (goes_on d)) cs) (length (filter is_wild cs)) rest in omega (arith, one)
 quoted_one false c cs rest = with_one (not (goes_on c)) c (filter (λ d. not (goes_on d)) (flat_map quoted_wildcard cs)) (filter (λ d. not (goes_on d)) cs) (length (filter is_wild cs)) rest
 
--- what is quoted has a character more for each wild octet
+-- a value whose wild octets are quoted has a character more for each of them
 pub characters-quoted : (value : List ℕ) → character_count (flat_map quoted_wildcard value) ≡ character_count value + length (filter is_wild value)
 characters-quoted [] = refl
 characters-quoted (c ∷ cs) = quoted_one (is_wild c) c cs (characters-quoted cs)
 
--- for functions' attributes
+-- rules of counts, for functions' attributes
 pub ruleset counts = (length-filter, count_by-le-length, characters-cased, wild-cased, characters-quoted)
 
 -- CUTS
@@ -115,11 +115,11 @@ cut-first (suc n) (Some one) [] = refl
 cut-first zero (Some one) (c ∷ cs) = refl
 cut-first (suc n) (Some one) (c ∷ cs) = refl
 
--- the front in the cases that are asked for is the front of the value in them
+-- the front of a value in the cases that are asked for is the front of the value, in these cases
 pub cut-cased : (n : ℕ) (case first : Option LetterCase) (value : List ℕ) → take n (with_first first (with_case case value)) ≡ with_first first (with_case case (take n value))
 cut-cased n case first value = cut-first n first (with_case case value) ∙ ap (with_first first) (cut-case n case value)
 
--- fronts are equal with an octet in front of them
+-- equal fronts stay equal with an octet in front of them
 front-cons : (c k : ℕ) (a b : List ℕ) → ((m : ℕ) → m ≤ k → take m a ≡ take m b) → (n : ℕ) → n ≤ suc k → take n (c ∷ a) ≡ take n (c ∷ b)
 front-cons c k a b all zero within = refl
 front-cons c k a b all (suc n) within = ap (λ (l : List ℕ). c ∷ l) (all n (omega arith))
@@ -137,7 +137,7 @@ front-quoted (c ∷ cs) (suc k) n within = by (is_wild c) (front-quoted cs k)
     by true all = front-cons (octet_of "\\") (suc k) _ _ (front-cons c k _ _ all) n (omega arith)
     by false all = front-cons c k _ _ all n within
 
--- no number has more digits than a value may have octets
+-- no number of 64 bits has more digits than a value may have octets
 pub digits_whole : (n : ℕ) → n < 2 ^ 64 → take value_limit (decimal n) ≡ decimal n
 digits_whole n small = take_all 4096 (decimal n) (omega (arith, length-decimal-le 20 n (omega arith) (omega arith) small))
 
@@ -151,12 +151,12 @@ module _ (m : Modifiers) (value : List ℕ) where
   unfolding modified by_flags
   flags-are counted quoted l q = ap (λ b. by_flags b quoted) (sym l) ∙ ap (by_flags m.length) (sym q)
 
-  -- without `:quotewildcard` and `:length`
+  -- a value modified without `:quotewildcard` and without `:length`
   pub modified-plain : m.length ≡ false → m.quote_wildcard ≡ false → with_first m.first_letter (with_case m.letter_case (take value_limit value)) ≡ modified m value
   unfolding by_flags
   modified-plain l q = sym (cut-cased value_limit m.letter_case m.first_letter value) ∙ flags-are false false l q
 
-  -- with `:quotewildcard`, and without `:length`
+  -- a value modified with `:quotewildcard` and without `:length`
   pub modified-quoted : m.length ≡ false → m.quote_wildcard ≡ true → take value_limit (flat_map quoted_wildcard (with_first m.first_letter (with_case m.letter_case (take value_limit value)))) ≡ modified m value
   unfolding by_flags
   modified-quoted l q =
@@ -164,10 +164,10 @@ module _ (m : Modifiers) (value : List ℕ) where
       ∙ front-quoted (with_first m.first_letter (with_case m.letter_case value)) value_limit value_limit (omega arith)
       ∙ flags-are false true l q
 
-  -- with `:length`
+  -- a value modified with `:length`
   pub modified-length : m.length ≡ true → take value_limit (decimal (character_count (with_quotes m.quote_wildcard (with_first m.first_letter (with_case m.letter_case value))))) ≡ modified m value
   unfolding by_flags
   modified-length l = flags-are true m.quote_wildcard l refl
 
--- for functions' attributes
+-- rules of whole values, for functions' attributes
 pub ruleset wholes = (modified-plain, modified-quoted, modified-length)

@@ -48,7 +48,7 @@ quoted_all : modified quotes (codes "a?b\\c") ≡ codes "a\\?b\\\\c"
 unfolding modified
 quoted_all = refl
 
--- what is quoted is counted
+-- `:length` counts the `\` that `:quotewildcard` puts in front of a wild octet
 counted_quoted : modified (record counts { quote_wildcard = true }) (codes "Rock*") ≡ codes "6"
 unfolding modified digits
 counted_quoted = refl

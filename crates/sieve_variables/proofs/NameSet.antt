@@ -10,7 +10,7 @@ use lib.Pointwise.{pointwise}
 use Rattle.sieve_variables.specs.view.Names.{names_of}
 use Rattle.sieve_variables.specs.Variable.{with_name}
 
--- a name is among them where its key is
+-- a name is among the names where its key is among the keys
 among_names : (name : List ℕ) (keys : List (Vec ℕ Global)) → is_among name (names_of keys) ≡ list_any (λ k. pointwise nat_eq name k.items) keys
 unfolding names_of
 among_names name [] = refl

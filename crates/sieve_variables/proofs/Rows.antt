@@ -1,4 +1,4 @@
--- Small texts, computed.
+-- Worked rows of references in small texts, of their parts, and of the variables that names stand for.
 use Rattle.std.specs.Prelude.{◌≡◌, true, false, [], ◌∷◌, codes, refl}
 use Rattle.sieve_base.specs.Octet.{octet_of}
 use Rattle.sieve_variables.specs.Part.{global_part, literal, local_part, match_part, scoped_part}

@@ -13,7 +13,7 @@ use Rattle.sieve_variables.specs.view.Part.{added, literal_part}
 use Rattle.sieve_variables.proofs.Cut.{inside_written, length-written, pieces-octet, pieces-reference}
 use Rattle.sieve_variables.proofs.Words.{some_words}
 
--- what is found
+-- whether a piece of a text passes a test, found piece by piece
 
 none_at_end : inside_at [] ≡ None
 unfolding inside_at

@@ -38,12 +38,12 @@ apart : text_value shared (local_part (codes "name") ∷ global_part (codes "nam
 unfolding shared
 apart = refl
 
--- a script that it includes has the shared one alone
+-- a script that is included has the shared variable alone
 included : text_value (begun_values shared) (local_part (codes "name") ∷ global_part (codes "name") ∷ []) ≡ codes "all"
 unfolding shared
 included = refl
 
--- the included script sets both, and matches
+-- the included script sets both variables, and a match succeeds in it
 ended : Values
 ended = with_matched (codes "m" ∷ []) (with_variable (global_variable (codes "name")) (codes "new") (with_variable (local_variable (codes "name")) (codes "other") (begun_values shared)))
 
@@ -64,7 +64,7 @@ numbered : ℕ → List (List ℕ × List ℕ)
 numbered zero = []
 numbered (suc n) = (0 ∷ n ∷ [], []) ∷ numbered n
 
--- values of which as many are shared as there may be
+-- values with n variables of the script and n shared
 crowded : ℕ → Values
 crowded n = record { locals = numbered n; globals = numbered n; matched = [] }
 

@@ -172,7 +172,7 @@ not_legal inside namespace behind cut is =
 pub names_cut : (inside word behind : List ℕ) → words_of inside ≡ word ∷ words_of behind → list_all is_name (words_of inside) ≡ (is_name word && list_all is_name (words_of behind))
 names_cut inside word behind cut = ap (list_all is_name) cut
 
--- whether there is more than one word
+-- whether a reference has more than one word
 
 length-onto : (c : ℕ) (words : List (List ℕ)) → 0 < length words → length (onto_first c words) ≡ length words
 length-onto c [] some = absurd (omega arith)
@@ -194,7 +194,7 @@ only_word (word ∷ next ∷ words) inside some one is = absurd (grind (arith, n
 pub one_word : (inside : List ℕ) → nat_lt 1 (length (words_of inside)) ≡ false → words_of inside ≡ inside ∷ []
 one_word inside one = only_word (words_of inside) inside (some_words inside) one (dotted-words_of inside)
 
--- a reference that is far
+-- a reference to a match variable whose number is past the limit
 
 pub far_word : (inside : List ℕ) → nat_lt 1 (length (words_of inside)) ≡ false → is_far (reference (words_of inside)) ≡ (is_number inside && nat_lt 99 (index_of inside))
 far_word inside one = ap (λ words. is_far (reference words)) (one_word inside one)
@@ -215,7 +215,7 @@ no_and false = refl
 identifier_word : (word : List ℕ) → is_identifier word ≡ true → words_of word ≡ word ∷ []
 identifier_word word is = ap words_of (sym (append-nil word)) ∙ split_last word (identifier_octets word is)
 
--- what is no identifier is no name that scripts share
+-- a name that is no identifier names no variable that scripts share
 not_shared : (namespace name : List ℕ) → is_identifier name ≡ false → is_shared namespace name ≡ false
 not_shared namespace name other = ap (λ b. str_eq_ignore_ascii_case global_namespace namespace && b) other ∙ no_and (str_eq_ignore_ascii_case global_namespace namespace)
 
@@ -240,7 +240,7 @@ is_not : (b : Bool) → not b ≡ false → b ≡ true
 is_not true e = refl
 is_not false e = sym e
 
--- a name behind `global.` is that of a variable that scripts share
+-- a reference in a namespace that is no other than `global` is to the shared variable of the name behind the dot
 pub shared_cut : (inside namespace name : List ℕ) → words_of inside ≡ namespace ∷ words_of name → is_foreign (reference (words_of inside)) ≡ false → global_part (folded_name name) ≡ part_of_words (words_of inside)
 shared_cut inside namespace name cut own =
     let shared : is_shared namespace name ≡ true = is_not (is_shared namespace name) (foreign_cut inside namespace name cut ∙ own) in
