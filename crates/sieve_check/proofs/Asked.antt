@@ -127,7 +127,7 @@ module _ (tags : List Tag) (slots : List Slot) (args : List Argument) where
       → is_some (texts_in (in_role wanted its_labels args)) ≡ true
   texts_are_read wanted own take comes filled keep = texts_read (in_role wanted its_labels args) (texts_fit wanted own take keep) (is_there wanted comes filled)
 
-  -- texts that may be left out are read where they are given
+  -- texts that may be left out are read, given or not
   pub given_texts_are_read : (wanted : Role) → tags_may_take wanted form.List ≡ true → all_may_take wanted form.List slots ≡ true → AllKeep its_labels args → is_some (given_texts (in_role wanted its_labels args)) ≡ true
   given_texts_are_read wanted own take keep = given_texts_read (in_role wanted its_labels args) (texts_fit wanted own take keep)
 
@@ -164,7 +164,7 @@ module _ (tags : List Tag) (slots : List Slot) (args : List Argument) where
       collation_read (in_role role.ComparatorName its_labels args)
       (role_fits role.ComparatorName form.One (tags_take role.ComparatorName form.One refl) tags (λ a. is_some (collation_by (Some a))) (collation_good tags) args (expecting slots) tt (slots_take role.ComparatorName form.One slots take) keep)
 
--- what holds of the slots of a row, with the one in front and without it
+-- what holds of a row's slots both with the one in front and without it holds of the slots that are meant
 pub either_slots : (passes : List Slot → Bool) (front : Slot) (slots : List Slot) (shapes : List Shape) → passes (front ∷ slots) ≡ true → passes slots ≡ true → passes (slots_with (Some front) slots shapes) ≡ true
 either_slots passes front slots shapes longer shorter = chosen (fills (expecting (front ∷ slots)) shapes)
   where
@@ -178,7 +178,7 @@ abbrev differ : Bool → Bool → Bool
 differ true other = not other
 differ false other = other
 
--- where no tag of a kind is there, none of that kind's tags is
+-- a tag of another kind is another tag
 not_it : (wanted t : Tag) (b : Bool) → same_tag wanted t ≡ b → same_kind (tag_row wanted).kind (tag_row t).kind ≡ false → b ≡ false
 not_it wanted t true e other = absurd (never_both (sym (own_kind (tag_row wanted).kind) ∙ ap (λ x. same_kind (tag_row wanted).kind (tag_row x).kind) (one_tag wanted t e) ∙ other))
 not_it wanted t false e other = refl
@@ -190,13 +190,14 @@ not_tagged wanted (Own slot) other = refl
 not_tagged wanted (InSlot slot) other = refl
 not_tagged wanted Unfit other = refl
 
+-- where no tag of a kind is there, none of that kind's tags is
 none_tagged : (wanted : Tag) (labels : List Label) → list_any (is_of_kind (tag_row wanted).kind) labels ≡ false → has_tag wanted labels ≡ false
 none_tagged wanted [] none = refl
 none_tagged wanted (label ∷ labels) none =
     let parts = or_parts (is_of_kind (tag_row wanted).kind label) (list_any (is_of_kind (tag_row wanted).kind) labels) none in
     ap (λ b. b || has_tag wanted labels) (not_tagged wanted label parts.0) ∙ none_tagged wanted labels parts.1
 
--- a bound is one of the two
+-- a tag of the kind of bounds is either `:over` or `:under`
 abbrev is_bound : Tag → Bool
 is_bound t = not (same_kind tag_kind.Bound (tag_row t).kind) || differ (same_tag tag.Over t) (same_tag tag.Under t)
 
@@ -219,7 +220,7 @@ with_none : (a b c d : Bool) → c ≡ false → d ≡ false → differ a b ≡ 
 with_none true b c d first second one = neither b d second one
 with_none false b c d first second one = ap (λ x. differ x (b || d)) first ∙ still_one b d one
 
--- with a tag in front
+-- with a tag in front, exactly one of `:over` and `:under` is there where a bound is
 bound_at : (t : Tag) (labels : List Label) (b : Bool) → same_kind tag_kind.Bound (tag_row t).kind ≡ b → list_any (is_of_kind (tag_row t).kind) labels ≡ false → (b || list_any (is_of_kind tag_kind.Bound) labels) ≡ true
     → (list_any (is_of_kind tag_kind.Bound) labels ≡ true → differ (has_tag tag.Over labels) (has_tag tag.Under labels) ≡ true)
     → differ (has_tag tag.Over (Tagged t ∷ labels)) (has_tag tag.Under (Tagged t ∷ labels)) ≡ true
@@ -232,7 +233,7 @@ bound_at t labels false is once there later =
     ∙ ap (λ b. differ (has_tag tag.Over labels) (b || has_tag tag.Under labels)) (not_tagged tag.Under (Tagged t) is)
     ∙ later there
 
--- where no kind is there twice and a bound is there, it is one of the two
+-- where no kind is there twice and a bound is there, exactly one of `:over` and `:under` is there
 one_bound : (labels : List Label) → has_repeated labels ≡ false → list_any (is_of_kind tag_kind.Bound) labels ≡ true → differ (has_tag tag.Over labels) (has_tag tag.Under labels) ≡ true
 one_bound [] once there = absurd (not_both there)
 one_bound (Tagged t ∷ labels) once there =
@@ -265,7 +266,7 @@ size_asks false false limit one is = absurd (not_both one)
 abbrev Says : TestKind → List Argument → syntax.Tests → Type 0
 Says k args ts = AsRowSays (test_row k) (map (shape_of (test_row k).tags) args) args ts false
 
--- the source of a test that compares, and what it asks
+-- a test that compares values with keys asks something where its arguments are as its row says
 header_reads : (args : List Argument) (ts : syntax.Tests) → Says kind.Header args ts → let labels = row_labels (test_row kind.Header) args in is_some (compares_by (header_source labels args) labels args) ≡ true
 header_reads args ts says =
     let row = test_row kind.Header in

@@ -21,7 +21,7 @@ test_list_parted : (cutting : Cutting) (ts : List syntax.Test) → parted_test_l
 test_list_parted cutting [] = refl
 test_list_parted cutting (t ∷ ts) = ap (λ rest. more_tests (parted_test cutting t) rest) (test_list_parted cutting ts)
 
--- the list of commands and back
+-- commands made a list and back are the same commands
 nodes-items : (ns : Nodes) → nodes (items ns) ≡ ns
 nodes-items end_nodes = refl
 nodes-items (more_nodes n ns) = ap (λ rest. more_nodes n rest) (nodes-items ns)
@@ -36,7 +36,7 @@ list_copied cutting copies ts xs whole is same e =
     ∙ sym (ap (λ cs. test_list cs) (test_list_parted cutting (map seen.test_of ts.items)))
     ∙ sym (ap (parted_tests cutting) (ap seen.tests_of is ∙ views.list_seen seen.octets_of ts))
 
--- the arguments of a command of that name
+-- the arguments of a command of that name, with their strings cut into parts
 abbrev pub parted_args : Cutting → List ℕ → List syntax.Argument → List Argument
 parted_args cutting name args = parted_labelled cutting (command_labels (command_named name) args) args
 

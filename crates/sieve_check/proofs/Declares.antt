@@ -39,7 +39,7 @@ arguments_declare_none scope labels (a ∷ args) = arguments_declare_none (assig
 
 -- WHAT COMMANDS DECLARE
 
--- nor do arguments without labels
+-- arguments without labels declare nothing
 pub unlabelled : (declared : List (List ℕ)) (args : List Argument) → declaring_arguments declared [] args ≡ declared
 unlabelled declared [] = refl
 unlabelled declared (strings items bracketed ∷ args) = unlabelled declared args

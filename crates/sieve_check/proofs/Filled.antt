@@ -38,7 +38,7 @@ length-map f [] = refl
 length-map f (x ∷ xs) = ap suc (length-map f xs)
 
 module _ (cutting : Cutting) where
-  -- each has the shape that it had
+  -- a parted argument has the shape of the argument
   same_shape : (tags : List Tag) (r : Option Role) (a : syntax.Argument) → shape_of tags (parted_argument cutting r a) ≡ shape_of tags a
   same_shape tags r (syntax.strings items bracketed) = ap (λ n. texts_shape n bracketed) (length-map (parted_text cutting r) items)
   same_shape tags r (syntax.number value line) = refl
@@ -51,7 +51,7 @@ module _ (cutting : Cutting) where
       ∙ ap (λ l. shape_of tags a ∷ l) (same_shapes tags (drop 1 labels) args)
 
 module _ (cutting : Cutting) (context : Context) where
-  -- arguments without a breach name comparators where they have to, and their numbers have a value
+  -- a comparator's name still names one when the string is cut
   names_well : (r : Option Role) (octets : List ℕ) → (has_role role.ComparatorName r && is_none (collation_named octets)) ≡ false → (has_role role.ComparatorName r && is_none (option_and_then collation_named (literal_in_parts (parts_in cutting r octets)))) ≡ false
   names_well r octets fine = by_role r (has_role role.ComparatorName r) refl fine
     where
@@ -80,6 +80,7 @@ module _ (cutting : Cutting) (context : Context) where
   argument_keeps r (syntax.number value line) none = keeps (the_number value line) (none_in_front (the_number value line) [] none).0 NumberTooLarge
   argument_keeps r (syntax.tag name line) none = tt
 
+  -- arguments without a breach name what they have to, and their numbers have a value
   arguments_keep : (labels : List Label) (args : List syntax.Argument) → breaches_in (labelled_elements context labels args) ≡ [] → AllKeep labels (parted_labelled cutting labels args)
   arguments_keep labels [] none = tt
   arguments_keep labels (a ∷ args) none =
@@ -167,7 +168,7 @@ not_one n = grind (arith, nat_tests)
 two_are_no_text : (n : ℕ) (bracketed : Bool) → fits form.One (texts_shape (suc (suc n)) bracketed) ≡ true → ⊥
 two_are_no_text n bracketed fit = no_list (nat_eq (suc (suc n)) 1 && not bracketed) (ap (λ b. b && not bracketed) (not_one n)) fit
 
--- an argument that is one string without brackets names well
+-- an argument that fits the form of one string is read as one
 pub text_good_alone : (tags : List Tag) (r : Option Role) (a : Argument) → Keeps r a → fits form.One (shape_of tags a) ≡ true → is_some (text_in (Some a)) ≡ true
 text_good_alone tags r (strings [] bracketed) keeps fit = absurd (no_list (nat_eq 0 1 && not bracketed) refl fit)
 text_good_alone tags r (strings (t ∷ []) bracketed) keeps fit = refl
@@ -204,7 +205,7 @@ given_some : {X : Type 0} (o : Option X) → is_some o ≡ true → is_some (opt
 given_some None is = absurd (not_both is)
 given_some (Some x) is = refl
 
--- what an argument that is there is read as, and one that may be left out
+-- an argument in a role is read where it is there, and one that may be left out is read in any case
 pub texts_read : (o : Option Argument) → none_or (λ a. is_some (texts_in (Some a))) o ≡ true → is_some o ≡ true → is_some (texts_in o) ≡ true
 texts_read None good there = absurd (not_both there)
 texts_read (Some a) good there = good

@@ -38,7 +38,7 @@ Answer = Result (Unit {0}) CheckFault
 
 -- TESTS
 
--- a test that there isn't
+-- a test of a name that no test has breaks the rule of unknown commands first
 pub test_unknown : (t : one_tests.Test (SmallVec ℕ)) (context : Context) (name : List ℕ) (line : ℕ) → None ≡ table.test_named name → name ≡ (one_tests.out-Test (SmallVec ℕ) t).name.items → line ≡ (one_tests.out-Test (SmallVec ℕ) t).line → IsFirst (breaches_in (test_head context t)) (faults.Breach line UnknownCommand)
 unfolding breaches_at
 test_unknown t context name line is n l =
@@ -50,7 +50,7 @@ test_unknown t context name line is n l =
     first_stops (the_test context o.name.items o.line args ts) (test_arguments context (table.test_named o.name.items) args ts) (faults.Breach line UnknownCommand)
     (subst (λ x. IsFirst (breaches_at (the_test context o.name.items o.line args ts)) (faults.Breach x UnknownCommand)) (sym l) here)
 
--- a test that there is
+-- what is found in a test of a kind is the breaches of the test and its arguments
 known_by : (t : one_tests.Test (SmallVec ℕ)) (context : Context) (kind : TestKind) (row : Row) (name : List ℕ) (line : ℕ) (xs : List (arguments.Argument (SmallVec ℕ))) → let o = one_tests.out-Test (SmallVec ℕ) t in
     Some kind ≡ table.test_named name → name ≡ o.name.items → line ≡ o.line → row ≡ test_row kind → xs ≡ o.args.items → row_found false context line row (map argument_of xs) (tests_of o.tests) false ≡ breaches_in (test_head context t)
 unfolding breaches_at
@@ -79,7 +79,7 @@ test_stops t context fault h = subst (λ es. IsFirst (breaches_in es) fault) (sy
 pub test_goes_on : (t : one_tests.Test (SmallVec ℕ)) (context : Context) (r : Answer) → breaches_in (test_head context t) ≡ [] → FindsIn (tests_elements context (tests_of (one_tests.out-Test (SmallVec ℕ) t).tests)) r → FindsIn (test_elements context (test_of t)) r
 test_goes_on t context r none h = subst (λ es. FindsIn es r) (sym (test_at t context)) (finds_past (test_head context t) (tests_elements context (tests_of (one_tests.out-Test (SmallVec ℕ) t).tests)) r none h)
 
--- a list of tests from one of them on
+-- the elements of a list of tests from a place on are those of the test there and of the tests behind it
 list_at : (context : Context) (xs : List (one_tests.Test (SmallVec ℕ))) (i : ℕ) (t : one_tests.Test (SmallVec ℕ)) → i < length xs → t ≡ get_or xs i t → test_list_elements context (tests (map test_of (drop i xs))) ≡ test_elements context (test_of t) ++ test_list_elements context (tests (map test_of (drop (i + 1) xs)))
 unfolding test_list_elements
 list_at context xs i t h e =
@@ -104,7 +104,7 @@ block_there None = refl
 block_there (Some v) = refl
 
 module _ (context : Context) (kind : CommandKind) (c : commands.Command (SmallVec ℕ)) where
-  -- what is found, by whether a require stands in a wrong place
+  -- what is found in a command of a kind, by whether it is a `require` in a wrong place
   by_places : Bool → List Breach
   by_places misplaced =
       let o = commands.out-Command (SmallVec ℕ) c in
@@ -139,7 +139,7 @@ module _ (context : Context) (kind : CommandKind) (c : commands.Command (SmallVe
       ∙ sym (found_by ∙ ap by_places (sym placed)))
       found
 
--- a command that there isn't
+-- a command of a name that no command has breaks the rule of unknown commands first
 pub command_unknown : (c : commands.Command (SmallVec ℕ)) (context : Context) (name : List ℕ) (line : ℕ) → None ≡ table.command_named name → name ≡ (commands.out-Command (SmallVec ℕ) c).name.items → line ≡ (commands.out-Command (SmallVec ℕ) c).line → IsFirst (breaches_in (command_head context c)) (faults.Breach line UnknownCommand)
 unfolding breaches_at
 command_unknown c context name line is n l =
@@ -162,7 +162,7 @@ head_by c context kind name is n =
     ap (λ k. breaches_by (command_breaks context k args ts ending) o.line all_rules ++ breaches_in (command_arguments context k args ts ending)) (is ∙ ap table.command_named n)
     ∙ sym (cons_in (the_command context o.name.items o.line args ts ending) (command_arguments context (table.command_named o.name.items) args ts ending))
 
--- a command that there is
+-- what is found in a command of a kind is the breaches of the command and its arguments
 pub command_stops : (c : commands.Command (SmallVec ℕ)) (context : Context) (kind : CommandKind) (name : List ℕ) (fault : CheckFault) → Some kind ≡ table.command_named name → name ≡ (commands.out-Command (SmallVec ℕ) c).name.items → IsFirst (kind_found context kind c) fault → IsFirst (breaches_in (command_head context c)) fault
 command_stops c context kind name fault is n h = subst (λ bs. IsFirst bs fault) (head_by c context kind name is n) h
 
@@ -180,7 +180,7 @@ behind_at : (c : commands.Command (SmallVec ℕ)) (context : Context) → behind
 unfolding behind
 behind_at c context = ap (behind context) (seen_command octets_of c)
 
--- a command before its block
+-- a command before its block: the breaches of its head, and then of its tests
 pub head_stops : (c : commands.Command (SmallVec ℕ)) (context : Context) (fault : CheckFault) → IsFirst (breaches_in (command_head context c)) fault → IsFirst (breaches_in (command_front context c)) fault
 head_stops c context fault h = front_stops _ _ fault h
 
@@ -203,11 +203,11 @@ front_moves c spot next before after kind labels xs is l a goes moves =
     ∙ ap (λ z. behind_kind (at_spot spot before) (Some kind) (map argument_of z)) a
     ∙ ap (λ k. behind_kind (at_spot spot before) k args) (sym is)
 
--- a command with its block
+-- the first breach of a command before its block is the first of the whole command
 pub whole_stops : (c : commands.Command (SmallVec ℕ)) (context : Context) (fault : CheckFault) → IsFirst (breaches_in (command_front context c)) fault → IsFirst (breaches_in (node_elements context (node_of c))) fault
 whole_stops c context fault h = subst (λ es. IsFirst (breaches_in es) fault) (sym (command_at c context)) (front_stops _ _ fault h)
 
--- what is left where the front breaks no rule
+-- where a command breaks no rule before its block, its breaches are those of its block
 block_left : (c : commands.Command (SmallVec ℕ)) (context : Context) (inner : Option (Vec (commands.Command (SmallVec ℕ)) Global)) → breaches_in (command_front context c) ≡ [] → (commands.out-Command (SmallVec ℕ) c).block ≡ inner → breaches_in (node_elements context (node_of c)) ≡ breaches_in (block_elements (behind_front context c) (block_of inner))
 block_left c context inner none is =
     ap breaches_in (command_at c context)
@@ -250,7 +250,7 @@ module _ (c : commands.Command (SmallVec ℕ)) (context : Context) (next within 
       ∙ ap (λ w. behind_block w (block (nodes (map node_of inner.items)))) goes
       ∙ sym (behind_at c context ∙ ap (λ b. behind_block (behind_front context c) (block_of b)) is)
 
--- commands from one of them on
+-- the elements of commands from a place on are those of the command there and of the commands behind it
 commands_at : (xs : List (commands.Command (SmallVec ℕ))) (i : ℕ) (c : commands.Command (SmallVec ℕ)) (context : Context) → i < length xs → c ≡ get_or xs i c → nodes_elements context (nodes (map node_of (drop i xs))) ≡ node_elements context (node_of c) ++ nodes_elements (behind context (node_of c)) (nodes (map node_of (drop (i + 1) xs)))
 unfolding nodes_elements
 commands_at xs i c context h e =

@@ -94,7 +94,7 @@ texts_taking (the_test context name line args ts ∷ es) = texts_taking es
 texts_taking (the_text context role text ∷ es) = takes_references context.required role ∷ texts_taking es
 texts_taking (the_number value line ∷ es) = texts_taking es
 
--- require "fileinto" { redirect "${a}"; } require "variables"; is cut where variables are required, and breaks a rule where they aren't yet
+-- require "fileinto" { redirect "${a}"; } require "variables"; references count where strings are cut, and not yet where they are judged
 abbrev early_block : List syntax.Node
 early_block =
     syntax.node (codes "require") 1 (string (codes "fileinto") 1 ∷ []) syntax.no_tests (syntax.block (syntax.nodes (syntax.node (codes "redirect") 1 (string (codes "${a}") 1 ∷ []) syntax.no_tests syntax.no_block ∷ [])))

@@ -20,7 +20,7 @@ record IsFirstRule (element : Element) (rules : List Rule) (breach : Breach) : T
   breaks : breaks element breach.rule ≡ true
   none_lower : broken_by element lower ≡ []
 
--- an element breaks one of the rules first, or none
+-- the first breach is by the first of the rules that the element breaks, or the element breaks none and the rest has it
 data Finding (element : Element) (rules : List Rule) (rest : List Breach) (breach : Breach) : Type 0 where
   here : IsFirstRule element rules breach → Finding element rules rest breach
   later : broken_by element rules ≡ [] → slice_get rest 0 ≡ Some breach → Finding element rules rest breach
@@ -31,7 +31,7 @@ some_is a b e = cc
 none_is : (b : Breach) → None ≡ Some b → ⊥
 none_is b e = cc
 
--- with a rule in front that it doesn't break
+-- what is found stays so with a rule in front that the element doesn't break
 passed_over : (element : Element) (rule : Rule) (rules : List Rule) (rest : List Breach) (breach : Breach) → breaks element rule ≡ false → Finding element rules rest breach → Finding element (rule ∷ rules) rest breach
 passed_over element rule rules rest breach is (here found) =
     here (record {
@@ -45,7 +45,7 @@ passed_over element rule rules rest breach is (here found) =
 passed_over element rule rules rest breach is (later none behind) =
     later (ap (λ d. breach_if d (line_of element) rule ++ broken_by element rules) is ∙ none) behind
 
--- with a rule in front
+-- with a rule in front of others, the first breach is by this rule, or is found by the others
 at_rule : (element : Element) (rule : Rule) (rules : List Rule) (rest : List Breach) (breach : Breach) (does : Bool) → breaks element rule ≡ does
     → slice_get ((breach_if does (line_of element) rule ++ broken_by element rules) ++ rest) 0 ≡ Some breach
     → (slice_get (broken_by element rules ++ rest) 0 ≡ Some breach → Finding element rules rest breach)
@@ -59,7 +59,7 @@ finding : (element : Element) (rules : List Rule) (rest : List Breach) (breach :
 finding element [] rest breach first = later refl first
 finding element (rule ∷ rules) rest breach first = at_rule element rule rules rest breach (breaks element rule) refl first (finding element rules rest breach)
 
--- with an element in front
+-- with an element in front of others, the first breach is the least where it is the least of the others or found at the element
 in_front : (element : Element) (behind : List Element) (breach : Breach) → Finding element all_rules (breaches_in behind) breach
     → (slice_get (breaches_in behind) 0 ≡ Some breach → IsLeast behind breach) → IsLeast (element ∷ behind) breach
 unfolding breaches_in breaches_at

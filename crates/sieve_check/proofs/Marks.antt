@@ -21,7 +21,7 @@ rest_alone : (chain : Chain) (all : List Mark) → Agrees false chain all → ma
 unfolding marks
 rest_alone chain all so = sym (ap (λ c. marks c ++ marks chain.rest) (so.no_branch refl)) ∙ so.same
 
--- what a command without a block has in it
+-- a command without a block has no marks of a block
 block_empty : (ending : Block) → ending ≡ no_block → block_marks ending ≡ []
 unfolding block_marks
 block_empty ending is = ap block_marks is
@@ -87,7 +87,7 @@ module _ (line : ℕ) (condition : Condition) (ending : Block) (chain : Chain) (
     no_branch = λ not. refl;
   }
 
-  -- a command of some reading, which stands where it may
+  -- a command of any reading that stands where it may, in front of commands that do what their marks say
   at_command : (r : Option CommandReading) (follows_if : Bool) (ts : Tests) → Stands follows_if r ts ending → marks (block_commands ending) ≡ block_marks ending → Agrees (may_go_on r) chain all
       → Agrees follows_if (chain_with_command r line condition (block_commands ending) chain) ((own_marks r line condition ++ block_marks ending) ++ all)
   at_command None follows_if ts stands inner so = absurd stands

@@ -1,4 +1,4 @@
--- Before each element of a script those variables are set that the names set which are written before its command.
+-- Where an element of a script stands, those variables are set that the names written before its command set.
 use Rattle.std.proofs.Common.{◌≡◌, zero, suc, ◌+◌, ◌-◌, ◌≤◌, cond, length, take, slice_get, arith, subst, ℕ, Bool, true, false, not, List, [], ◌∷◌, ◌++◌, drop, Option, None, Some, refl, sym, ap, ◌∙◌, append-nil, append_assoc}
 use Rattle.std.proofs.lemmas.Grind.{flat_map-append}
 use Rattle.std.proofs.lemmas.List.{length_push, reverse-append, take-append-le, take_at}
@@ -27,7 +27,7 @@ Goes done own (the_test context name line args ts ∷ es) = (context.scope.assig
 Goes done own (the_text context role text ∷ es) = (context.scope.assigned ≡ set_by done) × Goes done own es
 Goes done own (the_number value line ∷ es) = Goes done own es
 
--- elements of one command, and those behind them
+-- the elements of one command go on in front of elements that go on
 module _ (done own : List Mention) (context : Context) (so : context.scope.assigned ≡ set_by done) where
   texts_go : (ts : List Text) (role : Option Role) (es : List Element) → Goes done own es → Goes done own (text_elements context role ts ++ es)
   texts_go [] role es goes = goes
@@ -73,7 +73,7 @@ module _ (done own : List Mention) (context : Context) (so : context.scope.assig
         subst (Goes done own) (sym (append_assoc (test_elements context t) (test_list_elements context ts) es))
         (test_goes t (test_list_elements context ts ++ es) (test_list_goes ts es goes))
 
--- what is behind the names of a scope and some more
+-- a scope is what stands behind these names at the start of a script
 abbrev Behind : Scope → List Mention → Type 0
 Behind scope names = scope ≡ behind_mentions no_names names
 
@@ -160,14 +160,14 @@ here_goes (the_number value line) es front done own stands goes = tt
 more_mentions : (front : List Element) (e : Element) (names : List Mention) → mentions_in front ≡ names → mentions_in (front ++ e ∷ []) ≡ names ++ element_mentions e
 more_mentions front e names all = flat_map-append element_mentions front (e ∷ []) ∙ ap (λ l. l ++ (element_mentions e ++ [])) all ∙ ap (λ l. names ++ l) (append-nil (element_mentions e))
 
--- an element behind which the command at hand is another
+-- `front` and a command behind it stand before the elements of that command
 command_stands : (front : List Element) (done own : List Mention) (context : Context) (name : List ℕ) (line : ℕ) (args : List Argument) (ts : Tests) (ending : Block) → StandsBefore done own front
     → StandsBefore (done ++ own) (command_mentions (command_named name) args) (front ++ the_command context name line args ts ending ∷ [])
 command_stands front done own context name line args ts ending stands =
     let e = the_command context name line args ts ending in
     record { all = more_mentions front e (done ++ own) stands.all; old = ap mentions_in (before_push is_command e front true refl) ∙ stands.all }
 
--- an element that is no command
+-- `front` and an element behind it that is no command stand before the elements of the same command
 other_stands : (front : List Element) (done own : List Mention) (e : Element) → is_command e ≡ false → element_mentions e ≡ [] → StandsBefore done own front → StandsBefore done own (front ++ e ∷ [])
 other_stands front done own e other none stands = record {
   all = more_mentions front e (done ++ own) stands.all ∙ ap (λ l. (done ++ own) ++ l) none ∙ append-nil (done ++ own);

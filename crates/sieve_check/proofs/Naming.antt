@@ -177,7 +177,7 @@ filter_all (x ∷ xs) = ap (λ l. x ∷ l) (filter_all xs)
 
 -- NAMES THAT ARE NEITHER SET NOR DECLARED YET
 
--- by a name in lower case
+-- whether a name in lower case is neither declared nor that of a variable that is set
 abbrev is_free : Scope → List ℕ → Bool
 is_free scope folded = not (is_among folded scope.declared) && not (list_any (λ other. pointwise nat_eq folded (folded_name other)) scope.assigned)
 
@@ -190,7 +190,7 @@ alike scope a b is = ap (is_free scope) (same_names a b is)
 abbrev with_set : Scope → List ℕ → Scope
 with_set scope name = record scope { assigned = scope.assigned ++ name ∷ [] }
 
--- where a name is set, the others are fresh that were before
+-- behind a name that is set, another name is fresh exactly where it was fresh before
 fresh_behind_set : (scope : Scope) (name other : List ℕ) → is_fresh (with_set scope name) other ≡ (not (same name other) && is_fresh scope other)
 fresh_behind_set scope name other =
     ap (λ b. not (is_among (folded_name other) scope.declared) && not b) (any_append (same other) scope.assigned (name ∷ []))
@@ -244,7 +244,7 @@ none_fresh scope name other stale = by_same (same name other) refl
     by_same true is = sym (alike scope name other is) ∙ stale
     by_same false is = refl
 
--- the fresh ones of names but for one
+-- the fresh names other than one name are the fresh ones of the names without that name
 fresh_without : (scope : Scope) (now : List ℕ → Bool) (name : List ℕ) (names : List (List ℕ)) → ((other : List ℕ) → now other ≡ (not (same name other) && is_fresh scope other)) → filter now names ≡ filter (is_fresh scope) (without_name name names)
 fresh_without scope now name names agree =
     filter_agree now (λ other. not (same name other) && is_fresh scope other) agree names
@@ -253,7 +253,7 @@ fresh_without scope now name names agree =
 -- WHAT MENTIONS SET
 
 module _ (scope : Scope) (name : List ℕ) (ms : List Mention) (below : (s : Scope) → (behind_mentions s ms).assigned ≡ s.assigned ++ filter (is_fresh s) (set_by ms)) where
-  -- by whether the name is an identifier, and whether it is fresh
+  -- the scope behind a name that is written to be set, by whether it is an identifier, and whether it is fresh
   abbrev now_set : Bool → Bool → Scope
   now_set i f = if i && f then with_set scope name else scope
 

@@ -35,7 +35,7 @@ use Rattle.sieve_check.proofs.Unbroken.{keeps, none_in_both, none_in_front}
 
 -- WHERE A COMMAND STANDS
 
--- a command whose strings are cut by the one, and those of its block by the other
+-- a command whose strings are cut by `cutting`, and those of its block by `within`
 module _ (cutting within : Cutting) (context : Context) where
   block_there : (ending : syntax.Block) → block_fits true (has_block ending) ≡ true → (ns : Nodes) × (parted_block within ending ≡ block ns)
   block_there syntax.no_block fit = absurd (not_both fit)
@@ -77,7 +77,7 @@ module _ (cutting within : Cutting) (context : Context) where
   stands_acting None ts ending is none ends = absurd (not_both is)
   stands_acting (Some leaf) ts ending is none ends = (none, ends)
 
-  -- a command that changes flags, whatever its name
+  -- a command that changes flags stands where it may, whatever its name
   flags_stand : (how : FlagChange) (name : List ℕ) (args : List Argument) (ts : syntax.Tests) (ending : syntax.Block) → let row = flag_command name in
       AsRowSays row (map (shape_of row.tags) args) args ts (has_block ending) → Stands context.follows_if (option_map reading.reads_act (flags_by how (row_labels row args) args)) (parted_tests cutting ts) (parted_block within ending)
   flags_stand how name args ts ending says =
@@ -91,7 +91,7 @@ module _ (cutting within : Cutting) (context : Context) where
       (texts_are_read row.tags slots args role.Flags refl (either_slots (all_may_take role.Flags form.List) front row.slots shapes refl refl) (either_slots (is_to_come role.Flags) front row.slots shapes refl refl) says.filled says.keep)))
       (none_fit cutting ts says.tests) (none_there ending says.block)
 
-  -- with the tests and the block that its row says, and behind an `if` where it goes on with one
+  -- a command stands where it may that is used as its row says, and stands behind an `if` where it goes on with one
   stands : (k : CommandKind) (args : List Argument) (ts : syntax.Tests) (ending : syntax.Block) → Says k args ts (has_block ending) → (continues_if k && not context.follows_if) ≡ false
       → Stands context.follows_if (command_reading_by (Some k) args) (parted_tests cutting ts) (parted_block within ending)
   stands command.Require args ts ending says place = (none_fit cutting ts says.tests, none_there ending says.block)
@@ -158,7 +158,7 @@ module _ (cutting within : Cutting) (context : Context) where
   acting_ends None = refl
   acting_ends (Some leaf) = refl
 
-  -- a branch may go on exactly behind one that may go on
+  -- a branch may go on behind a command exactly where the command is read as one that it may go on behind
   kind_goes_on : (k : Option CommandKind) (written : List syntax.Argument) (args : List Argument) → (behind_kind context k written).follows_if ≡ may_go_on (command_reading_by k args)
   kind_goes_on None written args = refl
   kind_goes_on (Some command.Require) written args = refl

@@ -1,4 +1,4 @@
--- What is required behind a string that a `require` names.
+-- What is required behind a string of a `require`.
 use Rattle.std.proofs.Common.{◌≡◌, ℕ, ◌||◌, List, refl}
 use Rattle.sieve_check.specs.Context.{Required, is_required, requiring}
 use Rattle.sieve_table.specs.Capability.{is_name_of}

@@ -81,7 +81,7 @@ module _ (r : Required) where
 
   -- COMMANDS BEHIND THE REQUIRES
 
-  -- behind a command that requires nothing no more is required
+  -- behind a command that is no `require` at the top, no more is required
   kind_requires_none : (context : Context) (k : Option CommandKind) (args : List Argument) → (context.leads && requires_kind k) ≡ false → context.required ≡ r → ((behind_kind context k args).leads ≡ false) × ((behind_kind context k args).required ≡ r)
   kind_requires_none context None args other same = (refl, same)
   kind_requires_none context (Some kind) args other same = (other, ap (λ b. if b then requiring_arguments context.required args else context.required) other ∙ same)
@@ -128,7 +128,7 @@ never : (b : Bool) → (b && false) ≡ false
 never true = refl
 never false = refl
 
--- behind a command that requires something what it names is required too
+-- behind a `require` at the top, what its strings name is required too
 kind_requires : (context : Context) (k : Option CommandKind) (args : List Argument) → context.leads ≡ true → requires_kind k ≡ true → ((behind_kind context k args).leads ≡ true) × ((behind_kind context k args).required ≡ requiring_arguments context.required args)
 kind_requires context None args leads is = absurd (not_both is)
 kind_requires context (Some kind) args leads is =
@@ -140,7 +140,7 @@ unfolding behind_block
 block_requires r no_block context so = so
 block_requires r (block ns) context so = so
 
--- what is required behind a command that is one
+-- what is required behind a `require`
 abbrev requiring_node : Required → Node → Required
 requiring_node required (node name line args ts ending) = requiring_arguments required args
 
@@ -151,17 +151,17 @@ node_requires (node name line args ts ending) context leads is = block_requires 
 from_require : (n : Node) (ns : Nodes) (required : Required) (b : Bool) → is_require_command n ≡ b → required_from required (more_nodes n ns) ≡ (if b then required_from (requiring_node required n) ns else required)
 from_require (node name line args ts ending) ns required b is = ap (λ x. if x then required_from (requiring_arguments required args) ns else required) is
 
--- what passes from the front on, with one element more
 take_one : {X : Type 0} (x : X) (xs : List X) (n : ℕ) → take (1 + n) (x ∷ xs) ≡ x ∷ take n xs
 take_one x xs n = let one : 1 + n ≡ suc n = omega arith in ap (λ k. take k (x ∷ xs)) one
 
+-- what passes at the front of a list, with one item more in front
 front_passes : {X : Type 0} (p : X → Bool) (x : X) (xs : List X) → p x ≡ true → take_while p (x ∷ xs) ≡ x ∷ take_while p xs
 front_passes p x xs is = ap (λ b. take (cond b (1 + prefix_len p xs) 0) (x ∷ xs)) is ∙ take_one x xs (prefix_len p xs)
 
 front_fails : {X : Type 0} (p : X → Bool) (x : X) (xs : List X) → p x ≡ false → take_while p (x ∷ xs) ≡ []
 front_fails p x xs not = ap (λ b. take (cond b (1 + prefix_len p xs) 0) (x ∷ xs)) not
 
--- the elements from a place on at the top of a script
+-- the elements from a place at the top of a script on: those of the `require` commands there, and others for which these are required
 abbrev Splits : Context → List Node → Type 0
 Splits context tree = (rest : List Element) × (nodes_elements context (nodes tree) ≡ nodes_elements context (nodes (leading_requires tree)) ++ rest) × All (IsJudgedUnder (required_from context.required (nodes tree))) rest
 
@@ -281,7 +281,7 @@ module _ (r : Required) where
   abbrev LabelsCut : Context → List Slot → List Argument → Type 0
   LabelsCut context slots args = list_any is_unfit (labels_by slots args) ≡ false → All Cut (labelled_elements context (labels_by slots args) args)
 
-  -- an argument that fits a slot, and those behind it
+  -- the strings of an argument that fits a slot and of those behind it are judged as they are cut
   in_slot_cut : (context : Context) (slots : List Slot) (looks : Shape) (items : List Text) (args : List Argument) → AllName slots → LabelsCut context (drop 1 slots) args → (is_unfit (slot_label slots looks) || list_any is_unfit (labels_by (drop 1 slots) args)) ≡ false
       → All Cut (text_elements context (role_of (slot_label slots looks)) items ++ labelled_elements context (labels_by (drop 1 slots) args) args)
   in_slot_cut context slots looks items args all below fit =
@@ -306,7 +306,7 @@ module _ (r : Required) where
       All-cons Cut (the_number value line) (labelled_elements context (labels_by (drop 1 slots) args) args) tt (arguments_cut args context (drop 1 slots) (fewer_name slots all) parts.1)
   arguments_cut (tag name line ∷ args) context slots all fit = arguments_cut args context slots all fit
 
-  -- what a `require` that breaks no rule has in it
+  -- in a `require` that breaks no rule strings are judged as they are cut, and no tests and no block are there
   require_cut : (context : Context) (args : List Argument) (ts : Tests) (ending : Block) → ((rule : Rule) → command_breaks context (Some command.Require) args ts ending rule ≡ false)
       → All Cut (command_arguments context (Some command.Require) args ts ending) × (tests_elements context ts ≡ []) × ((inside_it : Context) → block_elements inside_it ending ≡ [])
   require_cut context args ts ending keeps_all =

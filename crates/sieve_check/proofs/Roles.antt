@@ -30,8 +30,8 @@ never_both e = cc
 
 -- WHAT IS KNOWN OF ARGUMENTS THAT BREAK NO RULE
 
--- strings in the role of a comparator name one, those in the role of a variable that is set are one, and those in the role of a
--- script's name stand for themselves
+-- strings in the role of a comparator name a comparator, those in the role of a variable that is set name a variable, and those in
+-- the role of a script's name stand for themselves
 abbrev pub NamesWell : Option Role → List Text → Type 0
 NamesWell r [] = Unit {0}
 NamesWell r (t ∷ ts) = ((has_role role.ComparatorName r && is_none (option_and_then collation_named (literal_in_parts t.string))) ≡ false) × ((has_role role.NameToSet r && is_none (variable_in_parts t.string)) ≡ false) × ((has_role role.ScriptName r && is_none (literal_in_parts t.string)) ≡ false) × NamesWell r ts
@@ -42,7 +42,7 @@ Keeps r (strings items bracketed) = NamesWell r items
 Keeps r (number value line) = is_none value ≡ false
 Keeps r (tag name line) = Unit {0}
 
--- arguments, each by its label
+-- all arguments name what they have to, each in the role of its label
 abbrev pub AllKeep : List Label → List Argument → Type 0
 AllKeep labels [] = Unit {0}
 AllKeep labels (a ∷ args) = Keeps (first_role labels) a × AllKeep (drop 1 labels) args
@@ -177,7 +177,7 @@ module _ (wanted : Role) where
   found_at true a rest later = refl
   found_at false a rest later = later refl
 
-  -- where all fit and none is left, one was in that role
+  -- where all arguments fit and no slot is left, a slot of that role has been filled by an argument in the role
   pub role_found : (tags : List Tag) (args : List Argument) (expected : Expected) → list_any is_unfit (labels_from expected (map (shape_of tags) args)) ≡ false → no_slots (slots_left expected (map (shape_of tags) args)) ≡ true → is_to_come expected.slots ≡ true
       → is_some (in_role wanted (labels_from expected (map (shape_of tags) args)) args) ≡ true
   role_found tags [] expected fit none is = absurd (none_to_come expected.slots none is)

@@ -1,4 +1,4 @@
--- Worked rows of the definitions.
+-- Worked rows of the breaches of scripts, of labels, and of abstract scripts.
 use Rattle.std.proofs.Common.{◌≡◌, ℕ, true, false, List, [], ◌∷◌, Some, None, refl, codes}
 use Rattle.match_text.specs.declared.comparators.Collation.TheVariants.{Octet, Casemap}
 use Rattle.sieve_base.specs.declared.place.Place.TheVariants.{Personal, Global}
@@ -36,7 +36,7 @@ one octets = syntax.strings (text octets ∷ []) false
 abbrev tagged : List ℕ → syntax.Argument
 tagged name = syntax.tag name 1
 
--- a command that ends by a semicolon, and one with a test and an empty block
+-- a command that ends by a semicolon, and a command with a test and a block
 abbrev plain : List ℕ → ℕ → List syntax.Argument → syntax.Node
 plain name line args = syntax.node name line args syntax.no_tests syntax.no_block
 
@@ -163,12 +163,13 @@ octet_row : script_of (parted (branch (codes "if") 1 (header (tagged (codes "com
 unfolding chain_of chain_with block_commands condition_of conditions_in command_named test_named
 octet_row = refl
 
--- require ["fileinto", "copy"]; fileinto :copy "A"; redirect :copy "b"; and without the capability, and on a command that lacks the tag
+-- require ["fileinto", "copy"]; fileinto :copy "A"; redirect :COPY "b";
 copy_row : script_of (parted (plain (codes "require") 1 (syntax.strings (text (codes "fileinto") ∷ text (codes "copy") ∷ []) true ∷ []) ∷ plain (codes "fileinto") 2 (tagged (codes "copy") ∷ one (codes "A") ∷ []) ∷ plain (codes "redirect") 3 (tagged (codes "COPY") ∷ one (codes "b") ∷ []) ∷ []))
     ≡ acts (fileinto_leaf (literal (codes "A") ∷ []) (record plain_settings { copy = true })) 2 (acts (redirect_leaf (literal (codes "b") ∷ []) (record plain_settings { copy = true })) 3 no_commands)
 unfolding chain_of chain_with block_commands condition_of conditions_in command_named test_named
 copy_row = refl
 
+-- redirect :copy "a@b"; keep :copy;
 copy_breaches_row : breaches_of (plain (codes "redirect") 2 (tagged (codes "copy") ∷ one (codes "a@b") ∷ []) ∷ plain (codes "keep") 3 (tagged (codes "copy") ∷ []) ∷ []) ≡ record { line = 2; rule = NotRequired } ∷ record { line = 3; rule = BadTag } ∷ []
 unfolding breaches_in breaches_at nodes_elements node_elements block_elements tests_elements test_elements command_named test_named behind
 copy_breaches_row = refl
@@ -259,7 +260,7 @@ without_include_row : breaches_of (variables_alone ∷ naming (codes "redirect")
 unfolding breaches_in breaches_at nodes_elements node_elements block_elements tests_elements command_named behind assigning pieces_from inside_at before_brace
 without_include_row = refl
 
--- set "global.X" "y"; as these
+-- set "global.X" "y"; where scripts can be included, and where they can't
 set_shared_row : breaches_of (both ∷ set 2 (codes "global.X") (codes "y") ∷ []) ≡ []
 unfolding breaches_in breaches_at nodes_elements node_elements block_elements tests_elements command_named behind assigning pieces_from inside_at
 set_shared_row = refl
@@ -268,7 +269,7 @@ set_without_include_row : breaches_of (variables_alone ∷ set 2 (codes "global.
 unfolding breaches_in breaches_at nodes_elements node_elements block_elements tests_elements command_named behind assigning pieces_from inside_at
 set_without_include_row = refl
 
--- the variable is the one that a declared `x` is: global "x"; set "global.X" "y"; redirect "${x}${GLOBAL.x}";
+-- global "x"; set "global.X" "y"; redirect "${x}${GLOBAL.x}"; where all these names are of one variable
 one_variable_row : script_of (parted (both ∷ global 2 (codes "x") ∷ set 3 (codes "global.X") (codes "y") ∷ naming (codes "redirect") 4 (codes "${x}${GLOBAL.x}") ∷ []))
     ≡ acts (set_leaf (global_variable (codes "x")) no_modifiers (literal (codes "y") ∷ [])) 3 (acts (redirect_leaf (global_part (codes "x") ∷ global_part (codes "x") ∷ []) plain_settings) 4 no_commands)
 unfolding chain_of chain_with block_commands condition_of conditions_in command_named test_named pieces_from inside_at before_brace

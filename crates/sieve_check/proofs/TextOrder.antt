@@ -25,7 +25,7 @@ use Rattle.sieve_check.proofs.Written.{elements_written}
 
 -- NUMBERS THAT NEVER FALL
 
--- none of the numbers is below the one before it, and the first isn't below a number
+-- none of the numbers is below the one before it, and the first isn't below `low`
 abbrev Rise : ℕ → List ℕ → Type 0
 Rise low [] = Unit {0}
 Rise low (x ∷ xs) = (low ≤ x) × Rise x xs
@@ -53,7 +53,7 @@ forward : (text : List ℕ) {place end : ℕ} → White text place end → place
 forward text (nothing place) = le_refl place
 forward text (white place n end is more) = let h : place + n ≤ end = forward text more in omega arith
 
--- nothing spells no token
+-- the empty list of octets spells no token
 no_token : (kind : TokenKind) → IsTrue (spells kind []) → ⊥
 unfolding spells is_identifier is_tag is_number is_quoted is_multi_line are_multi_line lines_of is_one
 no_token kinds.Identifier is = not_both is
@@ -100,7 +100,7 @@ lines_grow text a b h = let more : line_feeds (take a text) ≤ line_feeds (take
 abbrev ends_of : List Token → List ℕ
 ends_of tokens = flat_map (λ token. token.start ∷ token.end ∷ []) tokens
 
--- what is said of the tokens from a place on
+-- the tokens from a place on lie in the text and stand apart, and their lines never fall
 record StandFrom (text : List ℕ) (place : ℕ) (tokens : List Token) : Type 0 where
   inside : All (IsInside text) tokens
   apart : Rise place (ends_of tokens)
@@ -117,7 +117,7 @@ with_line text place token tokens true p before some line rise = (
 )
 with_line text place token tokens false p before some line rise = rise_from (line_at text place) (line_at text token.end) _ (lines_grow text place token.end (le_trans before some)) rise
 
--- a token in front
+-- with a token in front, the tokens from its end on are tokens from a place before it on
 in_front : (text : List ℕ) (place : ℕ) (token : Token) (tokens : List Token) → place ≤ token.start → token.line ≡ line_at text token.start → IsInside text token → StandFrom text token.end tokens → StandFrom text place (token ∷ tokens)
 in_front text place token tokens before line is stand =
     let some : token.start < token.end = is.some in

@@ -30,7 +30,7 @@ in_turn xs ys v w first second =
     ∙ ap (λ l. filter writes_element v ++ l) second
     ∙ sym (filter-append writes_element v w)
 
--- with a word behind that writes none
+-- elements that are written stay so with words behind that write none
 before_close : (xs : List Element) (v w : List Symbol) → filter writes_element w ≡ [] → AreWritten xs v → AreWritten xs (v ++ w)
 before_close xs v w none same =
     same
@@ -55,7 +55,7 @@ module _ (context : Context) where
   argument role (number value line) = refl
   argument role (tag name line) = refl
 
-  -- whatever their labels are
+  -- the elements of arguments are written by them, whatever their labels are
   arguments : (labels : List Label) (args : List Argument) → AreWritten (labelled_elements context labels args) (written_arguments args)
   arguments labels [] = refl
   arguments labels (a ∷ args) =
