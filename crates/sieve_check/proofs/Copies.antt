@@ -21,7 +21,7 @@ test_list_parted : (cutting : Cutting) (ts : List syntax.Test) → parted_test_l
 test_list_parted cutting [] = refl
 test_list_parted cutting (t ∷ ts) = ap (λ rest. more_tests (parted_test cutting t) rest) (test_list_parted cutting ts)
 
--- commands made a list and back are the same commands
+-- commands made into a list and back are the same commands
 nodes-items : (ns : Nodes) → nodes (items ns) ≡ ns
 nodes-items end_nodes = refl
 nodes-items (more_nodes n ns) = ap (λ rest. more_nodes n rest) (nodes-items ns)

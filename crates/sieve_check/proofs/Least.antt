@@ -59,7 +59,7 @@ finding : (element : Element) (rules : List Rule) (rest : List Breach) (breach :
 finding element [] rest breach first = later refl first
 finding element (rule ∷ rules) rest breach first = at_rule element rule rules rest breach (breaks element rule) refl first (finding element rules rest breach)
 
--- with an element in front of others, the first breach is the least where it is the least of the others or found at the element
+-- with an element in front of others, the breach that is found at it, or else the least of the others, is the least
 in_front : (element : Element) (behind : List Element) (breach : Breach) → Finding element all_rules (breaches_in behind) breach
     → (slice_get (breaches_in behind) 0 ≡ Some breach → IsLeast behind breach) → IsLeast (element ∷ behind) breach
 unfolding breaches_in breaches_at

@@ -91,7 +91,7 @@ module _ (cutting within : Cutting) (context : Context) where
       (texts_are_read row.tags slots args role.Flags refl (either_slots (all_may_take role.Flags form.List) front row.slots shapes refl refl) (either_slots (is_to_come role.Flags) front row.slots shapes refl refl) says.filled says.keep)))
       (none_fit cutting ts says.tests) (none_there ending says.block)
 
-  -- a command stands where it may that is used as its row says, and stands behind an `if` where it goes on with one
+  -- a command that is used as its row says, and stands behind an `if` where it goes on with one, stands where it may
   stands : (k : CommandKind) (args : List Argument) (ts : syntax.Tests) (ending : syntax.Block) → Says k args ts (has_block ending) → (continues_if k && not context.follows_if) ≡ false
       → Stands context.follows_if (command_reading_by (Some k) args) (parted_tests cutting ts) (parted_block within ending)
   stands command.Require args ts ending says place = (none_fit cutting ts says.tests, none_there ending says.block)
