@@ -91,7 +91,7 @@ end_faults contents fault_count w w' wanted ways.Continues reply P Q R none said
 end_faults contents fault_count w w' wanted (ways.Ends end) reply P Q R none (inl both) = rw both.0 none
 end_faults contents fault_count w w' wanted (ways.Ends end) reply P Q R none (inr failed) = rw failed.0 failed.1.fault_counted
 
--- facts for each way that follow from others follow for the way that is gone
+-- the fact of a way gives another, where the fact of each way does
 pub follows_by : (way : Progress) (P P' R R' S S' : Type 0) (Q Q' : SessionEnd → Type 0) → (P → P') → ((end : SessionEnd) → Q end → Q' end) → (R → R') → (S → S') → Follows way P Q R S → Follows way P' Q' R' S'
 follows_by ways.Continues P P' R R' S S' Q Q' p q r s h = p h
 follows_by (ways.Ends ends.Done) P P' R R' S S' Q Q' p q r s h = q ends.Done h

@@ -5,7 +5,7 @@ use Rattle.bench.specs.Content.{put_message, set_expected, clear_expected}
 use Rattle.sievebench.specs.Session.{asks, edits, over, reports, request_of, request_so_far, truncated, unreadable}
 use Rattle.sievebench.specs.declared.task.Question.TheVariants.{Nothing}
 
--- no octets may still become a command, and at the end of the input the session is over
+-- an empty stream may still become a command, and at its end the session is over
 nothing_row : request_so_far [] ≡ truncated
 unfolding request_so_far line_so_far
 nothing_row = refl
