@@ -118,7 +118,7 @@ are_known_lowered flags i (n ∷ numbers) (action ∷ actions) below known = (kn
 
 -- IN LOOPS
 
--- where the numbers in front of a place are lowered, lowering the one at the place lowers those in front of the next place
+-- where the numbers in front of an index are lowered, lowering the one at the index lowers those in front of the next index
 pub one_lowered : (place : ℕ) (numbers : List ℕ) (i d : ℕ) → i < length numbers
     → slice_set (map (lowered place) (take i numbers) ++ drop i numbers) i (lowered place (get_or (map (lowered place) (take i numbers) ++ drop i numbers) i d)) ≡ map (lowered place) (take (suc i) numbers) ++ drop (suc i) numbers
 one_lowered place [] i d below = absurd (omega arith)
@@ -131,7 +131,7 @@ one_lowered_more place numbers new i n below is one =
     ap (λ m. slice_set new i m) one ∙ ap (λ l. slice_set l i (lowered place (get_or l i 0))) is ∙ one_lowered place numbers i 0 below
     ∙ ap (λ m. map (lowered place) (take m numbers) ++ drop m numbers) (sym (add-one i))
 
--- where the place is behind the last of the numbers, all of them are lowered
+-- where the index is behind the last of the numbers, all of them are lowered
 pub all_lowered_so : (place : ℕ) (numbers : List ℕ) (i : ℕ) → length numbers ≤ i → map (lowered place) (take i numbers) ++ drop i numbers ≡ map (lowered place) numbers
 all_lowered_so place numbers i past =
     ap (λ l. map (lowered place) (take i numbers) ++ l) (drop_all i numbers past) ∙ append-nil (map (lowered place) (take i numbers)) ∙ ap (map (lowered place)) (take_all i numbers past)

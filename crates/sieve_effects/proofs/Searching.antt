@@ -106,7 +106,7 @@ within h (x ∷ xs) (suc i) y at = let rest = within h xs i y at in omega arith
 
 -- FIELDS BY THEIR NAMES
 
--- the place of the next field of a name is one of the fields'
+-- the next field of a name is one of the fields
 pub next_within : {fields : List Field} {name : List ℕ} {start i : ℕ} → IsNextNamed fields name start i → i < length fields
 next_within {fields = fields} {name = name} {i = i} next = within (is_field_named name) fields i true next.is
 
