@@ -256,6 +256,6 @@ keeping front = record {
   enters = λ name s few h. (h.0 ++ name ∷ [], ap (λ (entered : List ScriptName). entered ++ name ∷ []) h.1 ∙ append_assoc front h.0 (name ∷ []));
 }
 
--- the scripts that were entered before a script runs are still the first ones behind it
+-- the scripts that were entered before a script runs are still the first ones when it has run
 pub run_keeps : (find : ScriptName → Lookup) (depth : ℕ) (delivery : Delivery) (tree : List Node) (state : RunState) → Keeps state.entered (state_behind (running find depth delivery tree state))
 run_keeps find depth delivery tree state = running_holds (Keeps state.entered) (keeping state.entered) find depth delivery tree state ([], sym (append-nil state.entered))

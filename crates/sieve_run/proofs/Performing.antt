@@ -25,7 +25,7 @@ module _ (ask : Ask → RunState → Answer) (act : Leaf → ℕ → RunState �
   other_way true f g s = refl
   other_way false f g s = refl
 
-  -- where `first` is `f` or `g` by the truth of `second`, choosing it by another truth is choosing `f` or `g` by both truths together
+  -- where `first` is `f` or `g` by the truth of `second`, choosing `first` by another truth is choosing `f` or `g` by both truths together
   both_by : (second : RunState → Answer) (first f g : RunState → Ending) → ((s : RunState) → first s ≡ chosen (second s).truth f g (second s).state) → (truth : Bool) (s : RunState) → chosen truth first g s ≡ chosen (also truth second s).truth f g (also truth second s).state
   both_by second first f g is true s = is s
   both_by second first f g is false s = refl

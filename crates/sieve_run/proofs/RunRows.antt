@@ -281,7 +281,7 @@ error_inside_row : done_over (having script_a (node (codes "include") 7 (strings
 unfolding exec included chain_of chain_with block_commands conditions_in command_named
 error_inside_row = refl
 
--- own variables that an included script sets leave those of the including script as they were, which it doesn't see; shared ones stay set
+-- an included script's own variables leave the including script's as they were, which the included one doesn't see; shared variables stay set
 own_variables_row : (values : Values) → resumed_values values (with_variable (local_variable (codes "x")) (codes "z") (begun_values values)) ≡ values
 own_variables_row values = refl
 

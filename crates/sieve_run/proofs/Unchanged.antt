@@ -11,12 +11,12 @@ use Rattle.sieve_run.specs.Run.{SetsMatched, Answer, and_then, answer_of, also, 
 use Rattle.sieve_effects.specs.State.{RunState}
 use Rattle.sieve_variables.specs.Value.{with_matched}
 
--- where a state is another but for what a match gave, and that one a third but for what a match gave, so is the first the third
+-- a state behind two matches in turn is the one before them but for what a match gave
 again : (state between next : RunState) → SetsMatched state between → SetsMatched between next → SetsMatched state next
 again state between next first second =
     (second.0, second.1 ∙ ap {A = RunState} (λ s. record s { values = with_matched second.0 s.values }) first.1)
 
--- where the first of two tests sets match variables at most, and so does the second, so do both, whether the second is asked or not
+-- two tests of which each sets match variables at most do so together, whether the second is asked or not
 also_keeps : (truth : Bool) (second : RunState → Answer) (state between : RunState) → ((s : RunState) → SetsMatched s (second s).state) → SetsMatched state between → SetsMatched state (also truth second between).state
 also_keeps true second state between keeps same = again state between (second between).state same (keeps between)
 also_keeps false second state between keeps same = same
