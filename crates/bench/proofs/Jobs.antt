@@ -20,7 +20,7 @@ pub refusal_stays : (refusal : EditFault) (edits : List Edit) → fold then_edit
 refusal_stays refusal [] = refl
 refusal_stays refusal (edit ∷ edits) = refusal_stays refusal edits
 
--- a fault that says how one of some edits was refused says it of these edits and further ones too
+-- a fault for which one of some edits was refused is one for which one of these and further edits was refused
 pub still_refused : (fault : EditFault) (made : Result Content EditFault) (edits : List Edit) → Refused fault made → Refused fault (fold then_edit made edits)
 still_refused NoSuchScript made edits refused = refused
 still_refused NameTaken made edits refused = refused
@@ -52,7 +52,7 @@ pub put_next : (old new : Content) (scripts : List TestScript) (i : ℕ) (script
 put_next old new scripts i script all within is so_far put =
     ap (λ r. fold then_edit r (map put_of (drop (i + 1) scripts))) (sym put) ∙ sym (puts_cut (Ok old) scripts i script within is) ∙ so_far
 
--- where the next script is refused, one of all the edits is
+-- where the next script is refused, so is one of all the scripts, for the same fault
 pub put_refused : (content : Content) (scripts : List TestScript) (i : ℕ) (script : TestScript) (fault : EditFault) (all : Result Content EditFault) → i < length scripts → script ≡ get_or scripts i script
     → after_all content (map put_of (drop i scripts)) ≡ all → Refuses (after content (put_of script)) (Err fault) → Refused fault all
 put_refused content scripts i script fault all within is so_far refused =
@@ -61,7 +61,7 @@ put_refused content scripts i script fault all within is so_far refused =
 
 -- THE MESSAGE
 
--- what an edit makes that is accepted is what it makes unless it is refused
+-- where an edit made a content, it is the content that the edit was to make
 made_is : (refusal : Option EditFault) (content new : Content) → unless refusal content ≡ Ok new → content ≡ new
 made_is None content new made = cc
 made_is (Some fault) content new made = absurd cc
@@ -101,7 +101,7 @@ scripts_leave_none scripts old new none made = subst LeavesNone made (none_all_p
 pub main_leaves_none : (name : ScriptName) (old new : Content) → old.messages ≡ [] → after old (set_main name) ≡ Ok new → new.messages ≡ []
 main_leaves_none name old new none made = ap (λ c. c.messages) (sym (made_is (main_refusal name) (record old { main = Some name }) new made)) ∙ none
 
--- where a single message passes a test, its id is all that the ids of those that pass are
+-- where the only message passes a test, the ids of the messages that pass are its id alone
 one_id : (test : List ℕ × Sample → Bool) (id : List ℕ) (sample : Sample) → test (id, sample) ≡ true → ids_where test ((id, sample) ∷ []) ≡ id ∷ []
 unfolding ids_where
 one_id test id sample is = rw is refl

@@ -239,7 +239,7 @@ module _ (id : List ℕ) (expected : Option (List ℕ)) where
 
 -- EDITS THAT ARE MADE
 
--- an edit that makes a content has no refusal, and the content is what it makes unless it is refused
+-- where an edit made a content, it has no refusal, and the content is the one that the edit was to make
 pub accepted : (refusal : Option EditFault) (content new : Content) → unless refusal content ≡ Ok new → (refusal ≡ None) × (content ≡ new)
 accepted None content new made = (refl, cc)
 accepted (Some fault) content new made = absurd cc

@@ -50,7 +50,7 @@ more_told id b ids (e ∷ es) apart told = (by b told.0, more_told id b ids es a
     by true is = or_false (pointwise nat_eq e.0 id) (is_among e.0 ids) (other_id id e.0 apart.0) ∙ is
     by false is = is
 
--- each id is among the stale ones exactly where its entry is stale
+-- each id is among the stale ids exactly where its entry is stale
 pub told : (es : List (List ℕ × Entry)) → IsDistinct (pointwise nat_eq) (keys_of es) → Tells (λ m. is_among m.0 (stale_of es)) es
 unfolding stale_of
 told [] distinct = tt
@@ -172,7 +172,7 @@ messages-all_marked (e ∷ es) = ap (λ l. (e.0, sample_of e.1) ∷ l) (messages
 
 -- AN ENTRY THAT IS PUT
 
--- a test that tells which entries are stale still does where it takes in an id that is the same as one that no entry has
+-- a test that tells which entries are stale still does with an id added that is the same as one that no entry has
 apart_from : (id other : List ℕ) (test : List ℕ × Sample → Bool) (es : List (List ℕ × Entry)) → pointwise nat_eq id other ≡ true → AllByRecursion (λ k. pointwise nat_eq other k ≡ false) (keys_of es) → Tells test es → Tells (λ m. pointwise nat_eq id m.0 || test m) es
 apart_from id other test [] is apart tells = tt
 apart_from id other test (e ∷ es) is apart tells =

@@ -91,7 +91,7 @@ remove_missing_row = refl
 abbrev present : List ℕ → Content
 present text = bench ((main, text) ∷ (y, codes "keep;") ∷ [])
 
--- that the run on each message looks the main script up, and no other
+-- the run on each message looks the main script up, and no other
 abbrev IsAlone : List ℕ → Type 0
 IsAlone text = (bytes : List ℕ) → (verdict_on (present text) bytes).reads ≡ (main, true) ∷ []
 

@@ -52,7 +52,7 @@ branch_chain tail cs b chain behind next c g = record {
     apart : true ≡ false → ⊥
     apart e = cc
 
--- an operation that stops, returns or acts, in front of a tail, does so before what the tail does
+-- a stop or a return in front of a tail ends its walk, and a command that acts in front of a tail acts before what the tail does
 stops_before : (tail behind : Tail) (walk : Walk) → GoesBefore tail behind walk → GoesBefore (stop_op ∷ tail) behind by_stop
 stops_before tail behind walk g = record {
   ends = ends_more stop_op tail behind g.ends;

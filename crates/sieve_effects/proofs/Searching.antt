@@ -137,7 +137,7 @@ module _ (find : List ℕ → Option (List (List ℕ))) (part : Option AddressPa
 not_both : false ≡ true → ⊥
 not_both e = cc
 
--- what an answer finds, where it is equal to one thing, is equal to another that is equal to that thing
+-- an answer that found `x` found `y`, where `x` is `y`
 pub answers_so : {A E : Type 0} (answer : Result A E) (x y : A) → x ≡ y → IfOk answer (λ found. found ≡ x) → IfOk answer (λ found. found ≡ y)
 answers_so answer x y same is = subst (λ b. IfOk answer (λ found. found ≡ b)) same is
 

@@ -1,4 +1,4 @@
--- What holds of the state of a run from its start to its end: it has no more actions than it may, and enters no more scripts.
+-- What holds of the state of a run from its start to its end: it has no more actions, and no more scripts were entered, than there may be.
 use Rattle.std.proofs.Common.{◌≡◌, ℕ, zero, suc, ◌≤◌, Bool, true, false, ◌&&◌, Option, None, Some, List, [], ◌∷◌, ◌++◌, length, map, nat_lt, refl, ap, subst, sym, ◌∙◌, append-nil, append_assoc, arith}
 use Rattle.std.proofs.lemmas.Bool.Decides.{nat_tests}
 use Rattle.std.proofs.lemmas.List.{length_push, length-map}
