@@ -18,7 +18,7 @@ b = record { place = Personal; name = codes "b" }
 abbrev shared : ScriptName
 shared = record { place = Global; name = codes "a" }
 
--- octets of which nothing is expected, and of which a text is
+-- a message of these octets, of which nothing is expected, and one of which a text is expected
 abbrev plain : List ℕ → Sample
 plain octets = record { octets = octets; expected = None }
 
@@ -34,19 +34,19 @@ held = record {
   messages = (codes "2", expecting (codes "two") (codes "discard\n")) ∷ (codes "1", plain (codes "one")) ∷ [];
 }
 
--- the same two messages with these texts expected of them
+-- the content above, with these texts expected of its two messages, or none
 abbrev with_texts : Option (List ℕ) → Option (List ℕ) → Content
 with_texts two one = record held { messages = (codes "2", record { octets = codes "two"; expected = two }) ∷ (codes "1", record { octets = codes "one"; expected = one }) ∷ [] }
 
--- What is refused leaves all as it was: to remove what isn't there, to rename what isn't, or to what is, and to expect something of what isn't. A
--- message that is put in the place of another is expected to have the verdict of that one.
+-- A refused edit leaves all as it was: to remove what isn't there, to rename a script that isn't, or to a name that is taken, and to expect a text
+-- of a message that isn't there. Of a message that is put in the place of another, the text is expected that was expected of that one.
 after_row : content_after new_content (remove_script a ∷ put_script shared (codes "stop;") ∷ put_script a (codes "keep;") ∷ rename_script b a ∷ rename_script a shared ∷ rename_script a b
     ∷ set_expected (codes "2") (codes "keep\n") ∷ put_message (codes "2") [] ∷ set_expected (codes "2") (codes "discard\n") ∷ put_message (codes "1") (codes "one")
     ∷ put_message (codes "2") (codes "two") ∷ clear_expected (codes "1") ∷ remove_message (codes "3") ∷ set_main shared ∷ set_envelope (codes "x@y") [] ∷ []) ≡ held
 unfolding content_after
 after_row = refl
 
--- the edits that make it anew, in their order
+-- the edits that make the content above anew, in their order
 rebuild_row : rebuild held ≡ put_script b (codes "keep;") ∷ put_script shared (codes "stop;") ∷ put_message (codes "2") (codes "two") ∷ set_expected (codes "2") (codes "discard\n")
     ∷ put_message (codes "1") (codes "one") ∷ set_envelope (codes "x@y") [] ∷ set_mailbox (codes "INBOX") ∷ set_main shared ∷ []
 unfolding rebuild
@@ -63,7 +63,7 @@ no_main_row = refl
 
 -- WHAT IS EXPECTED
 
--- a text takes the place of the one before it
+-- an expected text takes the place of the one before it
 set_row : after held (set_expected (codes "2") (codes "keep\n")) ≡ Ok (with_texts (Some (codes "keep\n")) None)
 set_row = refl
 
@@ -73,7 +73,7 @@ set_other_row = refl
 clear_row : after held (clear_expected (codes "2")) ≡ Ok (with_texts None None)
 clear_row = refl
 
--- there need be none
+-- an expected text may be cleared where there is none
 clear_none_row : after held (clear_expected (codes "1")) ≡ Ok held
 clear_none_row = refl
 
@@ -83,7 +83,7 @@ absent_row = refl
 clear_absent_row : after held (clear_expected (codes "3")) ≡ Err NoSuchMessage
 clear_absent_row = refl
 
--- a text of the limit is taken, and one past it refused before its message is looked for, as is an id
+-- an expected text past the limit, or an id past the limit of ids, is refused before the message is looked for; a text of the limit isn't
 long_text_row : after held (set_expected (codes "3") (replicate 65537 0)) ≡ Err TooLarge
 long_text_row = refl
 
@@ -96,7 +96,7 @@ long_id_row = refl
 clear_long_id_row : after held (clear_expected (replicate 1025 0)) ≡ Err TooLarge
 clear_long_id_row = refl
 
--- a message that is put in its place has the text, and one that is put behind its removal has none
+-- a message that is put in the place of another has the text expected of it, and one that is put after the removal of another has none
 put_again_row : after held (put_message (codes "2") (codes "new")) ≡ Ok (record held { messages = (codes "2", expecting (codes "new") (codes "discard\n")) ∷ (codes "1", plain (codes "one")) ∷ [] })
 put_again_row = refl
 
@@ -106,7 +106,7 @@ dropped_row = refl
 
 -- THE ORDER
 
--- a personal script comes before a shared one, and no name twice
+-- a personal script comes before a shared one, and no name stands twice
 order_row : AreOrdered held.scripts
 unfolding IsStrictlySortedBy
 order_row = ((refl, tt), (tt, tt))
@@ -119,7 +119,7 @@ twice_row : AreOrdered ((a, []) ∷ (a, []) ∷ []) → ⊥
 unfolding IsStrictlySortedBy
 twice_row order = let e = order.0.0 in absurd cc
 
--- no id twice, wherever it stands
+-- no id stands twice, next to itself or not
 ids_row : AreDistinct (codes "2" ∷ codes "1" ∷ codes "2" ∷ []) → ⊥
 unfolding IsDistinct
 ids_row distinct = let e = distinct.0.1.0 in absurd cc

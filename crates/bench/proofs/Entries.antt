@@ -23,7 +23,7 @@ pub lookup-messages : (test : List ℕ → Bool) (es : List (List ℕ × Entry))
 unfolding messages_of
 lookup-messages test es = lookup-map_values _ test es
 
--- there is one where there is an entry
+-- there is a message whose id passes a test where there is an entry whose id does
 pub is_some-messages : (test : List ℕ → Bool) (es : List (List ℕ × Entry)) → is_some (lookup test (messages_of es)) ≡ is_some (lookup test es)
 is_some-messages test es = ap is_some (lookup-messages test es) ∙ by (lookup test es)
   where
@@ -70,7 +70,7 @@ messages-put es id bytes =
     messages-insert (pointwise nat_eq) es id (fresh_entry bytes (expected_in es id))
     ∙ ap (λ expected. ordered.insert_entry (pointwise nat_eq) (messages_of es) id (record { octets = bytes; expected = expected })) (sym (expected-messages es id))
 
--- the one that is there is changed where it stands
+-- to put an entry at an id that has one is to change the one that is there where it stands
 renewed_is : (es : List (List ℕ × Entry)) (id bytes : List ℕ) (entry : Entry) → lookup (pointwise nat_eq id) es ≡ Some entry → changed id (renewed bytes) es ≡ ordered.insert_entry (pointwise nat_eq) es id (fresh_entry bytes entry.expected)
 renewed_is [] id bytes entry there = absurd cc
 renewed_is (e ∷ es) id bytes entry there = by (pointwise nat_eq id e.0) there (λ h. renewed_is es id bytes entry h)
@@ -87,7 +87,7 @@ put_there es id bytes there = by (lookup (pointwise nat_eq id) es) refl there
     by None is there = absurd cc
     by (Some entry) is there = renewed_is es id bytes entry is
 
--- the message of an id has a text that is expected of it, or none
+-- to change what is expected of the entry of an id is to change what is expected of its message
 pub messages-expecting : (es : List (List ℕ × Entry)) (id : List ℕ) (expected : Option (List ℕ)) → messages_of (changed id (expecting expected) es) ≡ with_expected id expected (messages_of es)
 unfolding messages_of
 messages-expecting [] id expected = refl
@@ -99,7 +99,7 @@ messages-expecting (e ∷ es) id expected = by (pointwise nat_eq id e.0) (messag
     by true rest = refl
     by false rest = ap (λ l. (e.0, sample_of e.1) ∷ l) rest
 
--- the ids stay
+-- the ids of entries stay where one of the entries is changed
 pub keys-changed : (id : List ℕ) (change : Entry → Entry) (es : List (List ℕ × Entry)) → keys_of (changed id change es) ≡ keys_of es
 keys-changed id change [] = refl
 keys-changed id change (e ∷ es) = by (pointwise nat_eq id e.0) (keys-changed id change es)
@@ -120,7 +120,7 @@ changed_absent id change (e ∷ es) absent = by (pointwise nat_eq id e.0) absent
     by true absent rest = absurd cc
     by false absent rest = ap (λ l. e ∷ l) (rest absent)
 
--- the first place of the id is changed
+-- to change the entry at the first place of an id is to change the entry of that id
 changed_at : (id : List ℕ) (change : Entry → Entry) (es : List (List ℕ × Entry)) (i : ℕ) (entry : Entry) (d : List ℕ) → slice_get (values_of es) i ≡ Some entry → pointwise nat_eq id (get_or (keys_of es) i d) ≡ true
     → ((k : ℕ) → k < i → pointwise nat_eq id (get_or (keys_of es) k d) ≡ false) → set_value_at es i (change entry) ≡ changed id change es
 changed_at id change [] i entry d at here before = refl
@@ -130,7 +130,7 @@ changed_at id change (e ∷ es) (suc i) entry d at here before = rw (before 0 (o
 pub changed_there : (id : List ℕ) (change : Entry → Entry) (es : List (List ℕ × Entry)) (i : ℕ) (entry : Entry) → position (pointwise nat_eq id) (keys_of es) ≡ Some i → slice_get (values_of es) i ≡ Some entry → set_value_at es i (change entry) ≡ changed id change es
 changed_there id change es i entry is at = let found = position-Some (pointwise nat_eq id) (keys_of es) i [] is in changed_at id change es i entry [] at found.1 found.2
 
--- the entries behind a change at the place of the id
+-- entries of which the one at the place of an id was changed are the entries with the one of that id changed
 pub changed_from : (id : List ℕ) (change : Entry → Entry) (es new : List (List ℕ × Entry)) (i : ℕ) → position (pointwise nat_eq id) (keys_of es) ≡ Some i → is_some (slice_get (values_of es) i) ≡ true
     → MatchOption (slice_get (values_of es) i) (new ≡ es) (λ entry. new ≡ set_value_at es i (change entry)) → new ≡ changed id change es
 changed_from id change es new i is there made = by (slice_get (values_of es) i) refl there made
@@ -139,5 +139,5 @@ changed_from id change es new i is there made = by (slice_get (values_of es) i) 
     by None at there made = absurd cc
     by (Some entry) at there made = made ∙ changed_there id change es i entry is at
 
--- for functions' attributes
+-- the rules that functions' attributes name
 pub ruleset entries = (length-messages, is_some-messages, messages-put, messages-expecting, messages-remove_entry)

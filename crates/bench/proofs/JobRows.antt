@@ -54,7 +54,7 @@ full_row = refl
 too_large_row : after_all crowded (set_mailbox (many 256) ∷ put_script main [] ∷ []) ≡ Err TooLarge
 too_large_row = refl
 
--- a text past its limit is refused before there is room for it
+-- a script whose name is past the limit is too large, even where there is no room for it
 replaced_row : after_all crowded (put_script (personal (many 1025)) [] ∷ []) ≡ Err TooLarge
 replaced_row = refl
 

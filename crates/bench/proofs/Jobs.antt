@@ -20,7 +20,7 @@ pub refusal_stays : (refusal : EditFault) (edits : List Edit) → fold then_edit
 refusal_stays refusal [] = refl
 refusal_stays refusal (edit ∷ edits) = refusal_stays refusal edits
 
--- who was refused one of some edits was refused one of these and further ones
+-- a fault for which one of some edits was refused is one for which one of these and further edits was refused
 pub still_refused : (fault : EditFault) (made : Result Content EditFault) (edits : List Edit) → Refused fault made → Refused fault (fold then_edit made edits)
 still_refused NoSuchScript made edits refused = refused
 still_refused NameTaken made edits refused = refused
@@ -31,7 +31,7 @@ still_refused NoMemory made edits refused = tt
 
 -- THE SCRIPTS
 
--- what a put of a script may be refused for, apart from memory
+-- a put of a script is refused only for its size, for want of room or for memory
 put_refused_for : (too_large full : Bool) (content : Content) (fault : EditFault)
     → Refuses (unless (if too_large then Some TooLarge else if full then Some Full else None) content) (Err fault)
     → Refused fault (unless (if too_large then Some TooLarge else if full then Some Full else None) content)
@@ -39,20 +39,20 @@ put_refused_for true full content fault is = subst (λ f. Refused f (Err TooLarg
 put_refused_for false true content fault is = subst (λ f. Refused f (Err Full)) (sym is) refl
 put_refused_for false false content fault is = subst (λ f. Refused f (Ok content)) (sym is) tt
 
--- the scripts that are left, from one on
+-- to put the scripts from one on is to put that one, and then those behind it
 puts_cut : (made : Result Content EditFault) (scripts : List TestScript) (i : ℕ) (script : TestScript) → i < length scripts → script ≡ get_or scripts i script
     → fold then_edit made (map put_of (drop i scripts)) ≡ fold then_edit (then_edit made (put_of script)) (map put_of (drop (i + 1) scripts))
 puts_cut made scripts i script within is =
     ap (λ l. fold then_edit made (map put_of l)) (drop_more scripts i script within)
     ∙ ap (λ s. fold then_edit (then_edit made (put_of s)) (map put_of (drop (i + 1) scripts))) (sym is)
 
--- the next script is put
+-- where the next script is put, those behind it make of the new content what all are to make
 pub put_next : (old new : Content) (scripts : List TestScript) (i : ℕ) (script : TestScript) (all : Result Content EditFault) → i < length scripts → script ≡ get_or scripts i script
     → after_all old (map put_of (drop i scripts)) ≡ all → after old (put_of script) ≡ Ok new → after_all new (map put_of (drop (i + 1) scripts)) ≡ all
 put_next old new scripts i script all within is so_far put =
     ap (λ r. fold then_edit r (map put_of (drop (i + 1) scripts))) (sym put) ∙ sym (puts_cut (Ok old) scripts i script within is) ∙ so_far
 
--- the next script is refused
+-- where the next script is refused, so is one of all the scripts, for the same fault
 pub put_refused : (content : Content) (scripts : List TestScript) (i : ℕ) (script : TestScript) (fault : EditFault) (all : Result Content EditFault) → i < length scripts → script ≡ get_or scripts i script
     → after_all content (map put_of (drop i scripts)) ≡ all → Refuses (after content (put_of script)) (Err fault) → Refused fault all
 put_refused content scripts i script fault all within is so_far refused =
@@ -61,7 +61,7 @@ put_refused content scripts i script fault all within is so_far refused =
 
 -- THE MESSAGE
 
--- what an accepted edit makes
+-- where an edit made a content, it is the content that the edit was to make
 made_is : (refusal : Option EditFault) (content new : Content) → unless refusal content ≡ Ok new → content ≡ new
 made_is None content new made = cc
 made_is (Some fault) content new made = absurd cc
@@ -74,7 +74,7 @@ kept_none : (refusal : Option EditFault) (content : Content) → content.message
 kept_none None content none = none
 kept_none (Some fault) content none = tt
 
--- settings and scripts are no messages
+-- edits of settings and of scripts leave no message where there was none
 none_set : (made : Result Content EditFault) (from to : List ℕ) → LeavesNone made → LeavesNone (then_edit made (set_envelope from to))
 none_set (Ok content) from to none = kept_none (envelope_refusal from to) _ none
 none_set (Err refusal) from to none = tt
@@ -97,11 +97,11 @@ settings_leave_none from to mailbox old new none made = subst LeavesNone made (n
 pub scripts_leave_none : (scripts : List TestScript) (old new : Content) → old.messages ≡ [] → after_all old (map put_of scripts) ≡ Ok new → new.messages ≡ []
 scripts_leave_none scripts old new none made = subst LeavesNone made (none_all_put (Ok old) scripts none)
 
--- nor is a main script
+-- the edit that names a main script leaves no message where there was none
 pub main_leaves_none : (name : ScriptName) (old new : Content) → old.messages ≡ [] → after old (set_main name) ≡ Ok new → new.messages ≡ []
 main_leaves_none name old new none made = ap (λ c. c.messages) (sym (made_is (main_refusal name) (record old { main = Some name }) new made)) ∙ none
 
--- of one message those are the id alone that pass a test which it passes
+-- where the only message passes a test, the ids of the messages that pass are its id alone
 one_id : (test : List ℕ × Sample → Bool) (id : List ℕ) (sample : Sample) → test (id, sample) ≡ true → ids_where test ((id, sample) ∷ []) ≡ id ∷ []
 unfolding ids_where
 one_id test id sample is = rw is refl

@@ -12,7 +12,7 @@ use Rattle.bench.specs.Test.{is_clean, is_clean_with}
 use Rattle.bench.specs.declared.entry.Entry.{Entry}
 use Rattle.bench.specs.view.Entry.{disagrees, has_error, judged_before, judged_of, messages_of, stale_of, KeepsDue}
 
--- where none is stale, what is kept are the verdicts on all messages
+-- where no message is stale, the verdicts that are kept are the verdicts on all messages
 pub all_judged : (main : Option ScriptName) (envelope : Envelope) (scripts : List (ScriptName × List ℕ)) (es : List (List ℕ × Entry)) → KeepsDue (verdict_by main envelope scripts) es → stale_of es ≡ []
     → judged_of es ≡ verdicts main envelope scripts (messages_of es)
 unfolding KeepsDue stale_of judged_of messages_of verdicts
@@ -28,21 +28,21 @@ all_judged main envelope scripts (e ∷ es) kept none = by e.1.kept kept.0 none 
     by None is none more = absurd cc
     by (Some verdict) is none more = ap (λ v. judged_now v ∷ judged_of es) is ∙ ap (λ l. judged_now (verdict_by main envelope scripts e.1.message) ∷ l) (more none)
 
--- where none is stale, the report of the kept verdicts is the report of the content
+-- where no message is stale, the report of the kept verdicts is the report of the content
 pub report_is : (content : Content) (main : Option ScriptName) (es : List (List ℕ × Entry)) → main ≡ content.main → messages_of es ≡ content.messages → KeepsDue (verdict_by main content.envelope content.scripts) es → stale_of es ≡ []
     → report_with main content.envelope content.scripts (judged_of es) ≡ report_text content
 report_is content main es m same kept none =
     ap (report_with main content.envelope content.scripts) (all_judged main content.envelope content.scripts es kept none ∙ ap (verdicts main content.envelope content.scripts) same)
     ∙ ap (λ x. report_with x content.envelope content.scripts (verdicts x content.envelope content.scripts content.messages)) m
 
--- where none is stale, the kept verdicts are clean where the content is
+-- where no message is stale, the kept verdicts are clean where the content is
 pub clean_is : (content : Content) (es : List (List ℕ × Entry)) → messages_of es ≡ content.messages → KeepsDue (verdict_by content.main content.envelope content.scripts) es → stale_of es ≡ []
     → is_clean_with content.scripts (judged_of es) ≡ is_clean content
 unfolding is_clean
 clean_is content es same kept none =
     ap (is_clean_with content.scripts) (all_judged content.main content.envelope content.scripts es kept none ∙ ap (verdicts content.main content.envelope content.scripts) same)
 
--- how many are judged, and with an error
+-- where no message is stale, all are judged; as many are judged with an error as entries keep a verdict with an error
 pub judged-all : (es : List (List ℕ × Entry)) → stale_of es ≡ [] → length (judged_of es) ≡ length es
 unfolding stale_of judged_of
 judged-all [] none = refl
@@ -73,7 +73,7 @@ judged_cut e es = by e.1.kept
 pub lines_cut : (lines : Judged → List ℕ) (all es : List (List ℕ × Entry)) (e : List ℕ × Entry) → all ≡ e ∷ es → flat_map lines (judged_of all) ≡ flat_map lines (judged_of (e ∷ [])) ++ flat_map lines (judged_of es)
 lines_cut lines all es e cut = ap (λ l. flat_map lines (judged_of l)) cut ∙ ap (flat_map lines) (judged_cut e es) ∙ flat_map-append lines (judged_of (e ∷ [])) (judged_of es)
 
--- the lines of the verdict of one entry
+-- the lines of one entry are those of the verdict that is kept of it
 pub one_lines : (lines : Judged → List ℕ) (id : List ℕ) (entry : Entry) (verdict : Verdict) → entry.kept ≡ Some verdict → flat_map lines (judged_of ((id, entry) ∷ [])) ≡ lines (record { id = id; verdict = verdict; expected = entry.expected })
 unfolding judged_of
 one_lines lines id entry verdict is = ap (λ k. flat_map lines (judged_before id entry.expected k [])) is ∙ append-nil (lines (record { id = id; verdict = verdict; expected = entry.expected }))
@@ -82,7 +82,7 @@ pub judged_one : (id : List ℕ) (entry : Entry) (kept : Option Verdict) → ent
 unfolding judged_of
 judged_one id entry kept is = ap (λ k. judged_before id entry.expected k []) is
 
--- how many are not as expected, and whether a text is expected of any
+-- as many verdicts are not as expected as entries keep one that isn't; where no message is stale, a text is expected of one where it is of an entry
 pub judged-unlike : (mailbox : List ℕ) (es : List (List ℕ × Entry)) → count_by (λ j. is_unlike mailbox j.verdict j.expected) (judged_of es) ≡ count_by (λ e. disagrees mailbox e.1.expected e.1.kept) es
 unfolding judged_of
 judged-unlike mailbox [] = refl
@@ -105,7 +105,7 @@ judged-expected (e ∷ es) none = by e.1.kept none (judged-expected es)
     by None none rest = absurd cc
     by (Some verdict) none rest = ap (λ b. is_some e.1.expected || b) (rest none)
 
--- what the last line says of that
+-- where no message is stale, the last line has a number of unexpected verdicts where a text is expected of some message, and else none
 pub unexpected_some : (mailbox : List ℕ) (es : List (List ℕ × Entry)) → stale_of es ≡ [] → list_any (λ e. is_some e.1.expected) es ≡ true → unexpected_count mailbox (judged_of es) ≡ Some (count_by (λ e. disagrees mailbox e.1.expected e.1.kept) es)
 unfolding unexpected_count
 unexpected_some mailbox es none some =

@@ -53,7 +53,7 @@ module _ {K : Type 0} {cmp : K → K → Ordering} (total : IsTotalOrder cmp) wh
   below : (a b : K) → cmp a b ≡ Greater → cmp b a ≡ Less
   below a b is = total.antisymm b a ∙ ap ordering_reverse is
 
-  -- what is below the first is below the others
+  -- a key that is below another is below those that the other is below
   all_above : (a b : K) (ks : List K) → cmp a b ≡ Less → AllByRecursion (λ y. cmp b y ≡ Less) ks → AllByRecursion (λ y. cmp a y ≡ Less) ks
   all_above a b [] is all = tt
   all_above a b (k ∷ ks) is all = (total.trans a b k is all.0, all_above a b ks is all.1)
@@ -68,7 +68,7 @@ module _ {K : Type 0} {cmp : K → K → Ordering} (total : IsTotalOrder cmp) wh
         by Equal rest = all
         by Greater rest = (all.0, rest)
 
-    -- an entry goes to its place in the order
+    -- entries in the order of their keys stay in that order where one is inserted
     sorted_inserted : (es : List (K × X)) → IsStrictlySortedBy cmp (keys_of es) → IsStrictlySortedBy cmp (keys_of (tree.insert_entry cmp es k v))
     unfolding IsStrictlySortedBy
     sorted_inserted [] sorted = (tt, tt)
@@ -79,7 +79,7 @@ module _ {K : Type 0} {cmp : K → K → Ordering} (total : IsTotalOrder cmp) wh
         by Equal is rest = sorted
         by Greater is rest = (all_inserted (λ y. cmp e.0 y ≡ Less) es sorted.0 (below k e.0 is), rest)
 
-    -- an entry that is inserted makes one more at most
+    -- an entry that is inserted makes one entry more at most
     pub one_inserted : (es : List (K × X)) → length (tree.insert_entry cmp es k v) ≤ suc (length es)
     one_inserted [] = omega arith
     one_inserted (e ∷ es) = by (cmp k e.0) (one_inserted es)
@@ -94,7 +94,7 @@ module _ {K : Type 0} {cmp : K → K → Ordering} (total : IsTotalOrder cmp) wh
     absent_below [] all = refl
     absent_below (e ∷ es) all = ap (λ r. cond (is_eq r) (Some e.1) (lookup (tree.is_at (cmp k)) es)) all.0 ∙ absent_below es all.1
 
-    -- an entry that is inserted makes none more where there is one at its key
+    -- an entry that is inserted makes no entry more where there is one at its key
     pub none_inserted : (es : List (K × X)) → IsStrictlySortedBy cmp (keys_of es) → is_none (lookup (tree.is_at (cmp k)) es) ≡ false → length (tree.insert_entry cmp es k v) ≡ length es
     unfolding IsStrictlySortedBy
     none_inserted [] sorted there = absurd cc
@@ -157,7 +157,7 @@ module _ {K X : Type 0} (test : K → Bool) where
 -- ENTRIES THAT ARE PUT LAST
 
 module _ (id : List ℕ) (sample : Sample) where
-  -- messages with one at an id
+  -- the messages with one that is put at the id
   abbrev put : List (List ℕ × Sample) → List (List ℕ × Sample)
   put messages = ordered.insert_entry (pointwise nat_eq) messages id sample
 
@@ -239,7 +239,7 @@ module _ (id : List ℕ) (expected : Option (List ℕ)) where
 
 -- EDITS THAT ARE MADE
 
--- what an edit that isn't refused makes
+-- where an edit made a content, it has no refusal, and the content is the one that the edit was to make
 pub accepted : (refusal : Option EditFault) (content new : Content) → unless refusal content ≡ Ok new → (refusal ≡ None) × (content ≡ new)
 accepted None content new made = (refl, cc)
 accepted (Some fault) content new made = absurd cc

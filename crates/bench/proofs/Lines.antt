@@ -19,7 +19,7 @@ pub envelope_pieces : (envelope : Envelope) (from to mailbox : List ℕ) → fro
 unfolding envelope_line
 envelope_pieces envelope from to mailbox f t m = rw (f, t, m) (simp append_assoc)
 
--- the last line
+-- the last line of a report, without a number of unexpected verdicts and with one
 pub total_pieces : (messages errors : ℕ) → total_line messages errors None ≡ codes "total " ++ (decimal messages ++ (codes " messages " ++ (decimal errors ++ (codes " errors\n" ++ []))))
 unfolding total_line
 total_pieces messages errors = simp append_assoc
@@ -65,7 +65,7 @@ faulty_line name text kind_word fault line kind f is k =
     ap (λ (l : List ℕ). codes "script " ++ name_text name ++ codes " " ++ l ++ codes "\n") (judgement_is (judgement_of text) ∙ ap fault_text (sym f ∙ is))
     ∙ rw k (script_joined (name_text name) (fault_text (Some (line, kind))) ∙ ap (λ l. codes "script " ++ (name_text name ++ (codes " " ++ l))) (fault_joined (decimal line) (fault_word kind)))
 
--- the lines of a verdict are written in turn
+-- the texts of what a function makes of items are the texts of the items by both functions in turn
 flat_map-map : {X Y : Type 0} (f : Y → List ℕ) (g : X → Y) (xs : List X) → flat_map f (map g xs) ≡ flat_map (λ x. f (g x)) xs
 flat_map-map f g [] = refl
 flat_map-map f g (x ∷ xs) = ap (λ l. f (g x) ++ l) (flat_map-map f g xs)
@@ -78,6 +78,7 @@ error_is : (error : Option RunError) → flat_map indented (error_lines error) �
 error_is None = refl
 error_is (Some error) = append-nil (indented (error_line error))
 
+-- the lines of a verdict in a report are those that are written in turn
 pub verdict_in_turn : (mailbox : List ℕ) (verdict : Verdict) → verdict_text mailbox verdict ≡ verdict_texts mailbox verdict
 unfolding verdict_texts
 verdict_in_turn mailbox verdict =

@@ -27,7 +27,7 @@ or_false a b is = rw is refl
 
 -- WHICH IDS ARE AMONG THE STALE ONES
 
--- an id that no entry has is not among them
+-- an id that no entry has is not among the stale ids
 unlisted : (id : List ℕ) (es : List (List ℕ × Entry)) → AllByRecursion (λ k. pointwise nat_eq id k ≡ false) (keys_of es) → is_among id (stale_of es) ≡ false
 unfolding stale_of
 unlisted id [] apart = refl
@@ -41,7 +41,7 @@ unlisted id (e ∷ es) apart = by (is_stale e.1) (unlisted id es apart.1)
 abbrev pub Tells : (List ℕ × Sample → Bool) → List (List ℕ × Entry) → Type 0
 Tells test es = AllByRecursion (λ e. test (e.0, sample_of e.1) ≡ is_stale e.1) es
 
--- an id in front that no entry has tells nothing of the entries
+-- where a list of ids tells which entries are stale, it still does with an id in front that no entry has
 more_told : (id : List ℕ) (b : Bool) (ids : List (List ℕ)) (es : List (List ℕ × Entry)) → AllByRecursion (λ k. pointwise nat_eq id k ≡ false) (keys_of es) → Tells (λ m. is_among m.0 ids) es → Tells (λ m. is_among m.0 (cond b (id ∷ ids) ids)) es
 more_told id b ids [] apart told = tt
 more_told id b ids (e ∷ es) apart told = (by b told.0, more_told id b ids es apart.1 told.1)
@@ -50,7 +50,7 @@ more_told id b ids (e ∷ es) apart told = (by b told.0, more_told id b ids es a
     by true is = or_false (pointwise nat_eq e.0 id) (is_among e.0 ids) (other_id id e.0 apart.0) ∙ is
     by false is = is
 
--- each id is among the stale ones exactly where its entry is stale
+-- each id is among the stale ids exactly where its entry is stale
 pub told : (es : List (List ℕ × Entry)) → IsDistinct (pointwise nat_eq) (keys_of es) → Tells (λ m. is_among m.0 (stale_of es)) es
 unfolding stale_of
 told [] distinct = tt
@@ -62,7 +62,7 @@ told (e ∷ es) distinct =
     by true absent = or_true (pointwise nat_eq e.0 e.0) (is_among e.0 (stale_of es)) (same_id e.0)
     by false absent = absent
 
--- the stale ones are those that pass a test that tells
+-- the stale ids are those of the messages that pass a test that tells which entries are stale
 pub passing : (test : List ℕ × Sample → Bool) (es : List (List ℕ × Entry)) → Tells test es → stale_of es ≡ ids_where test (messages_of es)
 unfolding stale_of messages_of ids_where
 passing test [] tells = refl
@@ -72,7 +72,7 @@ passing test (e ∷ es) tells = rw (← tells.0) (by (test (e.0, sample_of e.1))
     by true rest = ap (λ l. e.0 ∷ l) rest
     by false rest = rest
 
--- a test that is another in other words tells what that tells
+-- a test that is another in other words tells which entries are stale where the other does
 pub tells_too : (test other : List ℕ × Sample → Bool) (es : List (List ℕ × Entry)) → ((m : List ℕ × Sample) → other m ≡ test m) → Tells test es → Tells other es
 tells_too test other [] alike tells = tt
 tells_too test other (e ∷ es) alike tells = (alike (e.0, sample_of e.1) ∙ tells.0, tells_too test other es alike tells.1)
@@ -95,7 +95,7 @@ stale_for due name before (Some verdict) is tells = rw (tells, ← is) (by (is_r
     by true = refl
     by false = refl
 
--- behind a mark for a name those are stale whose runs looked it up, and those that were
+-- behind a mark for a name those entries are stale whose runs looked the name up, and those that were stale
 pub tells-marked : (due : List ℕ → Verdict) (name : ScriptName) (test : List ℕ × Sample → Bool) (es : List (List ℕ × Entry)) → KeepsDue due es → Tells test es → Tells (λ m. is_read name (due m.1.octets).reads || test m) (marked name es)
 unfolding KeepsDue
 tells-marked due name test [] kept tells = tt
@@ -107,7 +107,7 @@ IsFramed =
     (texts others : Texts) (main : Option ScriptName) (envelope : Envelope) (message : List ℕ) → Agree texts others (outcome_over texts main envelope message).reads
     → outcome_over others main envelope message ≡ outcome_over texts main envelope message
 
--- what isn't marked stays due, where the text at no other name changes
+-- a verdict that isn't marked stays due, where the text at no other name changes
 still_due : IsFramed → (texts others : Texts) (main : Option ScriptName) (envelope : Envelope) (name : ScriptName) (message : List ℕ) (kept : Option Verdict)
     → ((other : ScriptName) → name_eq name other ≡ false → texts other ≡ others other)
     → IfSome kept (λ verdict. verdict ≡ outcome_over texts main envelope message) → IfSome (kept_without name kept) (λ verdict. verdict ≡ outcome_over others main envelope message)
@@ -132,7 +132,7 @@ due-marked frame texts others main envelope name [] alike kept = tt
 due-marked frame texts others main envelope name (e ∷ es) alike kept =
     (still_due frame texts others main envelope name e.1.message e.1.kept alike kept.0, due-marked frame texts others main envelope name es alike kept.1)
 
--- a mark changes no verdict
+-- a verdict that is due and that a mark leaves is still due
 kept_due : (due : Verdict) (name : ScriptName) (kept : Option Verdict) → IfSome kept (λ verdict. verdict ≡ due) → IfSome (kept_without name kept) (λ verdict. verdict ≡ due)
 kept_due due name None is = tt
 kept_due due name (Some verdict) is = by (is_read name verdict.reads)
@@ -172,7 +172,7 @@ messages-all_marked (e ∷ es) = ap (λ l. (e.0, sample_of e.1) ∷ l) (messages
 
 -- AN ENTRY THAT IS PUT
 
--- ids that differ from one that is the same as another differ from that
+-- a test that tells which entries are stale still does with an id added that is the same as one that no entry has
 apart_from : (id other : List ℕ) (test : List ℕ × Sample → Bool) (es : List (List ℕ × Entry)) → pointwise nat_eq id other ≡ true → AllByRecursion (λ k. pointwise nat_eq other k ≡ false) (keys_of es) → Tells test es → Tells (λ m. pointwise nat_eq id m.0 || test m) es
 apart_from id other test [] is apart tells = tt
 apart_from id other test (e ∷ es) is apart tells =
@@ -265,7 +265,7 @@ kept_at due id (e ∷ es) distinct kept =
     by true is absent rest = rw (← is_id id e.0 is) (found e.1.kept kept.0 (rw (is_id id e.0 is) absent))
     by false is absent rest = rw (skip (is_stale e.1) is) rest
 
--- the stale ones are some of those that are there
+-- the stale ids are those of the messages that are there whose ids are among the stale ones
 pub stale-listed : (es : List (List ℕ × Entry)) → IsDistinct (pointwise nat_eq) (keys_of es) → stale_of es ≡ ids_where (λ m. is_among m.0 (stale_of es)) (messages_of es)
 stale-listed es distinct = passing _ es (told es distinct)
 

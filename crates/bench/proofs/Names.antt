@@ -68,7 +68,7 @@ tied_names a b is = by (place_cmp a.place b.place) refl is
 
 -- TEXTS AT OTHER NAMES
 
--- no other name is at a name
+-- a name isn't at the place of another name
 elsewhere : (name other : ScriptName) → name_eq name other ≡ false → tree.is_at (name_cmp other) name ≡ false
 elsewhere name other apart = by (name_cmp other name) refl
   where

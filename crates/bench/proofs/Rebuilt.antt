@@ -113,16 +113,16 @@ ids_before (first ∷ done) message rest distinct = (at done distinct.0, ids_bef
     at [] all = all.0
     at (one ∷ done) all = at done all.1
 
--- octets of which nothing is expected
+-- a message of these octets, of which nothing is expected
 abbrev plain : List ℕ → Sample
 plain octets = record { octets = octets; expected = None }
 
--- an id that is none of theirs has no message
+-- an id that is none of the messages' ids has no message
 none_there : (id : List ℕ) (messages : List (List ℕ × Sample)) → AllByRecursion (λ other. pointwise nat_eq other id ≡ false) (keys_of messages) → message_at messages id ≡ None
 none_there id [] apart = refl
 none_there id (e ∷ messages) apart = ap (λ b. if b then Some e.1 else message_at messages id) (other_id e.0 id apart.0) ∙ none_there id messages apart.1
 
--- a message whose id is none of theirs is put last
+-- a message whose id is none of the messages' ids is put last
 insert_behind : (id : List ℕ) (sample : Sample) (messages : List (List ℕ × Sample)) → AllByRecursion (λ other. pointwise nat_eq other id ≡ false) (keys_of messages) → ordered.insert_entry (pointwise nat_eq) messages id sample ≡ messages ++ (id, sample) ∷ []
 insert_behind id sample [] apart = refl
 insert_behind id sample (e ∷ messages) apart =
@@ -133,7 +133,7 @@ put_behind id bytes messages apart =
     ap (λ found. ordered.insert_entry (pointwise nat_eq) messages id (record { octets = bytes; expected = option_and_then (λ s. s.expected) found })) (none_there id messages apart)
     ∙ insert_behind id (plain bytes) messages apart
 
--- a message that is put is there then, and what is expected of it is set
+-- a message that is put last is there at its id, and the text that is expected of it is set there
 there_behind : (id : List ℕ) (sample : Sample) (messages : List (List ℕ × Sample)) → AllByRecursion (λ other. pointwise nat_eq other id ≡ false) (keys_of messages) → message_at (messages ++ (id, sample) ∷ []) id ≡ Some sample
 there_behind id sample [] apart = ap (λ b. if b then Some sample else None) (same_id id)
 there_behind id sample (e ∷ messages) apart = ap (λ b. if b then Some e.1 else message_at (messages ++ (id, sample) ∷ []) id) (other_id e.0 id apart.0) ∙ there_behind id sample messages apart.1
@@ -151,7 +151,7 @@ expected_unless false true missing short small there = absurd cc
 expected_unless false false true short small there = absurd cc
 expected_unless false false false short small there = refl
 
--- what is expected of the last message is set behind its put
+-- what is expected of a message is set where the message was put last
 expected_again : (content : Content) (done : List (List ℕ × Sample)) (id octets : List ℕ) (expected : Option (List ℕ)) → AllByRecursion (λ other. pointwise nat_eq other id ≡ false) (keys_of done)
     → length id ≤ id_limit → IfSome expected (λ text. length text ≤ expected_limit)
     → after_all (record content { messages = done ++ (id, plain octets) ∷ [] }) (expected_edits id expected) ≡ Ok (record content { messages = done ++ (id, record { octets = octets; expected = expected }) ∷ [] })
@@ -245,7 +245,7 @@ module _ (content : Content) (order : IsInOrder content) (limits : IsWithinLimit
       envelope_there : Content
       envelope_there = record messages_there { envelope = record messages_there.envelope { from = content.envelope.from; to = content.envelope.to } }
 
-  -- none of the edits is refused, and they make the content
+  -- none of the edits that make the content anew is refused, and they make it
   pub made_again : after_all new_content (rebuild content) ≡ Ok content
   unfolding rebuild
   made_again =

@@ -49,7 +49,7 @@ module _ (due : List ℕ → Verdict) where
   is_fresh due_verdict None = refl
   is_fresh due_verdict (Some verdict) = refl
 
-  -- the entries up to it are fresh
+  -- where the entries in front of a place are fresh, the entries up to that place are fresh with the one there refreshed
   pub fresh-refreshed : (es : List (List ℕ × Entry)) (i : ℕ) (entry : Entry) → slice_get (values_of es) i ≡ Some entry → stale_of (take i es) ≡ [] → stale_of (take (suc i) (set_value_at es i (refreshed due entry))) ≡ []
   unfolding stale_of
   fresh-refreshed [] i entry at fresh = refl
@@ -62,7 +62,7 @@ module _ (due : List ℕ → Verdict) where
       by true fresh more = absurd cc
       by false fresh more = more fresh
 
-  -- an entry that is made anew, and was stale, was the first that was
+  -- an entry that is refreshed, was stale, and had only fresh ones in front, was the first stale one
   pub stale-refreshed : (es : List (List ℕ × Entry)) (i : ℕ) (entry : Entry) → slice_get (values_of es) i ≡ Some entry → is_stale entry ≡ true → stale_of (take i es) ≡ []
       → (id : List ℕ) × (stale_of es ≡ id ∷ stale_of (set_value_at es i (refreshed due entry)))
   unfolding stale_of
@@ -79,7 +79,7 @@ module _ (due : List ℕ → Verdict) where
       by true fresh more = absurd cc
       by false fresh more = more fresh
 
-  -- an entry that is made anew, and wasn't stale, changes nothing of what is stale
+  -- an entry that is refreshed and wasn't stale changes nothing of what is stale
   pub same-refreshed : (es : List (List ℕ × Entry)) (i : ℕ) (entry : Entry) → slice_get (values_of es) i ≡ Some entry → is_stale entry ≡ false → stale_of (set_value_at es i (refreshed due entry)) ≡ stale_of es
   unfolding stale_of
   same-refreshed [] i entry at fresh = refl
@@ -89,7 +89,7 @@ module _ (due : List ℕ → Verdict) where
       rw (was, is_fresh (due entry.message) entry.kept) refl
   same-refreshed (e ∷ es) (suc i) entry at fresh = ap (λ l. cond (is_stale e.1) (e.0 ∷ l) l) (same-refreshed es i entry at fresh)
 
--- what a look at an entry leaves
+-- to put an entry in the place where it stands changes nothing
 pub same_value : (es : List (List ℕ × Entry)) (i : ℕ) (entry : Entry) → slice_get (values_of es) i ≡ Some entry → set_value_at es i entry ≡ es
 same_value [] i entry at = refl
 same_value (e ∷ es) zero entry at = let same : e.1 ≡ entry = cc in ap (λ x. (e.0, x) ∷ es) (sym same)
@@ -155,7 +155,7 @@ unfolding messages_of
 keys-messages [] = refl
 keys-messages (e ∷ es) = ap (λ l. e.0 ∷ l) (keys-messages es)
 
--- entries of the same messages have the same ids, each once
+-- where no id stands twice among some entries, none does among other entries of the same messages
 pub distinct-messages : (old new : List (List ℕ × Entry)) → messages_of new ≡ messages_of old → IsDistinct (pointwise nat_eq) (keys_of old) → IsDistinct (pointwise nat_eq) (keys_of new)
 distinct-messages old new same distinct = subst (IsDistinct (pointwise nat_eq)) (sym (keys-messages old) ∙ ap keys_of (sym same) ∙ keys-messages new) distinct
 

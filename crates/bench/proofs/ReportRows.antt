@@ -23,7 +23,7 @@ unexpected_row : message_lines (codes "INBOX") (discarded (Some (codes "keep\n")
 unfolding message_line indent action_line read_line name_text quoted agrees
 unexpected_row = refl
 
--- no number where nothing is expected
+-- there is no number of unexpected verdicts where nothing is expected
 no_count_row : unexpected_count [] (discarded None ∷ discarded None ∷ []) ≡ None
 unfolding unexpected_count
 no_count_row = refl

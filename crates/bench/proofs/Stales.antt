@@ -26,7 +26,7 @@ x = personal (codes "x")
 abbrev y : ScriptName
 y = personal (codes "y")
 
--- the other store's script of the same name is another
+-- the global script of the same name is another script
 abbrev global_main : ScriptName
 global_main = record { place = Global; name = codes "main" }
 
@@ -71,7 +71,7 @@ put_unread_row : touched missing (put_script x (codes "keep;")) ≡ []
 unfolding ids_where outcome_of
 put_unread_row = refl
 
--- a new name is looked up too, as far as a run missed it
+-- a rename touches the messages whose runs looked its new name up in vain
 rename_to_missing_row : touched missing (rename_script y main) ≡ both
 unfolding ids_where outcome_of
 rename_to_missing_row = refl
@@ -80,7 +80,7 @@ rename_unread_row : touched missing (rename_script y x) ≡ []
 unfolding ids_where outcome_of
 rename_unread_row = refl
 
--- what isn't there can't be removed
+-- to remove a script that isn't there is refused, and touches no message
 remove_missing_row : touched missing (remove_script main) ≡ []
 unfolding ids_where outcome_of
 remove_missing_row = refl
@@ -91,7 +91,7 @@ remove_missing_row = refl
 abbrev present : List ℕ → Content
 present text = bench ((main, text) ∷ (y, codes "keep;") ∷ [])
 
--- whether a run on a message looks it up, and no other
+-- the run on each message looks the main script up, and no other
 abbrev IsAlone : List ℕ → Type 0
 IsAlone text = (bytes : List ℕ) → (verdict_on (present text) bytes).reads ≡ (main, true) ∷ []
 
@@ -108,9 +108,9 @@ keep_row : (text : List ℕ) (tree : List Node) → nat_lt text_limit (length te
 unfolding outcome_of exec
 keep_row text tree short judged commands bytes = rw (short, judged, commands) refl
 
--- rows of such a text
+-- rows where the main script has a text that looks up no other script
 module _ (text : List ℕ) (alone : IsAlone text) where
-  -- another script, which no run looks up, is put, or put anew
+  -- a script that no run looks up touches no message where it is put, put anew, removed or renamed, and the main script touches all
   put_row : touched (present text) (put_script x (codes "keep;")) ≡ []
   unfolding ids_where
   put_row = simp alone
@@ -143,7 +143,7 @@ module _ (text : List ℕ) (alone : IsAlone text) where
   unfolding ids_where
   rename_main_row = simp alone
 
-  -- a name that is taken is refused
+  -- a refused edit leaves the stale messages: a rename to a name that is taken, and the removal of a message that isn't there
   refused_rename_row : marks (present text) (rename_script y main) first ≡ first
   unfolding ids_where
   refused_rename_row = refl
@@ -161,12 +161,12 @@ module _ (text : List ℕ) (alone : IsAlone text) where
   unfolding ids_where
   new_message_row = refl
 
-  -- what was stale stays so
+  -- a message that was stale stays stale where another is put
   stays_row : marks (present text) (put_message (codes "m2") []) first ≡ both
   unfolding ids_where
   stays_row = refl
 
-  -- but for a message that is removed
+  -- a message that was stale is stale no more where it is removed, and stays stale where another is removed
   remove_message_row : marks (present text) (remove_message (codes "m1")) first ≡ []
   unfolding ids_where
   remove_message_row = refl
@@ -175,7 +175,7 @@ module _ (text : List ℕ) (alone : IsAlone text) where
   unfolding ids_where
   remove_other_message_row = refl
 
-  -- the settings touch all
+  -- an edit of the settings touches all messages
   mailbox_row : touched (present text) (set_mailbox (codes "Inbox2")) ≡ both
   unfolding ids_where
   mailbox_row = refl
@@ -188,7 +188,7 @@ module _ (text : List ℕ) (alone : IsAlone text) where
   unfolding ids_where
   set_main_row = refl
 
-  -- even where the main script stays
+  -- the edit that names the main script touches all messages even where the main script stays
   same_main_row : touched (present text) (set_main main) ≡ both
   unfolding ids_where
   same_main_row = refl
@@ -197,7 +197,7 @@ module _ (text : List ℕ) (alone : IsAlone text) where
   unfolding ids_where
   clear_main_row = refl
 
-  -- what is expected touches none, and leaves what was stale
+  -- an edit of what is expected touches no message, and leaves the stale messages
   expected_row : touched (present text) (set_expected (codes "m1") (codes "discard\n")) ≡ []
   unfolding ids_where
   expected_row = refl
@@ -216,10 +216,10 @@ module _ (text : List ℕ) (alone : IsAlone text) where
 left_row : (old : List (List ℕ)) (runs later : ℕ) → RefusedAmong old [] runs later → ⊥
 left_row old runs later refused = omega (arith, refused.more)
 
--- nor make more of them stale
+-- a report that memory is refused to can't make more messages stale
 more_row : (old new : List (List ℕ)) (runs later : ℕ) → length old < length new → RefusedAmong old new runs later → ⊥
 more_row old new runs later more refused = omega (arith, ap length refused.whole, length-append refused.done new)
 
--- nor be where nothing was stale
+-- memory is refused to no report where nothing was stale
 none_row : (new : List (List ℕ)) (runs later : ℕ) → RefusedAmong [] new runs later → ⊥
 none_row new runs later refused = omega (arith, ap length refused.whole, length-append refused.done new, refused.more)

@@ -29,7 +29,7 @@ counted : (limit old new : ℕ) (fresh : Bool) → (fresh ≡ true → nat_le li
 counted limit old new true room more same within = let below : old < limit = not_full limit old (room refl) in omega arith
 counted limit old new false room more same within = let is : new ≡ old = same refl in omega arith
 
--- what isn't refused for its size, nor for want of room where it is new
+-- a put that isn't refused isn't past its limits of size, and has room where what is put is new
 put_passes : (long large fresh full : Bool) (fault other : EditFault) → (if long || large then Some fault else if fresh && full then Some other else None) ≡ None → (long ≡ false) × (large ≡ false) × (fresh ≡ true → full ≡ false)
 put_passes true large fresh full fault other is = absurd cc
 put_passes false true fresh full fault other is = absurd cc
@@ -66,7 +66,7 @@ other_name scripts from to text there free = by (name_eq to from) refl
     by true is = let e : is_some (text_at scripts to) ≡ true = ap (λ name. is_some (text_at scripts name)) (is_name to from is) ∙ ap is_some there in absurd cc
     by false is = refl
 
--- what scripts become that are put, renamed and removed is within the limits
+-- scripts stay within the limits where one of them is put, renamed or removed
 module _ (scripts : List (ScriptName × List ℕ)) (order : AreOrdered scripts) (limits : AreScriptsWithin scripts) where
   scripts_put : (name : ScriptName) (text : List ℕ) → script_refusal scripts name text ≡ None → AreScriptsWithin (with_script name text scripts)
   scripts_put name text none = record {

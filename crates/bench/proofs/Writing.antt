@@ -11,7 +11,7 @@ pub record Writing {S : Type 0} (contents : S → Option (List ℕ)) (fault_coun
   pub wrote : Wrote contents fault_count old new done
   pub whole : done ++ left ≡ all
 
--- the texts of what is left from an item on
+-- the texts of the items from one on are the text of that one, and those of the items behind it
 flat_map-drop : {X : Type 0} (f : X → List ℕ) (xs : List X) (i : ℕ) (x : X) → i < length xs → x ≡ get_or xs i x → flat_map f (drop i xs) ≡ f x ++ flat_map f (drop (i + 1) xs)
 flat_map-drop f xs i x within is = rw (drop_more xs i x within) (ap (λ y. f y ++ flat_map f (drop (i + 1) xs)) (sym is))
 
@@ -23,7 +23,7 @@ begins contents fault_count s all = record {
   whole = refl;
 }
 
--- the next part is written
+-- where the next part of a text is written, what is behind the part is left
 pub goes_on : {S : Type 0} (contents : S → Option (List ℕ)) (fault_count : S → ℕ) (a b c : S) (part left all : List ℕ)
     → Writing contents fault_count a b (part ++ left) all → Wrote contents fault_count b c part → Writing contents fault_count a c left all
 goes_on contents fault_count a b c part left all so_far step = record {
@@ -37,13 +37,13 @@ pub goes_on_from : {S : Type 0} (contents : S → Option (List ℕ)) (fault_coun
     → Writing contents fault_count a b left all → left ≡ part ++ rest → Wrote contents fault_count b c part → Writing contents fault_count a c rest all
 goes_on_from contents fault_count a b c part rest left all so_far cut step = goes_on contents fault_count a b c part rest all (rw (← cut) so_far) step
 
--- nothing is left
+-- where nothing is left, all of a text was written
 pub ends : {S : Type 0} (contents : S → Option (List ℕ)) (fault_count : S → ℕ) (a b : S) (left all : List ℕ)
     → left ≡ [] → Writing contents fault_count a b left all → Wrote contents fault_count a b all
 ends contents fault_count a b left all none so_far =
     rw (sym (sym (ap (λ l. so_far.done ++ l) none ∙ append-nil so_far.done) ∙ so_far.whole)) so_far.wrote
 
--- the next part is written in part
+-- where the next part of a text is written in part, a front of the whole text was written
 pub breaks_off : {S : Type 0} (contents : S → Option (List ℕ)) (fault_count : S → ℕ) (a b c : S) (part left all : List ℕ)
     → Writing contents fault_count a b (part ++ left) all → WroteFront contents fault_count b c part → WroteFront contents fault_count a c all
 breaks_off contents fault_count a b c part left all so_far step =
@@ -57,20 +57,20 @@ pub stops : {S T E : Type 0} (contents : S → Option (List ℕ)) (fault_count :
 stops contents fault_count r is_err a b c part rest left all so_far cut step =
     writes_failed contents fault_count r a c all is_err (breaks_off contents fault_count a b c part rest all (rw (← cut) so_far) step)
 
--- the last part is tried
+-- where the last part of a text is written, or fails to be, the same is so of the whole text
 pub ends_last : {S T E : Type 0} (contents : S → Option (List ℕ)) (fault_count : S → ℕ) (r : Result T E) (a b c : S) (part all : List ℕ)
     → Writing contents fault_count a b part all → Writes contents fault_count r b c part → Writes contents fault_count r a c all
 ends_last contents fault_count (Ok x) a b c part all so_far step =
     subst (Wrote contents fault_count a c) so_far.whole (wrote_both contents fault_count a b c so_far.done part so_far.wrote step)
 ends_last contents fault_count (Err e) a b c part all so_far step = breaks_off contents fault_count a b c part [] all (rw append-nil so_far) step
 
--- the next item's text is written
+-- where the next item's text is written, those of the items behind it are left
 pub goes_on_at : {S X : Type 0} (contents : S → Option (List ℕ)) (fault_count : S → ℕ) (a b c : S) (f : X → List ℕ) (xs : List X) (i : ℕ) (x : X) (all : List ℕ)
     → i < length xs → x ≡ get_or xs i x → Writing contents fault_count a b (flat_map f (drop i xs)) all → Wrote contents fault_count b c (f x) → Writing contents fault_count a c (flat_map f (drop (i + 1) xs)) all
 goes_on_at contents fault_count a b c f xs i x all within is so_far step =
     goes_on contents fault_count a b c (f x) (flat_map f (drop (i + 1) xs)) all (rw (← flat_map-drop f xs i x within is) so_far) step
 
--- the next item's text is written in part
+-- where the next item's text is written in part and its error is passed on, a front of the whole text was written
 pub stops_at : {S T E X : Type 0} (contents : S → Option (List ℕ)) (fault_count : S → ℕ) (r : Result T E) → IsErr r → (a b c : S) (f : X → List ℕ) (xs : List X) (i : ℕ) (x : X) (all : List ℕ)
     → i < length xs → x ≡ get_or xs i x → Writing contents fault_count a b (flat_map f (drop i xs)) all → WroteFront contents fault_count b c (f x) → Writes contents fault_count r a c all
 stops_at contents fault_count r is_err a b c f xs i x all within is so_far step =

@@ -18,7 +18,7 @@ use Rattle.clap.specs.Faults.{other_fault, step_fault, turn_fault, walk_fault, w
 use Rattle.clap.specs.Walk.{Held, Names, answers_to, nothing_held, finished, settled, stop_after, walk, walk_from, Outcome, Step, Waiting, Walk, after_flag, after_step, long_or_other, plain_word, short_or_plain, subcommand_or_other, to_positional, walked, walked_from, word_met}
 use Rattle.clap.specs.Walk.{done, idle, next, option, plain, positional, refused, subcommand, trailing, value, waits}
 
--- the first of two lists of kinds is empty where both are, and the second
+-- where the first of two lists of kinds that has any is empty, each of the two is empty
 or_else_first : (xs ys : Kinds) → or_else xs ys ≡ [] → xs ≡ []
 or_else_first [] ys e = refl
 or_else_first (x ∷ xs) ys e = e
@@ -27,7 +27,7 @@ or_else_second : (xs ys : Kinds) → or_else xs ys ≡ [] → ys ≡ []
 or_else_second [] ys e = e
 or_else_second (x ∷ xs) ys e = absurd (cc)
 
--- the word that was met is not `help`
+-- the step is not to the subcommand `help`
 abbrev IsNotHelp : Step → Type 0
 IsNotHelp (next waiting) = Unit {0}
 IsNotHelp (trailing position) = Unit {0}
@@ -58,7 +58,7 @@ long_is : (c : List Rule) (waiting : Waiting) (word : Text) (p : Option (Text ×
 long_is c waiting word (Some p) h = flag_is c waiting word _ _
 long_is c waiting word None h = short_is c waiting word _ h
 
--- a test that leads to a fault did not hold
+-- where a test would lead to a fault and there is none, the test did not hold
 no_fault : (a b : Bool) (kind : ErrorKind) (kinds : Kinds) → b ≡ false → cond (a && not b) (kind ∷ kinds) [] ≡ [] → a ≡ false
 no_fault true true kind kinds e none = absurd (cc)
 no_fault true false kind kinds e none = absurd (cc)
@@ -149,13 +149,13 @@ or_false : (b : Bool) → (b || false) ≡ true → b ≡ true
 or_false true e = refl
 or_false false e = e
 
--- a name that is not `help` does not answer to it
+-- the subcommand `help` does not answer to a name that is not `help`
 not_answering : (name : Text) → bytes_eq name (codes "help") ≡ false → (bytes_eq (codes "help") name || false) ≡ true → ⊥
 not_answering name other answers =
     let is_help : codes "help" ≡ name = (bytes_eq-Decides (codes "help") name).0 (or_false _ answers) in
     false≢true (sym other ∙ ap (λ n. bytes_eq n (codes "help")) (sym is_help))
 
--- of four subcommands one of the first three was met, where the fourth was not; each has its own name
+-- the three subcommands are named `session`, `dump` and `test`
 abbrev AreNamed : Shape → Shape → Shape → Type 0
 AreNamed first second third = (first.name ≡ codes "session") × (second.name ≡ codes "dump") × (third.name ≡ codes "test")
 
@@ -167,6 +167,7 @@ one_of_four x y z w first second third fourth rest =
 job_at : (name : Text) (rows : List Row) (wanted : Text) → name ≡ wanted → is_some (job_named wanted rows) ≡ true → is_some (job_named name rows) ≡ true
 job_at name rows wanted is named = ap (λ n. is_some (job_named n rows)) is ∙ named
 
+-- of four subcommands one of the first three was met, where one was met and not the fourth, and it names a job
 one_met : (x y z w : Bool) (first second third fourth : Shape) (rest : List Text) → (w ≡ true → ⊥) → AreNamed first second third
     → is_some (one_of_four x y z w first second third fourth rest) ≡ true → is_some (job_of (one_of_four x y z w first second third fourth rest)) ≡ true
 one_met true y z w first second third fourth rest other named met = job_at first.name (rows_at first rest).1 (codes "session") named.0 refl
@@ -175,7 +176,7 @@ one_met false false true w first second third fourth rest other named met = job_
 one_met false false false true first second third fourth rest other named met = absurd (other refl)
 one_met false false false false first second third fourth rest other named met = absurd (cc)
 
--- a program that has these four
+-- a program that has these four subcommands
 abbrev four : Shape → Shape → Shape → Shape → Shape → App
 four top first second third fourth = record { top = top; subs = first ∷ second ∷ third ∷ fourth ∷ [] }
 
@@ -189,7 +190,7 @@ job_met first second third fourth top (Some p) named is_fourth no_alias elsewher
     (λ answers. not_answering p.0 elsewhere (sym (ap₂ (λ (n : Text) (alias : List Text). answers_to p.0 (n, alias)) is_fourth no_alias) ∙ answers))
     named met
 
--- the words of any program that has these four subcommands name one of them
+-- the words of a program that has these four subcommands name one of the first three, where one is met and the walk stops elsewhere than at `help`
 job_in : (a : App) (first second third fourth : Shape) (stop : Option (Text × List Text)) → a.subs ≡ first ∷ second ∷ third ∷ fourth ∷ []
     → AreNamed first second third → fourth.name ≡ codes "help" → fourth.aliases ≡ [] → StopsElsewhere stop → is_some (entered a stop) ≡ true
     → is_some (job_of (entered a stop)) ≡ true

@@ -32,7 +32,7 @@ pirard_row : decoded_of (codes "=?ISO-8859-1?Q?Andr=E9?= Pirard <PIRARD@vm1.ulg.
 unfolding word_at pieces_from meaning in_utf8 q_octets encode
 pirard_row = refl
 
--- There the second word is read too: `u understand the example.` Here its charset isn't known, so it stays, with the space in front.
+-- In the RFC the second word is read too: `u understand the example.` Here its charset isn't known, so the word stays, with the space in front.
 example_row : decoded_of (codes "=?ISO-8859-1?B?SWYgeW91IGNhbiByZWFkIHRoaXMgeW8=?= =?ISO-8859-2?B?dSB1bmRlcnN0YW5kIHRoZSBleGFtcGxlLg==?=") ≡ codes "If you can read this yo =?ISO-8859-2?B?dSB1bmRlcnN0YW5kIHRoZSBleGFtcGxlLg==?="
 unfolding word_at pieces_from meaning in_utf8 b_octets encode groups_bytes groups_error scan_steps
 example_row = refl
@@ -45,12 +45,12 @@ faltstrom_row : decoded_of (codes "=?ISO-8859-1?Q?Patrik_F=E4ltstr=F6m?= <paf@na
 unfolding word_at pieces_from meaning in_utf8 q_octets encode
 faltstrom_row = refl
 
--- There it is five letters of Hebrew, a space and five more. Here its charset isn't known.
+-- In the RFC the word is of Hebrew letters: four, two and five, with spaces between. Here its charset isn't known, so the word stays.
 hebrew_row : decoded_of (codes "(=?iso-8859-8?b?7eXs+SDv4SDs6Oj08A==?=)") ≡ codes "(=?iso-8859-8?b?7eXs+SDv4SDs6Oj08A==?=)"
 unfolding word_at pieces_from meaning
 hebrew_row = refl
 
--- what is displayed there of comments; in other text these words would stay, since a parenthesis touches them, and here they don't
+-- the RFC's comments as they are displayed; in other text it has these words stay, since a parenthesis touches them, and here they don't
 
 a_row : decoded_of (codes "(=?ISO-8859-1?Q?a?=)") ≡ codes "(a)"
 unfolding word_at pieces_from meaning in_utf8 q_octets encode
@@ -68,7 +68,7 @@ two_spaces_row : decoded_of (codes "(=?ISO-8859-1?Q?a?=  =?ISO-8859-1?Q?b?=)") �
 unfolding word_at pieces_from meaning in_utf8 q_octets encode
 two_spaces_row = refl
 
--- a line that goes on, behind its unfolding
+-- two words of two lines, behind their unfolding
 lines_row : decoded_of (codes "(=?ISO-8859-1?Q?a?=    =?ISO-8859-1?Q?b?=)") ≡ codes "(ab)"
 unfolding word_at pieces_from meaning in_utf8 q_octets encode
 lines_row = refl
@@ -77,12 +77,12 @@ space_in_a_word_row : decoded_of (codes "(=?ISO-8859-1?Q?a_b?=)") ≡ codes "(a 
 unfolding word_at pieces_from meaning in_utf8 q_octets encode
 space_in_a_word_row = refl
 
--- There it is `(a b)`. Here the charset of the second isn't known, so it stays, with the space in front.
+-- In the RFC this is `(a b)`. Here the charset of the second word isn't known, so the word stays, with the space in front.
 space_of_a_word_row : decoded_of (codes "(=?ISO-8859-1?Q?a?= =?ISO-8859-2?Q?_b?=)") ≡ codes "(a =?ISO-8859-2?Q?_b?=)"
 unfolding word_at pieces_from meaning in_utf8 q_octets encode
 space_of_a_word_row = refl
 
--- a space in front of a second word of a known charset is the word's own
+-- the space between two words is dropped, and the one in the second word is this word's own
 space_of_the_second_row : decoded_of (codes "(=?ISO-8859-1?Q?a?= =?ISO-8859-1?Q?_b?=)") ≡ codes "(a b)"
 unfolding word_at pieces_from meaning in_utf8 q_octets encode
 space_of_the_second_row = refl
@@ -97,7 +97,7 @@ two_row : decoded_of (codes "=?utf-8?B?YQ==?= =?us-ascii?Q?b?=") ≡ codes "ab"
 unfolding word_at pieces_from meaning in_utf8 b_octets q_octets is_utf8 chars encode groups_bytes groups_error scan_steps
 two_row = refl
 
--- the result isn't trimmed
+-- the spaces that a word stands for aren't trimmed
 space_row : decoded_of (codes "=?us-ascii?Q?_a_?=") ≡ codes " a "
 unfolding word_at pieces_from meaning in_utf8 q_octets
 space_row = refl
@@ -111,7 +111,7 @@ unpadded_row : decoded_of (codes "=?utf-8?B?YQ?= =?utf-8?B?YQ=?= =?utf-8?b?YW_h?
 unfolding word_at pieces_from meaning in_utf8 b_octets groups_bytes groups_error scan_steps
 unpadded_row = refl
 
--- in Q, `=` has two digits behind it, in either case
+-- in Q, `=` has two hexadecimal digits behind it, in either case
 digits_row : decoded_of (codes "=?us-ascii?q?=4a=4A?==?us-ascii?q?=4?==?us-ascii?q?=4g?=") ≡ codes "JJ=?us-ascii?q?=4?==?us-ascii?q?=4g?="
 unfolding word_at pieces_from meaning in_utf8 q_octets
 digits_row = refl
@@ -133,7 +133,7 @@ charset_row : decoded_of (codes "=?koi8-r?Q?a?=") ≡ codes "=?koi8-r?Q?a?="
 unfolding word_at pieces_from meaning
 charset_row = refl
 
--- a charset with a language (RFC 2231, section 5) is another charset, and so is an empty one
+-- a charset with a language (RFC 2231, section 5) isn't known, and an empty charset is none
 language_row : decoded_of (codes "=?us-ascii*en?Q?a?= =??Q?a?=") ≡ codes "=?us-ascii*en?Q?a?= =??Q?a?="
 unfolding word_at pieces_from meaning
 language_row = refl
@@ -142,7 +142,7 @@ other_encoding_row : decoded_of (codes "=?us-ascii?X?a?= =?us-ascii?QQ?a?=") ≡
 unfolding word_at pieces_from
 other_encoding_row = refl
 
--- places
+-- places of words
 
 -- a word that begins inside one that can't be decoded
 inside_row : decoded_of (codes "=?koi8-r?Q?a?=?utf-8?Q?b?=") ≡ codes "=?koi8-r?Q?a?b"
@@ -159,7 +159,7 @@ joined_row : decoded_of (codes "=?us-ascii?Q?a?==?us-ascii?Q?b?=") ≡ codes "ab
 unfolding word_at pieces_from meaning in_utf8 q_octets
 joined_row = refl
 
--- a word of no octets is replaced, and so has white space behind it dropped
+-- words of no octets are replaced, and the white space between two of them is dropped
 empty_row : decoded_of (codes "a =?utf-8?Q??= \t =?utf-8?B??= b") ≡ codes "a  b"
 unfolding word_at pieces_from meaning in_utf8 b_octets q_octets is_utf8 chars encode groups_bytes groups_error scan_steps
 empty_row = refl
@@ -172,7 +172,7 @@ unended_row : decoded_of (codes "=?us-ascii?Q?a? =?us-ascii?Q?b") ≡ codes "=?u
 unfolding word_at pieces_from
 unended_row = refl
 
--- what is told of a value
+-- whether a value has a word that can be decoded, and whether it has one of a known charset
 
 told_row : has_word (codes "=?us-ascii?Q?a?=") ≡ true
 unfolding word_at pieces_from meaning in_utf8 q_octets

@@ -37,7 +37,7 @@ octet_step done next c None whole is so_far = so_far
 octet_step done next c (Some more) whole is so_far =
     ap (λ one. Some (one ++ more)) is ∙ ap Some (append_assoc done (c ∷ []) more) ∙ so_far
 
--- what stands in front and what stands behind it
+-- octets are the first one and what stands behind it
 pub first_and_behind : (octets : List ℕ) → 1 ≤ length octets → get_or octets 0 0 ∷ take (length octets - 1) (drop 1 octets) ≡ octets
 first_and_behind [] some = absurd (omega arith)
 first_and_behind (c ∷ octets) some = ap (λ behind. c ∷ behind) (take_all (length (c ∷ octets) - 1) octets (omega arith))
@@ -102,7 +102,7 @@ all_alone left plain ended is =
     ∙ ap (λ one. in_front left (pieces_of one)) (drop_of_length-le left ended)
     ∙ append-nil (map octet left)
 
--- in front of the first sign
+-- octets in front of the first `=`
 
 sign_here : (c : ℕ) (rest : List ℕ) → (c == octet_of "=") ≡ false → None ≡ word_at (c ∷ rest)
 unfolding word_at
@@ -121,7 +121,7 @@ signs_alone (c ∷ rest) (suc n) within nowhere =
     ap (λ pieces. octet c ∷ pieces) (signs_alone rest n (omega arith) (sign_behind c rest n nowhere))
     ∙ sym (none_at (c ∷ rest) (omega arith) (sign_here c rest other))
 
--- how many octets stand in front of what a search found
+-- no `=` stands before what a search for `=` found, or before the end where it found nothing
 pub front_of : (value : List ℕ) (found : Option ℕ) → IsFirstByte (is_byte (octet_of "=")) value found → (unwrap_or found (length value) ≤ length value) × Nowhere (Passes (is_byte (octet_of "=")) value) 0 (unwrap_or found (length value))
 front_of value None nowhere = (omega arith, nowhere)
 front_of value (Some n) (first, here) = (omega (arith, first.high), first.before)
@@ -234,14 +234,14 @@ not_there : (found : Option Charset) → is_some found ≡ false → found ≡ N
 not_there None none = refl
 not_there (Some charset) none = absurd cc
 
--- a word there has a charset that isn't known
+-- where no word of a known charset is written, the charset of a word in front isn't known
 pub unknown_here : (rest : List ℕ) (word : EncodedWord) → Some word ≡ word_at rest → has_known rest ≡ false → charset_named word.charset ≡ None
 unfolding has_known word_at
 unknown_here [] word is none = absurd cc
 unknown_here (c ∷ rest) word is none =
     not_there (charset_named word.charset) (ap is_known is ∙ or_first (is_known (word_at (c ∷ rest))) (has_known rest) none)
 
--- a word there stands for nothing
+-- where no word of a known charset is written, a word in front stands for nothing
 pub unknown_means : (rest meant : List ℕ) (word : EncodedWord) → Some word ≡ word_at rest → Some meant ≡ meaning word → has_known rest ≡ false → ⊥
 unfolding meaning
 unknown_means rest meant word is means none =
@@ -249,7 +249,7 @@ unknown_means rest meant word is means none =
     means ∙ ap (λ found. option_and_then (λ charset. option_and_then (in_utf8 charset) (octets_in word)) found) (unknown_here rest word is none) in
     cc
 
--- where no word is replaced
+-- values in which no word is replaced, and those in which one is
 
 unchanged_pieces : (pieces : List ValuePiece) (value : List ℕ) → Cuts pieces value → list_any is_word pieces ≡ false → joined false pieces ≡ value
 unchanged_pieces [] value is none = sym is

@@ -11,7 +11,7 @@ module _ (fold : ℕ → ℕ) where
   Same-cons x y a b first rest zero below = first
   Same-cons x y a b first rest (suc i) below = rest.equal_octets i (omega arith)
 
-  -- equality is that of the first octets and of the rests
+  -- two texts are equal exactly where their first octets and their rests are
   Same-join : (x y : ℕ) (a b : List ℕ) → (fold x ≡ fold y) × Same fold a b → Same fold (x ∷ a) (y ∷ b)
   Same-join x y a b both = record { equal_lengths = ap suc both.1.equal_lengths; equal_octets = Same-cons x y a b both.0 both.1 }
 
@@ -37,7 +37,7 @@ module _ (fold : ℕ → ℕ) where
       let within = p.within in
       record { equal_lengths = omega (arith, p.same.equal_lengths); equal_octets = λ i below. absurd (omega arith) }
 
-  -- a part stands at the front or in the rest
+  -- a part of a value stands at the front of the value or in its rest
   IsPart-front : (value key : List ℕ) → Same fold (take (length key) value) key → IsPart fold value key
   IsPart-front value key s =
       let len = length-take (length key) value in
@@ -68,7 +68,7 @@ module _ (fold : ℕ → ℕ) where
       (λ p. part_by_place x rest key p.start p.end p.ordered p.within p.same)
       (Decides-or _ _ (same-Decides (take (length key) (x ∷ rest)) key) (is_part-Decides rest key))
 
-  -- no octets are part of every value
+  -- the empty key is part of every value
   pub is_part-empty : (value : List ℕ) → is_part fold value [] ≡ true
   is_part-empty [] = refl
   is_part-empty (x ∷ rest) = refl

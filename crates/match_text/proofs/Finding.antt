@@ -8,7 +8,7 @@ use Rattle.match_text.specs.Flags.{AreDistinct, flags_without, has_flag, has_key
 use Rattle.match_text.specs.view.Hashing.{same_equiv}
 use Rattle.match_text.proofs.Deciding.{same-Decides}
 
--- texts that are equal octet for octet are equal in each case
+-- texts that are equal octet for octet are equal with no regard to case too
 octet_folds : (a b : List ℕ) → same octet a b ≡ true → same ascii_casemap a b ≡ true
 octet_folds a b is =
     let s = (same-Decides octet a b).0 is in
@@ -26,7 +26,7 @@ or_none : (s t : Bool) → (s || t) ≡ false → (s ≡ false) × (t ≡ false)
 or_none true t e = absurd (true≢false e)
 or_none false t e = (refl, e)
 
--- a key is among flags, whichever is asked about the other
+-- with no regard to case, a flag of the list is equal to a key exactly where the key is the same as a flag of the list
 pub has_key-folded : (flags : List (List ℕ)) (key : List ℕ) → has_key ascii_casemap flags key ≡ has_flag flags key
 has_key-folded [] key = refl
 has_key-folded (x ∷ flags) key = λ j. same_equiv.symm x key j || has_key-folded flags key j
@@ -38,7 +38,7 @@ has_key-none (x ∷ flags) key none =
     let split = or_none (same ascii_casemap key x) (has_flag flags key) none in
     λ j. differs x key split.0 j || has_key-none flags key split.1 j
 
--- flags that differ from one aren't a key that is that one with no regard to case
+-- a key that is the same as a flag is none of the flags that all differ from this one
 others_differ : (x key : List ℕ) → same ascii_casemap key x ≡ true → (flags : List (List ℕ)) → AllByRecursion (λ y. same ascii_casemap x y ≡ false) flags → has_flag flags key ≡ false
 others_differ x key is [] all = refl
 others_differ x key is (y ∷ flags) all = λ j. (same_equiv.congr key x y is ∙ all.0) j || others_differ x key is flags all.1 j
@@ -70,14 +70,14 @@ found_none (x ∷ flags) key none = by (same ascii_casemap key x) refl none (λ 
     by true e at more = absurd cc
     by false e at more = ap (λ b. b || has_flag flags key) e ∙ more at
 
--- no flag is a key that isn't found
+-- under either comparator no flag is equal to a key that isn't found with no regard to case
 pub none_has : (collation : Collation) (flags : List (List ℕ)) (key : List ℕ) → find (same ascii_casemap key) flags ≡ None → false ≡ has_key (fold_of collation) flags key
 none_has Octet flags key none = sym (has_key-none flags key (found_none flags key none))
 none_has Casemap flags key none = sym (has_key-folded flags key ∙ found_none flags key none)
 
 -- TAKEN OUT
 
--- a flag that is there once is taken out where it stands
+-- of flags of which no two are the same, one is taken out by removing it where it stands
 pub taken_out : (flags : List (List ℕ)) (flag : List ℕ) (i : ℕ) (d : List ℕ) → AreDistinct flags → i < length flags → same ascii_casemap flag (get_or flags i d) ≡ true
     → ((k : ℕ) → k < i → same ascii_casemap flag (get_or flags k d) ≡ false) → flags_without flags (flag ∷ []) ≡ remove flags i
 unfolding IsDistinct flags_without
@@ -96,7 +96,7 @@ taken_out (x ∷ flags) flag (suc i) d h below at before =
     let more = taken_out flags flag i d h.1 (omega arith) at (λ k lt. before (suc k) (omega arith)) in
     λ j. cond (not (e j || false)) (x ∷ more j) (more j)
 
--- a flag that isn't there leaves all where it is taken
+-- taking out a flag that a list doesn't have leaves all flags of the list
 pub none_taken : (flags : List (List ℕ)) (flag : List ℕ) → has_flag flags flag ≡ false → flags_without flags (flag ∷ []) ≡ flags
 unfolding flags_without
 none_taken [] flag none = refl

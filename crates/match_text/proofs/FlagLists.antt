@@ -15,7 +15,7 @@ use Rattle.match_text.specs.view.Hashing.{same_equiv}
 -- FILTERS
 
 module _ {X : Type 0} (p q r : X → Bool) where
-  -- two filters are the filter of both tests
+  -- filtering by two tests in turn filters by both tests
   filter_twice : ((x : X) → (p x && q x) ≡ r x) → (xs : List X) → filter q (filter p xs) ≡ filter r xs
   filter_twice both [] = refl
   filter_twice both (x ∷ xs) = by (p x) (both x) (filter_twice both xs)
@@ -34,7 +34,7 @@ either_not : (s t : Bool) → (not s && not t) ≡ not (s || t)
 either_not true t = refl
 either_not false t = refl
 
--- without some, and then without others, is without both
+-- flags without some flags, and then without others, are the flags without both
 pub without_twice : (flags a b : List (List ℕ)) → flags_without (flags_without flags a) b ≡ flags_without flags (a ++ b)
 unfolding flags_without
 without_twice flags a b =
@@ -46,7 +46,7 @@ pub without_alike : (a b : List (List ℕ)) → ((flag : List ℕ) → has_flag 
 unfolding flags_without
 without_alike a b alike flags = filter_agree (other a) (other b) (λ flag. ap not (alike flag)) flags
 
--- without none all stay
+-- taking out no flags leaves all
 pub without_none : (flags : List (List ℕ)) → flags_without flags [] ≡ flags
 unfolding flags_without
 without_none [] = refl
@@ -63,7 +63,7 @@ pub union_nil : (a : List (List ℕ)) → flag_union a [] ≡ a
 unfolding flag_union distinct flags_without
 union_nil a = append-nil a
 
--- of one flag it is what a set does with one
+-- the union with one flag is the list with the flag inserted as into a set
 pub union_one : (a : List (List ℕ)) (flag : List ℕ) → insert_key (same ascii_casemap) a flag ≡ flag_union a (flag ∷ [])
 unfolding flag_union distinct flags_without
 union_one a flag = by (has_flag a flag)
@@ -78,7 +78,7 @@ or_swap true false = refl
 or_swap false true = refl
 or_swap false false = refl
 
--- a flag is among both alike
+-- a flag is in the union with one flag exactly where it is in the list with that flag in front
 has_one_more : (a : List (List ℕ)) (flag x : List ℕ) → has_flag (flag_union a (flag ∷ [])) x ≡ has_flag (flag ∷ a) x
 unfolding flag_union distinct flags_without
 has_one_more a flag x = by (has_flag a flag) refl
@@ -109,7 +109,7 @@ union_append a (flag ∷ b) c =
     ap (λ l. flag_union l c) (sym (union_step a flag b))
     ∙ union_append (flag_union a (flag ∷ [])) b c ∙ union_step a flag (b ++ c)
 
--- a union with the flags in front takes one flag more of them
+-- the union with the first i flags, and then with the next one, is the union with the first i + 1
 pub union_so_far : (a flags : List (List ℕ)) (i : ℕ) (d : List ℕ) (old new : List (List ℕ)) → i < length flags → new ≡ flag_union old (get_or flags i d ∷ [])
     → old ≡ flag_union a (take i flags) → new ≡ flag_union a (take (i + 1) flags)
 union_so_far a flags i d old new below made is =
@@ -121,7 +121,7 @@ union_so_far a flags i d old new below made is =
 pub union_present : (a : List (List ℕ)) (flag : List ℕ) → has_flag a flag ≡ true → flag_union a (flag ∷ []) ≡ a
 union_present a flag there = sym (union_one a flag) ∙ ap (λ b. if b then a else a ++ flag ∷ []) there
 
--- flags that are there already bring nothing
+-- flags that a list already has add nothing to its union with them
 union_known : (a b c : List (List ℕ)) → All (λ flag. has_flag a flag ≡ true) b → flag_union a (b ++ c) ≡ flag_union a c
 union_known a [] c known = refl
 union_known a (flag ∷ b) c known =
@@ -136,14 +136,14 @@ in_two (suc n) (x ∷ xs) = ap (λ l. x ∷ l) (in_two n xs)
 pub union_behind : (a flags : List (List ℕ)) (n : ℕ) → n ≤ length flags → All (λ flag. has_flag a flag ≡ true) (take n flags) → flag_union a (drop n flags) ≡ flag_union a flags
 union_behind a flags n within known = sym (union_known a (take n flags) (drop n flags) known) ∙ ap (flag_union a) (in_two n flags)
 
--- a union with the flags of a slice that are behind those that are there is the union with all
+-- where a list has the first n flags of a slice, its union with the flags behind these is its union with all
 pub union_slice : (a flags items : List (List ℕ)) (n : ℕ) → items ≡ flags → n ≤ length flags → All (λ flag. has_flag a flag ≡ true) (take n flags)
     → flag_union a (take (length items - n) (drop n items)) ≡ flag_union a flags
 union_slice a flags items n are within known =
     let long = length-drop n flags in
     ap (λ l. flag_union a (take (length l - n) (drop n l))) are ∙ ap (flag_union a) (take_all (length flags - n) (drop n flags) (omega arith)) ∙ union_behind a flags n within known
 
--- what was added of a slice of the flags, from the n-th on, was added of the flags, behind as many as are known among the first n
+-- where a list has the first n flags, its union with a front of those from n on is its union with a front of all, of `known` at least
 pub union_behind_some : (a flags items : List (List ℕ)) (known n : ℕ) (new : List (List ℕ)) → items ≡ flags → known ≤ n → n ≤ length flags
     → All (λ flag. has_flag a flag ≡ true) (take n flags)
     → SomeIndex (take (length items - n) (drop n items)) (λ i. new ≡ flag_union a (take i (take (length items - n) (drop n items))))
@@ -157,30 +157,30 @@ union_behind_some a flags items known n new are more within there some =
         let long = length-drop n flags in
         (n + i, omega arith, (omega arith, made ∙ sym (union_known a (take n flags) (take i (drop n flags)) there) ∙ ap (flag_union a) (sym (take-add n i flags))))
 
--- a slice of the flags from their end on has none
+-- a slice of flags from their end on is empty
 pub none_behind : (flags items : List (List ℕ)) (n : ℕ) → items ≡ flags → n ≡ length flags → take (length items - n) (drop n items) ≡ []
 none_behind flags items n are end =
     ap (λ l. take (length l - n) (drop n l)) are ∙ ap (take (length flags - n)) (drop_all n flags (omega arith)) ∙ take-nil (length flags - n)
 
--- one flag more of those in front is there
+-- a list that has the first i flags, and the next one, has the first i + 1
 pub there_more : (a flags : List (List ℕ)) (i : ℕ) (flag : List ℕ) → slice_get flags i ≡ Some flag → has_flag a flag ≡ true
     → All (λ x. has_flag a x ≡ true) (take i flags) → All (λ x. has_flag a x ≡ true) (take (i + 1) flags)
 there_more a flags i flag at there before =
     All-more (λ x. has_flag a x ≡ true) flags i [] (slice_get_within flags i flag at) before (ap (has_flag a) (get_or_from_slice_get flags i flag [] at) ∙ there)
 
--- not all are there where one isn't
+-- a list that lacks one of some flags doesn't have all
 pub one_missing : (a flags : List (List ℕ)) (i : ℕ) (flag : List ℕ) → slice_get flags i ≡ Some flag → has_flag a flag ≡ false
     → All (λ x. has_flag a x ≡ true) flags → ⊥
 one_missing a flags i flag at missing all =
     true≢false
     (sym (All-get_or (λ x. has_flag a x ≡ true) flags i [] (slice_get_within flags i flag at) all) ∙ ap (has_flag a) (get_or_from_slice_get flags i flag [] at) ∙ missing)
 
--- what is there stays there
+-- a union keeps the flags of the first list
 pub union_keeps : (a b : List (List ℕ)) (x : List ℕ) → has_flag a x ≡ true → has_flag (flag_union a b) x ≡ true
 unfolding flag_union
 union_keeps a b x there = list_any-append (same ascii_casemap x) a (flags_without (distinct b) a) ∙ ap (λ s. s || has_flag (flags_without (distinct b) a) x) there
 
--- all flags of the second are there
+-- a union has all flags of the second list
 pub union_has : (a b : List (List ℕ)) → All (λ flag. has_flag (flag_union a b) flag ≡ true) b
 union_has a [] = All-nil (λ flag. has_flag (flag_union a []) flag ≡ true)
 union_has a (flag ∷ b) =
@@ -189,7 +189,7 @@ union_has a (flag ∷ b) =
     (ap (λ l. has_flag l flag) (sym (union_step a flag b)) ∙ union_keeps (flag_union a (flag ∷ [])) b flag (has_one_more a flag flag ∙ ap (λ s. s || has_flag a flag) (same_equiv.refl flag)))
     (subst (λ l. All (λ x. has_flag l x ≡ true) b) (union_step a flag b) more)
 
--- One more of the items of a loop, where F gives the flags of those that are left, and each those of one.
+-- A union with the flags of items, one item more: F gives the flags of the items that are left, and each those of one item.
 module _ {X : Type 0} (F : List X → List (List ℕ)) where
   pub union_more : (each : X → List (List ℕ)) → ((x : X) (rest : List X) → F (x ∷ rest) ≡ each x ++ F rest)
       → (items : List X) (i : ℕ) (d : X)
@@ -235,7 +235,7 @@ module _ {X : Type 0} (P : X → Type 0) (p : X → Bool) where
       by true rest = (all.0, rest)
       by false rest = rest
 
--- what is left of a list without repeats has none
+-- what is left of a list without repeats has no repeats
 pub distinct_without : (a b : List (List ℕ)) → AreDistinct a → AreDistinct (flags_without a b)
 unfolding flags_without IsDistinct
 distinct_without [] b h = tt
@@ -245,7 +245,7 @@ distinct_without (flag ∷ a) b h = by (other b flag) (distinct_without a b h.1)
     by true rest = (kept (λ y. same ascii_casemap flag y ≡ false) (other b) a h.0, rest)
     by false rest = rest
 
--- nor has it with a flag that is the same as none
+-- a list without repeats stays so with one more flag that is the same as none of its flags
 distinct-push : (a : List (List ℕ)) (flag : List ℕ) → AreDistinct a → has_flag a flag ≡ false → AreDistinct (a ++ flag ∷ [])
 unfolding IsDistinct
 distinct-push [] flag h none = (tt, tt)
@@ -274,7 +274,7 @@ distinct-one a flag h = by (has_flag a flag) refl
     by true e = let nil = append-nil a in rw nil h
     by false e = distinct-push a flag h e
 
--- nor a union of one without repeats
+-- a union of a list without repeats with any flags has no repeats
 pub distinct_union : (a b : List (List ℕ)) → AreDistinct a → AreDistinct (flag_union a b)
 distinct_union a [] h = let nil = union_nil a in rw nil h
 distinct_union a (flag ∷ b) h =
@@ -288,7 +288,7 @@ none_distinct = tt
 pub distinct_distinct : (flags : List (List ℕ)) → AreDistinct (distinct flags)
 distinct_distinct flags = subst AreDistinct (union_from_none flags) (distinct_union [] flags none_distinct)
 
--- a list without repeats stays as it is
+-- taking each flag once leaves a list without repeats as it is
 pub distinct_stays : (flags : List (List ℕ)) → AreDistinct flags → distinct flags ≡ flags
 unfolding distinct flags_without IsDistinct
 distinct_stays [] h = refl

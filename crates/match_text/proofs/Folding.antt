@@ -4,7 +4,7 @@ use Rattle.std.proofs.lemmas.List.{length-map, take-map}
 use Rattle.match_text.specs.Comparator.{is_part, octet, same}
 
 module _ (fold : ℕ → ℕ) where
-  -- texts are equal where they are octet for octet after folding
+  -- texts are equal under a fold exactly where the folded texts are equal octet for octet
   pub folded_same : (a b : List ℕ) → same octet (map fold a) (map fold b) ≡ same fold a b
   folded_same [] [] = refl
   folded_same [] (y ∷ b) = refl
@@ -17,7 +17,7 @@ module _ (fold : ℕ → ℕ) where
       ∙ ap (λ l. same octet l (map fold key)) (take-map fold (length key) xs)
       ∙ folded_same (take (length key) xs) key
 
-  -- one text is part of another where it is octet for octet after folding
+  -- a key is part of a value under a fold exactly where the folded key is part of the folded value octet for octet
   pub folded_part : (value key : List ℕ) → is_part octet (map fold value) (map fold key) ≡ is_part fold value key
   folded_part [] key = folded_same [] key
   folded_part (x ∷ rest) key =

@@ -34,7 +34,7 @@ ones (Star ∷ segment) = ones segment
 ones (Literal b ∷ segment) = ones segment
 ones (Question ∷ segment) = 1 ∷ ones segment
 
--- what the least fit is behind the segment that stands in front
+-- the lengths of the `?` of the segment in front, and behind them the least fit of the items from the first star on
 abbrev segment_rest : List Item → List ℕ → Option (List ℕ)
 segment_rest items text =
     behind (ones (before_star items)) (least_fit octet (from_star items) (drop (length (before_star items)) text))
@@ -44,7 +44,7 @@ with_one false front r = refl
 with_one true front None = refl
 with_one true front (Some lengths) = refl
 
--- a segment fits where the text begins with it
+-- items fit where the text begins with the segment in front and what is left of it fits the items from the first star on
 least_fit-segment : (items : List Item) (text : List ℕ) → least_fit octet items text ≡ cond (begins (before_star items) text) (segment_rest items text) None
 unfolding least_fit
 least_fit-segment [] text = sym (behind-nil (least_fit octet [] text))
@@ -59,18 +59,18 @@ least_fit-segment (Question ∷ items) (x ∷ text) =
 
 -- A STAR
 
--- a star that fits nowhere fits nowhere further on
 star_fit-tail : (r : List ℕ → Option (List ℕ)) (x : ℕ) (text : List ℕ) (a b : Option (List ℕ)) → option_or (with_length 0 a) (option_map one_more b) ≡ None → b ≡ None
 star_fit-tail r x text None None is = refl
 star_fit-tail r x text None (Some lengths) is = cc
 star_fit-tail r x text (Some found) b is = cc
 
+-- a star that fits nowhere fits nowhere further on
 star_fit-drop : (r : List ℕ → Option (List ℕ)) (m : ℕ) (text : List ℕ) → star_fit r text ≡ None → star_fit r (drop m text) ≡ None
 star_fit-drop r zero text is = is
 star_fit-drop r (suc m) [] is = is
 star_fit-drop r (suc m) (x ∷ text) is = star_fit-drop r m text (star_fit-tail r x text (r (x ∷ text)) (star_fit r text) is)
 
--- what the least fit is where the star takes up to a place
+-- the least fit where the star takes the octets up to a place
 abbrev placed : (List ℕ → Option (List ℕ)) → List ℕ → Option ℕ → Option (List ℕ)
 placed rest text place = option_and_then (λ p. with_length p (rest (drop p text))) place
 
@@ -98,7 +98,7 @@ star_end : (rest : List ℕ → Option (List ℕ)) (b : Bool) → with_length 0 
 star_end rest false = refl
 star_end rest true = refl
 
--- a star takes up to the first place where what follows begins, if what comes behind fits nowhere further on when it doesn't there
+-- a star takes up to the first place from which the test passes, if a rest that doesn't fit at such a place fits nowhere further on
 star_fit-first : (r rest : List ℕ → Option (List ℕ)) (here : List ℕ → Bool) → ((text : List ℕ) → r text ≡ cond (here text) (rest text) None) → ((text : List ℕ) (p : ℕ) → here text ≡ true → rest text ≡ None → rest (drop p text) ≡ None) → (text : List ℕ) → star_fit r text ≡ placed rest text (first_place here text)
 star_fit-first r rest here is settled [] = ap (with_length 0) (is []) ∙ star_end rest (here [])
 star_fit-first r rest here is settled (x ∷ text) =
@@ -108,11 +108,11 @@ star_fit-first r rest here is settled (x ∷ text) =
 
 -- SEGMENTS BEHIND A STAR
 
--- what the least fit is behind a segment of so many items, whose `?` have these lengths
+-- the lengths of the `?` of a segment of n items, and behind them the least fit of the items behind this segment
 abbrev rest_of : (front : List ℕ) (n : ℕ) → List Item → List ℕ → Option (List ℕ)
 rest_of front n items text = behind front (least_fit octet items (drop n text))
 
--- empty, or a star is in front
+-- there are no items, or a star is in front
 abbrev pub IsStarred : List Item → Type 0
 IsStarred [] = Unit {0}
 IsStarred (Star ∷ items) = Unit {0}
@@ -174,7 +174,7 @@ last_settled front segment text p stands is =
     let len = length-drop (length segment) text in
     absurd (nothing_left front (drop (length segment) text) (omega arith) is)
 
--- what comes behind a segment that stands behind a star
+-- a star takes up to the place of the segment behind it
 star_fit-place : (r : List ℕ → Option (List ℕ)) (front : List ℕ) (segment after : List Item) → IsStarred after → ((text : List ℕ) → r text ≡ cond (begins segment text) (rest_of front (length segment) after text) None) → (text : List ℕ) → star_fit r text ≡ placed (rest_of front (length segment) after) text (place_of segment after text)
 star_fit-place r front segment [] starred is text = star_fit-first r (rest_of front (length segment) []) (ends segment)
     (λ t. is t ∙ last_begins front segment t (length segment == length t) (begins segment t) refl refl)
@@ -222,7 +222,7 @@ captures_of-segment items text value =
     ∙ map_cond (λ lengths. taken items lengths value) (begins (before_star items) text) (segment_rest items text)
     ∙ ap (λ r. cond (begins (before_star items) text) r None) (captured-segment items value (least_fit octet (from_star items) (drop (length (before_star items)) text)))
 
--- what the star and the segment behind it take, in front of what comes behind
+-- what a star and the `?` of the segment behind it take
 abbrev pub step_texts : (segment : List Item) (value : List ℕ) (p : ℕ) → List (List ℕ)
 step_texts segment value p = take p value ∷ questions segment (drop p value)
 
@@ -282,7 +282,6 @@ place_of-within segment (item ∷ after) text p is =
     let found = first_place-passes (begins segment) text p (sym is) in
     begins_at segment text p found.0 found.1
 
--- the first place is the one before which the test never passes
 first_at : (here : List ℕ → Bool) (text : List ℕ) (place : Option ℕ) (b : Bool) → here text ≡ b → b ≡ true → cond b (Some 0) place ≡ Some 0
 first_at here text place true at is = refl
 first_at here text place false at is = cc
@@ -291,6 +290,7 @@ first_later : (place : Option ℕ) (p : ℕ) (b : Bool) → b ≡ false → plac
 first_later place p false at is = ap (option_map suc) is
 first_later place p true at is = cc
 
+-- the first place is the one from which the test passes, and before which it never does
 pub first_place-at : (here : List ℕ → Bool) (text : List ℕ) (p : ℕ) → p ≤ length text → here (drop p text) ≡ true → ((k : ℕ) → k < p → here (drop k text) ≡ false) → first_place here text ≡ Some p
 first_place-at here [] zero within at before = first_at here [] None (here []) refl at
 first_place-at here (x ∷ text) zero within at before = first_at here (x ∷ text) (option_map suc (first_place here text)) (here (x ∷ text)) refl at

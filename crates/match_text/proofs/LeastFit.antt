@@ -11,11 +11,11 @@ record IsLeast (P : List ℕ → Type 0) (lengths : List ℕ) : Type 0 where
   pub fits : P lengths
   pub least : (others : List ℕ) → P others → AtMost lengths others
 
--- an answer is the least of those that fit, or none where none fits
+-- an answer is the least of the lengths that fit, or none where none fit
 abbrev Answers : (List ℕ → Type 0) → Option (List ℕ) → Type 0
 Answers P r = MatchOption r ((lengths : List ℕ) → P lengths → ⊥) (IsLeast P)
 
--- what fits a star in front of what fits behind it
+-- the lengths fit a star in front of items, where P says what fits these
 abbrev StarFits : (List ℕ → List ℕ → Type 0) → List ℕ → List ℕ → Type 0
 StarFits P value [] = ⊥
 StarFits P value (n ∷ lengths) = (n ≤ length value) × P (drop n value) lengths
@@ -75,7 +75,7 @@ star_answers P behind answers [] = answers_at_end P (behind []) (answers [])
 star_answers P behind answers (x ∷ value) =
     answers_further P x value (behind (x ∷ value)) (star_fit behind value) (answers (x ∷ value)) (star_answers P behind answers value)
 
--- what fits a literal and a question mark
+-- the least fit of all items, by whether an octet, a `?` or a star is in front
 
 module _ (fold : ℕ → ℕ) where
   literal_answers : (b x : ℕ) (items : List Item) (value : List ℕ) (same : Bool) (r : Option (List ℕ)) → (fold x == fold b) ≡ same → Answers (Fits fold items value) r → Answers (Fits fold (Literal b ∷ items) (x ∷ value)) (cond same r None)
@@ -193,7 +193,7 @@ module _ (fold : ℕ → ℕ) where
       let count = taken_count items lengths value (fit_lengths items value lengths answers.fits) in
       rw (← same) (omega (arith, count))
 
-  -- the whole value, and a text for each wildcard
+  -- captures are the whole value and a text for each wildcard
   pub matched-count : (value pattern : List ℕ) (captures : List (List ℕ)) → matched fold value pattern ≡ Some captures → length captures ≡ wildcard_count (items_of pattern) + 1
   unfolding matched
   matched-count value pattern captures is = count_matched (items_of pattern) value (least_fit fold (items_of pattern) value) captures (answers (items_of pattern) value) is

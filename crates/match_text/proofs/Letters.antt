@@ -1,4 +1,4 @@
--- The two octets that are equal under i;ascii-casemap.
+-- The two octets that are equal to a given one under i;ascii-casemap, and searches by tests that answer alike.
 use Rattle.std.proofs.Common.{◌≡◌, ℕ, Bool, ◌==◌, List, Option, None, Some, sym, ◌∙◌, arith}
 use Rattle.std.specs.Char.{to_ascii_lowercase, to_ascii_uppercase}
 use Rattle.std.proofs.lemmas.Bool.Decides.{nat_tests}

@@ -33,7 +33,7 @@ pieces_some text k first space =
 
 -- FLAGS
 
--- the first piece is a flag, or the flags are those behind it
+-- the flags of a text are its first piece, where this is a flag, and the flags behind it
 pub flag_first : (text piece rest : List ℕ) → pieces text ≡ piece ∷ pieces rest → is_flag piece ≡ true → flags_in text ≡ piece ∷ flags_in rest
 flag_first text piece rest cut is = ap (filter is_flag) cut ∙ ap (λ b. cond b (piece ∷ flags_in rest) (flags_in rest)) is
 
@@ -54,7 +54,7 @@ flag_filled (b ∷ text) is = omega arith
 
 -- FLAGS THAT ARE ADDED IN TURN
 
--- flags in front of those that are left have been added
+-- the flags in front of those that are left have been added
 abbrev pub AddedSoFar : (all left old new : List (List ℕ)) → Type 0
 AddedSoFar all left old new = (done : List (List ℕ)) × (all ≡ done ++ left) × (new ≡ flag_union old done)
 
@@ -77,7 +77,7 @@ added_some all left rest flag old new next (done, cut, is) =
     let long : length all ≡ length done + length (flag ∷ rest) = ap length whole ∙ length-append done (flag ∷ rest) in
     (length done, omega (arith, long), is ∙ ap (flag_union old) (sym (ap (take (length done)) whole ∙ take-append_seam done (flag ∷ rest))))
 
--- where all flags are there, the next one is
+-- a list that has all flags has the next one too, with those that were added so far
 pub next_there : (all left rest : List (List ℕ)) (flag : List ℕ) (old new : List (List ℕ)) → left ≡ flag ∷ rest → AddedSoFar all left old new → All (λ x. has_flag old x ≡ true) all → has_flag new flag ≡ true
 next_there all left rest flag old new next (done, cut, is) there =
     let whole : all ≡ done ++ flag ∷ rest = cut ∙ ap (λ l. done ++ l) next in

@@ -12,14 +12,14 @@ Same-octet a b equal = record {
   equal_octets = λ i below. ap (λ (xs : List ℕ). slice_index xs i) equal;
 }
 
--- the length of a slice, and its octet at i
+-- the length of a slice, and its octet at k
 pub length-slice : (xs : List ℕ) (i j : ℕ) → i ≤ j → j ≤ length xs → length (slice_range xs i j) ≡ j - i
 length-slice xs i j ordered within = grind (arith, length-take {A = ℕ}, length-drop {A = ℕ})
 
 at-slice : (xs : List ℕ) (i j k : ℕ) → k < j - i → slice_index (slice_range xs i j) k ≡ slice_index xs (i + k)
 at-slice xs i j k below = get_or-take (j - i) (drop i xs) k 0 below ∙ get_or-drop i xs k 0
 
--- the slice that is the same as the key is as long as it
+-- the slice that is the same as the key is as long as the key
 part_len : (fold : ℕ → ℕ) (value key : List ℕ) (p : IsPart fold value key) → p.start + length key ≡ p.end
 part_len fold value key p =
     let len = length-slice value p.start p.end p.ordered p.within in
@@ -56,7 +56,7 @@ occurs_from_part value key p =
           sym (at-slice value p.start p.end j (omega arith)) ∙ p.same.equal_octets j (omega arith);
     }
 
--- a search for the key's octets says whether it is part of the value
+-- a search for the key's octets says whether the key is part of the value
 pub IsPart-found : (value key : List ℕ) (r : Option ℕ) → FindsNeedle value key 0 r → IsTrue (is_some r) ↔ IsPart octet value key
 IsPart-found value key None nowhere = (
   λ is. absurd (false≢true is),

@@ -5,12 +5,12 @@ use Rattle.match_text.specs.Flags.{distinct, flag_union, flags_in, flags_of_text
 use Rattle.match_text.specs.view.Hashing.{same_equiv}
 use Rattle.match_text.proofs.FlagLists.{distinct_distinct, distinct_stays, union_append, without_alike, without_twice}
 
--- adding flags that are made one each adds the flags
+-- adding each of some flags once adds the flags
 union_distinct : (a flags : List (List ℕ)) → flag_union a (distinct flags) ≡ flag_union a flags
 unfolding flag_union
 union_distinct a flags = ap (λ l. a ++ flags_without l a) (distinct_stays (distinct flags) (distinct_distinct flags))
 
--- what is among flags is among them where they are made one each
+-- a list keeps its flags besides the one that is taken out
 has_without : (flags : List (List ℕ)) (flag x : List ℕ) → (same ascii_casemap x flag || has_flag (flags_without flags (flag ∷ [])) x) ≡ (same ascii_casemap x flag || has_flag flags x)
 unfolding flags_without
 has_without [] flag x = refl
@@ -29,12 +29,13 @@ has_without (y ∷ flags) flag x = by (same ascii_casemap y flag) refl (same asc
     by false e true f t g rest = refl
     by false e false f t g rest = ap (λ b. b || has_flag (flags_without flags (flag ∷ [])) x) g ∙ ap (λ b. t || b) (others f rest)
 
+-- a list in which each flag is taken once has the flags that the list has
 has_distinct : (flags : List (List ℕ)) (x : List ℕ) → has_flag (distinct flags) x ≡ has_flag flags x
 unfolding distinct
 has_distinct [] x = refl
 has_distinct (flag ∷ flags) x = has_without (distinct flags) flag x ∙ ap (λ b. same ascii_casemap x flag || b) (has_distinct flags x)
 
--- taking out flags that are made one each takes out the flags
+-- taking out each of some flags once takes out the flags
 without_distinct : (flags others : List (List ℕ)) → flags_without flags (distinct others) ≡ flags_without flags others
 without_distinct flags others = without_alike (distinct others) others (has_distinct others) flags
 

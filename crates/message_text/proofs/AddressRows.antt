@@ -50,7 +50,7 @@ nothing : addresses_of [] ≡ []
 unfolding addresses_of marks_from
 nothing = refl
 
--- the last sign alone divides an address
+-- the last `@` alone divides an address, and only where octets stand on both sides of it
 last_at_ends : addresses_of (codes "a@b@") ≡ whole (codes "a@b@") ∷ []
 unfolding addresses_of marks_from whole
 last_at_ends = refl
@@ -63,7 +63,7 @@ no_local_part : addresses_of (codes "@b") ≡ whole (codes "@b") ∷ []
 unfolding addresses_of marks_from whole
 no_local_part = refl
 
--- in quoted strings and literals the sign divides nothing
+-- in quoted strings and literals an `@` divides nothing
 quoted_at : addresses_of (codes "\"a@b\"@c") ≡ parts (codes "a@b") (codes "c") ∷ []
 unfolding addresses_of marks_from parts
 quoted_at = refl
@@ -88,7 +88,7 @@ empty_angle : addresses_of (codes "x <>, a") ≡ whole (codes "a") ∷ []
 unfolding addresses_of marks_from whole
 empty_angle = refl
 
--- a backslash stands for itself only at the end of an open quoted string
+-- in a quoted string a backslash protects the next octet; at the end of an open one it stands for itself
 protecting : addresses_of (codes "\"a\\\"b\\\\\"@c") ≡ parts (codes "a\"b\\") (codes "c") ∷ []
 unfolding addresses_of marks_from parts
 protecting = refl
@@ -101,16 +101,17 @@ protected_last_backslash : addresses_of (codes "\"a\\\\") ≡ whole (codes "a\\"
 unfolding addresses_of marks_from whole
 protected_last_backslash = refl
 
--- white space goes, but for that of quoted strings; in a literal a backslash protects, and stays
+-- white space is dropped, but for that of quoted strings
 white_space : addresses_of (codes " \t a \r\n b\" \t c\" @ d") ≡ parts (codes "ab \t c") (codes "d") ∷ []
 unfolding addresses_of marks_from parts
 white_space = refl
 
+-- in a literal a backslash protects the next octet, and stays
 literal : addresses_of (codes "a@[b \\] \t\\\\c, d]") ≡ parts (codes "a") (codes "[b\\]\\\\c,d]") ∷ []
 unfolding addresses_of marks_from parts
 literal = refl
 
--- comments lie in one another, and a protected sign is none of theirs
+-- comments may lie in one another, and a protected parenthesis opens and closes none
 comments : addresses_of (codes "(a, (b) \\) <) c (\"; )@d") ≡ parts (codes "c") (codes "d") ∷ []
 unfolding addresses_of marks_from parts
 comments = refl

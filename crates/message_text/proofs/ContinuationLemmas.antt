@@ -1,4 +1,4 @@
--- What a text's first octet says of its first line.
+-- What a text's first octet says of its first line, and which lines at the front of a text are continuations.
 use Rattle.std.proofs.Common.{◌≡◌, ℕ, suc, ◌+◌, ◌-◌, ◌<◌, ◌≤◌, true, false, not, cond, ◌==◌, List, [], ◌∷◌, ◌++◌, length, take, drop, slice_index, get_or, refl, sym, ap, ◌∙◌, arith}
 use Rattle.std.specs.List.{concat, onto_first, slice_split, take_while}
 use Rattle.std.specs.Str.Lines.{lines, lines_of_parts, strip_carriage_return}
@@ -9,12 +9,12 @@ use Rattle.sieve_base.specs.Octet.{is_blank, octet_of}
 use Rattle.message_text.specs.Fields.{is_continuation}
 use Rattle.message_text.specs.view.Spans.{continues}
 
--- a line feed ends an empty line
+-- a text whose first part is empty begins with no continuation
 continues-empty : (parts : List (List ℕ)) → continues (lines_of_parts ([] ∷ parts)) ≡ false
 continues-empty [] = refl
 continues-empty (part ∷ parts) = refl
 
--- a part loses no space or tab at its front
+-- a part without the carriage return at its end is a continuation exactly where its first octet is a space or tab
 continues-strip : (b : ℕ) (part : List ℕ) → is_continuation (strip_carriage_return (b ∷ part)) ≡ is_blank b
 continues-strip b [] =
     cond_both (b == octet_of "\r") [] (b ∷ []) (λ line. is_continuation line ≡ is_blank b)

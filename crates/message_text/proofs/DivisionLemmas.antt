@@ -1,4 +1,4 @@
--- The address of marked octets, by the place of the sign that divides it.
+-- The address of marked octets, by the place of the `@` that divides it.
 use Rattle.std.proofs.Common.{◌≡◌, ℕ, ◌+◌, ◌-◌, ◌<◌, ◌≤◌, List, [], ◌∷◌, length, take, drop, Some, refl, sym, ap, ◌∙◌, arith}
 use Rattle.std.specs.List.{after_last}
 use Rattle.std.proofs.lemmas.List.{drop-map, length-drop, length-map, length-take-le, take-map}
@@ -16,7 +16,7 @@ divided-both all [] domain front back = absurd (omega arith)
 divided-both all (b ∷ bs) [] front back = absurd (omega arith)
 divided-both all (b ∷ bs) (c ∷ cs) front back = refl
 
--- the address by what stands before and behind the place
+-- the address of marked octets, by what stands before and behind the last free `@`; `place` is behind this one
 address_at : (marks : List Marked) (place : ℕ) → 0 < length marks → IsBehindLast (is_free (octet_of "@")) marks place → address_by marks ≡ Some (divided (octets_of marks) (take (place - 1) (octets_of marks)) (drop place (octets_of marks)))
 address_at [] place some is = absurd (omega arith)
 address_at (m ∷ ms) place some is =

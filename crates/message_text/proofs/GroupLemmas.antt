@@ -28,7 +28,7 @@ continuations_kept ((b ∷ line) ∷ text) =
     ∙ ap (λ (kept : List (List ℕ)). cond (is_continuation (b ∷ line)) ((b ∷ line) ∷ kept) []) (continuations_kept text)
     ∙ sym (take_while-cons is_continuation (b ∷ line) text)
 
--- the fields of the lines after a group's first one, and that group
+-- the groups of a header section that are fields: that of its first line, where this begins a field, and those of the lines after it
 one_group : (line : List ℕ) (more : List (List ℕ)) → filter is_field (groups_of (line ∷ take_while is_filled more)) ≡ field_here line more ++ filter is_field (groups_of (take_while is_filled more))
 one_group line more =
     let kept = take_while is_filled more in
@@ -56,7 +56,7 @@ pub field_groups-nil : field_groups [] ≡ []
 unfolding field_groups
 field_groups-nil = refl
 
--- the span of a field with this head
+-- the span of a field, by the name and the colon of its first line
 pub span_at : (octets : List ℕ) (start end next name_len colon hash : ℕ) (unfolded : Bool) → hash ≡ name_hash (slice_range octets start (start + name_len)) → unfolded ≡ not (continues (lines (drop next octets))) → start ≤ end → end ≤ length octets → next ≤ length octets → IsHead (slice_range octets start end) name_len colon → IsSpan octets (record { start = start; name_end = start + name_len; value_start = start + colon + 1; end = end; next = next; is_unfolded = unfolded; name_hash = hash })
 span_at octets start end next name_len colon hash unfolded hashed more ordered within next_within head =
     let rest = drop start octets in
@@ -91,13 +91,13 @@ slice-empty octets start =
     let none : start - start ≡ 0 = omega arith in
     ap (λ n. is_filled (take n (drop start octets))) none
 
--- the spans of a message are those found before the lines that hold no field
+-- the spans found so far are those of a message, where what is left of it has no field
 pub are_spans : (octets : List ℕ) (spans : List FieldSpan) (start : ℕ) → map (group_at octets) spans ++ field_groups (drop start octets) ≡ field_groups octets → field_groups (drop start octets) ≡ [] → All (IsSpan octets) spans → AreSpans octets spans
 are_spans octets spans start found none each =
     let so_far = map (group_at octets) spans in
     record { groups = sym found ∙ ap (λ (rest : List Group). so_far ++ rest) none ∙ append-nil so_far; each = each }
 
--- where two lists of groups joined are empty, each is
+-- where two joined lists of groups are empty, each of the two is empty
 pub none_first : (first others : List Group) → first ++ others ≡ [] → first ≡ []
 none_first [] others none = refl
 none_first (group ∷ first) others none = cc
@@ -106,11 +106,12 @@ pub none_behind : (first others : List Group) → first ++ others ≡ [] → oth
 none_behind [] others none = none
 none_behind (group ∷ first) others none = cc
 
--- a message without a field has no group of one
+-- where no group has a field, there are no groups
 no_group : (groups : List Group) → map field_of groups ≡ [] → groups ≡ []
 no_group [] none = refl
 no_group (group ∷ groups) none = cc
 
+-- a message without fields has no groups that are fields
 pub no_groups : (message : List ℕ) → fields_of message ≡ [] → field_groups message ≡ []
 unfolding fields_of
 no_groups message none = no_group (field_groups message) none

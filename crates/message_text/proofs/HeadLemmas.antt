@@ -21,7 +21,7 @@ no_colon line nowhere =
     λ k d below. false_from_ne_true _ (λ is. nowhere k (omega arith) below (subst Plain (get_or_default line k d 0 below) is)) in
     and_left (list_any is_colon line) (is_name (name_in line)) (list_any_none is_colon line each)
 
--- the place of the first colon is found
+-- a colon before which there is none is the first colon of the line
 place : (line : List ℕ) (k : ℕ) → NoneBefore (Colon line) 0 (length line) k → Colon line k → position_or_len is_colon line ≡ k
 place line k first colon =
     let within = first.high in

@@ -18,7 +18,7 @@ octets_of-marks_from spot (b ∷ rest) = ap (λ (octets : List ℕ). b ∷ octet
 pub marks_are_of_the_octets : (value : List ℕ) → octets_of (marks_of value) ≡ value
 marks_are_of_the_octets value = octets_of-marks_from value_start value
 
--- the place of the last element that passes, where elements stand on both sides of it
+-- the place of the last element that passes, where one does
 last_place : {X : Type 0} (p : X → Bool) (xs : List X) → ℕ
 last_place p xs = length xs - suffix_len (λ x. not (p x)) xs - 1
 

@@ -21,17 +21,17 @@ line_before part (b ∷ text) =
     (λ parts. lines_of_parts (part ∷ parts) ≡ strip_carriage_return part ∷ lines_of_parts parts)
     (λ _. refl) (λ _. line_onto part b (slice_split (λ b. b == octet_of "\n") text))
 
--- up to the first line feed
+-- the first line of a text goes up to the first line feed, without a carriage return directly before it
 pub lines-feed : (line rest : List ℕ) → All (λ b. (b == octet_of "\n") ≡ false) line → lines (line ++ octet_of "\n" ∷ rest) ≡ strip_carriage_return line ∷ lines rest
 lines-feed line rest plain = ap lines_of_parts (slice_split_at (λ b. b == octet_of "\n") line (octet_of "\n") rest plain refl) ∙ line_before line rest
 
--- with no line feed
+-- a text that has octets, and no line feed, is one line
 pub lines-last : (line : List ℕ) → 0 < length line → All (λ b. (b == octet_of "\n") ≡ false) line → lines line ≡ line ∷ []
 lines-last line some plain =
     ap lines_of_parts (slice_split_none (λ b. b == octet_of "\n") line plain)
     ∙ cond-false (length line == 0) [] (line ∷ []) (ne_eqb (length line) 0 (omega arith))
 
--- no feed stands where a search found none
+-- no line feed stands where a search found none
 pub plain_before : (hay : List ℕ) (len : ℕ) → len ≤ length hay → Nowhere (Passes (is_byte (octet_of "\n")) hay) 0 len → All (λ b. (b == octet_of "\n") ≡ false) (take len hay)
 plain_before hay len within nowhere k d below =
     let short : k < len = omega (arith, length-take-le len hay within) in
@@ -39,7 +39,7 @@ plain_before hay len within nowhere k d below =
     rw get_or-take
     (false_from_ne_true (get_or hay k d == octet_of "\n") (λ is. nowhere k (omega arith) short (subst P (get_or_default hay k d 0 (omega arith)) is)))
 
--- a line is a front of its piece
+-- a piece without the carriage return at its end is a front of the piece
 front_of_piece : (piece : List ℕ) → strip_carriage_return piece ≡ take (length (strip_carriage_return piece)) piece
 front_of_piece piece =
     cond_both (slice_index piece (length piece - 1) == octet_of "\r") (take (length piece - 1) piece) piece (λ line. line ≡ take (length line) piece)

@@ -18,7 +18,7 @@ same_folded (x ∷ a) (y ∷ b) is =
     let first : ascii_casemap x ≡ ascii_casemap y = eqb-true (ascii_casemap x) (ascii_casemap y) parts.0 in
     ap (λ octet. octet ∷ map ascii_casemap a) first ∙ ap (λ (rest : List ℕ). ascii_casemap y ∷ rest) (same_folded a b parts.1)
 
--- names with other hashes are other names
+-- names with different hashes aren't the same
 pub hashes_differ : (a b : List ℕ) → name_hash a ≢ name_hash b → same ascii_casemap a b ≡ false
 unfolding name_hash
 hashes_differ a b differ =

@@ -31,7 +31,7 @@ some_passes p (x ∷ xs) k is =
     let within = place_within p (x ∷ xs) k is in
     list_any_at p (x ∷ xs) (position_or_len p (x ∷ xs)) x within (passes_at_first p (x ∷ xs) x within)
 
--- where no place is found, none passes
+-- where no place is found, no element passes the test
 pub none_before : {X : Type 0} (p : X → Bool) (xs : List X) → None ≡ first_place p xs → length xs ≤ position_or_len p xs
 none_before p xs is = ltb-false _ _ (none_by _ _ is)
 

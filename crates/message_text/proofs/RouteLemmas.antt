@@ -8,7 +8,7 @@ use Rattle.message_text.specs.Addresses.{begins_route, closes_angle, in_first_an
 use Rattle.message_text.specs.declared.marks.Marked.{Marked}
 use Rattle.message_text.proofs.PieceLemmas.{first_place, none_passes, place_is, some_passes}
 
--- what the range from a place to the end is
+-- the range from place n to the end of a list is the list without its first n elements
 pub rest_from : {X : Type 0} (n : ℕ) (xs : List X) → take (length xs - n) (drop n xs) ≡ drop n xs
 rest_from n xs = take_all (length xs - n) (drop n xs) (omega (arith, length-drop n xs))
 

@@ -21,7 +21,7 @@ nothing : fields_of [] ≡ []
 unfolding fields_of field_groups
 nothing = refl
 
--- the last piece is a line, and a carriage return at its end is an octet of it
+-- what follows the last line feed is a line, and a carriage return at its end is an octet of it
 unended : fields_of (codes "A: b\r") ≡ field (codes "A") (codes "b\r") ∷ []
 unfolding fields_of field_groups field
 unended = refl

@@ -27,7 +27,7 @@ trim_start-append (x ∷ a) b =
 pub trim_start-trim_start : (a : List ℕ) → trim_start (trim_start a) ≡ trim_start a
 trim_start-trim_start a = ap trim_start (sym (append-nil (trim_start a))) ∙ trim_start-append a [] ∙ ap trim_start (append-nil a)
 
--- a text that begins with neither space nor tab keeps its front
+-- a text that begins with neither space nor tab keeps its front, whatever follows it
 trim_start-onto : (x : ℕ) (a b : List ℕ) → trim_start (x ∷ a) ≡ x ∷ a → trim_start ((x ∷ a) ++ b) ≡ (x ∷ a) ++ b
 trim_start-onto x a b trimmed =
     let shorter : length (trim_start a) ≤ length a = omega (arith, length-drop (prefix_len is_blank a) a) in
@@ -42,6 +42,6 @@ pub trim_start-keeps : (a b : List ℕ) → 0 < length a → trim_start a ≡ a 
 trim_start-keeps [] b some trimmed = absurd (omega arith)
 trim_start-keeps (x ∷ a) b some trimmed = trim_start-onto x a b trimmed
 
--- what truncating to the length of a trimmed text leaves
+-- a text truncated to the length of the text with its end trimmed is this text
 pub take-trim_end : (a : List ℕ) → take (length (trim_end a)) a ≡ trim_end a
 take-trim_end a = ap (λ n. take n a) (length-take-le (length a - suffix_len is_blank a) a (omega arith))

@@ -11,11 +11,11 @@ use Rattle.session_text.specs.SessionLine.{cut_line, in_front, without_cr, first
 abbrev behind : List ℕ → List ℕ × List ℕ → List ℕ × List ℕ
 behind front cut = (front ++ cut.0, cut.1)
 
--- nothing is something and nothing
+-- no option is something and nothing at once
 apart : {X : Type 0} (r : Option X) (x : X) → r ≡ Some x → r ≡ None → ⊥
 apart r x some none = cc
 
--- what follows the empty line
+-- the cut of an empty line and what follows it
 abbrev empty_line : List ℕ → List ℕ × List ℕ
 empty_line rest = ([], rest)
 
@@ -38,7 +38,7 @@ none_at b bs more true later none = absurd (apart _ (empty_line bs) refl none)
 none_at b bs more false later none =
     ap (option_map (in_front b)) (later (mapped_none b (cut_line bs) none)) ∙ behind_both b bs (cut_line more)
 
--- where no LF is found, what follows decides
+-- where octets have no LF, they stand in front of the line that is cut from what follows them
 pub cut_line-none : (bs more : List ℕ) → cut_line bs ≡ None → cut_line (bs ++ more) ≡ option_map (behind bs) (cut_line more)
 cut_line-none [] more none = behind_nothing (cut_line more)
 cut_line-none (b ∷ bs) more none = none_at b bs more (eqb b (octet_of "\n")) (cut_line-none bs more) none
@@ -63,12 +63,12 @@ some_at b bs more true line rest later found =
     ap (λ l. Some (l, bs ++ more)) same ∙ ap (λ t. Some (line, t ++ more)) left
 some_at b bs more false line rest later found = mapped_some b more (cut_line bs) (cut_line (bs ++ more)) line rest later found
 
--- where an LF is found, what follows the octets follows the line
+-- where octets have an LF, what follows them stands behind what follows the line
 pub cut_line-some : (bs more line rest : List ℕ) → cut_line bs ≡ Some (line, rest) → cut_line (bs ++ more) ≡ Some (line, rest ++ more)
 cut_line-some [] more line rest found = absurd (apart _ _ found refl)
 cut_line-some (b ∷ bs) more line rest found = some_at b bs more (eqb b (octet_of "\n")) line rest (cut_line-some bs more) found
 
--- no LF
+-- octets without an LF are not cut
 pub cut_line-absent : (bs : List ℕ) → ((k : ℕ) → k < length bs → get_or bs k 0 ≢ octet_of "\n") → cut_line bs ≡ None
 cut_line-absent [] none = refl
 cut_line-absent (b ∷ bs) none =
@@ -76,7 +76,7 @@ cut_line-absent (b ∷ bs) none =
     let later = cut_line-absent bs (λ k within. none (suc k) (omega arith)) in
     grind (arith, nat_tests, later)
 
--- octets without an LF, and then one
+-- octets without an LF, and then an LF, are cut at this LF
 cut_line-front : (front rest : List ℕ) → ((k : ℕ) → k < length front → get_or front k 0 ≢ octet_of "\n") → cut_line (front ++ octet_of "\n" ∷ rest) ≡ Some (front, rest)
 cut_line-front [] rest none = refl
 cut_line-front (b ∷ bs) rest none =
@@ -111,7 +111,7 @@ without_cr-last (a ∷ c ∷ bs) b = ap (λ l. a ∷ l) (without_cr-last (c ∷ 
     more true = refl
     more false = refl
 
--- the CR is dropped at the end of the octets before a place
+-- of the octets up to place i and with it, a CR at this place is dropped
 pub without_cr-take : (bs : List ℕ) (i : ℕ) → i < length bs → without_cr (take (i + 1) bs) ≡ cond (eqb (get_or bs i 0) (octet_of "\r")) (take i bs) (take (i + 1) bs)
 without_cr-take bs i within =
     ap without_cr (take_more bs i 0 within) ∙ without_cr-last (take i bs) (get_or bs i 0) ∙ ap (cond (eqb (get_or bs i 0) (octet_of "\r")) (take i bs)) (sym (take_more bs i 0 within))
@@ -123,7 +123,7 @@ without_cr-kept bs i len is =
     let whole : take (i + 1) bs ≡ bs = take_all (i + 1) bs (omega arith) in
     grind (arith, nat_tests, step, whole)
 
--- one octet is dropped at most
+-- dropping a CR drops one octet at most
 pub length-without_cr : (bs : List ℕ) → length bs ≤ length (without_cr bs) + 1
 length-without_cr [] = omega arith
 length-without_cr (b ∷ []) = one (eqb b (octet_of "\r"))
@@ -133,7 +133,7 @@ length-without_cr (b ∷ []) = one (eqb b (octet_of "\r"))
     one false = omega arith
 length-without_cr (b ∷ c ∷ bs) = omega (arith, length-without_cr (c ∷ bs))
 
--- nothing is added
+-- dropping a CR adds no octets
 length-without_cr-le : (bs : List ℕ) → length (without_cr bs) ≤ length bs
 length-without_cr-le [] = omega arith
 length-without_cr-le (b ∷ []) = one (eqb b (octet_of "\r"))
@@ -143,7 +143,7 @@ length-without_cr-le (b ∷ []) = one (eqb b (octet_of "\r"))
     one false = omega arith
 length-without_cr-le (b ∷ c ∷ bs) = omega (arith, length-without_cr-le (c ∷ bs))
 
--- octets that may still become a line
+-- octets within the limit of a line, or with a CR alone past it, may still become a line
 pub may_be_line : (bs : List ℕ) → (length bs ≤ line_limit) ⊎ ((length bs ≡ line_limit + 1) × (get_or bs line_limit 0 ≡ octet_of "\r")) → is_long_so_far bs ≡ false
 may_be_line bs (inl few) =
     let less : length (without_cr bs) ≤ line_limit = omega (arith, length-without_cr-le bs, few) in
@@ -160,12 +160,12 @@ pub first_line-found : (bs line rest more : List ℕ) → cut_line bs ≡ Some (
 unfolding first_line
 first_line-found bs line rest more found = ap (line_from (bs ++ more)) (cut_line-some bs more line rest found)
 
--- the line that the end ends
+-- the line that the end of the octets ends
 pub first_line-last : (bs : List ℕ) → cut_line bs ≡ None → first_line (bs ++ []) ≡ (bs, [])
 unfolding first_line
 first_line-last bs none = rw append-nil (ap (line_from bs) none)
 
--- a line that isn't at its end and has too many octets
+-- octets without an LF that are too many for a line, whatever follows them
 pub first_line-long : (bs more : List ℕ) → cut_line bs ≡ None → (line_limit + 1 < length bs) ⊎ ((length bs ≡ line_limit + 1) × (get_or bs line_limit 0 ≢ octet_of "\r")) → line_limit < length (first_line (bs ++ more)).0
 unfolding first_line
 first_line-long bs more none long = rw (cut_line-none bs more none) (by_cut (cut_line more))

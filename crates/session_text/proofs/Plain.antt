@@ -53,6 +53,6 @@ joined_plain (value ∷ next ∷ values) small =
     plain_both (quoted value) (octet_of " " ∷ joined (map quoted (next ∷ values))) (quoted_plain value (recursion_from_All (λ b. b < 256) value small.0))
     (plain_next (octet_of " ") (joined (map quoted (next ∷ values))) refl (joined_plain (next ∷ values) small.1))
 
--- a line of quoted values is one that a session reads
+-- a line of quoted values has printable octets alone
 pub plain_line : (values : List (List ℕ)) → All (All (λ octet. octet < 256)) values → list_all is_printable (joined (map quoted values)) ≡ true
 plain_line values small = joined_plain values (recursion_from_All (All (λ octet. octet < 256)) values small)

@@ -8,7 +8,7 @@ use Rattle.sieve_base.specs.Hex.{hex_digit, hex_octet, hex_value}
 use Rattle.sieve_base.specs.Writers.{octet_spelling, quoted}
 use Rattle.session_text.specs.SessionLine.{behind, escaped_value, hex_octets, quoted_value, word_value}
 
--- a digit of base 16 has its value
+-- the digit of a number below 16 has this number as its value
 digit_value : (n : ℕ) → n < 16 → hex_value (hex_digit n) ≡ Some n
 digit_value n small = grind (arith, nat_tests)
 
@@ -19,22 +19,22 @@ octet_value b small =
     let low : b % 16 < 16 = omega arith in
     rw (digit_value (b / 16) high) (rw (digit_value (b % 16) low) (ap Some (omega arith)))
 
--- a quote or a backslash behind a backslash
+-- a quote or a backslash behind a backslash stands for itself
 escaped_back : (b : ℕ) (rest : List ℕ) → (eqb b (octet_of "\"") || eqb b (octet_of "\\")) ≡ true → quoted_value (octet_of "\\" ∷ b ∷ rest) ≡ behind b (quoted_value rest)
 unfolding quoted_value escaped_value
 escaped_back b rest is = rw is refl
 
--- an octet as \x and two digits
+-- `\x` and the two digits of an octet stand for the octet
 hex_back : (b : ℕ) (rest : List ℕ) → b < 256 → quoted_value (octet_of "\\" ∷ octet_of "x" ∷ hex_digit (b / 16) ∷ hex_digit (b % 16) ∷ rest) ≡ behind b (quoted_value rest)
 unfolding quoted_value escaped_value hex_octets
 hex_back b rest small = rw (octet_value b small) refl
 
--- an octet that stands for itself
+-- an octet that is neither a quote nor a backslash stands for itself
 plain_back : (b : ℕ) (rest : List ℕ) → (eqb b (octet_of "\"") || eqb b (octet_of "\\")) ≡ false → quoted_value (b ∷ rest) ≡ behind b (quoted_value rest)
 unfolding quoted_value
 plain_back b rest is = grind (arith, nat_tests)
 
--- what an octet is spelled like stands for it
+-- the spelling of an octet stands for the octet
 spelling_value : (b : ℕ) (rest : List ℕ) → b < 256 → quoted_value (octet_spelling b ++ rest) ≡ behind b (quoted_value rest)
 spelling_value b rest small = by_quote (eqb b (octet_of "\"") || eqb b (octet_of "\\")) refl
   where
@@ -50,7 +50,7 @@ end_value : quoted_value (octet_of "\"" ∷ []) ≡ Some []
 unfolding quoted_value
 end_value = refl
 
--- some octets are what their spellings are read as
+-- the spellings of octets, up to a last quote, stand for these octets
 spellings_value : (octets : List ℕ) → AllByRecursion (λ b. b < 256) octets → quoted_value (flat_map octet_spelling octets ++ octet_of "\"" ∷ []) ≡ Some octets
 spellings_value [] small = end_value
 spellings_value (b ∷ bs) small =

@@ -5,12 +5,12 @@ use Rattle.std.specs.Io.KnownBytes.{Consumes, Keeps}
 use Rattle.sieve_base.specs.Devices.{HasRisen, next_count}
 use Rattle.session_text.specs.view.Input.{CallsMade, Input, Reads, TurnsGave}
 
--- no turn is taken
+-- where no turn is taken, no octet need be given and no fault counted
 gave_nothing : (t : ℕ) (r : Option (List ℕ)) (f : ℕ) → TurnsGave t t r r f f
 gave_nothing t None f = tt
 gave_nothing t (Some xs) f = (omega arith, inl (omega arith))
 
--- some turns, and then others
+-- what some turns gave, and then what others gave, is what all of them gave
 gave_both : (t u v : ℕ) (r s q : Option (List ℕ)) (f g h : ℕ) → g ≤ h → TurnsGave t u r s f g → TurnsGave u v s q g h → TurnsGave t v r q f h
 gave_both t u v None s q f g h kept first second = tt
 gave_both t u v (Some xs) None q f g h kept first second = absurd first
@@ -23,7 +23,7 @@ gave_both t u v (Some xs) (Some ys) (Some zs) f g h kept first second = (omega (
     either (inr p) q = inr (omega (arith, p, kept))
     either (inl p) (inr q) = inr q
 
--- a read gave octets
+-- a turn whose read gave octets
 pub gave_octets : (t u : ℕ) (r s : Option (List ℕ)) (f g : ℕ) (octets : List ℕ) → Consumes r s octets → 0 < length octets → u + 1 ≡ t → f ≤ g → TurnsGave t u r s f g
 gave_octets t u None s f g octets read some one kept = tt
 gave_octets t u (Some xs) None f g octets read some one kept = absurd read
@@ -31,7 +31,7 @@ gave_octets t u (Some xs) (Some ys) f g octets read some one kept =
     let size : length xs ≡ length octets + length ys = ap length read ∙ length-append octets ys in
     (omega (arith, size), inl (omega (arith, size, some, one, kept)))
 
--- a read counted a fault
+-- a turn whose read counted a fault
 pub gave_fault : (t u : ℕ) (r s : Option (List ℕ)) (f g : ℕ) → Keeps r s → u + 1 ≡ t → HasRisen f g → TurnsGave t u r s f g
 gave_fault t u None s f g same one risen = tt
 gave_fault t u (Some xs) None f g same one risen = absurd same
@@ -43,7 +43,7 @@ gave_fault t u (Some xs) (Some ys) f g same one risen =
     counted (inl less) = inl (omega (arith, ap length same, one, risen, less))
     counted (inr more) = inr (omega (arith, risen, more))
 
--- some calls, and then others
+-- the calls of some turns, and then those of others, are the calls of all of them
 calls_both : (t u v c d e : ℕ) → CallsMade t u c d → CallsMade u v d e → CallsMade t v c e
 calls_both t u v c d e first second = (omega (arith, first.0, second.0), omega (arith, first.1, second.1), either first.2 second.2)
   where
@@ -53,7 +53,7 @@ calls_both t u v c d e first second = (omega (arith, first.0, second.0), omega (
     either (inr p) (inl q) = inr (omega (arith, p, q, second.0))
     either (inr p) (inr q) = inr q
 
--- nothing is read
+-- where nothing is read, no turn is taken and no call is made
 pub reads_nothing : {S : Type 0} (remaining : S → Option (List ℕ)) (fault_count call_count : S → ℕ) (i : Input) (s : S) → Reads remaining fault_count call_count i i s s
 reads_nothing remaining fault_count call_count i s = record {
   faults_kept = omega arith;
@@ -62,7 +62,7 @@ reads_nothing remaining fault_count call_count i s = record {
   turns_gave = λ is. gave_nothing i.turns (remaining s) (fault_count s);
 }
 
--- some reads, and then others
+-- some reads, and then others, are reads between the first state and the last
 pub reads_both : {S : Type 0} (remaining : S → Option (List ℕ)) (fault_count call_count : S → ℕ) (i j k : Input) (s t u : S)
     → Reads remaining fault_count call_count i j s t → Reads remaining fault_count call_count j k t u → Reads remaining fault_count call_count i k s u
 reads_both remaining fault_count call_count i j k s t u first second = record {
@@ -72,7 +72,7 @@ reads_both remaining fault_count call_count i j k s t u first second = record {
   turns_gave = λ is. gave_both i.turns j.turns k.turns (remaining s) (remaining t) (remaining u) (fault_count s) (fault_count t) (fault_count u) second.faults_kept (first.turns_gave (second.stays_ended is)) (second.turns_gave is);
 }
 
--- what is used of the octets is no matter
+-- which of the octets are used is no matter to the reads
 pub reads_used : {S : Type 0} (remaining : S → Option (List ℕ)) (fault_count call_count : S → ℕ) (i j k : Input) (s t : S)
     → Reads remaining fault_count call_count i j s t → k.turns ≡ j.turns → k.ended ≡ j.ended → Reads remaining fault_count call_count i k s t
 reads_used remaining fault_count call_count i j k s t reads turns ended = record {

@@ -26,7 +26,7 @@ passes_both s t u a b first second rest =
     let two = second rest in
     ap (piece_length s) (append_assoc a b rest) ∙ omega (arith, one, two, size)
 
--- an octet of a bare word
+-- an octet of a bare word is no space between words, and opens no quotes
 bare_passes : (b : ℕ) → is_bare b ≡ true → Passes outside (b ∷ []) outside
 bare_passes b bare rest = grind (arith, nat_tests)
 
@@ -34,18 +34,18 @@ bare_all : (word : List ℕ) → AllByRecursion (λ b. is_bare b ≡ true) word 
 bare_all [] bare = passes_nothing outside
 bare_all (b ∷ bs) bare = passes_both outside outside outside (b ∷ []) bs (bare_passes b bare.0) (bare_all bs bare.1)
 
--- a quote
+-- a quote opens quotes, and closes them
 opens : Passes outside (octet_of "\"" ∷ []) inside
 opens rest = omega arith
 
 closes : Passes inside (octet_of "\"" ∷ []) outside
 closes rest = omega arith
 
--- a quote or a backslash behind a backslash
+-- an octet behind a backslash neither ends the quotes nor stands between words
 escape_passes : (b : ℕ) → Passes inside (octet_of "\\" ∷ b ∷ []) inside
 escape_passes b rest = omega arith
 
--- an octet between quotes
+-- an octet between quotes, neither a quote nor a backslash, leaves them open
 inner_passes : (b : ℕ) → b ≢ octet_of "\"" → b ≢ octet_of "\\" → Passes inside (b ∷ []) inside
 inner_passes b no_quote no_backslash rest = grind (arith, nat_tests)
 
@@ -88,7 +88,7 @@ quoted_some : (octets : List ℕ) → 0 < length (quoted octets)
 unfolding quoted
 quoted_some octets = omega arith
 
--- a word
+-- a word holds no space that stands between words
 word_passes : (word : List ℕ) → IsWord word → Passes outside word outside
 word_passes word (inl bare) = bare_all word (recursion_from_All (λ b. is_bare b ≡ true) word bare.bare)
 word_passes word (inr made) = rw made.1 (quoted_passes made.0)
@@ -97,7 +97,7 @@ word_some : (word : List ℕ) → IsWord word → 0 < length word
 word_some word (inl bare) = bare.some
 word_some word (inr made) = rw made.1 (quoted_some made.0)
 
--- a word in front of nothing or of a space is the first
+-- a word in front of nothing or of a space is the first word of the line
 word_in_front : (word rest : List ℕ) → IsWord word → piece_length outside rest ≡ 0 → line_words (word ++ rest) ≡ word ∷ line_words rest
 word_in_front word rest is none =
     let size : length word ≡ piece_length outside (word ++ rest) = omega (arith, word_passes word is rest, none) in
@@ -108,7 +108,7 @@ word_in_front word rest is none =
 no_line : line_words [] ≡ []
 no_line = line_words-none [] refl
 
--- the words of a line that is made of them
+-- a line that is made of words has these words
 pub words_of_line : (words : List (List ℕ)) (line : List ℕ) → IsLineOf words line → line_words line ≡ words
 words_of_line words line no_words = no_line
 words_of_line words line (last_word word is) =
@@ -117,7 +117,7 @@ words_of_line words line (behind_space ws rest made) = line_words-space rest ∙
 words_of_line words line (first_word word ws rest is made) =
     word_in_front word (octet_of " " ∷ rest) is refl ∙ ap (λ left. word ∷ left) (line_words-space rest ∙ words_of_line ws rest made)
 
--- words that are joined by single spaces
+-- words that are joined by single spaces make a line of these words
 joined_line : (words : List (List ℕ)) → AllByRecursion IsWord words → IsLineOf words (joined words)
 joined_line [] all = no_words
 joined_line (word ∷ []) all = last_word word all.0

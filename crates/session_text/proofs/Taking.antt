@@ -11,14 +11,14 @@ takes_nothing None kept empty = tt
 takes_nothing (Some xs) None empty = (omega arith, refl, tt)
 takes_nothing (Some xs) (Some octets) empty = (omega arith, refl, empty)
 
--- what is read and not used changes nothing
+-- octets that are read and not used change nothing of what was taken
 pub takes-kept : (count : ℕ) (a b c kept : Option (List ℕ)) → Takes count a b kept → Keeps b c → Takes count a c kept
 takes-kept count None b c kept taken same = tt
 takes-kept count (Some xs) None c kept taken same = absurd taken
 takes-kept count (Some xs) (Some ys) None kept taken same = absurd same
 takes-kept count (Some xs) (Some ys) (Some zs) kept taken same = (taken.0, same ∙ taken.1, taken.2)
 
--- what is kept of more octets
+-- what is kept grows with the octets that are taken, and stays the first of them all
 kept_more : (count part : ℕ) (xs pending rest : List ℕ) (old new : Option (List ℕ)) → part ≤ length pending → pending ++ rest ≡ drop count xs
     → IfSome old (λ octets. octets ≡ take count xs) → Grows old new (take part pending) → IfSome new (λ octets. octets ≡ take (count + part) xs)
 kept_more count part xs pending rest old None within split before grown = tt
@@ -40,7 +40,7 @@ takes-more count part (Some xs) (Some ys) pending old new within taken grown =
       kept_more count part xs pending ys old new within taken.1 taken.2 grown,
     )
 
--- the input ends before all are taken
+-- the input ends before all octets are taken
 pub takes-short : (taken count : ℕ) (a rest : Option (List ℕ)) (pending : List ℕ) (kept : Option (List ℕ)) → taken < count → pending ≡ [] → IsAtEnd rest
     → Takes taken a (prepend_known pending rest) kept → FallsShort count a rest
 takes-short taken count None rest pending kept less none end so_far = end
@@ -49,7 +49,7 @@ takes-short taken count (Some xs) (Some ys) pending kept less none end so_far =
     let size : length pending + length ys ≡ length (drop taken xs) = sym (length-append pending ys) ∙ ap length so_far.1 in
     (omega (arith, length-drop taken xs, size, ap length none, ap length end, so_far.0), end)
 
--- no more of them can be read before all are taken
+-- no more octets can be read before all are taken
 pub takes-broken : (taken count : ℕ) (a rest : Option (List ℕ)) (pending : List ℕ) (kept : Option (List ℕ)) → taken < count → pending ≡ []
     → Takes taken a (prepend_known pending rest) kept → BreaksOff count a rest
 takes-broken taken count None rest pending kept less none so_far = tt

@@ -3,7 +3,7 @@ use Rattle.std.proofs.Common.{◌≡◌, ℕ, ◌+◌, List, ◌++◌, take, dro
 use Rattle.std.specs.Io.KnownBytes.{Keeps, Consumes, prepend_known}
 use Rattle.std.proofs.Math.Seq.{take-add}
 
--- octets that were read are not used yet
+-- a read changes nothing of the octets that are not used yet
 pub unused-read : (pending after buffer : List ℕ) (before left : Option (List ℕ)) (used count : ℕ)
     → take used buffer ≡ pending → after ≡ take (used + count) buffer → Consumes before left (take count (drop used buffer)) → Keeps (prepend_known pending before) (prepend_known after left)
 unused-read pending after buffer None left used count front grown read = tt

@@ -4,17 +4,17 @@ use Rattle.sieve_base.specs.Writers.{quoted}
 use Rattle.session_text.specs.LineOf.{IsLineOf, behind_space, first_word, joined, no_words}
 use Rattle.session_text.specs.SessionLine.{escaped_value, hex_octets, line_words, quoted_value, word_value}
 
--- a quote, a backslash, a line feed and an octet past ASCII
+-- a quote, a space, a backslash, a line feed and an octet past ASCII
 quoted_row : quoted (codes "\" \\\n" ++ 200 ∷ []) ≡ codes "\"\\\" \\\\\\x0a\\xc8\""
 unfolding quoted
 quoted_row = refl
 
--- digits in either case
+-- hexadecimal digits in either case, and a quote behind a backslash
 value_row : word_value (codes "\"\\x0A\\x0a\\\"\"") ≡ Some (codes "\n\n\"")
 unfolding word_value quoted_value escaped_value hex_octets
 value_row = refl
 
--- a digit is missing
+-- behind `\x` a digit is missing
 short_row : word_value (codes "\"\\x0\"") ≡ None
 unfolding word_value quoted_value escaped_value hex_octets
 short_row = refl

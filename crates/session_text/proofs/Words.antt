@@ -59,7 +59,7 @@ kept : (word : List ℕ) (pieces : List (List ℕ)) → 0 < length word → filt
 kept [] pieces some = absurd (omega arith)
 kept (b ∷ bs) pieces some = refl
 
--- the octets before the first such space of a line are its first word
+-- the octets before the first space of a line that no quotes hold are its first word
 pub line_words-word : (line : List ℕ) (n : ℕ) → n ≡ piece_length outside line → 0 < n → line_words line ≡ take n line ∷ line_words (drop n line)
 unfolding line_words
 line_words-word line n is some =
@@ -67,12 +67,12 @@ line_words-word line n is some =
     let first : pieces_from outside line ≡ take n line ∷ behind_space (drop n line) = rw is (pieces_from-first outside line) in
     ap (filter is_word) first ∙ (kept (take n line) (behind_space (drop n line)) (omega (arith, within, length-take n line)) ∙ ap (λ words. take n line ∷ words) (rw is (behind_piece outside line)))
 
--- a line that begins with no space begins with a word
+-- a line that has octets and begins with no space begins with a word
 pub piece_length-some : (line : List ℕ) → 0 < length line → get_or line 0 0 ≢ octet_of " " → 0 < piece_length outside line
 piece_length-some [] some none = absurd (omega arith)
 piece_length-some (b ∷ bs) some none = grind (arith, nat_tests)
 
--- nothing has no words
+-- an empty line has no words
 pub line_words-none : (line : List ℕ) → length line ≡ 0 → line_words line ≡ []
 unfolding line_words
 line_words-none [] none = refl

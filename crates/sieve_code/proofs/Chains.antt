@@ -17,7 +17,7 @@ pub record Goes (tail : Tail) (walk : Walk) : Type 0 where
   pub forward : Forward tail
   pub walks : Walks tail (λ r. walk)
 
--- a tail that ends with another goes this walk
+-- a tail ends with another, and goes this walk
 pub record GoesBefore (tail behind : Tail) (walk : Walk) : Type 0 where
   pub ends : Ends tail behind
   pub goes : Goes tail walk
@@ -32,7 +32,7 @@ pub record IsChain (b : Branches) (chain : Chain) (behind : Tail) (next : Walk) 
   pub branch : GoesBefore b.with_branch b.behind_branches (commands_walk chain.otherwise (commands_walk chain.rest next))
   pub alone : b.has_branch ≡ false → b.with_branch ≡ b.behind_branches
 
--- a tail without a branch in front
+-- a tail without a branch in front, which does what commands do, does what a chain does that has those commands and no branches
 plain_chain : (tail : Tail) (cs : Commands) (behind : Tail) (next : Walk) → GoesBefore tail behind (commands_walk cs next) → IsChain (no_branch tail) (record { otherwise = no_commands; rest = cs }) behind next
 unfolding commands_walk
 plain_chain tail cs behind next g = record {
@@ -41,7 +41,7 @@ plain_chain tail cs behind next g = record {
   alone = λ _. refl;
 }
 
--- a branch in front
+-- a tail that does what a branch does, in front of what is behind the branches, does what the chain does that the branch is in front of
 branch_chain : (tail : Tail) (cs : Commands) (b : Branches) (chain : Chain) (behind : Tail) (next : Walk) → IsChain b chain behind next → GoesBefore tail b.behind_branches (commands_walk cs (commands_walk chain.rest next)) → IsChain (record { has_branch = true; with_branch = tail; behind_branches = b.behind_branches }) (record { otherwise = cs; rest = chain.rest }) behind next
 branch_chain tail cs b chain behind next c g = record {
   rest = c.rest;
@@ -52,7 +52,7 @@ branch_chain tail cs b chain behind next c g = record {
     apart : true ≡ false → ⊥
     apart e = cc
 
--- an operation in front
+-- a stop or a return in front of a tail ends its walk, and a command that acts in front of a tail acts before what the tail does
 stops_before : (tail behind : Tail) (walk : Walk) → GoesBefore tail behind walk → GoesBefore (stop_op ∷ tail) behind by_stop
 stops_before tail behind walk g = record {
   ends = ends_more stop_op tail behind g.ends;
@@ -73,7 +73,7 @@ acts_before leaf line tail behind walk g = record {
 
 -- BRANCHES
 
--- what goes on behind a block is what is behind the branches
+-- behind a block, what is done next is what is behind the branches
 past_goes : (has : Bool) (w r behind : Tail) (other after : Walk) → Goes r after → GoesBefore w r other → (has ≡ false → w ≡ r) → GoesBefore (past_branches (record { has_branch = has; with_branch = w; behind_branches = r })) w after
 past_goes true w r behind other after rest branch alone = record {
   ends = ends_more (jump_op (length r)) w w (ends_self w);
@@ -84,7 +84,7 @@ past_goes false w r behind other after rest branch alone = record {
   goes = subst (λ t. Goes t after) (sym (alone refl)) rest;
 }
 
--- a branch with a test: its block, or the other branches, and what is behind them
+-- a branch with a test does its block or what the other branches do, and then what is behind them
 test_branch : (first inner : Tail → Tail) (condition : Condition) (cs : Commands) (b : Branches) (chain : Chain) (behind : Tail) (next : Walk) → IsConditionCode first condition → IsBlock inner cs → IsChain b chain behind next → GoesBefore (branch_before first inner b) b.with_branch (condition_walk condition (commands_walk cs (commands_walk chain.rest next)) (commands_walk chain.otherwise (commands_walk chain.rest next)))
 test_branch first inner condition cs b chain behind next f i c =
     let after = commands_walk chain.rest next in

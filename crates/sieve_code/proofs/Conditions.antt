@@ -48,7 +48,7 @@ negated_code before c code = record {
   walks = λ behind does w. code.walks (invert_op ∷ behind) (λ r. does (not r)) (walks_inverts behind does w);
 }
 
--- two conditions that have one walk
+-- the code of a condition is the code of each condition that has the same walk
 like_code : (before : Tail → Tail) (c d : Condition) → ((held failed : Walk) → condition_walk c held failed ≡ condition_walk d held failed) → IsConditionCode before c → IsConditionCode before d
 like_code before c d same code = record {
   ends = code.ends;
@@ -58,7 +58,7 @@ like_code before c d same code = record {
 
 -- LISTS
 
--- the condition of a list of tests, with jumps past the last one where one comes to that truth
+-- the condition of a list of tests where one that comes to that truth decides: all of them for false, any of them for true
 abbrev pub joined_by : Bool → List Condition → Condition
 joined_by false cs = all_of cs
 joined_by true cs = any_of cs
@@ -89,7 +89,7 @@ joint_code false before others c cs code more = record {
   walks = λ behind does w. code.walks (jump_if_op false (length behind) ∷ others behind) (λ r. landed false r (does r) (condition_walk (all_of cs) (does true) (does false))) (walks_jumps_if (others behind) behind does (more.ends behind) w false _ (more.walks behind does w));
 }
 
--- what is known of a list of tests: of all, and of the first
+-- what is known of a list of tests: what the code of all of them asks, and what that of the first asks
 abbrev ListCode : Bool → TestList → Type 0
 ListCode truth end_tests = Unit {0}
 ListCode truth (more_tests t ts) = IsConditionCode (list_before truth (more_tests t ts)) (joined_by truth (conditions (more_tests t ts)))

@@ -22,13 +22,13 @@ unfolding marked_string
 strings_marked [] = refl
 strings_marked (s ∷ ss) = ap (λ t. (codes ", " ++ string_text (held_parts s)) ++ t) (strings_marked ss)
 
--- a string without parts
+-- a string without parts is written as an empty string in quotes
 pub string_none : (parts : List Part) → length parts ≤ 0 → codes "\"\"" ≡ string_text (map part_of parts)
 unfolding string_text
 string_none [] none = refl
 string_none (p ∷ ps) none = absurd (omega (arith, none))
 
--- a string of parts, the first of which stands without a mark
+-- what is written of a string with parts is its first part without a mark, and the others behind their marks
 pub string_some : (parts : List Part) (part : Part) → 0 < length parts → part ≡ get_or parts 0 part → part_text (part_of part) ++ flat_map marked_part (drop 1 parts) ≡ string_text (map part_of parts)
 unfolding string_text
 string_some [] part some is = absurd (omega (arith, some))
@@ -42,7 +42,7 @@ strings_some (s ∷ ss) string parts some same is =
     ∙ ap (λ x. string_text (held_parts x) ++ flat_map marked_string ss) is
     ∙ ap (λ t. string_text (held_parts s) ++ t) (sym (strings_marked ss))
 
--- all but the first
+-- all items of a list but the first
 abbrev pub others_of : {X : Type 0} → List X → List X
 others_of xs = take (length xs - 1) (drop 1 xs)
 
@@ -65,7 +65,7 @@ pub list_whole : (front : List ℕ) (strings : List (List part.Part)) → (front
 unfolding list_text
 list_whole front strings = append_assoc front (opened strings) (codes "]")
 
--- the words of modifiers, one by one
+-- the words of modifiers are those of each modifier in turn, and a space
 pub modifiers_text : (m : Modifiers) (case first quotes length : List ℕ) → case ≡ case_word m.letter_case → first ≡ first_word m.first_letter → quotes ≡ given_word m.quote_wildcard (codes " quotewildcard") → length ≡ given_word m.length (codes " length")
     → modifier_words m ≡ case ++ (first ++ (quotes ++ (length ++ (codes " " ++ []))))
 unfolding modifier_words

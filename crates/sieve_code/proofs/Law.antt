@@ -1,4 +1,4 @@
--- The code of a tree does what the tree does.
+-- The code of a tree does what the tree does, and its jumps go forward.
 use Rattle.std.proofs.Common.{◌≡◌, ℕ, zero, suc, ◌+◌, ◌-◌, ◌<◌, ◌≤◌, Bool, true, false, not, List, [], ◌∷◌, ◌++◌, length, take, drop, map, Some, None, refl, sym, ap, ◌∙◌, arith, append_assoc, length-append, length-take-le, take-append-drop}
 use Rattle.std.proofs.lemmas.List.{length-map}
 use Rattle.std.specs.Prelude.{slice_get}
@@ -33,7 +33,7 @@ forward_drop (suc k) (op ∷ rest) f = forward_drop k rest f.1
 abbrev Same : ℕ → Type 0
 Same n = (front tail : Tail) (r : Bool) → Forward tail → walk_from (placed (front ++ tail)) n (length front) r ≡ tail_walk n tail r
 
--- at the next place
+-- from the next place on, code does what the rest of its tail does
 same_next : (n : ℕ) → Same n → (front : Tail) (op : Operation) (rest : Tail) (r : Bool) → Forward rest → walk_from (placed (front ++ op ∷ rest)) n (length front + 1) r ≡ tail_walk n rest r
 same_next n same front op rest r f =
     let place : length front + 1 ≡ length (front ++ op ∷ []) = omega (arith, length-append front (op ∷ [])) in
@@ -44,7 +44,7 @@ same_next n same front op rest r f =
 length_take : (k : ℕ) (tail : Tail) → k ≤ length tail → length (take k tail) ≡ k
 length_take k tail le = length-take-le k tail le
 
--- at a target
+-- from a target on, code does what its tail does that stands there
 same_target : (n : ℕ) → Same n → (front : Tail) (op : Operation) (rest : Tail) (r : Bool) (left : ℕ) → left ≤ length rest → Forward rest → walk_from (placed (front ++ op ∷ rest)) n (length (front ++ op ∷ rest) - left) r ≡ tail_walk n (last left rest) r
 same_target n same front op rest r left le f =
     let k = length rest - left in
@@ -56,7 +56,7 @@ same_target n same front op rest r left le f =
     ∙ ap (λ t. walk_from (placed t) n (length (front ++ op ∷ take k rest)) r) whole
     ∙ same (front ++ op ∷ take k rest) (drop k rest) r (forward_drop k rest f)
 
--- one operation does the same where it stands among others
+-- one operation does the same at its place in the code as in front of its tail
 same_step : (n : ℕ) → Same n → (front : Tail) (op : Operation) (rest : Tail) (r : Bool) → Forward (op ∷ rest) → step (walk_from (placed (front ++ op ∷ rest)) n) (Some (put (length (front ++ op ∷ rest)) op)) (length front) r ≡ tail_step (tail_walk n) (op ∷ rest) r
 same_step n same front (set_op truth) rest r f = same_next n same front (set_op truth) rest truth f.1
 same_step n same front invert_op rest r f = same_next n same front invert_op rest (not r) f.1
@@ -98,7 +98,7 @@ code_walks tree =
     ∙ same_walk (length tail) [] tail false goes.forward
     ∙ goes.walks.by (length tail) (omega arith) false
 
--- a jump in front of a tail
+-- a jump in front of a tail has its target behind itself, counted from the end of the code
 jump_at : (count : ℕ) (op : Operation) (rest : Tail) → Forward (op ∷ rest) → (target : ℕ) → target_of (put count op) ≡ Some target → (left : ℕ) × (target ≡ count - left) × (left < length (op ∷ rest))
 jump_at count (set_op truth) rest f target is = absurd cc
 jump_at count invert_op rest f target is = absurd cc
@@ -112,7 +112,7 @@ jump_at count return_op rest f target is = absurd cc
 same_op : (op other : Operation) (target : ℕ) → Some other ≡ Some op → target_of op ≡ Some target → target_of other ≡ Some target
 same_op op other target is has = let e : other ≡ op = cc in ap target_of e ∙ has
 
--- a jump from a place in a tail
+-- a jump at a place in a tail has its target behind that place, counted from the end of the code
 jump_forward : (count : ℕ) (tail : Tail) → Forward tail → (place : ℕ) (op : Operation) (target : ℕ) → slice_get (map (put count) tail) place ≡ Some op → target_of op ≡ Some target → (left : ℕ) × (target ≡ count - left) × (left + place < length tail)
 jump_forward count [] f place op target is has = absurd cc
 jump_forward count (o ∷ rest) f zero op target is has =

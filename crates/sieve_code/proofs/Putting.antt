@@ -25,11 +25,11 @@ use Rattle.sieve_syntax.proofs.Views.{seen_command, seen_list, seen_none, seen_o
 use Rattle.smallvec.specs.SmallVec.{SmallVec}
 use Rattle.sieve_variables.specs.declared.part.Part as parts
 
--- what is put may be said otherwise
+-- what a step that succeeds puts in front of a tail may be said as anything that is equal to it
 pub on_ok_along : {T E X : Type 0} (r : Result T E) (a b c : X) → b ≡ c → OnOk r (a ≡ b) → OnOk r (a ≡ c)
 on_ok_along r a b c same h = subst (λ x. OnOk r (a ≡ x)) same h
 
--- the branches behind a front may be told in other words
+-- the branches that a step finds at the front of a tail may be said as any branches that are equal to them
 pub fronts_along : {E : Type 0} (r : Result TailFront E) (tail : Tail) (b c : Branches) → b ≡ c → IfOk r (λ front. branches_as front tail ≡ b) → IfOk r (λ front. branches_as front tail ≡ c)
 fronts_along r tail b c same h = subst (λ (x : Branches). IfOk r (λ (front : TailFront). branches_as front tail ≡ x)) same h
 
@@ -122,7 +122,7 @@ some_left list i follows is holds = let lt : i + 1 < length list = ltb-true (i +
 none_left : (list : List (one_tests.Test (SmallVec parts.Part))) (i : ℕ) (follows : Bool) → follows ≡ nat_lt (i + 1) (length list) → follows ≡ false → length (drop (i + 1) list) ≤ 0
 none_left list i follows is fails = let le : length list ≤ i + 1 = ltb-false (i + 1) (length list) (sym is ∙ fails) in omega (arith, le, length-drop (i + 1) list)
 
--- a test of a list in front of the others
+-- a test of a list, put in front of the tests behind it, makes the tests from that one on
 pub list_put : (truth : Bool) (list : List (one_tests.Test (SmallVec parts.Part))) (i : ℕ) (t : one_tests.Test (SmallVec parts.Part)) (behind others new : Tail) (follows : Bool) → i < length list → t ≡ get_or list i t → follows ≡ nat_lt (i + 1) (length list) → others ≡ list_before truth (list_on (drop (i + 1) list)) behind → new ≡ test_before (test_of t) (if follows then jump_if_op truth (length behind) ∷ others else others) → new ≡ list_before truth (list_on (drop i list)) behind
 list_put truth list i t behind others new follows below is more before after =
     after
@@ -140,11 +140,11 @@ made has w r = record { has_branch = has; with_branch = w; behind_branches = r }
 pub length_last : (count : ℕ) (tail : Tail) → count ≤ length tail → length (last count tail) ≡ count
 length_last count tail le = omega (arith, length-drop (length tail - count) tail)
 
--- a jump past the branches
+-- what a block goes on with: a jump past the branches where one follows, and else the tail itself
 pub past : (front : TailFront) (tail : Tail) → front.behind ≤ length tail → past_branches (branches_as front tail) ≡ (if front.has_branch then jump_op front.behind ∷ tail else tail)
 past front tail le = ap (λ n. if front.has_branch then jump_op n ∷ tail else tail) (length_last front.behind tail le)
 
--- a tail without a branch in front
+-- where no branch is at the front of a tail, and all of the tail is behind the branches, its branches are none
 pub alone : (front : TailFront) (tail : Tail) → front.has_branch ≡ false → front.behind ≡ length tail → branches_as front tail ≡ no_branch tail
 alone front tail none all =
     ap (λ h. made h tail (last front.behind tail)) none
@@ -157,13 +157,13 @@ drop_past (op ∷ front) tail n =
     let e : length (op ∷ front) + n ≡ suc (length front + n) = omega arith in
     ap (λ m. drop m (op ∷ front ++ tail)) e ∙ drop_past front tail n
 
--- a branch in front, with the same tail behind the branches
+-- a tail that ends with another has the same last operations, as many as the other has or fewer
 pub with_front : (count : ℕ) (tail new : Tail) → count ≤ length tail → Ends new tail → last count new ≡ last count tail
 with_front count tail new le e =
     let count_left : length (e.front ++ tail) - count ≡ length e.front + (length tail - count) = omega (arith, length-append e.front tail) in
     ap (last count) e.split ∙ ap (λ n. drop n (e.front ++ tail)) count_left ∙ drop_past e.front tail (length tail - count)
 
--- what a command's parts are put in front of ends what they give
+-- what a command's first test, block or branch makes of a tail ends with that tail
 first_at_ends : (n : Node) → Extends (first_at n)
 first_at_ends (node name line args ts ending) = (first_code ts).ends
 
@@ -173,7 +173,7 @@ block_at_ends (node name line args ts ending) = block_ends ending
 pub branch_at_ends : (n : Node) (b : Branches) → Ends (branch_at n b) b.with_branch
 branch_at_ends n b = branch_ends (first_at n) (block_at n) b (first_at_ends n) (block_at_ends n)
 
--- the last branch in front of what is behind the branches
+-- an `else` puts its block in front of what is behind the branches, which stays as it was
 pub last_branch : (n : Node) (count : ℕ) (old kept new : Tail) → count ≤ length old → kept ≡ last count old → new ≡ block_at n kept → made true new (last count new) ≡ made true (block_at n (last count old)) (last count old)
 last_branch n count old kept new le keeps puts =
     let behind = last count old in
@@ -192,7 +192,7 @@ by_kind (node name line args ts ending) b = refl
 pub command_put : (n : Node) (r : Option CommandReading) (b : Branches) → r ≡ command_reading n → command_before r (line_at n) (first_at n) (block_at n) b ≡ node_before n b
 command_put n r b is = ap (λ x. command_before x (line_at n) (first_at n) (block_at n) b) is ∙ sym (by_kind n b)
 
--- the line, the first test and the block of a command
+-- the line, the first test and the block of a command are those of its node
 pub line_seen : (c : commands.Command (SmallVec parts.Part)) → line_at (node_of c) ≡ (command_views.out-Command (SmallVec parts.Part) c).line
 unfolding line_at
 line_seen c = ap line_at (seen_command parts_of c)
@@ -226,7 +226,7 @@ commands_first : (c : commands.Command (SmallVec parts.Part)) (list : List (comm
 unfolding nodes_before
 commands_first c list behind = refl
 
--- a command in front of the others
+-- a command of a list, put in front of the commands behind it, makes the commands from that one on
 pub command_listed : (list : List (commands.Command (SmallVec parts.Part))) (i : ℕ) (c : commands.Command (SmallVec parts.Part)) (behind : Tail) (now new : Branches) → i < length list → c ≡ get_or list i c → now ≡ branches_on (drop (i + 1) list) behind → new ≡ node_before (node_of c) now → new ≡ branches_on (drop i list) behind
 command_listed list i c behind now new below is so after =
     after

@@ -84,7 +84,7 @@ empty_row : code_of [] ≡ []
 unfolding placed nodes_before
 empty_row = refl
 
--- require gives none
+-- `require` has no operations
 require_row : code_of (node (codes "require") 1 (string (codes "fileinto") ∷ []) no_tests no_block ∷ []) ≡ []
 unfolding placed nodes_before node_before block_before command_named
 require_row = refl
@@ -112,7 +112,7 @@ with_else_row : code_of (testing (codes "if") 1 (constant (codes "true")) (keep_
 unfolding placed nodes_before node_before block_before test_before tests_before list_before first_before command_named test_named
 with_else_row = refl
 
--- if true { } else { }: a branch follows, so the jump is there
+-- if true { } else { }: a branch follows, so a jump past the branch stands behind the empty block
 empty_blocks_row : code_of (testing (codes "if") 1 (constant (codes "true")) [] ∷ last_branch [] ∷ []) ≡ set_op true ∷ jump_if_op false 3 ∷ jump_op 3 ∷ []
 unfolding placed nodes_before node_before block_before test_before tests_before list_before first_before command_named test_named
 empty_blocks_row = refl
@@ -135,7 +135,7 @@ worked_tree_row : tree_walk worked ≡ worked_walk
 unfolding commands_walk condition_walk chain_of script.chain_with block_commands condition_of conditions_in conditions command_named test_named
 worked_tree_row = refl
 
--- five operations are too few on the longest way alone
+-- of the ways through the code, five operations are too few for the longest alone
 cut_row : code_walk worked_code 5 ≡ asked list_ask (acted (keep_leaf plain_settings) 2 at_end) (asked (over_ask 1048576) (acted (keep_leaf plain_settings) 2 cut_off) (acted discard_leaf 4 at_end))
 unfolding walk_from
 cut_row = refl

@@ -19,13 +19,13 @@ tail_step go (act_op leaf line ∷ rest) r = acted leaf line (go rest r)
 tail_step go (stop_op ∷ rest) r = by_stop
 tail_step go (return_op ∷ rest) r = by_return
 
--- a tail in at most so many operations
+-- what a tail does in at most so many operations
 abbrev pub tail_walk : ℕ → Tail → Bool → Walk
 tail_walk zero [] r = at_end
 tail_walk zero (op ∷ rest) r = cut_off
 tail_walk (suc n) tail r = tail_step (tail_walk n) tail r
 
--- a tail does this, by the truth in the register, in as many operations as it has
+-- a tail does this, by the truth in the register, in as many operations as the tail has, or more
 pub record Walks (tail : Tail) (does : Bool → Walk) : Type 0 where
   pub by : (n : ℕ) → length tail ≤ n → (r : Bool) → tail_walk n tail r ≡ does r
 
@@ -34,7 +34,7 @@ pub record Ends (tail behind : Tail) : Type 0 where
   pub front : Tail
   pub split : tail ≡ front ++ behind
 
--- each jump goes to an operation behind it, or to the end
+-- each jump of a tail goes to an operation behind the jump, or to the end
 abbrev pub Forward : Tail → Type 0
 Forward [] = Unit {0}
 Forward (op ∷ rest) = ((left : ℕ) → target_of op ≡ Some left → left ≤ length rest) × Forward rest

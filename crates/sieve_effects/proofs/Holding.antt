@@ -8,7 +8,7 @@ use Rattle.match_text.specs.Flags.{has_key}
 use Rattle.sieve_effects.specs.Matching.{Pair, first_match, first_some, match_of, pairs_with}
 use Rattle.sieve_reading.specs.declared.reading.MatchType.TheVariants.{Is}
 
--- a match that sets nothing
+-- a match that sets no match variables, where there is one
 abbrev pub plain : Bool → Option (List (List ℕ))
 plain b = if b then Some [] else None
 
@@ -16,7 +16,7 @@ or_plain : (s t : Bool) → option_or (plain s) (plain t) ≡ plain (s || t)
 or_plain true t = refl
 or_plain false t = refl
 
--- the first of such matches is one where there is one
+-- where each item gives a match that sets nothing if it passes a test, and else none, the first match is there if some item passes
 first_plain : {X : Type 0} (f : X → Option (List (List ℕ))) (test : X → Bool) → ((x : X) → f x ≡ plain (test x)) → (xs : List X) → first_some f xs ≡ plain (list_any test xs)
 first_plain f test so [] = refl
 first_plain f test so (x ∷ xs) = (λ j. option_or (so x j) (first_plain f test so xs j)) ∙ or_plain (test x) (list_any test xs)
@@ -25,13 +25,13 @@ any_map : {X Y : Type 0} (test : Y → Bool) (f : X → Y) (xs : List X) → lis
 any_map test f [] = refl
 any_map test f (x ∷ xs) = ap (λ b. test (f x) || b) (any_map test f xs)
 
--- a value among keys
+-- under `:is`, the first match of a value with keys is there where some key is the same as the value, and it sets nothing
 of_one : (fold : ℕ → ℕ) (keys : List (List ℕ)) (value : List ℕ) → first_match Is fold (pairs_with keys value) ≡ plain (list_any (same fold value) keys)
 of_one fold keys value =
     first_plain (λ (pair : Pair). match_of Is fold pair.value pair.key) (λ pair. same fold pair.value pair.key) (λ pair. refl) (pairs_with keys value)
     ∙ ap plain (any_map (λ (pair : Pair). same fold pair.value pair.key) (λ key. record { value = value; key = key }) keys)
 
--- some member passes one of two tests where some member passes the one or the other
+-- some member passes one of two tests where some member passes the first test or some member the second
 either : {X : Type 0} (p q : X → Bool) (xs : List X) → list_any (λ x. p x || q x) xs ≡ (list_any p xs || list_any q xs)
 either p q [] = refl
 either p q (x ∷ xs) = ap (λ b. (p x || q x) || b) (either p q xs) ∙ turned (p x) (q x) (list_any p xs) (list_any q xs)
@@ -46,12 +46,12 @@ none_any : {X : Type 0} (xs : List X) → list_any (λ x. false) xs ≡ false
 none_any [] = refl
 none_any (x ∷ xs) = none_any xs
 
--- whether a flag is some key, or a key some flag
+-- some flag is the same as one of the keys where some key is the same as one of the flags
 turned_over : (fold : ℕ → ℕ) (flags keys : List (List ℕ)) → list_any (λ flag. list_any (same fold flag) keys) flags ≡ list_any (has_key fold flags) keys
 turned_over fold [] keys = sym (none_any keys)
 turned_over fold (flag ∷ flags) keys = ap (λ b. list_any (same fold flag) keys || b) (turned_over fold flags keys) ∙ sym (either (same fold flag) (has_key fold flags) keys)
 
--- under `:is` the flags give what one of the keys gives that is among them
+-- under `:is`, the first match of flags with keys is there where some key is among the flags, and it sets nothing
 pub found_among : (fold : ℕ → ℕ) (flags keys : List (List ℕ)) → first_some (λ flag. first_match Is fold (pairs_with keys flag)) flags ≡ (if list_any (has_key fold flags) keys then Some [] else None)
 found_among fold flags keys =
     first_plain (λ flag. first_match Is fold (pairs_with keys flag)) (λ flag. list_any (same fold flag) keys) (of_one fold keys) flags ∙ ap plain (turned_over fold flags keys)

@@ -1,4 +1,4 @@
--- How many of the internal flags are known to be among an action's own, through what becomes of both.
+-- How many of the internal flags are known to be among an action's own, while the internal flags and the actions change.
 use Rattle.std.proofs.Common.{◌≡◌, ℕ, zero, suc, ◌+◌, ◌<◌, ◌≤◌, length, take, drop, get_or, remove, Bool, true, false, not, ◌||◌, List, [], ◌∷◌, ◌++◌, map, slice_set, refl, add-one, append-nil, append_assoc, sym, ap, subst, ◌∙◌, arith}
 use Rattle.std.specs.Prelude.{if◌then◌else◌}
 use Rattle.std.specs.List.{All, list_any}
@@ -32,7 +32,7 @@ any_store mailbox flags (action ∷ actions) = λ j. same_store mailbox flags ac
 
 -- WHAT IS KNOWN
 
--- flags that are among a store's own stay there
+-- a flag that is among a store's own is still among them where others are added
 own_grows : (own flags : List (List ℕ)) (x : List ℕ) → has_flag own x ≡ true → has_flag (flag_union own flags) x ≡ true
 unfolding flag_union
 own_grows own flags x there = list_any-append (same ascii_casemap x) own (flags_without (distinct flags) own) ∙ ap (λ b. b || has_flag (flags_without (distinct flags) own) x) there
@@ -56,7 +56,7 @@ are_known_joined flags action [] actions known = tt
 are_known_joined flags action (n ∷ numbers) [] known = known
 are_known_joined flags action (n ∷ numbers) (there ∷ actions) known = (known_joined flags n action there known.0, are_known_joined flags action numbers actions known.1)
 
--- of a new action nothing is known
+-- what is known of actions stays known where a new action stands behind them, of which nothing is known
 pub are_known_pushed : (flags : List (List ℕ)) (numbers : List ℕ) (actions : List Action) (action : Action) → AreKnown flags numbers actions → AreKnown flags numbers (actions ++ action ∷ [])
 are_known_pushed flags [] actions action known = tt
 are_known_pushed flags (n ∷ numbers) [] action known = absurd known
@@ -118,7 +118,7 @@ are_known_lowered flags i (n ∷ numbers) (action ∷ actions) below known = (kn
 
 -- IN LOOPS
 
--- one number more is lowered
+-- where the numbers in front of an index are lowered, lowering the one at the index lowers those in front of the next index
 pub one_lowered : (place : ℕ) (numbers : List ℕ) (i d : ℕ) → i < length numbers
     → slice_set (map (lowered place) (take i numbers) ++ drop i numbers) i (lowered place (get_or (map (lowered place) (take i numbers) ++ drop i numbers) i d)) ≡ map (lowered place) (take (suc i) numbers) ++ drop (suc i) numbers
 one_lowered place [] i d below = absurd (omega arith)
@@ -131,17 +131,17 @@ one_lowered_more place numbers new i n below is one =
     ap (λ m. slice_set new i m) one ∙ ap (λ l. slice_set l i (lowered place (get_or l i 0))) is ∙ one_lowered place numbers i 0 below
     ∙ ap (λ m. map (lowered place) (take m numbers) ++ drop m numbers) (sym (add-one i))
 
--- behind the last one all are lowered
+-- where the index is behind the last of the numbers, all of them are lowered
 pub all_lowered_so : (place : ℕ) (numbers : List ℕ) (i : ℕ) → length numbers ≤ i → map (lowered place) (take i numbers) ++ drop i numbers ≡ map (lowered place) numbers
 all_lowered_so place numbers i past =
     ap (λ l. map (lowered place) (take i numbers) ++ l) (drop_all i numbers past) ∙ append-nil (map (lowered place) (take i numbers)) ∙ ap (map (lowered place)) (take_all i numbers past)
 
--- the numbers that were written are all that were there
+-- where as many numbers are written over the old ones as there were, none of the old ones is left
 pub all_written : (len : ℕ) (new numbers wanted : List ℕ) → length new ≡ length numbers → length numbers ≡ len → new ≡ wanted → take len (new ++ drop (length new) numbers) ≡ wanted
 all_written len new numbers wanted long whole is =
     ap (λ l. take len (new ++ l)) (drop_all (length new) numbers (omega (arith, long))) ∙ ap (take len) (append-nil new) ∙ take_all len new (omega (arith, long, whole)) ∙ is
 
--- what is known of one action more
+-- where something is known of actions in turn, and of one action more, it is known of the longer list
 pub known_push : (flags : List (List ℕ)) (numbers : List ℕ) (actions : List Action) (n : ℕ) (action : Action) → length numbers ≡ length actions → AreKnown flags numbers actions → IsKnown flags n action
     → AreKnown flags (numbers ++ n ∷ []) (actions ++ action ∷ [])
 known_push flags [] [] n action long known one = (one, tt)
@@ -149,7 +149,7 @@ known_push flags [] (there ∷ actions) n action long known one = absurd (omega 
 known_push flags (m ∷ numbers) [] n action long known one = absurd (omega (arith, long))
 known_push flags (m ∷ numbers) (there ∷ actions) n action long known one = (known.0, known_push flags numbers actions n action (omega (arith, long)) known.1 one)
 
--- what is known of two lists is known of one action more, where both are pushed to
+-- where a number and its action are pushed to their lists, the lists are still equally long, and the numbers are still known of the actions
 pub both_pushed : (flags : List (List ℕ)) (numbers numbers' : List ℕ) (actions actions' : List Action) (n : ℕ) (action : Action) → numbers' ≡ numbers ++ n ∷ [] → actions' ≡ actions ++ action ∷ []
     → length numbers ≡ length actions → AreKnown flags numbers actions → IsKnown flags n action → (length numbers' ≡ length actions') × AreKnown flags numbers' actions'
 both_pushed flags numbers numbers' actions actions' n action more one long known is =
@@ -158,7 +158,7 @@ both_pushed flags numbers numbers' actions actions' n action more one long known
       subst (λ (l : List ℕ). AreKnown flags l actions') (sym more) (subst (λ (l : List Action). AreKnown flags (numbers ++ n ∷ []) l) (sym one) (known_push flags numbers actions n action long known is)),
     )
 
--- one action more is made anew
+-- where the first action that is left is made anew and put behind those that are done, the actions still come to the same whole
 pub one_remade : (f : Action → Action) (done done' left left' whole : List Action) (there made : Action) → done' ≡ done ++ made ∷ [] → made ≡ f there → left ≡ there ∷ left' → done ++ map f left ≡ whole → done' ++ map f left' ≡ whole
 one_remade f done done' left left' whole there made one is split so =
     ap (λ l. l ++ map f left') one ∙ append_assoc done (made ∷ []) (map f left') ∙ ap (λ x. done ++ x ∷ map f left') is ∙ ap (λ l. done ++ map f l) (sym split) ∙ so
@@ -166,19 +166,19 @@ one_remade f done done' left left' whole there made one is split so =
 -- FLAGS THAT ARE CHANGED IN TURN
 
 module _ (change : List (List ℕ) → List (List ℕ) → List (List ℕ)) where
-  -- flags are changed by the first of some, and then by the others
+  -- where the first of some flags has changed the flags, the others change them to what all of them would
   pub changed_on : (old new wanted : ActionsAndFlags) (all first others : List (List ℕ)) → ((flags : List (List ℕ)) → change flags all ≡ change (change flags first) others)
       → new ≡ record old { flags = change old.flags first } → record old { flags = change old.flags all } ≡ wanted → record new { flags = change new.flags others } ≡ wanted
   changed_on old new wanted all first others more made so =
       ap (λ (a : ActionsAndFlags). record a { flags = change a.flags others }) made ∙ ap (λ (l : List (List ℕ)). record old { flags = l }) (sym (more old.flags)) ∙ so
 
-  -- no flags are left to change by
+  -- where the flags that are left change nothing, the flags are those that are wanted
   pub changed_all : (old wanted : ActionsAndFlags) (left : List (List ℕ)) → ((flags : List (List ℕ)) → change flags left ≡ flags) → record old { flags = change old.flags left } ≡ wanted → old ≡ wanted
   changed_all old wanted left none so = ap (λ (l : List (List ℕ)). record old { flags = l }) (sym (none old.flags)) ∙ so
 
 -- HOW A COMMAND ENDS THAT PERFORMS AN ACTION
 
--- by what became of the actions: where there was no room, all is as it was
+-- a command that performs an action ends by whether there was room for the action, where without room the actions are as they were
 pub ended_so : (delivery : Delivery) (line : ℕ) (deed : Deed) (old new : RunState) (has_room : Bool) → (has_room ≡ false → new.actions ≡ old.actions) → performed_as has_room new.actions ≡ with_action deed.action old.actions
     → new ≡ record old { actions = new.actions } → ends_with delivery line deed (performed_as has_room new.actions) new ≡ performs delivery line deed old
 ended_so delivery line deed old new true kept value is =

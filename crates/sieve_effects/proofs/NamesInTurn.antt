@@ -5,7 +5,7 @@ use Rattle.sieve_effects.specs.Matching.{first_some}
 use Rattle.sieve_effects.proofs.Searching.{first_after, first_at, get_map}
 
 module _ {X Y : Type 0} (find : X → Option Y) (names : List X) (i : ℕ) (name : X) (o : Option Y) (so : first_some find (drop i names) ≡ o) (at : slice_get names i ≡ Some name) where
-  -- a name that gives something
+  -- what a name gives is the answer of the names from it on
   pub name_gives : (y : Y) → find name ≡ Some y → Some y ≡ o
   name_gives y is = first_at find names i y o so (get_map find names i name at ∙ ap Some is)
 

@@ -34,7 +34,7 @@ get_map f (y ∷ ys) zero x at = ap (option_map f) at
 get_map f (y ∷ ys) (suc i) x at = get_map f ys i x at
 
 module _ {X Y : Type 0} (p : X → Bool) (f : X → Option Y) where
-  -- an element gives nothing where the test fails, and else what it gives
+  -- an element gives nothing where it fails the test, and else what the function gives for it
   pub get-fails : (xs : List X) (i : ℕ) → slice_get (map p xs) i ≡ Some false → slice_get (map (λ x. if p x then f x else None) xs) i ≡ Some None
   get-fails [] i at = cc
   get-fails (x ∷ xs) zero at = let e : p x ≡ false = cc in ap (λ b. Some (if b then f x else None)) e
@@ -46,14 +46,14 @@ module _ {X Y : Type 0} (p : X → Bool) (f : X → Option Y) where
   get-passes (x ∷ xs) (suc i) o first second = get-passes xs i o first second
 
 module _ {X : Type 0} (q : X → Bool) where
-  -- an element that passes
+  -- where the element at some place passes the test, some element passes it
   pub any_at : (xs : List X) (i : ℕ) → slice_get (map q xs) i ≡ Some true → list_any q xs ≡ true
   any_at [] i at = cc
   any_at (x ∷ xs) zero at = let e : q x ≡ true = cc in ap (λ b. b || list_any q xs) e
   any_at (x ∷ xs) (suc i) at = ap (λ b. q x || b) (any_at xs i at) ∙ or-true (q x)
 
 module _ {X Y : Type 0} (f : X → Option Y) where
-  -- an element that gives something
+  -- what an element gives is the answer of the elements from it on
   pub first_at : (xs : List X) (i : ℕ) (y : Y) (o : Option Y) → first_some f (drop i xs) ≡ o → slice_get (map f xs) i ≡ Some (Some y) → Some y ≡ o
   first_at [] i y o so at = cc
   first_at (x ∷ xs) zero y o so at = let e : f x ≡ Some y = cc in sym (ap (λ a. option_or a (first_some f xs)) e) ∙ so
@@ -92,7 +92,7 @@ module _ {X Y : Type 0} (p : X → Bool) (f : X → Option Y) where
       nothing [] = refl
       nothing (y ∷ ys) = nothing ys
 
--- no element passes
+-- where the elements at all places fail the test, no element passes it
 pub none_passes : {X : Type 0} (p : X → Bool) (xs : List X) → ((k : ℕ) → 0 ≤ k → k < length xs → slice_get (map p xs) k ≡ Some false) → list_any p xs ≡ false
 none_passes p [] fail = refl
 none_passes p (x ∷ xs) fail =
@@ -106,11 +106,11 @@ within h (x ∷ xs) (suc i) y at = let rest = within h xs i y at in omega arith
 
 -- FIELDS BY THEIR NAMES
 
--- the next field of a name is there
+-- the next field of a name is one of the fields
 pub next_within : {fields : List Field} {name : List ℕ} {start i : ℕ} → IsNextNamed fields name start i → i < length fields
 next_within {fields = fields} {name = name} {i = i} next = within (is_field_named name) fields i true next.is
 
--- whether there is one
+-- a field of a name is found where some field has the name
 pub has_next : (found : Option ℕ) (fields : List Field) (name : List ℕ) → IfSome found (IsNextNamed fields name 0)
     → IfNone found ((k : ℕ) → 0 ≤ k → k < length fields → slice_get (map (is_field_named name) fields) k ≡ Some false) → is_some found ≡ list_any (is_field_named name) fields
 has_next None fields name some none = sym (none_passes (is_field_named name) fields none)
@@ -130,14 +130,14 @@ module _ (find : List ℕ → Option (List (List ℕ))) (part : Option AddressPa
       → ((k : ℕ) → start ≤ k → k < length fields → slice_get (map (is_field_named name) fields) k ≡ Some false) → None ≡ o
   none_left start o so ordered fail = sym (gives_none (is_field_named name) (λ field. value_found find part field.value) fields start ordered fail) ∙ so
 
-  -- behind all fields there is nothing
+  -- behind all fields nothing is found
   pub none_behind : (start : ℕ) (o : Option (List (List ℕ))) → first_some (field_found find part name) (drop start fields) ≡ o → length fields ≤ start → None ≡ o
   none_behind start o so behind = sym (ap (first_some (field_found find part name)) (drop_all start fields behind)) ∙ so
 
 not_both : false ≡ true → ⊥
 not_both e = cc
 
--- an answer by another equation
+-- an answer that found `x` found `y`, where `x` is `y`
 pub answers_so : {A E : Type 0} (answer : Result A E) (x y : A) → x ≡ y → IfOk answer (λ found. found ≡ x) → IfOk answer (λ found. found ≡ y)
 answers_so answer x y same is = subst (λ b. IfOk answer (λ found. found ≡ b)) same is
 
@@ -224,12 +224,12 @@ module _ (find : List ℕ → Option (List (List ℕ))) where
       first_flat find (envelope_named part delivery.envelope) (map (text_value state.values) names)
       ∙ first_same (λ name. first_some find (envelope_named part delivery.envelope name)) (path_name_found find part delivery.envelope) (λ name. first_of_path part (envelope_text delivery.envelope name)) (map (text_value state.values) names)
 
--- where these are the octets of a test's strings, what they give is what the values of its source give
+-- the flags in the texts of a flag test's variables give what the values of the test's source give
 module _ (find : List ℕ → Option (List (List ℕ))) (delivery : Delivery) (state : RunState) where
   pub held_values : (variables : List (List Part)) (held : List (List ℕ)) → held ≡ map (text_value state.values) variables → first_some (λ text. first_some find (flag_list text)) held ≡ first_some find (values_of delivery state (flag_values (Some variables)))
   held_values variables held is = ap (first_some (λ text. first_some find (flag_list text))) is ∙ sym (first_flat find flag_list (map (text_value state.values) variables))
 
--- what a test finds, where these are its keys' octets
+-- what a test finds is the first match of its values with the octets of its keys
 module _ (match_type : MatchType) (collation : Collation) (delivery : Delivery) (state : RunState) where
   pub keyed_found : (source : ValueSource) (keys : List (List Part)) (keyed : List (List ℕ)) → keyed ≡ keys_of state source keys → first_some (λ value. first_match match_type (fold_of collation) (pairs_with keyed value)) (values_of delivery state source) ≡ match_found delivery state source match_type collation keys
   unfolding match_found
@@ -237,7 +237,7 @@ module _ (match_type : MatchType) (collation : Collation) (delivery : Delivery) 
       ap (λ ks. first_some (λ value. first_match match_type (fold_of collation) (pairs_with ks value)) (values_of delivery state source)) is
       ∙ sym (first_flat (λ pair. match_of match_type (fold_of collation) pair.value pair.key) (pairs_with (keys_of state source keys)) (values_of delivery state source))
 
--- the keys of a test, cut where they are
+-- the keys of a test are the pieces of their texts where its source cuts keys at spaces, and else the whole texts
 pub cut_keys : (source : ValueSource) (texts : List (List ℕ)) → cuts_keys source ≡ true → flag_keys_of_texts texts ≡ keys_from source texts
 cut_keys (header_values names) texts cut = absurd (not_both cut)
 cut_keys (address_values part names) texts cut = absurd (not_both cut)

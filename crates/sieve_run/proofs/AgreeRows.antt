@@ -12,14 +12,14 @@ use Rattle.sieve_run.specs.Verdict.{Verdict}
 
 -- LINES
 
--- an LF ends a line, and a CR before it is no part of it
+-- an LF ends a line, and a CR directly before the LF is no part of the line
 lf_row : lines (codes "a\nb\n") ≡ codes "a" ∷ codes "b" ∷ []
 lf_row = refl
 
 cr_lf_row : lines (codes "a\r\nb\r\n") ≡ codes "a" ∷ codes "b" ∷ []
 cr_lf_row = refl
 
--- no more than one
+-- no more than one CR before an LF is left out of the line
 two_crs_row : lines (codes "a\r\r\n") ≡ codes "a\r" ∷ []
 two_crs_row = refl
 
@@ -30,7 +30,7 @@ no_lf_row = refl
 last_cr_row : lines (codes "a\r") ≡ codes "a\r" ∷ []
 last_cr_row = refl
 
--- an empty line is one where an LF ends it
+-- an empty line that an LF ends is a line, and at the end of the text no empty line stands
 empty_row : lines (codes "a\n\nb\n") ≡ codes "a" ∷ [] ∷ codes "b" ∷ []
 empty_row = refl
 
@@ -45,11 +45,11 @@ nothing_row = refl
 abbrev main : ScriptName
 main = record { place = Personal; name = codes "main" }
 
--- what was done, after a look at the main script
+-- the verdict of these actions, without the implicit keep, where the main script was looked up
 abbrev done : List Action → Verdict
 done actions = record { actions = actions; implicit = None; error = None; reads = (main, true) ∷ [] }
 
--- the implicit keep, with flags
+-- the verdict of the implicit keep alone, with flags
 abbrev kept : List (List ℕ) → Verdict
 kept flags = record { actions = []; implicit = Some flags; error = None; reads = (main, true) ∷ [] }
 
@@ -72,12 +72,12 @@ discard_last_cr_row : agrees [] (done (Discard ∷ [])) (codes "discard\r") ≡ 
 unfolding agrees action_line
 discard_last_cr_row = refl
 
--- spaces stand in a report alone
+-- spaces in front of a line stand in a report alone
 indented_row : agrees [] (done (Discard ∷ [])) (codes "  discard\n") ≡ false
 unfolding agrees action_line
 indented_row = refl
 
--- a line too many, wherever it stands, and one that is cut
+-- a text with a line too many, wherever it stands, or with a line that is cut, says something else
 empty_line_row : agrees [] (done (Discard ∷ [])) (codes "discard\n\n") ≡ false
 unfolding agrees action_line
 empty_line_row = refl
@@ -90,7 +90,7 @@ cut_line_row : agrees [] (done (Discard ∷ [])) (codes "discar\n") ≡ false
 unfolding agrees action_line
 cut_line_row = refl
 
--- the empty text says nothing, of no verdict at all
+-- the empty text agrees with no verdict, be it one without lines, and a lone LF is a line too many for such a verdict
 no_lines_row : agrees [] (done []) [] ≡ false
 unfolding agrees
 no_lines_row = refl
@@ -103,12 +103,12 @@ empty_text_row : agrees [] (done (Discard ∷ [])) [] ≡ false
 unfolding agrees action_line
 empty_text_row = refl
 
--- names that were looked up have no line in it
+-- names that were looked up have no line in the text of a verdict
 read_row : agrees [] (done (Discard ∷ [])) (codes "discard\nread personal \"main\"\n") ≡ false
 unfolding agrees action_line
 read_row = refl
 
--- lines stand in the order of the verdict
+-- lines stand in the order of the verdict, and so do the flags in a line
 abbrev two : Verdict
 two = done (Store (codes "A\"b") (codes "\\Seen" ∷ codes "x" ∷ []) ∷ Redirect (codes "a@b.example") ∷ [])
 

@@ -1,4 +1,4 @@
--- What holds of the state of a run from its start to its end: it has no more actions than it may, and enters no more scripts.
+-- What holds of the state of a run from its start to its end: it has no more actions, and no more scripts were entered, than there may be.
 use Rattle.std.proofs.Common.{◌≡◌, ℕ, zero, suc, ◌≤◌, Bool, true, false, ◌&&◌, Option, None, Some, List, [], ◌∷◌, ◌++◌, length, map, nat_lt, refl, ap, subst, sym, ◌∙◌, append-nil, append_assoc, arith}
 use Rattle.std.proofs.lemmas.Bool.Decides.{nat_tests}
 use Rattle.std.proofs.lemmas.List.{length_push, length-map}
@@ -34,8 +34,8 @@ use Rattle.sieve_variables.specs.Variable.{Variable}
 use Rattle.match_text.specs.Flags.{flag_list}
 use Rattle.sieve_run.proofs.Performing.{does_walk}
 
--- What the parts of a run have to keep for a fact on its state to hold throughout: performing an action, and entering a script; all
--- else changes neither actions nor the list of scripts that were entered.
+-- What has to keep a fact on the state of a run for the fact to hold throughout: a change of variables, of the internal flags or of the names
+-- looked up, performing an action, and entering a script where there is room for one more.
 pub record IsKept (Holds : RunState → Type 0) : Type 0 where
   pub values : (s : RunState) (values : Values) → Holds s → Holds (record s { values = values })
   pub flags : (s : RunState) (flags : List (List ℕ)) → Holds s → Holds (record s { flags = flags })
@@ -44,7 +44,7 @@ pub record IsKept (Holds : RunState → Type 0) : Type 0 where
   pub enters : (name : ScriptName) (s : RunState) → nat_lt include_limit (length s.entered) ≡ false → Holds s → Holds (entering name s)
 
 module _ (Holds : RunState → Type 0) (kept : IsKept Holds) where
-  -- the property holds of the state in which commands ended
+  -- the fact holds of the state in which commands ended
   abbrev Ends : Ending → Type 0
   Ends e = Holds (state_behind e)
 
@@ -119,7 +119,7 @@ module _ (Holds : RunState → Type 0) (kept : IsKept Holds) where
   behind_holds (stopped s) next h goes = h
   behind_holds (failed error s) next h goes = h
 
-  -- doing a walk, where commands that act keep it
+  -- doing a walk keeps the fact where the commands that act keep it
   walk_holds : (act : Acts) → ((leaf : Leaf) (line : ℕ) (s : RunState) → Holds s → Ends (act leaf line s)) → (delivery : Delivery) (w : Walk) (s : RunState) → Holds s → Ends (doing act delivery w s)
   unfolding perform
   walk_holds act acts delivery at_end s h = h
@@ -192,7 +192,7 @@ ending_state flow.Returned s = refl
 ending_state flow.Stopped s = refl
 ending_state (flow.Failed error) s = refl
 
--- the state in which the interpreter ends a walk that it begins without an action
+-- the interpreter ends a walk that it begins without an action in a state with no more actions than it may have
 pub run_bounded : (find : ScriptName → Lookup) (depth : ℕ) (delivery : Delivery) (w : Walk) (f : Flow) (old new : RunState) → old.actions ≡ [] → doing (act_of find depth delivery) delivery w old ≡ ending_by f new → length new.actions ≤ action_limit
 run_bounded find depth delivery w f old new none does =
     subst IsBounded (ending_state f new)
@@ -239,7 +239,7 @@ short = record {
   enters = λ name s few h. one_more name s few;
 }
 
--- a run enters so many scripts at most
+-- a run enters the main script and so many others at most
 pub run_short : (find : ScriptName → Lookup) (envelope : Envelope) (message : List ℕ) (main : ScriptName) (tree : List Node) → length (state_behind (run_of find envelope message main tree)).entered ≤ suc include_limit
 run_short find envelope message main tree = running_holds IsShort short find include_depth (delivery_to envelope message main) tree (begun main) (omega arith)
 
@@ -256,6 +256,6 @@ keeping front = record {
   enters = λ name s few h. (h.0 ++ name ∷ [], ap (λ (entered : List ScriptName). entered ++ name ∷ []) h.1 ∙ append_assoc front h.0 (name ∷ []));
 }
 
--- what was entered stays
+-- the scripts that were entered before a script runs are still the first ones when it has run
 pub run_keeps : (find : ScriptName → Lookup) (depth : ℕ) (delivery : Delivery) (tree : List Node) (state : RunState) → Keeps state.entered (state_behind (running find depth delivery tree state))
 run_keeps find depth delivery tree state = running_holds (Keeps state.entered) (keeping state.entered) find depth delivery tree state ([], sym (append-nil state.entered))

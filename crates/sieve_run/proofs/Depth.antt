@@ -19,7 +19,7 @@ use Rattle.sieve_base.specs.declared.name.ScriptName.{ScriptName}
 pub main_first : (find : ScriptName → Lookup) (envelope : Envelope) (message : List ℕ) (main : ScriptName) (tree : List Node) → run_of find envelope message main tree ≡ running find (depth_left (delivery_to envelope message main)) (delivery_to envelope message main) tree (begun main)
 main_first find envelope message main tree = refl
 
--- one level is left less by each script that includes
+-- with one more script that includes the running one, one level less is left; where as many include it as may, none is left
 one_less : (n m : ℕ) → m ≡ n + 1 → nat_lt n include_depth ≡ true → include_depth - n ≡ suc (include_depth - m)
 one_less n m next room = grind (arith, nat_tests)
 
@@ -31,7 +31,7 @@ module _ (find : ScriptName → Lookup) (delivery : Delivery) (name : ScriptName
   abbrev done_by : Option (ScriptName → List Node → RunState → Ending) → Ending
   done_by enter = include_of find delivery enter name once optional line s
 
-  -- how scripts are entered so deep
+  -- how a script is entered where scripts may still include one another so deep
   abbrev entered_at : ℕ → ScriptName → List Node → RunState → Ending
   entered_at depth script = running find depth (inside script delivery)
 
@@ -42,7 +42,7 @@ module _ (find : ScriptName → Lookup) (delivery : Delivery) (name : ScriptName
       ap (λ (depth : ℕ). included find depth delivery name once optional line s) (one_less (length delivery.including) (length (inside name delivery).including) (length_push delivery.including delivery.script) room)
   by_room false full = ap (λ (depth : ℕ). included find depth delivery name once optional line s) (none_left (length delivery.including) full)
 
-  -- a script is entered by the number of those that include the running one
+  -- what an include does with the depth that is left is what it does by the number of scripts that include the running one
   pub by_stack : included find (depth_left delivery) delivery name once optional line s ≡ done_by (entered_within find delivery)
   by_stack = by_room (nat_lt (length delivery.including) include_depth) refl
 
@@ -54,7 +54,7 @@ module _ (find : ScriptName → Lookup) (delivery : Delivery) (name : ScriptName
   full_of : IsDeepest delivery → nat_lt (length delivery.including) include_depth ≡ false
   full_of deep = grind (arith, nat_tests, deep)
 
-  -- no script is entered where as many include as may
+  -- an include enters no script where as many scripts include the running one as may
   pub none_deeper : IsDeepest delivery → (state_behind (included find (depth_left delivery) delivery name once optional line s)).entered ≡ s.entered
   none_deeper deep =
       ap (λ e. (state_behind e).entered) (by_room false (full_of deep))
@@ -73,7 +73,7 @@ module _ (beyond : Delivery → List Node → RunState → Ending) (find : Scrip
   by_depth depth delivery tree s false shallow alike =
       ap (λ (include : ScriptName → Bool → Bool → ℕ → RunState → Ending). exec (answer_of delivery) (act_by include delivery) (script_of tree) s) (λ i name once optional line t. alike name once optional line t i)
 
-  -- a script that isn't too deep does alike
+  -- a script that isn't too deep does where it is watched what it does where it isn't
   script_alike : (depth : ℕ) (delivery : Delivery) (tree : List Node) (s : RunState) → length delivery.including ≤ include_depth → DoAlike depth delivery
       → watched beyond (watched_include beyond find depth delivery) delivery tree s ≡ running find depth delivery tree s
   script_alike depth delivery tree s shallow alike = by_depth depth delivery tree s (nat_lt include_depth (length delivery.including)) (grind (arith, nat_tests, shallow)) alike

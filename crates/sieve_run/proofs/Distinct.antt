@@ -57,7 +57,7 @@ same_equiv = record { refl = same_itself; symm = same_back; congr = same_too }
 
 -- ACTIONS THAT ARE JOINED
 
--- flags make no other action of one
+-- an action that flags are joined to is one with the actions that it was one with before
 with_flags_same : (action there a : Action) → same_action a (with_flags_of action there) ≡ same_action a there
 with_flags_same (Store mailbox flags) (Store other there) (Store third more) = refl
 with_flags_same (Store mailbox flags) (Store other there) (Redirect third) = refl

@@ -90,7 +90,7 @@ read_still other name there reads is = by (is_read name reads)
     by true = is
     by false = read_before other reads ((name, there) ∷ []) is
 
--- what was read before is read behind
+-- each name that is read in one state is read in the other
 abbrev Grows : RunState → RunState → Type 0
 Grows s t = (name : ScriptName) → is_read name s.reads ≡ true → is_read name t.reads ≡ true
 
@@ -137,12 +137,13 @@ module _ (find other : ScriptName → Lookup) where
   abbrev AgreeOn : List (ScriptName × Bool) → Type 0
   AgreeOn reads = (name : ScriptName) → is_read name reads ≡ true → find name ≡ other name
 
-  -- `f` over the first and `g` over the other do the same wherever the libraries agree on what `f` has read
+  -- `f` over the first library keeps the names that were read, and `g` over the other does the same as `f` wherever the libraries agree on
+  -- what `f` has read
   record Frames (f g : RunState → Ending) : Type 0 where
     grows : (s : RunState) → Grows s (state_behind (f s))
     same : (s : RunState) → AgreeOn (state_behind (f s)).reads → g s ≡ f s
 
-  -- what reads nothing
+  -- what reads no name does the same over both libraries
   own_frames : (f : RunState → Ending) → ((s : RunState) → (state_behind (f s)).reads ≡ s.reads) → Frames f f
   own_frames f stay = record { grows = λ s. reads_stay s (state_behind (f s)) (stay s); same = λ s agree. refl }
 
@@ -221,7 +222,7 @@ module _ (find other : ScriptName → Lookup) where
     found_same frames (present tree) t agree =
         ap (resumed t.values) ((frames tree).same (entering name t) (λ n r. agree n (reads_stay (state_behind (enter tree (entering name t))) (state_behind (resumed t.values (enter tree (entering name t)))) (resumed_reads t.values (enter tree (entering name t))) n r)))
 
-    -- what is found is the same where the libraries agree
+    -- what is found at a name is the same where the libraries agree on it
     same_found : find name ≡ other name → found_at find name ≡ found_at other name
     same_found is = ap (λ lookup. if nat_lt name_limit (length name.name) then missing else lookup) is
 
@@ -239,7 +240,7 @@ module _ (find other : ScriptName → Lookup) where
           ∙ found_same frames (found_at find name) (looked_up name (found_at find name) s) agree;
     }
 
-  -- by a test on the state
+  -- where two ways do the same over both libraries, so does the choice between them by a test on the state
   if_frames : (test : RunState → Bool) (f g h k : RunState → Ending) → Frames f g → Frames h k → Frames (λ s. if test s then f s else h s) (λ s. if test s then g s else k s)
   if_frames test f g h k first second = record {
     grows = λ s. by_grows (test s) s;
@@ -331,7 +332,7 @@ module _ (find other : ScriptName → Lookup) where
       ap (λ lookup. verdict_at other envelope message main (if nat_lt name_limit (length main.name) then missing else lookup)) (sym (agree main (main_read envelope message main (found_at find main))))
       ∙ verdict_same envelope message main (found_at find main) agree
 
--- the frame
+-- the verdict over a library is the verdict over another that has the same at each name that was looked up
 pub frame : (texts others : Texts) (main : Option ScriptName) (envelope : Envelope) (message : List ℕ) → Agree texts others (outcome_over texts main envelope message).reads → outcome_over others main envelope message ≡ outcome_over texts main envelope message
 frame texts others main envelope message agree =
     outcome_same (library_of texts) (library_of others) main envelope message (λ name r. ap lookup_of (agree name r))

@@ -25,7 +25,7 @@ abbrev Enter : Type 0
 Enter = Option (ScriptName → List Node → RunState → Ending)
 
 module _ (find : ScriptName → Lookup) (delivery : Delivery) (name : ScriptName) (once optional : Bool) (line : ℕ) (s : RunState) where
-  -- at each depth it does what it does whatever runs a script
+  -- what an include does whatever runs a script, it does at each depth
   at_depth : (depth : ℕ) (e : Ending) → ((enter : Enter) → e ≡ include_of find delivery enter name once optional line s) → e ≡ included find depth delivery name once optional line s
   unfolding included
   at_depth zero e does = does None
@@ -65,7 +65,7 @@ module _ (find : ScriptName → Lookup) (delivery : Delivery) (name : ScriptName
       sym (ap (λ b. if b then fails_at delivery line IncludeCount s else looks_up find depth delivery name optional line s) many)
       ∙ at_running (Some (λ script tree. exec (answer_of (inside script delivery)) (act_of find depth (inside script delivery)) (script_of tree))) false first second
 
-  -- any other is looked up
+  -- the script of any other include is looked up
   pub looks_included : (depth : ℕ) → (once && is_script name s.entered) ≡ false → is_running name delivery ≡ false → (depth ≡ 0 → ⊥) → nat_lt include_limit (length s.entered) ≡ false → looks_up find (depth - 1) delivery name optional line s ≡ included find depth delivery name once optional line s
   unfolding included
   looks_included zero first second deep few = absurd (deep refl)
@@ -74,7 +74,7 @@ module _ (find : ScriptName → Lookup) (delivery : Delivery) (name : ScriptName
       ∙ sym (ap (λ b. if b then fails_at delivery line IncludeCount s else looks_up find depth delivery name optional line s) few)
       ∙ at_running (Some (λ script tree. exec (answer_of (inside script delivery)) (act_of find depth (inside script delivery)) (script_of tree))) false first second
 
--- no skip without `:once`, nor where the script wasn't entered
+-- an include isn't skipped without `:once`, nor where its script wasn't entered
 pub not_once : (once : Bool) (name : ScriptName) (entered : List ScriptName) → once ≡ false → (once && is_script name entered) ≡ false
 not_once once name entered is = ap (λ b. b && is_script name entered) is
 
@@ -92,21 +92,21 @@ has_text missing ops has = absurd has
 has_text invalid ops has = absurd has
 has_text (present tree) ops has = refl
 
--- a script that is found is noted and runs
+-- a script that is found is added to the names looked up, and runs
 pub looks_present : (find : ScriptName → Lookup) (depth : ℕ) (delivery : Delivery) (name : ScriptName) (optional : Bool) (line : ℕ) (ops : List Operation) (old new : RunState) (there : Bool) → HasCode (found_at find name) ops → there ≡ true
     → new ≡ record old { reads = with_read name there old.reads } → enters find depth delivery name ops new ≡ looks_up find depth delivery name optional line old
 looks_present find depth delivery name optional line ops old new there has is noted =
     ap (enters find depth delivery name ops) (noted ∙ ap (λ b. record old { reads = with_read name b old.reads }) (is ∙ sym (has_text (found_at find name) ops has)))
     ∙ by_found_code find depth delivery name optional line (found_at find name) ops (looked_up name (found_at find name) old) has
 
--- how the including script goes on behind one that ended so
+-- how the including script goes on behind the included one, by how that ended
 pub resumes : (before : Values) (flow : Flow) (s : RunState) → ending_by (resumed_by flow) (resuming before s) ≡ resumed before (ending_by flow s)
 resumes before GoesOn s = refl
 resumes before Returned s = refl
 resumes before Stopped s = refl
 resumes before (Failed error) s = refl
 
--- running an included script, and going on behind it
+-- running the code of an included script and going on behind it is what entering it does
 pub enters_by : (find : ScriptName → Lookup) (depth : ℕ) (delivery : Delivery) (name : ScriptName) (ops : List Operation) (old begun ended after : RunState) (flow back : Flow) → begun ≡ entering name old
     → doing (act_of find depth (inside name delivery)) (inside name delivery) (code_walk ops (length ops)) begun ≡ ending_by flow ended → back ≡ resumed_by flow → after ≡ resuming old.values ended → ending_by back after ≡ enters find depth delivery name ops old
 enters_by find depth delivery name ops old begun ended after flow back is_begun runs is_back is_after =

@@ -19,7 +19,7 @@ use Rattle.message_text.proofs.LineLemmas.{lines-feed, lines-last, plain_before}
 
 -- FRONTS
 
--- two fronts in turn
+-- what two fronts in turn leave of a text is what the second leaves of what the first leaves
 joined : (a b text : List ℕ) → behind_front (a ++ b) text ≡ option_and_then (behind_front b) (behind_front a text)
 unfolding behind_front
 joined [] b text = refl
@@ -47,7 +47,7 @@ pub skip_nothing : (text : List ℕ) → behind_front [] text ≡ Some text
 unfolding behind_front
 skip_nothing text = refl
 
--- a text that begins with a front, and what it begins with
+-- a front leaves of a text that begins with it what is behind it, and a text of which a front leaves something begins with the front
 found : (front left : List ℕ) → behind_front front (front ++ left) ≡ Some left
 unfolding behind_front
 found [] left = refl
@@ -78,7 +78,7 @@ prefix_is front text answer is = by answer (strip_prefix_is Decides-eqb text fro
 
 -- ITEMS IN TURN
 
--- the next item's text, and those behind it
+-- the texts of the items from a place on are the text of the item there, and those of the items behind it
 cut : {X : Type 0} (f : X → List ℕ) (xs : List X) (i : ℕ) (x : X) → i < length xs → x ≡ get_or xs i x → flat_map f (drop i xs) ≡ f x ++ flat_map f (drop (i + 1) xs)
 cut f xs i x within is = ap (flat_map f) (drop_more xs i x within) ∙ ap (λ y. f y ++ flat_map f (drop (i + 1) xs)) (sym is)
 
@@ -92,7 +92,7 @@ pub no_item : {X : Type 0} (f : X → List ℕ) (xs : List X) (i : ℕ) (x : X) 
 no_item f xs i x text all within is so_far none =
     sym (skip_none (f x) (flat_map f (drop (i + 1) xs)) text none) ∙ ap (λ front. behind_front front text) (sym (cut f xs i x within is)) ∙ so_far
 
--- what is left behind an item that is looked up
+-- the items behind the one at a place leave, of what that one leaves, what all items leave; where it leaves nothing, all leave nothing
 pub next_at : {X : Type 0} (f : X → List ℕ) (xs : List X) (i : ℕ) (d : X) (text left all : List ℕ) → i < length xs
     → behind_front (flat_map f (drop i xs)) text ≡ behind_front (flat_map f xs) all → behind_front (f (get_or xs i d)) text ≡ Some left → behind_front (flat_map f (drop (i + 1) xs)) left ≡ behind_front (flat_map f xs) all
 next_at f xs i d text left all within so_far some =
@@ -124,7 +124,7 @@ whole_is (x ∷ front) (y ∷ line) = by (y == x) (whole_is front line)
 first_says : (text line left front : List ℕ) (wanted : List (List ℕ)) → lines text ≡ line ∷ lines left → says text (front ∷ wanted) ≡ (is_whole (behind_front front line) && says left wanted)
 first_says text line left front wanted is = ap (λ l. pointwise (pointwise nat_eq) l (front ∷ wanted)) is ∙ ap (λ same. same && says left wanted) (sym (whole_is front line))
 
--- the line is there, or another one, or none
+-- whether a text says lines, by its first line: the first of them, another one, or none
 pub line_there : (text line left front : List ℕ) (wanted : List (List ℕ)) → lines text ≡ line ∷ lines left → is_whole (behind_front front line) ≡ true → says left wanted ≡ says text (front ∷ wanted)
 line_there text line left front wanted is whole = sym (first_says text line left front wanted is ∙ ap (λ same. same && says left wanted) whole)
 
@@ -140,7 +140,7 @@ says_nothing text none = sym (ap (λ t. says t []) none)
 pub says_something : (text line left : List ℕ) → lines text ≡ line ∷ lines left → false ≡ says text []
 says_something text line left is = sym (ap (λ l. pointwise (pointwise nat_eq) l []) is)
 
--- parts of lines in turn
+-- whether a text says the lines of two parts in turn, by what the first part leaves
 pub part_some : (first rest : List (List ℕ)) (text left : List ℕ) (answer : Option (List ℕ)) → ((wanted : List (List ℕ)) → left_says answer wanted ≡ says text (first ++ wanted)) → answer ≡ Some left → says left rest ≡ says text (first ++ rest)
 part_some first rest text left answer one some = ap (λ a. left_says a rest) (sym some) ∙ one rest
 

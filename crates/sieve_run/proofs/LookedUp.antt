@@ -26,7 +26,7 @@ insert_read eq name there ((other, old) ∷ reads) none = by (eq name other) non
     by true none rest = absurd cc
     by false none rest = ap (λ entries. (other, old) ∷ entries) (rest none)
 
--- what was looked up stays where the name is found
+-- the names that were looked up stay as they are where one of them is looked up again
 pub read_stays : (name : ScriptName) (there : Bool) (reads : List (ScriptName × Bool)) → is_read name reads ≡ true → reads ≡ with_read name there reads
 read_stays name there reads is = sym (ap (λ b. if b then reads else reads ++ (name, there) ∷ []) is)
 

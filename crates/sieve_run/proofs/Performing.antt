@@ -25,7 +25,7 @@ module _ (ask : Ask → RunState → Answer) (act : Leaf → ℕ → RunState �
   other_way true f g s = refl
   other_way false f g s = refl
 
-  -- `first` decides between `f` and `g` where `second` does
+  -- where `first` is `f` or `g` by the truth of `second`, choosing `first` by another truth is choosing `f` or `g` by both truths together
   both_by : (second : RunState → Answer) (first f g : RunState → Ending) → ((s : RunState) → first s ≡ chosen (second s).truth f g (second s).state) → (truth : Bool) (s : RunState) → chosen truth first g s ≡ chosen (also truth second s).truth f g (also truth second s).state
   both_by second first f g is true s = is s
   both_by second first f g is false s = refl
@@ -96,7 +96,7 @@ module _ (ask : Ask → RunState → Answer) (act : Leaf → ℕ → RunState �
   by_leaf leaf line next s behind (stopped t) = refl
   by_leaf leaf line next s behind (failed error t) = refl
 
-  -- a walk with the truths of its tests for answers
+  -- doing a walk is doing what is met on it with the truths of its tests for answers
   does_gone : (w : Walk) (s : RunState) → perform ask act w s ≡ do_gone ask act (gone w (answers_of ask act w s)) s
   unfolding perform gone answers_of do_met
   does_gone at_end s = refl
@@ -114,19 +114,19 @@ module _ (ask : Ask → RunState → Answer) (act : Leaf → ℕ → RunState �
 
 pub ruleset walking = (does_walk, does_met)
 
--- what the script does that runs, by its code
+-- doing the code of the running script is running the script
 pub by_running_code : (find : ScriptName → Lookup) (depth : ℕ) (delivery : Delivery) (tree : List Node) (ops : List Operation) (s : RunState) → Compiles tree ops → doing (act_of find depth delivery) delivery (code_walk ops (length ops)) s ≡ running find depth delivery tree s
 by_running_code find depth delivery tree ops s has =
     ap (λ w. doing (act_of find depth delivery) delivery w s) has.does ∙ sym (does_walk (answer_of delivery) (act_of find depth delivery) tree s)
 
--- the verdict by the code of what is found
+-- the verdict of doing the code of the main script is the verdict on that script
 pub by_code : (find : ScriptName → Lookup) (message : List ℕ) (envelope : Envelope) (main : ScriptName) (lookup : Lookup) (ops : List Operation) → HasCode lookup ops
     → verdict_of (doing (act_of find include_depth (delivery_to envelope message main)) (delivery_to envelope message main) (code_walk ops (length ops)) (begun main)) ≡ verdict_at find envelope message main lookup
 by_code find message envelope main missing ops has = absurd has
 by_code find message envelope main invalid ops has = absurd has
 by_code find message envelope main (present tree) ops has = ap verdict_of (by_running_code find include_depth (delivery_to envelope message main) tree ops (begun main) has)
 
--- what an include does with what is found, by its code
+-- entering a script by its code is what an include does with the script that is found
 pub by_found_code : (find : ScriptName → Lookup) (depth : ℕ) (delivery : Delivery) (name : ScriptName) (optional : Bool) (line : ℕ) (lookup : Lookup) (ops : List Operation) (s : RunState) → HasCode lookup ops
     → enters find depth delivery name ops s ≡ with_found_script delivery optional line (λ tree. running find depth (inside name delivery) tree) name lookup s
 by_found_code find depth delivery name optional line missing ops s has = absurd has

@@ -7,12 +7,12 @@ use Rattle.sieve_effects.specs.ErrorKind.{error_word}
 use Rattle.sieve_effects.specs.declared.error.RunError.{RunError}
 use Rattle.sieve_run.specs.Lines.{error_line, flag_word, flag_words}
 
--- the line of an error
+-- the line of an error, piece by piece
 pub error_pieces : (error : RunError) (word : List ℕ) → word ≡ error_word error.kind → error_line error ≡ codes "error " ++ (name_text error.script ++ (codes " line " ++ (decimal error.line ++ (codes " " ++ (word ++ [])))))
 unfolding error_line
 error_pieces error word is = rw (is, append-nil (error_word error.kind)) (simp append_assoc)
 
--- a flag at a place, and those up to it
+-- the flag that is found at a place is the one that is there, and has the word of that one
 pub flag_at : (flags : List (List ℕ)) (i : ℕ) (flag : List ℕ) → slice_get flags i ≡ Some flag → flag ≡ get_or flags i flag
 flag_at [] i flag at = cc
 flag_at (x ∷ xs) zero flag at = cc
@@ -21,6 +21,7 @@ flag_at (x ∷ xs) (suc i) flag at = flag_at xs i flag at
 pub flag_there : (flags : List (List ℕ)) (i : ℕ) (flag : List ℕ) → slice_get flags i ≡ Some flag → flag_word flag ≡ flag_word (get_or flags i flag)
 flag_there flags i flag at = ap flag_word (flag_at flags i flag at)
 
+-- the words of the flags in front of a place, and then that of the flag there, are the words of the flags in front of the next place
 pub flags_more : (flags : List (List ℕ)) (i : ℕ) (flag : List ℕ) → i < length flags → slice_get flags i ≡ Some flag → flag_words (take i flags) ++ flag_word flag ≡ flag_words (take (i + 1) flags)
 flags_more flags i flag below at =
     ap (λ t. flag_words (take i flags) ++ t) (flag_there flags i flag at)

@@ -32,7 +32,7 @@ main = record { place = Personal; name = codes "main" }
 abbrev pub envelope : Envelope
 envelope = record { from = []; to = []; mailbox = codes "INBOX" }
 
--- a message in that envelope, and one from a sender
+-- the delivery of a message in that envelope, and of an empty message from a sender
 abbrev pub delivered : List ℕ → Delivery
 delivered message = record { message = message; envelope = envelope; script = main; including = [] }
 
@@ -71,7 +71,7 @@ casemap_row : truth_of (delivered (headed (codes "Subject: HELLO"))) (begun main
 unfolding truth_of match_found fields_of field_groups pieces_from word_at
 casemap_row = refl
 
--- i;octet minds it, though names of fields still ignore it
+-- i;octet minds the case of a value, though names of fields still ignore case
 octet_row : truth_of (delivered (headed (codes "Subject: HELLO"))) (begun main) (header Is Octet (codes "subject") (codes "hello")) ≡ false
 unfolding truth_of match_found fields_of field_groups pieces_from word_at
 octet_row = refl
@@ -98,7 +98,7 @@ front_row : truth_of (delivered (headed (codes "Subject: hello"))) (begun main) 
 unfolding truth_of match_found matched least_fit fields_of field_groups pieces_from word_at
 front_row = refl
 
--- what the first pair that matches gives: the value and what each wildcard took; without wildcards nothing
+-- what the first pair that matches gives: under `:matches` the value and what each wildcard took, and under `:is` nothing
 first_row : match_found (delivered (headed_twice (codes "A: x1") (codes "A: y2"))) (begun main) (header_values (text (codes "A") ∷ [])) Matches Octet (text (codes "y*") ∷ text (codes "*1") ∷ []) ≡ Some (codes "x1" ∷ codes "x" ∷ [])
 unfolding match_found matched least_fit fields_of field_groups pieces_from word_at
 first_row = refl
@@ -125,7 +125,7 @@ order_row : values_named (fields_of (codes "A: 1\r\nB: 2\r\na: 3\r\n\r\n")) (cod
 unfolding fields_of field_groups
 order_row = refl
 
--- by names, then by fields, then by keys
+-- pairs stand by names, then by fields, then by keys
 pairs_row : pairs_of (values_of (delivered (codes "A: 1" ++ (octet_of "\n" ∷ headed_twice (codes "B: 2") (codes "A: 3")))) (begun main) (header_values (text (codes "B") ∷ text (codes "A") ∷ []))) (codes "x" ∷ codes "y" ∷ [])
     ≡ record { value = codes "2"; key = codes "x" } ∷ record { value = codes "2"; key = codes "y" }
     ∷ record { value = codes "1"; key = codes "x" } ∷ record { value = codes "1"; key = codes "y" }
@@ -156,7 +156,7 @@ address_as_written_row = refl
 
 -- ADDRESSES
 
--- by names, then by fields, then by addresses
+-- the values of an address test stand by names, then by fields, then by addresses
 addresses_row : values_of (delivered (codes "To: a@x, b@y" ++ (octet_of "\n" ∷ headed_twice (codes "Cc: c@z") (codes "to: d@w")))) (begun main) (address_values part.All (text (codes "Cc") ∷ text (codes "To") ∷ []))
     ≡ codes "c@z" ∷ codes "a@x" ∷ codes "b@y" ∷ codes "d@w" ∷ []
 unfolding fields_of field_groups addresses_of marks_from is_address_field

@@ -43,7 +43,7 @@ inbox = Store (codes "INBOX") []
 abbrev after : List Action → Bool → RunState
 after actions cancelled = record { actions = actions; cancelled = cancelled; reads = (main, true) ∷ []; entered = main ∷ []; values = no_values; flags = [] }
 
--- what commands do to a message of such octets
+-- what commands do to a message of these octets, over a library without scripts
 abbrev done : List ℕ → Commands → Ending
 done message commands = exec (answer_of (delivered message)) (act_of (λ name. missing) include_depth (delivered message)) commands (begun main)
 
@@ -72,7 +72,7 @@ fileinto_row : done [] (acts (fileinto_leaf (text (codes "A")) plain_settings) 1
 unfolding exec flag_union distinct flags_without
 fileinto_row = refl
 
--- fileinto :copy "A"; and with a plain one behind it, before it, and with discard; and redirect :copy "a@b";
+-- fileinto :copy "A"; alone, with fileinto "A"; behind it, with fileinto "A"; before it, and with discard; behind it; then redirect :copy "a@b";
 abbrev copying : Settings
 copying = record plain_settings { copy = true }
 
@@ -137,7 +137,7 @@ else_row = refl
 abbrev holding : Values → RunState
 holding values = record { actions = []; cancelled = false; reads = (main, true) ∷ []; entered = main ∷ []; values = values; flags = [] }
 
--- string :matches ["ab", "b"] ["b*", "?b"]
+-- string :matches :comparator "i;octet" ["ab", "b"] ["b*", "?b"]
 abbrev matches_second : Ask
 matches_second = compares (string_values (text (codes "ab") ∷ text (codes "b") ∷ [])) Matches Octet (text (codes "b*") ∷ text (codes "?b") ∷ [])
 
@@ -156,7 +156,7 @@ plain_row : (matched : List (List ℕ)) → values_behind (delivered []) (holdin
 unfolding values_behind match_found
 plain_row matched = refl
 
--- no modifier
+-- the modifiers of a `set` that has none
 abbrev plainly : Modifiers
 plainly = record { letter_case = None; first_letter = None; quote_wildcard = false; length = false }
 
@@ -221,7 +221,7 @@ failed_verdict_row error = refl
 
 -- INCLUDED SCRIPTS
 
--- the personal script "a", and a tree of one command
+-- the personal script "a", and a command without arguments
 abbrev script_a : ScriptName
 script_a = record { place = Personal; name = codes "a" }
 
@@ -256,7 +256,7 @@ faulty_row : done_over (λ name. invalid) (acts (include_leaf Personal false tru
 unfolding exec included
 faulty_row = refl
 
--- include "main"; and include :once "main"; in the main script: neither looks it up again
+-- include :optional "main"; and include :once "main"; in the main script: neither looks the script up again
 recursive_row : (find : ScriptName → Lookup) → done_over find (acts (include_leaf Personal false true (codes "main")) 2 no_commands) ≡ failed (record { script = main; line = 2; kind = RecursiveInclude }) (begun main)
 unfolding exec included
 recursive_row find = refl
@@ -281,7 +281,7 @@ error_inside_row : done_over (having script_a (node (codes "include") 7 (strings
 unfolding exec included chain_of chain_with block_commands conditions_in command_named
 error_inside_row = refl
 
--- what an included script sets as its own leaves all as it was in the including one, whose own it doesn't see
+-- an included script's own variables leave the including script's as they were, which the included one doesn't see; shared variables stay set
 own_variables_row : (values : Values) → resumed_values values (with_variable (local_variable (codes "x")) (codes "z") (begun_values values)) ≡ values
 own_variables_row values = refl
 
@@ -300,7 +300,7 @@ deep_once_row : included (λ name. missing) 0 (delivered []) main true false 2 (
 unfolding included
 deep_once_row = refl
 
--- a delivery in a script that so many include
+-- a delivery in a script that these scripts include
 abbrev under : List ScriptName → Delivery
 under including = record (delivered []) { including = including }
 
@@ -332,12 +332,12 @@ long_include_row find name is = ap (λ n. if nat_lt name_limit n then missing el
 
 -- DISTINCT ACTIONS
 
--- an action of each kind, and two stores into two mailboxes
+-- an action of each kind, and two stores into two mailboxes, are distinct
 distinct_row : AreDistinct (Store (codes "a") [] ∷ Redirect (codes "a") ∷ Store (codes "b") [] ∷ Discard ∷ [])
 unfolding IsDistinct
 distinct_row = ((refl, (refl, (refl, tt))), ((refl, (refl, tt)), ((refl, tt), (tt, tt))))
 
--- two stores into one are one, whatever their flags, wherever they stand
+-- two stores into one mailbox are one action, whatever their flags, wherever they stand
 one_store_row : AreDistinct (Store (codes "a") [] ∷ Discard ∷ Store (codes "a") (codes "\\Seen" ∷ []) ∷ []) → ⊥
 unfolding IsDistinct
 one_store_row distinct = let e = distinct.0.1.0 in absurd cc
@@ -375,7 +375,7 @@ empty_script_row : (message : List ℕ) → outcome_of (λ name. present []) (So
 unfolding outcome_of exec chain_of
 empty_script_row message = refl
 
--- discard; discard; keep;
+-- discard; DISCARD; keep;
 present_row : (message : List ℕ) → outcome_of (λ name. present (node (codes "discard") 1 [] no_tests no_block ∷ node (codes "DISCARD") 2 [] no_tests no_block ∷ node (codes "keep") 3 [] no_tests no_block ∷ [])) (Some main) envelope message
     ≡ record { actions = Discard ∷ inbox ∷ []; implicit = None; error = None; reads = (main, true) ∷ [] }
 unfolding outcome_of exec chain_of chain_with block_commands conditions_in command_named

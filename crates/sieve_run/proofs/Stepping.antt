@@ -21,7 +21,7 @@ use Rattle.sieve_run.specs.declared.steps.Step.TheVariants.{Next, Ended}
 use Rattle.sieve_effects.specs.view.Flow.{ending_by}
 use Rattle.sieve_run.specs.view.Step.{step_after, Acts, Follows, StepsTo, doing, doing_after}
 
--- what a command does, where it is that one, and its line that
+-- a call that does what a command does at a line does what a command equal to it does at a line equal to that
 pub does_at : {E : Type 0} (called : Result Flow E) (new : RunState) (act : Acts) (leaf other : Leaf) (line place : ℕ) (old : RunState) → line ≡ place → leaf ≡ other
     → IfOk called (λ flow. ending_by flow new ≡ act leaf line old) → IfOk called (λ flow. ending_by flow new ≡ act other place old)
 does_at called new act leaf other line place old there same does =
@@ -34,7 +34,7 @@ one_more : {n turn : ℕ} → turn < n → n - turn ≡ suc (n - (turn + 1))
 one_more below = omega arith
 
 module _ (act : Acts) (delivery : Delivery) where
-  -- on at the place behind, with that truth in the register
+  -- going on at the place behind an operation is going on at the next place, with the same truth in the register
   on_behind : (go : ℕ → Bool → Walk) (truth : Bool) (behind place : ℕ) (s : RunState) → behind ≡ place + 1 → doing act delivery (go (place + 1) truth) s ≡ doing act delivery (go behind truth) s
   on_behind go truth behind place s is = ap (λ b. doing act delivery (go b truth) s) (sym is)
 
@@ -42,7 +42,7 @@ module _ (act : Acts) (delivery : Delivery) where
   by_answer true f s = refl
   by_answer false f s = refl
 
-  -- a test that comes to a truth, and leaves a state
+  -- a test that comes to a truth, and leaves a state, goes on at the place behind with that truth in the register
   pub asks_steps : (ask : Ask) (truth : Bool) (behind : ℕ) (register : Bool) (old new : RunState) → truth ≡ truth_of delivery old ask → new ≡ behind_test delivery ask old → StepsTo act delivery (test_op ask) behind register old (Next behind truth) new
   unfolding perform
   asks_steps ask truth behind register old new is moves = record {
@@ -53,7 +53,7 @@ module _ (act : Acts) (delivery : Delivery) where
         ∙ on_behind go truth behind place new at;
   }
 
-  -- what follows a command that ended so
+  -- what follows a command, by how the command ended
   by_flow : (flow : Flow) (go : ℕ → Bool → Walk) (behind place : ℕ) (register : Bool) (new : RunState) → behind ≡ place + 1 → and_then (ending_by flow new) (doing act delivery (go (place + 1) register)) ≡ doing_after act delivery go (step_after flow behind register) new
   by_flow GoesOn go behind place register new at = on_behind go register behind place new at
   by_flow flow.Returned go behind place register new at = refl
@@ -120,7 +120,7 @@ module _ (act : Acts) (delivery : Delivery) where
     unfolding walk_from
     at_zero place register s = by_limit (slice_get ops place) s
 
-    -- without a further turn
+    -- without a further turn nothing more is done
     pub runs_out : (turn place : ℕ) (register : Bool) (s : RunState) → length ops ≤ turn → doing act delivery (walk_from ops (length ops - turn) place register) s ≡ goes_on s
     runs_out turn place register s all = ap (λ n. doing act delivery (walk_from ops n place register) s) (left_over all) ∙ at_zero place register s
 

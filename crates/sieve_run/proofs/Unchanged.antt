@@ -11,12 +11,12 @@ use Rattle.sieve_run.specs.Run.{SetsMatched, Answer, and_then, answer_of, also, 
 use Rattle.sieve_effects.specs.State.{RunState}
 use Rattle.sieve_variables.specs.Value.{with_matched}
 
--- with what another match gave
+-- a state behind two matches in turn is the one before them but for what a match gave
 again : (state between next : RunState) → SetsMatched state between → SetsMatched between next → SetsMatched state next
 again state between next first second =
     (second.0, second.1 ∙ ap {A = RunState} (λ s. record s { values = with_matched second.0 s.values }) first.1)
 
--- the second test is asked or not
+-- two tests of which each sets match variables at most do so together, whether the second is asked or not
 also_keeps : (truth : Bool) (second : RunState → Answer) (state between : RunState) → ((s : RunState) → SetsMatched s (second s).state) → SetsMatched state between → SetsMatched state (also truth second between).state
 also_keeps true second state between keeps same = again state between (second between).state same (keeps between)
 also_keeps false second state between keeps same = same
@@ -56,7 +56,7 @@ pub stop_ends : (ask : Ask → RunState → Answer) (act : Leaf → ℕ → RunS
 unfolding exec
 stop_ends ask act rest behind state = refl
 
--- nor behind a return
+-- nothing behind a return is run
 pub return_ends : (ask : Ask → RunState → Answer) (act : Leaf → ℕ → RunState → Ending) (rest : Commands) (behind : RunState → Ending) (state : RunState) → and_then (exec ask act (returns rest) state) behind ≡ returned state
 unfolding exec
 return_ends ask act rest behind state = refl

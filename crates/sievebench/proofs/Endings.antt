@@ -1,4 +1,4 @@
--- Each session comes to an end.
+-- Each session comes to an end, and what is written of a session that breaks off is a front of a session's text.
 use Rattle.sieve_base.specs.Octet.{octet_of}
 use Rattle.std.proofs.Common.{◌≡◌, ℕ, ◌<◌, ◌≤◌, zero, suc, List, [], ◌∷◌, ◌++◌, length, take, drop, length-drop, append_assoc, append-nil, sym, ap, ◌∙◌, refl, arith, inl, inr, Bool, true, false, eqb, cond, nat_lt, codes, Option, None, Some, Result, Ok, Err}
 use Rattle.std.specs.Option.{option_map}
@@ -16,7 +16,7 @@ use Rattle.sievebench.specs.declared.status.SessionEnd.TheVariants as ends
 
 -- WHAT FOLLOWS A COMMAND IS SHORTER
 
--- what is left behind what is asked for has fewer octets
+-- fewer than n octets are left behind what is asked for
 abbrev LeavesFewer : ℕ → Request → Type 0
 LeavesFewer n over = Unit {0}
 LeavesFewer n unreadable = Unit {0}
@@ -39,7 +39,7 @@ ask_fewer n (Some (asks_put count edit)) rest less = put_fewer n count rest edit
 ask_fewer n (Some (asks_edit edit)) rest less = less
 ask_fewer n (Some asks_report) rest less = less
 
--- what follows the first LF
+-- fewer than n octets follow the first LF
 abbrev CutsFewer : ℕ → Option (List ℕ × List ℕ) → Type 0
 CutsFewer n None = Unit {0}
 CutsFewer n (Some cut) = length cut.1 < n
@@ -82,7 +82,7 @@ edit_replies edit takes (Err fault) old = (refusal_line fault, old, (inl refl, r
 abbrev reported : Served → Served
 reported old = record { bench = record old.bench { stale = [] }; runs = runs_after (length old.bench.stale) old.runs }
 
--- some commands, and then others
+-- some commands, and then others, are commands in turn
 steps_both : (request : List ℕ → Request) (a b : Served) (s t xs : List ℕ) → Steps request a s xs b t → (c : Served) (u ys : List ℕ) → Steps request b t ys c u → Steps request a s (xs ++ ys) c u
 steps_both request a b s t xs first c u ys none_yet = rw append-nil first
 steps_both request a b s t xs first c u ys (one_more replies reply mid new rest left before step) =
@@ -131,7 +131,7 @@ comes_to_end (suc n) old (b ∷ bs) few = by_request n old (b ∷ bs) (request_o
 joined : (r f b y x t : List ℕ) → f ++ b ≡ y → (r ++ f) ++ (b ++ (x ++ t)) ≡ ((r ++ y) ++ x) ++ t
 joined r f b y x t is = rw (← is) (simp append_assoc)
 
--- what is written of a session whose last reply is cut
+-- what is written of a session whose last reply is cut is a front of a session's text
 pub cut_is_front : (old new : Served) (stream text : List ℕ) → CutSession old stream text new → IsFront old stream text
 cut_is_front old new stream text cut = elim cut.answered [ inl on ↦ later on.0 on.1 (comes_to_end (length on.0) new on.0 (omega arith)) | inr last ↦ here last.0 last.1 ]
   where
@@ -168,7 +168,7 @@ cut_is_front old new stream text cut = elim cut.answered [ inl on ↦ later on.0
 
 -- WHERE NO MORE COULD BE READ
 
--- the commands that were whole in what was read are the first of a stream that begins with it
+-- the commands that were whole in the octets that were read are the first of a stream that begins with these octets
 steps_with_more : (old : Served) (read more text : List ℕ) (new : Served) (rest : List ℕ) → Steps request_so_far old read text new rest → Steps request_of old (read ++ more) text new (rest ++ more)
 steps_with_more old read more text new rest none_yet = none_yet
 steps_with_more old read more text new rest (one_more replies reply mid last before left steps step) =
@@ -177,7 +177,7 @@ steps_with_more old read more text new rest (one_more replies reply mid last bef
 pub broken_with_more : (old new : Served) (read text more : List ℕ) (session : BrokenSession old read text new) → Steps request_of old (read ++ more) text new (session.rest ++ more)
 broken_with_more old new read text more session = steps_with_more old read more text new session.rest session.steps
 
--- what is written of a session of which no more could be read
+-- what is written of a session of which no more could be read is a front of a session's text
 pub broken_is_front : (old new : Served) (read text more : List ℕ) → BrokenSession old read text new → IsFront old (read ++ more) text
 broken_is_front old new read text more broken = later (comes_to_end (length (broken.rest ++ more)) new (broken.rest ++ more) (omega arith))
   where

@@ -21,7 +21,7 @@ pub edit_moves : (edit : Edit) (outcome : Result Unit EditFault) (old new : Benc
 edit_moves edit (Ok done) old new runs made = moved (served old runs) (served new runs) unmoved (inl (edit, new.content, made.0, (refl, made.1, refl)))
 edit_moves edit (Err fault) old new runs made = same_moves old new runs made.2
 
--- what is done before a task is given
+-- what is done before a task is given is an edit, or nothing
 pub tasks_move : (task : Task) (ask : Option Demand) (old new : BenchState) (runs : ℕ) → Tasks task ask old new → Moved (served old runs) (served new runs)
 tasks_move (tasks.Made outcome) ask old new runs is =
     let made = tried ask outcome old new is in
@@ -38,11 +38,11 @@ report_moves (Ok done) old new runs runs' content stale made fault = moved (serv
 report_moves (Err faults.NoMemory) old new runs runs' content stale made fault = moved (served old runs) (served new runs') unmoved (inr (inr (content, fault)))
 report_moves (Err faults.Write) old new runs runs' content stale made fault = moved (served old runs) (served new runs') unmoved (inr (inl (content, fault.0, fault.1)))
 
--- some in turn, and then others
+-- edits and reports in turn, and then others, are edits and reports in turn
 pub moved_both : (a b c : Served) → Moved a b → Moved b c → Moved a c
 moved_both a b c first unmoved = first
 moved_both a b c first (moved mid new before last) = moved mid new (moved_both a b mid first before) last
 
--- nothing is done
+-- where nothing is done, a bench stays as it is
 pub stays : (old : Served) → Moved old old
 stays old = unmoved

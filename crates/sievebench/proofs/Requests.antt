@@ -19,7 +19,7 @@ use Rattle.session_text.specs.declared.line.Line.TheVariants.{Over, Whole, TooLo
 use Rattle.sievebench.specs.declared.status.SessionEnd.{SessionEnd}
 use Rattle.sievebench.specs.declared.status.SessionEnd.TheVariants as ends
 
--- memory may be refused to what is forgotten
+-- memory may be refused to a demand that is forgotten
 pub forgotten : (ask : Option Demand) (count : ℕ) → IsFollowedBy count ask → MayBeRefused count (request_by ask)
 forgotten None count is = absurd is
 forgotten (Some (asks_question question)) count is = rw is.0 (question_refused question is.1)
@@ -27,14 +27,14 @@ forgotten (Some (asks_put n edit)) count is = rw is.0 (put_refused count edit is
 forgotten (Some (asks_edit edit)) count is = absurd is
 forgotten (Some asks_report) count is = absurd is
 
--- a line that asks for nothing that there is
+-- a line that asks for nothing that there is ends the session
 pub unreadable_ends : (unused : Option (List ℕ)) → EndsAt (request_by None) unused ends.Syntax (codes "no syntax\n")
 unreadable_ends None = tt
 unreadable_ends (Some xs) = (refl, refl)
 
 -- WHAT FOLLOWS A COMMAND DOESN'T MATTER TO IT
 
--- what octets ask for, where they ask for it whatever follows what is left of them
+-- the octets in front of what is left ask for a command, whatever follows them
 abbrev Alone : (List ℕ → Request) → Served → List ℕ → List ℕ → Served → List ℕ → Type 0
 Alone request old unused reply new left = (used : List ℕ) × (unused ≡ used ++ left) × ((more : List ℕ) → Step old (request (used ++ more)) reply new more)
 
@@ -68,7 +68,7 @@ step_alone (Some asks_report) old new xs ys reply step = ([], sym step.1, λ mor
 
 -- THE NEXT LINE
 
--- a line within the limit
+-- a stream whose first line is within the limit asks for what this line asks for
 whole_request : (stream front rest : List ℕ) → 0 < length stream → first_line stream ≡ (front, rest) → length front ≤ line_limit → request_of stream ≡ request_by (demand_at front) rest
 unfolding request_of
 whole_request [] front rest some is small = absurd (omega arith)
@@ -76,7 +76,7 @@ whole_request (b ∷ bs) front rest some is small =
     let within : nat_lt line_limit (length front) ≡ false = grind (arith, nat_tests) in
     ap request_at is ∙ ap (λ (v : Bool). cond v unreadable (request_by (demand_at front) rest)) within
 
--- a line past it
+-- a stream whose first line is past the limit says nothing that there is
 long_request : (stream : List ℕ) → 0 < length stream → line_limit < length (first_line stream).0 → request_of stream ≡ unreadable
 unfolding request_of
 long_request [] some long = absurd (omega arith)
@@ -84,14 +84,14 @@ long_request (b ∷ bs) some long =
     let past : nat_lt line_limit (length (first_line (b ∷ bs)).0) ≡ true = grind (arith, nat_tests) in
     ap (λ (v : Bool). cond v unreadable (request_by (demand_at (first_line (b ∷ bs)).0) (first_line (b ∷ bs)).1)) past
 
--- the end
+-- a session is done where its input has come to the end
 pub over_end : (old : Served) (unused rest before : Option (List ℕ)) (pending : List ℕ) → Keeps unused (prepend_known pending rest) → IfSome rest (IsLine Over pending) → EndFrom request_of ends.Done old unused before old before
 unfolding request_of
 over_end old None rest before pending same end = tt
 over_end old (Some xs) None before pending same end = absurd same
 over_end old (Some xs) (Some ys) before pending same end = ([], rw (sym same ∙ end) (refl, refl), Appends-nil before, refl)
 
--- a line that is too long
+-- a line that is too long ends the session
 pub long_end : (unused rest : Option (List ℕ)) (pending : List ℕ) → Keeps unused (prepend_known pending rest) → IfSome rest (IsLine TooLong pending) → 0 < length pending → EndsAt request_of unused ends.Syntax (codes "no syntax\n")
 long_end None rest pending same long some = tt
 long_end (Some xs) None pending same long some = absurd same
@@ -106,13 +106,13 @@ cut_line_break old None rest written pending same cut = tt
 cut_line_break old (Some xs) None written pending same cut = absurd same
 cut_line_break old (Some xs) (Some ys) written pending same cut = (pending, sym same, rw cut.0 (rw cut.1 refl), Appends-nil written, refl)
 
--- the octets begin with a line of a command, and ask for what that asks for behind it
+-- the octets begin with the line `front`, and ask for what this line asks for with the octets behind it
 abbrev pub Begins : List ℕ → Option Demand → Option (List ℕ) → Option (List ℕ) → Type 0
 Begins front ask None behind = Unit {0}
 Begins front ask (Some xs) None = ⊥
 Begins front ask (Some xs) (Some ys) = (xs ≡ front ++ ys) × (request_of xs ≡ request_by ask ys)
 
--- the same, whatever follows the line
+-- the line `front` asks for the same, whatever follows it
 abbrev pub BeginsAlone : List ℕ → Option Demand → Type 0
 BeginsAlone front ask = (more : List ℕ) → request_so_far (front ++ more) ≡ request_by ask more
 
@@ -183,7 +183,7 @@ cut_kept (b ∷ bs) more = by_octet (eqb b (octet_of "\n")) (cut_line bs) (cut_l
     by_octet false None all kept = tt
     by_octet false (Some cut) all kept = ap (option_map (in_front b)) kept
 
--- what a line asks for, with more octets behind it
+-- what a line asks for with octets behind it, it asks for with more octets behind these
 line_and_more : (old new : Served) (front rest more reply left : List ℕ) → Step old (request_at (front, rest)) reply new left → Step old (request_at (front, rest ++ more)) reply new (left ++ more)
 line_and_more old new front rest more reply left = by_limit (nat_lt line_limit (length front))
   where
@@ -194,7 +194,7 @@ line_and_more old new front rest more reply left = by_limit (nat_lt line_limit (
         let cut : own.0 ++ (left ++ more) ≡ rest ++ more = sym (append_assoc own.0 left more) ∙ ap (λ l. l ++ more) (sym own.1) in
         subst (λ l. Step old (request_by (demand_at front) l) reply new (left ++ more)) cut (own.2 (left ++ more))
 
--- what the octets ask for that are read, a stream asks for that begins with them
+-- a stream that begins with the octets that were read asks for what these ask for
 pub asked_with_more : (old new : Served) (read more reply left : List ℕ) → Step old (request_so_far read) reply new left → Step old (request_of (read ++ more)) reply new (left ++ more)
 unfolding request_of request_so_far first_line line_so_far
 asked_with_more old new [] more reply left step = absurd step

@@ -60,14 +60,14 @@ end_cut : {T : Type 0} (contents : T → Option (List ℕ)) (fault_count : T →
 end_cut contents fault_count w w' request end old None reply asked cut = tt
 end_cut contents fault_count w w' request end old (Some xs) reply asked cut = (reply, cut.front, cut.back, cut.whole, inr (end, asked, refl), cut.front_appended)
 
--- where a reply was written, or the writer failed
+-- the session goes on where a reply was written, and ends where the writer failed
 pub answered : {T : Type 0} (contents : T → Option (List ℕ)) (fault_count : T → ℕ) (w w' : T) (request : List ℕ → Request) (way : Progress) (old new : Served) (unused left rest : Option (List ℕ)) (reply : List ℕ)
     → Continues way (Wrote contents fault_count w w' reply) (WroteFront contents fault_count w w' reply) → RepliesTo request old unused reply new left
     → GoesFrom request way old unused (contents w) new left rest (contents w')
 answered contents fault_count w w' request ways.Continues old new unused left rest reply said asked = step_written request old new unused left (contents w) (contents w') reply asked said.text_appended
 answered contents fault_count w w' request (ways.Ends end) old new unused left rest reply said asked = rw said.0 (step_cut contents fault_count w w' request old new unused left reply asked said.1)
 
--- where the last reply was written, or the writer failed; P is what is known of the end that is due
+-- the session ends as it is due where its last reply was written, or the writer failed; P and R are of ways that it doesn't go
 pub ended : {T : Type 0} (contents : T → Option (List ℕ)) (fault_count : T → ℕ) (w w' : T) (request : List ℕ → Request) (wanted : SessionEnd) (way : Progress) (old : Served) (unused : Option (List ℕ)) (reply : List ℕ) (P R : Type 0)
     → ((Q S : Type 0) → Q → MatchSessionEnd wanted Q R S ⊥) → EndsBy wanted way (Wrote contents fault_count w w' reply) (WroteFront contents fault_count w w' reply) → EndsAt request unused wanted reply
     → Follows way P (λ end. EndFrom request end old unused (contents w) old (contents w')) R (CutFrom request old unused (contents w) old (contents w'))
@@ -76,14 +76,14 @@ ended contents fault_count w w' request wanted (ways.Ends end) old unused reply 
     rw both.0 (due _ _ (end_written request wanted old unused (contents w) (contents w') reply asked both.1.text_appended))
 ended contents fault_count w w' request wanted (ways.Ends end) old unused reply P R due (inr failed) asked = rw failed.0 (end_cut contents fault_count w w' request wanted old unused reply asked failed.1)
 
--- the faults that a reply tells
+-- what a reply tells of the writer's faults
 pub answer_faults : {T : Type 0} (contents : T → Option (List ℕ)) (fault_count : T → ℕ) (w w' : T) (way : Progress) (reply : List ℕ) (P R : Type 0)
     → Continues way (Wrote contents fault_count w w' reply) (WroteFront contents fault_count w w' reply)
     → MatchProgress way (fault_count w ≤ fault_count w') P (HasRisen (fault_count w) (fault_count w')) R
 answer_faults contents fault_count w w' ways.Continues reply P R said = said.faults_kept
 answer_faults contents fault_count w w' (ways.Ends end) reply P R said = rw said.0 said.1.fault_counted
 
--- the faults that a last reply tells
+-- what a last reply tells of the writer's faults
 pub end_faults : {T : Type 0} (contents : T → Option (List ℕ)) (fault_count : T → ℕ) (w w' : T) (wanted : SessionEnd) (way : Progress) (reply : List ℕ) (P Q R : Type 0)
     → MatchFault wanted P (HasRisen (fault_count w) (fault_count w')) R → EndsBy wanted way (Wrote contents fault_count w w' reply) (WroteFront contents fault_count w w' reply)
     → MatchProgress way Q P (HasRisen (fault_count w) (fault_count w')) R
@@ -91,7 +91,7 @@ end_faults contents fault_count w w' wanted ways.Continues reply P Q R none said
 end_faults contents fault_count w w' wanted (ways.Ends end) reply P Q R none (inl both) = rw both.0 none
 end_faults contents fault_count w w' wanted (ways.Ends end) reply P Q R none (inr failed) = rw failed.0 failed.1.fault_counted
 
--- what follows of a fact for each way follows for the way
+-- the fact of a way gives another, where the fact of each way does
 pub follows_by : (way : Progress) (P P' R R' S S' : Type 0) (Q Q' : SessionEnd → Type 0) → (P → P') → ((end : SessionEnd) → Q end → Q' end) → (R → R') → (S → S') → Follows way P Q R S → Follows way P' Q' R' S'
 follows_by ways.Continues P P' R R' S S' Q Q' p q r s h = p h
 follows_by (ways.Ends ends.Done) P P' R R' S S' Q Q' p q r s h = q ends.Done h
@@ -102,7 +102,7 @@ follows_by (ways.Ends ends.Write) P P' R R' S S' Q Q' p q r s h = s h
 follows_by (ways.Ends ends.NoMemory) P P' R R' S S' Q Q' p q r s h = h
 follows_by (ways.Ends ends.TurnLimit) P P' R R' S S' Q Q' p q r s h = r h
 
--- a fact that is known where no more could be read
+-- a fact N that is known where no more could be read holds beside R
 pub where_broken : (way : Progress) (P R S N A B G F : Type 0) (Q : SessionEnd → Type 0) → MatchProgress way G (N × A) F (N × B) → Follows way P Q R S → Follows way P Q (N × R) S
 where_broken ways.Continues P R S N A B G F Q known h = h
 where_broken (ways.Ends ends.Done) P R S N A B G F Q known h = h
@@ -140,7 +140,7 @@ pub tried_replies : (edit : Edit) (outcome : Result Unit EditFault) (old new : B
     → Replies edit (takes_memory edit) (after old.content edit) (served old runs) (reply_line outcome) (served new runs)
 tried_replies edit outcome old new runs made = replies_of edit (takes_memory edit) outcome (after old.content edit) old new runs made.0 made.1 made.2 made.3
 
--- memory may always be refused
+-- memory may be refused to an edit that takes some
 pub no_memory_replies : (edit : Edit) (takes : Bool) (meaning : Result Content EditFault) (old : Served) → takes ≡ true → Replies edit takes meaning old (refusal_line NoMemory) old
 no_memory_replies edit true (Ok content) old is = inr (refl, refl, refl)
 no_memory_replies edit true (Err fault) old is = (inr (refl, refl), refl)
@@ -156,7 +156,7 @@ second_holds : (a b : Bool) → b ≡ true → (a || b) ≡ true
 second_holds true b holds = refl
 second_holds false b holds = holds
 
--- too many octets are refused as such
+-- more octets than the limit are refused as too large
 too_large : (subject : Subject) (old : Content) (octets : List ℕ) → limit_of subject < length octets → after old (edit_of subject octets) ≡ Err TooLarge
 too_large (subjects.Script name) old octets more =
     let past : nat_lt text_limit (length octets) ≡ true = grind (arith, nat_tests) in
@@ -183,15 +183,15 @@ unkept_replies subject count old octets size = by_flag (nat_lt (limit_of subject
 
 -- COUNTED OCTETS
 
--- where there are enough octets
+-- a put with enough octets behind it is an edit
 enough : (count : ℕ) (rest : List ℕ) (edit : List ℕ → Edit) → count ≤ length rest → with_octets count rest edit ≡ edits (edit (take count rest)) (drop count rest)
 enough count rest edit within = grind (arith, nat_tests)
 
--- where there aren't
+-- a put with too few octets behind it is cut off
 pub short : (count : ℕ) (edit : List ℕ → Edit) (rest : List ℕ) → length rest < count → with_octets count rest edit ≡ truncated
 short count edit rest less = grind (arith, nat_tests)
 
--- a put of octets that came
+-- the reply to a put of octets that came
 pub put_replies : (count : ℕ) (edit : List ℕ → Edit) (old new : Served) (unused left kept : Option (List ℕ)) (reply : List ℕ)
     → Takes count unused left kept → ((octets : List ℕ) → length octets ≡ count → IfSome kept (λ k. k ≡ octets) → Replies (edit octets) (takes_memory (edit octets)) (after old.bench.content (edit octets)) old reply new)
     → RepliesTo (λ rest. with_octets count rest edit) old unused reply new left
@@ -200,26 +200,26 @@ put_replies count edit old new (Some xs) None kept reply taken replies = absurd 
 put_replies count edit old new (Some xs) (Some ys) kept reply taken replies =
     rw (enough count xs edit taken.0) (replies (take count xs) (omega (arith, length-take count xs, taken.0)) taken.2, taken.1)
 
--- octets that end too early
+-- octets that end too early end the session
 pub falls_short : (request : List ℕ → Request) (count : ℕ) (unused rest : Option (List ℕ)) → ((octets : List ℕ) → length octets < count → request octets ≡ truncated) → FallsShort count unused rest
     → EndsAt request unused ends.Truncated (codes "no truncated\n")
 falls_short request count None rest cut less = tt
 falls_short request count (Some xs) rest cut less = rw (cut xs less.0) (refl, refl)
 
--- octets of which no more can be read
+-- octets of which no more can be read break the session off
 pub breaks_off : (request : List ℕ → Request) (count : ℕ) (old : Served) (unused rest written : Option (List ℕ)) → ((octets : List ℕ) → length octets < count → request octets ≡ truncated) → BreaksOff count unused rest
     → BreakFrom request old unused written old rest written
 breaks_off request count old None rest written cut broken = tt
 breaks_off request count old (Some xs) None written cut broken = absurd broken
 breaks_off request count old (Some xs) (Some ys) written cut broken = (broken.0, broken.1, cut broken.0 broken.2, Appends-nil written, refl)
 
--- what memory is refused to
+-- the reply to a command to which memory is refused
 pub refused_replies : (count : ℕ) (request : List ℕ → Request) (old : Served) (unused left kept : Option (List ℕ)) → MayBeRefused count request → Takes count unused left kept → RepliesTo request old unused (refusal_line NoMemory) old left
 refused_replies count request old None left kept may taken = tt
 refused_replies count request old (Some xs) None kept may taken = absurd taken
 refused_replies count request old (Some xs) (Some ys) kept may taken = rw taken.1 (may.where_whole old xs taken.0)
 
--- memory may be refused to a put
+-- memory may be refused to a put that takes some
 pub put_refused : (count : ℕ) (edit : List ℕ → Edit) → ((octets : List ℕ) → takes_memory (edit octets) ≡ true) → MayBeRefused count (λ rest. with_octets count rest edit)
 put_refused count edit takes = record {
   where_whole = λ old rest within. rw (enough count rest edit within) (no_memory_replies _ _ (after old.bench.content (edit (take count rest))) old (takes (take count rest)), refl);
@@ -240,7 +240,7 @@ pub edit_replies : (edit : Edit) (old new : Served) (unused : Option (List ℕ))
 edit_replies edit old new None reply replies = tt
 edit_replies edit old new (Some xs) reply replies = (replies, refl)
 
--- a report
+-- the reply to a report
 pub report_replies : (old new : Served) (unused : Option (List ℕ)) → Reported old new → RepliesTo (λ rest. reports rest) old unused (report_text old.bench.content) new unused
 report_replies old new None made = tt
 report_replies old new (Some xs) made = (inl (refl, made), refl)

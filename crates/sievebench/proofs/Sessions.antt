@@ -13,7 +13,7 @@ pub so_far_begins : (ended : Bool) (bench : Served) (unused written : Option (Li
 so_far_begins ended bench None written = tt
 so_far_begins ended bench (Some stream) written = ([], none_yet, λ going. ([], refl, λ more. none_yet), Appends-nil written)
 
--- one more command
+-- one more command is carried out
 pub so_far_more : (ended ended' : Bool) (old mid new : Served) (stream unused left before after' written : Option (List ℕ)) → (ended' ≡ false → ended ≡ false) → SoFar ended old stream before mid unused after'
     → ServesFrom ended' mid unused after' new left written → SoFar ended' old stream before new left written
 so_far_more ended ended' old mid new None unused left before after' written stays done step = tt
@@ -42,7 +42,7 @@ so_far_ends ended end old mid new (Some s) (Some t) before after' written done l
   Appends-trans before after' written done.0 last.0 done.3 last.2,
 )
 
--- where no more can be read
+-- a session of which no more can be read
 pub so_far_breaks : (ended : Bool) (old mid new : Served) (stream unused rest before after' written : Option (List ℕ)) → ended ≡ false → SoFar ended old stream before mid unused after' → BreakFrom request_so_far mid unused after' new rest written
     → BrokenSessionFrom old stream before new rest written
 so_far_breaks ended old mid new None unused rest before after' written going done last = tt
@@ -57,7 +57,7 @@ so_far_breaks ended old mid new (Some s) (Some t) (Some u) before after' written
       rw (append-nil done.0) at (Appends-trans before after' written done.0 [] done.3 last.3),
     )
 
--- where no more can be written
+-- a session of which no more can be written
 pub so_far_cut : (ended : Bool) (old mid new : Served) (stream unused before after' written : Option (List ℕ)) → SoFar ended old stream before mid unused after' → CutFrom request_of mid unused after' new written
     → CutSessionFrom old stream before new written
 so_far_cut ended old mid new None unused before after' written done last = tt
@@ -68,7 +68,7 @@ so_far_cut ended old mid new (Some s) (Some t) before after' written done last =
   Appends-trans before after' written done.0 last.1 done.3 last.5,
 )
 
--- each end
+-- a session at each of its ends
 pub so_far_ends_by : (end : SessionEnd) (ended ended' : Bool) (old mid new : Served) (stream unused rest before after' written : Option (List ℕ)) (Q A B F : Type 0) → (ended' ≡ false → ended ≡ false) → SoFar ended old stream before mid unused after'
     → MatchFault end ((ended' ≡ false) × A) F ((ended' ≡ false) × B)
     → MatchSessionEnd end (EndFrom request_of end mid unused after' new written) (BreakFrom request_so_far mid unused after' new rest written) (CutFrom request_of mid unused after' new written) ⊥
@@ -81,11 +81,11 @@ so_far_ends_by Write ended ended' old mid new stream unused rest before after' w
 so_far_ends_by NoMemory ended ended' old mid new stream unused rest before after' written Q A B F stays done known last = absurd last
 so_far_ends_by TurnLimit ended ended' old mid new stream unused rest before after' written Q A B F stays done known last = so_far_breaks ended old mid new stream unused rest before after' written (stays known.0) done last
 
--- a count that has risen since has risen
+-- a count that has risen since a state has risen since an earlier one
 risen_since : (a b c : ℕ) → a ≤ b → HasRisen b c → HasRisen a c
 risen_since a b c kept risen = omega (arith, kept, risen)
 
--- where all turns are taken
+-- where no turn is left, there were no more turns than octets read and faults counted
 spent : (turns left : ℕ) (stream rest : Option (List ℕ)) (faults faults' : ℕ) → faults ≤ faults' → left ≡ 0 → TurnsGave turns left stream rest faults faults' → TurnsAreSpent turns stream rest faults faults'
 spent turns left None rest faults faults' kept none gave = tt
 spent turns left (Some s) None faults faults' kept none gave = absurd gave
@@ -95,6 +95,7 @@ spent turns left (Some s) (Some t) faults faults' kept none gave = either gave.1
     either (inl few) = inl (omega (arith, few, none, gave.0, kept))
     either (inr many) = inr many
 
+-- where no turn is left, all reads were made that were allowed
 made : (turns left calls calls' : ℕ) → left ≡ 0 → CallsMade turns left calls calls' → ReadsAreMade turns calls calls'
 made turns left calls calls' none counted = either counted.2
   where

@@ -5,7 +5,7 @@ use Rattle.sieve_base.specs.declared.name.ScriptName.{ScriptName}
 use Rattle.bench.specs.Dump.{is_too_large}
 use Rattle.bench.proofs.dump.dump_text.Goals as goal
 
--- a name that is past the limit, or else a text
+-- a name that is past its limit, or else a text that is past its own, is too large
 too_large : (name : ScriptName) (octets text : List ℕ) → octets ≡ name.name → (name_limit < length octets) ⊎ ((length octets ≤ name_limit) × (text_limit < length text)) → is_too_large name text ≡ true
 too_large name octets text is (inl long) =
     let more : name_limit < length name.name = rw is at long in
