@@ -104,7 +104,7 @@ fn tell_command(rt: &impl Print, command: &Command) -> io::Result<()> {
 pub(crate) fn check_script(rt: &impl Host) -> io::Result<()> {
     let script = prepared(parse(rt.alloc(), TEXT))?;
     mark(rt);
-    let answer = check(rt.alloc(), &script);
+    let answer = check(rt.alloc(), script);
     mark(rt);
     match answer {
         Ok(checked) => println!(rt; "{}", checked.commands().len()),
@@ -135,7 +135,7 @@ pub(crate) fn judge_text(rt: &impl Host, text: &[u8]) -> io::Result<()> {
 
 fn checked_of(rt: &impl Host) -> io::Result<Checked> {
     let script = prepared(parse(rt.alloc(), TEXT))?;
-    prepared(check(rt.alloc(), &script))
+    prepared(check(rt.alloc(), script))
 }
 
 pub(crate) fn compile_script(rt: &impl Host) -> io::Result<()> {

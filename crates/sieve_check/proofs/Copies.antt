@@ -29,7 +29,7 @@ nodes-items (more_nodes n ns) = ap (λ rest. more_nodes n rest) (nodes-items ns)
 -- COPIES
 
 -- copies of the tests of a list make the copy of the list
-pub list_copied : (cutting : Cutting) (copies : Vec (one_tests.Test (SmallVec parts.Part)) Global) (ts : Vec (one_tests.Test (SmallVec ℕ)) Global) (xs : List (one_tests.Test (SmallVec ℕ))) (whole : test_variants.the_data (SmallVec ℕ)) → whole ≡ test_variants.List ts → xs ≡ ts.items → map test_of copies.items ≡ map (parted_test cutting) (map seen.test_of xs) → tests_of (test_variants.List copies) ≡ parted_tests cutting (seen.tests_of whole)
+pub list_copied : (cutting : Cutting) (copies : Vec one_tests.Test Global) (ts : Vec one_tests.Test Global) (xs : List one_tests.Test) (whole : test_variants.the_data) → whole ≡ test_variants.List ts → xs ≡ ts.items → map test_of copies.items ≡ map (parted_test cutting) (map seen.test_of xs) → tests_of (test_variants.List copies) ≡ parted_tests cutting (seen.tests_of whole)
 list_copied cutting copies ts xs whole is same e =
     views.list_seen parts_of copies
     ∙ ap (λ cs. test_list (tests cs)) (e ∙ ap (λ l. map (parted_test cutting) (map seen.test_of l)) same)
@@ -45,11 +45,11 @@ abbrev pub within_block : Cutting → List ℕ → List syntax.Argument → Cutt
 within_block cutting name args = record cutting { declared = declaring_command cutting.declared name args }
 
 -- copies of a command's parts make the copy of the command
-pub command_copied : (cutting within : Cutting) (name : SmallVec ℕ) (args : Vec (arguments.Argument (SmallVec parts.Part)) Global) (ts : test_variants.the_data (SmallVec parts.Part)) (copies : Vec (commands.Command (SmallVec parts.Part)) Global) (whole : commands.Command (SmallVec ℕ)) (inner : Vec (commands.Command (SmallVec ℕ)) Global) (xs : List (commands.Command (SmallVec ℕ))) → let o = command_views.out-Command (SmallVec ℕ) whole in
+pub command_copied : (cutting within : Cutting) (name : SmallVec ℕ) (args : Vec arguments.Argument Global) (ts : test_variants.the_data) (copies : Vec commands.Command Global) (whole : commands.Command) (inner : Vec commands.Command Global) (xs : List commands.Command) → let o = command_views.out-Command whole in
     name.items ≡ o.name.items → map argument_of args.items ≡ parted_args cutting o.name.items (map seen.argument_of o.args.items) → tests_of ts ≡ parted_tests cutting (seen.tests_of o.tests) → o.block ≡ Some inner → xs ≡ inner.items → within ≡ within_block cutting o.name.items (map seen.argument_of o.args.items) → map node_of copies.items ≡ items (parted_nodes within (syntax.nodes (map seen.node_of xs)))
-    → node_of (command_views.roll-Command (SmallVec parts.Part) (record { name = name; line = o.line; args = args; tests = ts; block = Some copies })) ≡ parted_node cutting (seen.node_of whole)
+    → node_of (command_views.roll-Command (record { name = name; line = o.line; args = args; tests = ts; block = Some copies })) ≡ parted_node cutting (seen.node_of whole)
 command_copied cutting within name args ts copies whole inner xs n a t b same w e =
-    let o = command_views.out-Command (SmallVec ℕ) whole in
+    let o = command_views.out-Command whole in
     let inside = within_block cutting o.name.items (map seen.argument_of o.args.items) in
     let made : nodes (map node_of copies.items) ≡ parted_nodes inside (syntax.nodes (map seen.node_of inner.items)) =
     ap nodes e ∙ nodes-items (parted_nodes within (syntax.nodes (map seen.node_of xs)))

@@ -84,49 +84,49 @@ no_rule broken line (rule ∷ rules) found = no_rule_by broken line rule rules (
 
 -- STRINGS
 
-pub text_breaks_rule : (context : Context) (role : Option Role) (t : texts.Text (SmallVec ℕ)) (octets : List ℕ) (rule : Rule) (line : ℕ) → octets ≡ (text_of t).string → line ≡ (text_of t).line → Some rule ≡ find (text_breaks context role octets) all_rules → IsFirst (breaches_at (the_text context role (text_of t))) (faults.Breach line rule)
+pub text_breaks_rule : (context : Context) (role : Option Role) (t : texts.Text) (octets : List ℕ) (rule : Rule) (line : ℕ) → octets ≡ (text_of t).string → line ≡ (text_of t).line → Some rule ≡ find (text_breaks context role octets) all_rules → IsFirst (breaches_at (the_text context role (text_of t))) (faults.Breach line rule)
 unfolding breaches_at
 text_breaks_rule context role t octets rule line same at found =
     subst (λ n. slice_get (breaches_by (text_breaks context role (text_of t).string) (text_of t).line all_rules) 0 ≡ Some (record { line = n; rule = rule })) (sym at)
     (first_rule (text_breaks context role (text_of t).string) (text_of t).line all_rules rule (sym (found ∙ ap (λ o. find (text_breaks context role o) all_rules) same)))
 
-pub text_breaks_none : (context : Context) (role : Option Role) (t : texts.Text (SmallVec ℕ)) (octets : List ℕ) → octets ≡ (text_of t).string → None ≡ find (text_breaks context role octets) all_rules → breaches_at (the_text context role (text_of t)) ≡ []
+pub text_breaks_none : (context : Context) (role : Option Role) (t : texts.Text) (octets : List ℕ) → octets ≡ (text_of t).string → None ≡ find (text_breaks context role octets) all_rules → breaches_at (the_text context role (text_of t)) ≡ []
 unfolding breaches_at
 text_breaks_none context role t octets same found =
     no_rule (text_breaks context role (text_of t).string) (text_of t).line all_rules (sym (found ∙ ap (λ o. find (text_breaks context role o) all_rules) same))
 
-text_at : (context : Context) (role : Option Role) (xs : List (texts.Text (SmallVec ℕ))) (i : ℕ) (t : texts.Text (SmallVec ℕ)) → i < length xs → t ≡ get_or xs i t → text_elements context role (map text_of (drop i xs)) ≡ the_text context role (text_of t) ∷ text_elements context role (map text_of (drop (i + 1) xs))
+text_at : (context : Context) (role : Option Role) (xs : List texts.Text) (i : ℕ) (t : texts.Text) → i < length xs → t ≡ get_or xs i t → text_elements context role (map text_of (drop i xs)) ≡ the_text context role (text_of t) ∷ text_elements context role (map text_of (drop (i + 1) xs))
 text_at context role xs i t h e =
     at_drop_more (λ l. text_elements context role (map text_of l)) xs i t h
     ∙ ap (λ x. the_text context role (text_of x) ∷ text_elements context role (map text_of (drop (i + 1) xs))) (sym e)
 
-pub texts_stop : (context : Context) (role : Option Role) (xs : List (texts.Text (SmallVec ℕ))) (i : ℕ) (t : texts.Text (SmallVec ℕ)) (fault : CheckFault) → i < length xs → t ≡ get_or xs i t → IsFirst (breaches_at (the_text context role (text_of t))) fault → IsFirst (breaches_in (text_elements context role (map text_of (drop i xs)))) fault
+pub texts_stop : (context : Context) (role : Option Role) (xs : List texts.Text) (i : ℕ) (t : texts.Text) (fault : CheckFault) → i < length xs → t ≡ get_or xs i t → IsFirst (breaches_at (the_text context role (text_of t))) fault → IsFirst (breaches_in (text_elements context role (map text_of (drop i xs)))) fault
 texts_stop context role xs i t fault h e first = subst (λ es. IsFirst (breaches_in es) fault) (sym (text_at context role xs i t h e)) (first_stops _ _ fault first)
 
-pub texts_go_on : (context : Context) (role : Option Role) (xs : List (texts.Text (SmallVec ℕ))) (i : ℕ) (t : texts.Text (SmallVec ℕ)) → i < length xs → t ≡ get_or xs i t → breaches_at (the_text context role (text_of t)) ≡ [] → breaches_in (text_elements context role (map text_of (drop (i + 1) xs))) ≡ breaches_in (text_elements context role (map text_of (drop i xs)))
+pub texts_go_on : (context : Context) (role : Option Role) (xs : List texts.Text) (i : ℕ) (t : texts.Text) → i < length xs → t ≡ get_or xs i t → breaches_at (the_text context role (text_of t)) ≡ [] → breaches_in (text_elements context role (map text_of (drop (i + 1) xs))) ≡ breaches_in (text_elements context role (map text_of (drop i xs)))
 texts_go_on context role xs i t h e none = sym (ap breaches_in (text_at context role xs i t h e) ∙ first_passes _ _ none)
 
-pub texts_end : (context : Context) (role : Option Role) (xs : List (texts.Text (SmallVec ℕ))) (i : ℕ) → length xs ≤ i → breaches_in (text_elements context role (map text_of (drop i xs))) ≡ []
+pub texts_end : (context : Context) (role : Option Role) (xs : List texts.Text) (i : ℕ) → length xs ≤ i → breaches_in (text_elements context role (map text_of (drop i xs))) ≡ []
 texts_end context role xs i h = ap breaches_in (at_drop_all (λ l. text_elements context role (map text_of l)) xs i h) ∙ none_in
 
 -- ARGUMENTS
 
-argument_at : (context : Context) (labels : List Label) (xs : List (arguments.Argument (SmallVec ℕ))) (i : ℕ) (a : arguments.Argument (SmallVec ℕ)) → i < length xs → a ≡ get_or xs i a → labelled_elements context labels (map argument_of (drop i xs)) ≡ argument_elements context (first_role labels) (argument_of a) ++ labelled_elements context (drop 1 labels) (map argument_of (drop (i + 1) xs))
+argument_at : (context : Context) (labels : List Label) (xs : List arguments.Argument) (i : ℕ) (a : arguments.Argument) → i < length xs → a ≡ get_or xs i a → labelled_elements context labels (map argument_of (drop i xs)) ≡ argument_elements context (first_role labels) (argument_of a) ++ labelled_elements context (drop 1 labels) (map argument_of (drop (i + 1) xs))
 argument_at context labels xs i a h e =
     at_drop_more (λ l. labelled_elements context labels (map argument_of l)) xs i a h
     ∙ ap (λ x. argument_elements context (first_role labels) (argument_of x) ++ labelled_elements context (drop 1 labels) (map argument_of (drop (i + 1) xs))) (sym e)
 
-pub arguments_stop : (context : Context) (labels : List Label) (role : Option Role) (xs : List (arguments.Argument (SmallVec ℕ))) (i : ℕ) (a : arguments.Argument (SmallVec ℕ)) (fault : CheckFault) → i < length xs → a ≡ get_or xs i a → role ≡ first_role labels → IsFirst (breaches_in (argument_elements context role (argument_of a))) fault → IsFirst (breaches_in (labelled_elements context labels (map argument_of (drop i xs)))) fault
+pub arguments_stop : (context : Context) (labels : List Label) (role : Option Role) (xs : List arguments.Argument) (i : ℕ) (a : arguments.Argument) (fault : CheckFault) → i < length xs → a ≡ get_or xs i a → role ≡ first_role labels → IsFirst (breaches_in (argument_elements context role (argument_of a))) fault → IsFirst (breaches_in (labelled_elements context labels (map argument_of (drop i xs)))) fault
 arguments_stop context labels role xs i a fault h e same first =
     subst (λ es. IsFirst (breaches_in es) fault) (sym (argument_at context labels xs i a h e))
     (front_stops _ _ fault (subst (λ r. IsFirst (breaches_in (argument_elements context r (argument_of a))) fault) same first))
 
-pub arguments_go_on : (context : Context) (labels rest : List Label) (role : Option Role) (xs : List (arguments.Argument (SmallVec ℕ))) (i : ℕ) (a : arguments.Argument (SmallVec ℕ)) → i < length xs → a ≡ get_or xs i a → role ≡ first_role labels → rest ≡ drop 1 labels → breaches_in (argument_elements context role (argument_of a)) ≡ [] → breaches_in (labelled_elements context rest (map argument_of (drop (i + 1) xs))) ≡ breaches_in (labelled_elements context labels (map argument_of (drop i xs)))
+pub arguments_go_on : (context : Context) (labels rest : List Label) (role : Option Role) (xs : List arguments.Argument) (i : ℕ) (a : arguments.Argument) → i < length xs → a ≡ get_or xs i a → role ≡ first_role labels → rest ≡ drop 1 labels → breaches_in (argument_elements context role (argument_of a)) ≡ [] → breaches_in (labelled_elements context rest (map argument_of (drop (i + 1) xs))) ≡ breaches_in (labelled_elements context labels (map argument_of (drop i xs)))
 arguments_go_on context labels rest role xs i a h e same left none =
     ap (λ l. breaches_in (labelled_elements context l (map argument_of (drop (i + 1) xs)))) left
     ∙ sym (ap breaches_in (argument_at context labels xs i a h e) ∙ front_passes _ _ (ap (λ r. breaches_in (argument_elements context r (argument_of a))) (sym same) ∙ none))
 
-pub arguments_end : (context : Context) (labels : List Label) (xs : List (arguments.Argument (SmallVec ℕ))) (i : ℕ) → length xs ≤ i → breaches_in (labelled_elements context labels (map argument_of (drop i xs))) ≡ []
+pub arguments_end : (context : Context) (labels : List Label) (xs : List arguments.Argument) (i : ℕ) → length xs ≤ i → breaches_in (labelled_elements context labels (map argument_of (drop i xs))) ≡ []
 arguments_end context labels xs i h = ap breaches_in (at_drop_all (λ l. labelled_elements context labels (map argument_of l)) xs i h) ∙ none_in
 
 pub ruleset element_steps = (none_in, one_in)

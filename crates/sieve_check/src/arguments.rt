@@ -19,7 +19,7 @@ use crate::role::{behind_first, first_role};
 use crate::usage::{has_bad_arguments, has_bad_tag, lacks_required};
 use crate::validator::CheckFault;
 use match_text::collation_named;
-use sieve_reading::{Label, row_labels};
+use sieve_reading::{AsOctets, Label, row_labels};
 use sieve_syntax::{Argument, Tests, Text};
 use sieve_table::{
     Capability, Role, Row, Rule, has_role, is_address_field, is_capability, is_envelope_part,
@@ -159,7 +159,7 @@ fn check_text(
 ) -> Result<(), CheckFault>
     ensures { Finds (breaches_at (the_text (context_as context.entry) role (text_of text.now))) result }
 {
-    match first_broken(alloc, &TEXT_RULES, context, role, &text.string)? {
+    match first_broken(alloc, &TEXT_RULES, context, role, text.octets())? {
         Some(rule) => Err(CheckFault::Breach {
             line: text.line,
             rule,
@@ -249,7 +249,7 @@ pub(crate) fn check_use(
     ensures labels { IfOk result (λ labels. labels.items ≡ row_labels (row_as row.now) (map argument_of args.now)) }
     ensures found { Finds (row_found stands_alone (context_as context.entry) line (row_as row.now) (map argument_of args.now) (tests_of tests.now) ends_by_block) result }
 {
-    let labels = row_labels(alloc, row, args)?;
+    let labels = row_labels::<AsOctets>(alloc, row, args)?;
     if lacks_required(context.spot.required, row, &labels) {
         let rule = Rule::NotRequired;
         return Err(CheckFault::Breach { line, rule });

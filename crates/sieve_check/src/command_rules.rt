@@ -44,7 +44,7 @@ fn check_kind(
     kind: CommandKind,
     command: &Command,
 ) -> Result<Vec<Label>, CheckFault>
-    ensures labels { IfOk result (λ labels. labels.items ≡ row_labels (command_row kind) (map argument_of (out-Command (SmallVec ℕ) command.now).args.items)) }
+    ensures labels { IfOk result (λ labels. labels.items ≡ row_labels (command_row kind) (map argument_of (out-Command command.now).args.items)) }
     ensures found { Finds (kind_found (context_as context.entry) kind command.now) result }
 {
     let line = command.line;
@@ -73,8 +73,8 @@ fn check_command_head(
     command: &Command,
 ) -> Result<(CommandKind, Vec<Label>), CheckFault>
     ensures found { FindsIn (command_head (context_as context.entry) command.now) result }
-    ensures kind { IfOk result (λ head. command_named (out-Command (SmallVec ℕ) command.now).name.items ≡ Some head.0) }
-    ensures labels { IfOk result (λ head. head.1.items ≡ row_labels (command_row head.0) (map argument_of (out-Command (SmallVec ℕ) command.now).args.items)) }
+    ensures kind { IfOk result (λ head. command_named (out-Command command.now).name.items ≡ Some head.0) }
+    ensures labels { IfOk result (λ head. head.1.items ≡ row_labels (command_row head.0) (map argument_of (out-Command command.now).args.items)) }
 {
     match command_named(&command.name) {
         None => Err(CheckFault::Breach {

@@ -75,7 +75,7 @@ impl Required {
     {
         let mut required = self;
         for text in texts {
-            required = required.with_name(&text.string);
+            required = required.with_name(text.octets());
         }
         required
     }

@@ -69,7 +69,7 @@ pub fn judge(alloc: Global, text: &[u8]) -> Result<Judged, JudgeFault>
         Err(SyntaxFault::TooLarge) => return Err(JudgeFault::TooLarge),
         Err(SyntaxFault::NoMemory) => return Err(JudgeFault::NoMemory),
     };
-    match check(alloc, &script) {
+    match check(alloc, script) {
         Ok(checked) => Ok(Judged::Sound(checked)),
         Err(CheckFault::Breach { line, rule }) => Ok(Judged::Faulty {
             line,

@@ -5,7 +5,7 @@ mod arguments;
 mod checked;
 mod command_rules;
 mod context;
-mod copying;
+mod cutting;
 mod judged;
 pub mod laws;
 mod role;

@@ -54,7 +54,7 @@ fn declare_texts(alloc: Global, declared: &mut Names, texts: &[Text]) -> Result<
     ensures { OnOk result (declared.new ≡ spec.declaring_texts declared.old (map text_of texts.now)) }
 {
     for text in texts {
-        declare(alloc, &mut *declared, &text.string)?;
+        declare(alloc, &mut *declared, text.octets())?;
     }
     Ok(())
 }
@@ -157,7 +157,7 @@ impl Scope {
         ensures { OnOk result (self.new ≡ spec.assigning_texts self.old (map text_of texts.now)) }
     {
         for text in texts {
-            self.assign(alloc, &text.string)?;
+            self.assign(alloc, text.octets())?;
         }
         Ok(())
     }

@@ -10,7 +10,7 @@ ghost use Rattle.sieve_check.specs.view.Context.{required_as};
 ghost use Rattle.sieve_table.specs.view.Row.{row_as};
 
 use crate::context::Required;
-use sieve_reading::{Label, row_is_filled};
+use sieve_reading::{AsOctets, Label, row_is_filled};
 use sieve_syntax::{Argument, Tests};
 use sieve_table::{Capability, Inner, Row, TagKind, same_kind};
 
@@ -240,7 +240,10 @@ pub(crate) fn has_bad_arguments(
 ) -> bool
     ensures { result ≡ spec.are_bad (row_is_filled (row_as row.now) (shapes_of row.now.tags.now (map argument_of args.now))) (row_as row.now) labels.now (tests_of tests.now) ends_by_block }
 {
-    if !row_is_filled(row, args) || !tests_fit(row.tests, tests) || row.has_block != ends_by_block {
+    if !row_is_filled::<AsOctets>(row, args)
+        || !tests_fit(row.tests, tests)
+        || row.has_block != ends_by_block
+    {
         return true;
     }
     lacks_own(labels) || lacks_kind(row.one_of, labels)

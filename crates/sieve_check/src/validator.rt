@@ -10,7 +10,7 @@ ghost use Rattle.sieve_check.specs.declared.validator.CheckFault.TheVariants.{No
 use crate::checked::Checked;
 use crate::command_rules::check_commands;
 use crate::context::Spot;
-use crate::copying::parted;
+use crate::cutting::parted;
 use crate::scope::Scope;
 use sieve_syntax::ParsedScript;
 use sieve_table::Rule;
@@ -37,11 +37,11 @@ impl From<AllocError> for CheckFault {
     }
 }
 
-/// Checks a script: the least breach of a rule, or, where there is none, the checked script.
-pub fn check(alloc: Global, script: &ParsedScript) -> Result<Checked, CheckFault>
+/// Checks a script: the least breach of a rule, or, where there is none, the checked script, which is made of the same tree.
+pub fn check(alloc: Global, script: ParsedScript) -> Result<Checked, CheckFault>
     ensures { MatchResult result
-        (λ checked. (breaches_of (nodes_of script.now) ≡ []) × (tree_of checked ≡ parted (nodes_of script.now)))
-        (IsFirst (breaches_of (nodes_of script.now))) }
+        (λ checked. (breaches_of (nodes_of script) ≡ []) × (tree_of checked ≡ parted (nodes_of script)))
+        (IsFirst (breaches_of (nodes_of script))) }
 {
     let mut scope = Scope::new(alloc);
     check_commands(alloc, Spot::script_start(), &mut scope, &script.commands)?;

@@ -46,42 +46,42 @@ all_kept xs count le = let none : length xs - count ≡ 0 = omega arith in ap (�
 
 -- TESTS
 
-pub first_none : (ts : test_variants.the_data (SmallVec parts.Part)) (behind : Tail) → ts ≡ test_variants.None → set_op false ∷ behind ≡ first_before (tests_of ts) behind
+pub first_none : (ts : test_variants.the_data) (behind : Tail) → ts ≡ test_variants.None → set_op false ∷ behind ≡ first_before (tests_of ts) behind
 unfolding first_before
 first_none ts behind is = sym (ap (λ x. first_before x behind) (seen_none parts_of ts is))
 
-pub first_one : (ts : test_variants.the_data (SmallVec parts.Part)) (b : Box (one_tests.Test (SmallVec parts.Part)) Global) (t : one_tests.Test (SmallVec parts.Part)) (behind : Tail) → ts ≡ test_variants.One b → t ≡ b.value → test_before (test_of t) behind ≡ first_before (tests_of ts) behind
+pub first_one : (ts : test_variants.the_data) (b : Box one_tests.Test Global) (t : one_tests.Test) (behind : Tail) → ts ≡ test_variants.One b → t ≡ b.value → test_before (test_of t) behind ≡ first_before (tests_of ts) behind
 unfolding first_before
 first_one ts b t behind is same = sym (ap (λ x. first_before x behind) (seen_one parts_of ts b t is same))
 
-pub all_none : (truth : Bool) (ts : test_variants.the_data (SmallVec parts.Part)) (behind : Tail) → ts ≡ test_variants.None → set_op (not truth) ∷ behind ≡ tests_before truth (tests_of ts) behind
+pub all_none : (truth : Bool) (ts : test_variants.the_data) (behind : Tail) → ts ≡ test_variants.None → set_op (not truth) ∷ behind ≡ tests_before truth (tests_of ts) behind
 unfolding tests_before
 all_none truth ts behind is = sym (ap (λ x. tests_before truth x behind) (seen_none parts_of ts is))
 
-pub all_one : (truth : Bool) (ts : test_variants.the_data (SmallVec parts.Part)) (b : Box (one_tests.Test (SmallVec parts.Part)) Global) (t : one_tests.Test (SmallVec parts.Part)) (behind : Tail) → ts ≡ test_variants.One b → t ≡ b.value → test_before (test_of t) behind ≡ tests_before truth (tests_of ts) behind
+pub all_one : (truth : Bool) (ts : test_variants.the_data) (b : Box one_tests.Test Global) (t : one_tests.Test) (behind : Tail) → ts ≡ test_variants.One b → t ≡ b.value → test_before (test_of t) behind ≡ tests_before truth (tests_of ts) behind
 unfolding tests_before
 all_one truth ts b t behind is same = sym (ap (λ x. tests_before truth x behind) (seen_one parts_of ts b t is same))
 
-pub all_list : (truth : Bool) (ts : test_variants.the_data (SmallVec parts.Part)) (v : Vec (one_tests.Test (SmallVec parts.Part)) Global) (list : List (one_tests.Test (SmallVec parts.Part))) (behind : Tail) → ts ≡ test_variants.List v → list ≡ v.items → tests_before truth (test_list (tests (map test_of list))) behind ≡ tests_before truth (tests_of ts) behind
+pub all_list : (truth : Bool) (ts : test_variants.the_data) (v : Vec one_tests.Test Global) (list : List one_tests.Test) (behind : Tail) → ts ≡ test_variants.List v → list ≡ v.items → tests_before truth (test_list (tests (map test_of list))) behind ≡ tests_before truth (tests_of ts) behind
 all_list truth ts v list behind is same = sym (ap (λ x. tests_before truth x behind) (seen_list parts_of ts v list is same))
 
-first_of_none : (list : List (one_tests.Test (SmallVec parts.Part))) (behind : Tail) → length list ≤ 0 → set_op false ∷ behind ≡ first_before (test_list (tests (map test_of list))) behind
+first_of_none : (list : List one_tests.Test) (behind : Tail) → length list ≤ 0 → set_op false ∷ behind ≡ first_before (test_list (tests (map test_of list))) behind
 unfolding first_before
 first_of_none [] behind le = refl
 first_of_none (t ∷ list) behind le = absurd (omega (arith, le))
 
-first_of_some : (list : List (one_tests.Test (SmallVec parts.Part))) (t : one_tests.Test (SmallVec parts.Part)) (behind : Tail) → 0 < length list → t ≡ get_or list 0 t → test_before (test_of t) behind ≡ first_before (test_list (tests (map test_of list))) behind
+first_of_some : (list : List one_tests.Test) (t : one_tests.Test) (behind : Tail) → 0 < length list → t ≡ get_or list 0 t → test_before (test_of t) behind ≡ first_before (test_list (tests (map test_of list))) behind
 unfolding first_before
 first_of_some [] t behind some is = absurd (omega (arith, some))
 first_of_some (u ∷ list) t behind some is = ap (λ x. test_before (test_of x) behind) is
 
-pub first_empty : (ts : test_variants.the_data (SmallVec parts.Part)) (v : Vec (one_tests.Test (SmallVec parts.Part)) Global) (list : List (one_tests.Test (SmallVec parts.Part))) (behind : Tail) → ts ≡ test_variants.List v → list ≡ v.items → length list ≤ 0 → set_op false ∷ behind ≡ first_before (tests_of ts) behind
+pub first_empty : (ts : test_variants.the_data) (v : Vec one_tests.Test Global) (list : List one_tests.Test) (behind : Tail) → ts ≡ test_variants.List v → list ≡ v.items → length list ≤ 0 → set_op false ∷ behind ≡ first_before (tests_of ts) behind
 first_empty ts v list behind is same none = first_of_none list behind none ∙ sym (ap (λ x. first_before x behind) (seen_list parts_of ts v list is same))
 
-pub first_listed : (ts : test_variants.the_data (SmallVec parts.Part)) (v : Vec (one_tests.Test (SmallVec parts.Part)) Global) (list : List (one_tests.Test (SmallVec parts.Part))) (t : one_tests.Test (SmallVec parts.Part)) (behind : Tail) → ts ≡ test_variants.List v → list ≡ v.items → 0 < length list → t ≡ get_or list 0 t → test_before (test_of t) behind ≡ first_before (tests_of ts) behind
+pub first_listed : (ts : test_variants.the_data) (v : Vec one_tests.Test Global) (list : List one_tests.Test) (t : one_tests.Test) (behind : Tail) → ts ≡ test_variants.List v → list ≡ v.items → 0 < length list → t ≡ get_or list 0 t → test_before (test_of t) behind ≡ first_before (tests_of ts) behind
 first_listed ts v list t behind is same some first = first_of_some list t behind some first ∙ sym (ap (λ x. first_before x behind) (seen_list parts_of ts v list is same))
 
-pub test_put : (t : one_tests.Test (SmallVec parts.Part)) (r : Option TestReading) (behind : Tail) → r ≡ test_reading (test_of t) → reading_before r (tests_before false (tests_of t.tests)) (tests_before true (tests_of t.tests)) (first_before (tests_of t.tests)) behind ≡ test_before (test_of t) behind
+pub test_put : (t : one_tests.Test) (r : Option TestReading) (behind : Tail) → r ≡ test_reading (test_of t) → reading_before r (tests_before false (tests_of t.tests)) (tests_before true (tests_of t.tests)) (first_before (tests_of t.tests)) behind ≡ test_before (test_of t) behind
 unfolding test_before
 test_put t r behind is =
     ap (λ x. reading_before x (tests_before false (tests_of t.tests)) (tests_before true (tests_of t.tests)) (first_before (tests_of t.tests)) behind) (is ∙ ap test_reading (seen_test parts_of t))
@@ -89,41 +89,41 @@ test_put t r behind is =
 
 -- LISTS OF TESTS
 
-abbrev pub list_on : List (one_tests.Test (SmallVec parts.Part)) → TestList
+abbrev pub list_on : List one_tests.Test → TestList
 list_on list = tests (map test_of list)
 
-pub list_empty : (truth : Bool) (list : List (one_tests.Test (SmallVec parts.Part))) (behind : Tail) → length list ≤ 0 → set_op (not truth) ∷ behind ≡ tests_before truth (test_list (list_on list)) behind
+pub list_empty : (truth : Bool) (list : List one_tests.Test) (behind : Tail) → length list ≤ 0 → set_op (not truth) ∷ behind ≡ tests_before truth (test_list (list_on list)) behind
 unfolding tests_before
 list_empty truth [] behind none = refl
 list_empty truth (t ∷ list) behind none = absurd (omega (arith, none))
 
-pub list_some : (truth : Bool) (list : List (one_tests.Test (SmallVec parts.Part))) (behind : Tail) → 0 < length list → list_before truth (list_on list) behind ≡ tests_before truth (test_list (list_on list)) behind
+pub list_some : (truth : Bool) (list : List one_tests.Test) (behind : Tail) → 0 < length list → list_before truth (list_on list) behind ≡ tests_before truth (test_list (list_on list)) behind
 unfolding tests_before
 list_some truth [] behind some = absurd (omega (arith, some))
 list_some truth (t ∷ list) behind some = refl
 
-pub list_none : (truth : Bool) (list : List (one_tests.Test (SmallVec parts.Part))) (i : ℕ) (behind : Tail) → length list ≤ i → list_before truth (list_on (drop i list)) behind ≡ behind
+pub list_none : (truth : Bool) (list : List one_tests.Test) (i : ℕ) (behind : Tail) → length list ≤ i → list_before truth (list_on (drop i list)) behind ≡ behind
 unfolding list_before
 list_none truth list i behind all = at_drop_all (λ l. list_before truth (list_on l) behind) list i all
 
-joint_by : (truth : Bool) (list : List (one_tests.Test (SmallVec parts.Part))) (follows : Bool) (behind others : Tail) → (follows ≡ true → 0 < length list) → (follows ≡ false → length list ≤ 0) → joint truth (list_on list) behind others ≡ (if follows then jump_if_op truth (length behind) ∷ others else others)
+joint_by : (truth : Bool) (list : List one_tests.Test) (follows : Bool) (behind others : Tail) → (follows ≡ true → 0 < length list) → (follows ≡ false → length list ≤ 0) → joint truth (list_on list) behind others ≡ (if follows then jump_if_op truth (length behind) ∷ others else others)
 joint_by truth [] true behind others some none = absurd (omega (arith, some refl))
 joint_by truth [] false behind others some none = refl
 joint_by truth (t ∷ list) true behind others some none = refl
 joint_by truth (t ∷ list) false behind others some none = absurd (omega (arith, none refl))
 
-list_first : (truth : Bool) (t : one_tests.Test (SmallVec parts.Part)) (list : List (one_tests.Test (SmallVec parts.Part))) (behind : Tail) → list_before truth (list_on (t ∷ list)) behind ≡ test_before (test_of t) (joint truth (list_on list) behind (list_before truth (list_on list) behind))
+list_first : (truth : Bool) (t : one_tests.Test) (list : List one_tests.Test) (behind : Tail) → list_before truth (list_on (t ∷ list)) behind ≡ test_before (test_of t) (joint truth (list_on list) behind (list_before truth (list_on list) behind))
 unfolding list_before
 list_first truth t list behind = refl
 
-some_left : (list : List (one_tests.Test (SmallVec parts.Part))) (i : ℕ) (follows : Bool) → follows ≡ nat_lt (i + 1) (length list) → follows ≡ true → 0 < length (drop (i + 1) list)
+some_left : (list : List one_tests.Test) (i : ℕ) (follows : Bool) → follows ≡ nat_lt (i + 1) (length list) → follows ≡ true → 0 < length (drop (i + 1) list)
 some_left list i follows is holds = let lt : i + 1 < length list = ltb-true (i + 1) (length list) (sym is ∙ holds) in omega (arith, lt, length-drop (i + 1) list)
 
-none_left : (list : List (one_tests.Test (SmallVec parts.Part))) (i : ℕ) (follows : Bool) → follows ≡ nat_lt (i + 1) (length list) → follows ≡ false → length (drop (i + 1) list) ≤ 0
+none_left : (list : List one_tests.Test) (i : ℕ) (follows : Bool) → follows ≡ nat_lt (i + 1) (length list) → follows ≡ false → length (drop (i + 1) list) ≤ 0
 none_left list i follows is fails = let le : length list ≤ i + 1 = ltb-false (i + 1) (length list) (sym is ∙ fails) in omega (arith, le, length-drop (i + 1) list)
 
 -- a test of a list, put in front of the tests behind it, makes the tests from that one on
-pub list_put : (truth : Bool) (list : List (one_tests.Test (SmallVec parts.Part))) (i : ℕ) (t : one_tests.Test (SmallVec parts.Part)) (behind others new : Tail) (follows : Bool) → i < length list → t ≡ get_or list i t → follows ≡ nat_lt (i + 1) (length list) → others ≡ list_before truth (list_on (drop (i + 1) list)) behind → new ≡ test_before (test_of t) (if follows then jump_if_op truth (length behind) ∷ others else others) → new ≡ list_before truth (list_on (drop i list)) behind
+pub list_put : (truth : Bool) (list : List one_tests.Test) (i : ℕ) (t : one_tests.Test) (behind others new : Tail) (follows : Bool) → i < length list → t ≡ get_or list i t → follows ≡ nat_lt (i + 1) (length list) → others ≡ list_before truth (list_on (drop (i + 1) list)) behind → new ≡ test_before (test_of t) (if follows then jump_if_op truth (length behind) ∷ others else others) → new ≡ list_before truth (list_on (drop i list)) behind
 list_put truth list i t behind others new follows below is more before after =
     after
     ∙ ap (λ o. test_before (test_of t) (if follows then jump_if_op truth (length behind) ∷ o else o)) before
@@ -193,21 +193,21 @@ pub command_put : (n : Node) (r : Option CommandReading) (b : Branches) → r �
 command_put n r b is = ap (λ x. command_before x (line_at n) (first_at n) (block_at n) b) is ∙ sym (by_kind n b)
 
 -- the line, the first test and the block of a command are those of its node
-pub line_seen : (c : commands.Command (SmallVec parts.Part)) → line_at (node_of c) ≡ (command_views.out-Command (SmallVec parts.Part) c).line
+pub line_seen : (c : commands.Command) → line_at (node_of c) ≡ (command_views.out-Command c).line
 unfolding line_at
 line_seen c = ap line_at (seen_command parts_of c)
 
-pub first_seen : (c : commands.Command (SmallVec parts.Part)) (behind : Tail) → first_before (tests_of (command_views.out-Command (SmallVec parts.Part) c).tests) behind ≡ first_at (node_of c) behind
+pub first_seen : (c : commands.Command) (behind : Tail) → first_before (tests_of (command_views.out-Command c).tests) behind ≡ first_at (node_of c) behind
 first_seen c behind = sym (ap (λ n. first_at n behind) (seen_command parts_of c))
 
-block_seen : (c : commands.Command (SmallVec parts.Part)) (behind : Tail) → block_at (node_of c) behind ≡ block_before (block_of (command_views.out-Command (SmallVec parts.Part) c).block) behind
+block_seen : (c : commands.Command) (behind : Tail) → block_at (node_of c) behind ≡ block_before (block_of (command_views.out-Command c).block) behind
 block_seen c behind = ap (λ n. block_at n behind) (seen_command parts_of c)
 
-pub block_none : (c : commands.Command (SmallVec parts.Part)) (behind : Tail) → (command_views.out-Command (SmallVec parts.Part) c).block ≡ None → behind ≡ block_at (node_of c) behind
+pub block_none : (c : commands.Command) (behind : Tail) → (command_views.out-Command c).block ≡ None → behind ≡ block_at (node_of c) behind
 unfolding block_before
 block_none c behind is = sym (block_seen c behind ∙ ap (λ b. block_before (block_of b) behind) is)
 
-pub block_some : (c : commands.Command (SmallVec parts.Part)) (v : Vec (commands.Command (SmallVec parts.Part)) Global) (list : List (commands.Command (SmallVec parts.Part))) (behind : Tail) → (command_views.out-Command (SmallVec parts.Part) c).block ≡ Some v → list ≡ v.items → (nodes_before (nodes (map node_of list)) behind).behind_branches ≡ block_at (node_of c) behind
+pub block_some : (c : commands.Command) (v : Vec commands.Command Global) (list : List commands.Command) (behind : Tail) → (command_views.out-Command c).block ≡ Some v → list ≡ v.items → (nodes_before (nodes (map node_of list)) behind).behind_branches ≡ block_at (node_of c) behind
 unfolding block_before
 block_some c v list behind is same =
     ap (λ l. (nodes_before (nodes (map node_of l)) behind).behind_branches) same
@@ -215,19 +215,19 @@ block_some c v list behind is same =
 
 -- LISTS OF COMMANDS
 
-abbrev pub branches_on : List (commands.Command (SmallVec parts.Part)) → Tail → Branches
+abbrev pub branches_on : List commands.Command → Tail → Branches
 branches_on list behind = nodes_before (nodes (map node_of list)) behind
 
-pub commands_none : (list : List (commands.Command (SmallVec parts.Part))) (i : ℕ) (behind : Tail) → length list ≤ i → branches_on (drop i list) behind ≡ no_branch behind
+pub commands_none : (list : List commands.Command) (i : ℕ) (behind : Tail) → length list ≤ i → branches_on (drop i list) behind ≡ no_branch behind
 unfolding nodes_before
 commands_none list i behind all = at_drop_all (λ l. branches_on l behind) list i all
 
-commands_first : (c : commands.Command (SmallVec parts.Part)) (list : List (commands.Command (SmallVec parts.Part))) (behind : Tail) → branches_on (c ∷ list) behind ≡ node_before (node_of c) (branches_on list behind)
+commands_first : (c : commands.Command) (list : List commands.Command) (behind : Tail) → branches_on (c ∷ list) behind ≡ node_before (node_of c) (branches_on list behind)
 unfolding nodes_before
 commands_first c list behind = refl
 
 -- a command of a list, put in front of the commands behind it, makes the commands from that one on
-pub command_listed : (list : List (commands.Command (SmallVec parts.Part))) (i : ℕ) (c : commands.Command (SmallVec parts.Part)) (behind : Tail) (now new : Branches) → i < length list → c ≡ get_or list i c → now ≡ branches_on (drop (i + 1) list) behind → new ≡ node_before (node_of c) now → new ≡ branches_on (drop i list) behind
+pub command_listed : (list : List commands.Command) (i : ℕ) (c : commands.Command) (behind : Tail) (now new : Branches) → i < length list → c ≡ get_or list i c → now ≡ branches_on (drop (i + 1) list) behind → new ≡ node_before (node_of c) now → new ≡ branches_on (drop i list) behind
 command_listed list i c behind now new below is so after =
     after
     ∙ ap (node_before (node_of c)) so

@@ -11,8 +11,8 @@ ghost use Rattle.sieve_reading.specs.view.Tree.{argument_of, node_of};
 use crate::given::{given_texts, given_variable, literal_in, text_in, texts_in, variable_in};
 use crate::labelled::{argument_in, has_tag};
 use crate::reading::{CommandReading, FlagChange, Leaf, Settings};
-use crate::tree::{Argument, Command};
 use sieve_base::Place;
+use sieve_syntax::{Argument, Command};
 use sieve_table::{CommandKind, Role, Row, Tag, command_named};
 use sieve_variables::{LetterCase, Modifiers};
 

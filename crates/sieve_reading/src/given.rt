@@ -10,9 +10,9 @@ ghost use Rattle.sieve_variables.specs.view.Part.{part_of, variable_of};
 
 use crate::labelled::has_tag;
 use crate::reading::MatchType;
-use crate::tree::{Argument, Text};
 use match_text::{Collation, collation_named};
 use message_text::AddressPart;
+use sieve_syntax::{Argument, Text};
 use sieve_table::{Row, Tag};
 use sieve_variables::{Part, Variable};
 

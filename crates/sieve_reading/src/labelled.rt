@@ -8,17 +8,17 @@ ghost use Rattle.sieve_reading.specs.view.Expected.{shows_tag};
 ghost use Rattle.sieve_reading.specs.view.Tree.{argument_of};
 
 use crate::role::role_of;
-use crate::shape::{row_expected, shape_of};
-use crate::tree::Argument;
+use crate::shape::{AsParts, row_expected, shape_of};
+use sieve_syntax::Argument;
 use sieve_table::{Role, Row, Tag, has_role, same_tag, tag_named};
 
 /// The first argument in a role.
 pub(crate) fn argument_in<'a>(row: &Row, wanted: Role, args: &'a [Argument]) -> Option<&'a Argument>
     ensures { option_map (λ a. argument_of a.now) result ≡ in_role wanted (labels_in row.now args.now) (map argument_of args.now) }
 {
-    let mut expected = row_expected(row, args);
+    let mut expected = row_expected::<AsParts>(row, args);
     for argument in args {
-        let shape = shape_of(row.tags, argument);
+        let shape = shape_of::<AsParts>(row.tags, argument);
         if has_role(wanted, role_of(expected.label(shape))) {
             return Some(argument);
         }

@@ -11,7 +11,6 @@ mod reading;
 mod role;
 mod shape;
 mod test_reading;
-mod tree;
 
 pub use command_reading::{kind_of, read_command};
 pub use given::literal_in_parts;
@@ -20,9 +19,9 @@ pub use reading::{
     Ask, CommandReading, FlagChange, Leaf, MatchType, Settings, TestReading, ValueSource,
 };
 pub use role::role_of;
-pub use shape::{TreeString, row_expected, row_is_filled, row_labels, shape_of};
+pub use shape::{AsOctets, AsParts, StringView, row_expected, row_is_filled, row_labels, shape_of};
 pub use sieve_base::{Place, SmallOctets};
+pub use sieve_syntax::{Argument, Command, Test, Tests, Text};
 pub use sieve_table::{CommandKind, TestKind};
 pub use sieve_variables::{LetterCase, Modifiers, Part, Parts, Variable};
 pub use test_reading::read_test;
-pub use tree::{Argument, Command, Test, Tests, Text};

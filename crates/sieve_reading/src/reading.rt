@@ -1,9 +1,9 @@
 //! What the commands and tests of a checked script are, with defaults filled in (RFC 5228, sections 3, 4 and 5).
 
-use crate::tree::Text;
 use match_text::Collation;
 use message_text::AddressPart;
 use sieve_base::Place;
+use sieve_syntax::Text;
 use sieve_variables::{Modifiers, Part, Variable};
 
 /// How a test compares values with keys (RFC 5228, section 2.7.1).

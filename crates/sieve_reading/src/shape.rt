@@ -1,4 +1,4 @@
-//! What the arguments of a tree look like, whatever its strings are, and what they are by that.
+//! What the arguments of a tree look like, however its strings are seen, and what they are by that.
 ghost use Rattle.std.specs.Prelude.{◌≡◌, IfOk, map};
 ghost use Rattle.sieve_syntax.specs.view.TreeOf.{argument_of};
 ghost use Rattle.sieve_reading.specs.Label.{expecting, fills, row_is_filled, labels_from, slots_of};
@@ -7,21 +7,28 @@ ghost use Rattle.sieve_reading.specs.view.Expected.{expected_as};
 ghost use Rattle.sieve_table.specs.view.Row.{row_as};
 
 use crate::label::{Expected, Label, Shape, is_unfit};
-use sieve_base::SmallOctets;
 use sieve_syntax::Argument;
 use sieve_table::{Row, Tag, tag_named};
-use sieve_variables::Parts;
 use std::alloc::{AllocError, Global};
 
-/// What a string of a tree is: octets in that of a text, parts in that of a checked script.
-pub trait TreeString {
-    // what it stands for
+/// What contracts see the strings of a tree as.
+pub trait StringView {
+    ghost use Rattle.smallvec.specs.SmallVec.{SmallVec};
+    ghost use Rattle.sieve_variables.specs.declared.part.Part.{Part};
+
+    // what a string stands for
     ghost Seen: { Type 0 };
 
-    ghost seen: { Self → Seen };
+    ghost seen: { SmallVec Part → Seen };
 }
 
-impl TreeString for SmallOctets {
+/// The strings of a text's tree: as octets.
+pub struct AsOctets;
+
+/// The strings of a checked script's tree: as parts.
+pub struct AsParts;
+
+impl StringView for AsOctets {
     ghost use Rattle.std.specs.Prelude.{ℕ, List};
     ghost use Rattle.sieve_syntax.specs.view.Tree.{octets_of};
 
@@ -30,7 +37,7 @@ impl TreeString for SmallOctets {
     ghost seen = { octets_of };
 }
 
-impl TreeString for Parts {
+impl StringView for AsParts {
     ghost use Rattle.std.specs.Prelude.{List};
     ghost use Rattle.sieve_reading.specs.view.Tree.{parts_of};
     ghost use Rattle.sieve_variables.specs.Part.{Part};
@@ -52,8 +59,8 @@ fn texts_shape(count: usize, bracketed: bool) -> Shape
 }
 
 /// What an argument looks like, where these tags are taken.
-pub fn shape_of<S: TreeString>(tags: &[Tag], argument: &Argument<S>) -> Shape
-    ensures { result ≡ shape_of tags.now (argument_of S.seen argument.now) }
+pub fn shape_of<V: StringView>(tags: &[Tag], argument: &Argument) -> Shape
+    ensures { result ≡ shape_of tags.now (argument_of V.seen argument.now) }
 {
     match argument {
         Argument::Strings { items, bracketed } => texts_shape(items.len(), *bracketed),
@@ -63,18 +70,18 @@ pub fn shape_of<S: TreeString>(tags: &[Tag], argument: &Argument<S>) -> Shape
 }
 
 /// What arguments are where these tags are taken.
-fn labels_from<S: TreeString>(
+fn labels_from<V: StringView>(
     alloc: Global,
     start: Expected<'_>,
     tags: &[Tag],
-    args: &[Argument<S>],
+    args: &[Argument],
 ) -> Result<Vec<Label>, AllocError>
-    ensures { IfOk result (λ labels. labels.items ≡ labels_from (expected_as start.entry) (shapes_of tags.now (map (argument_of S.seen) args.now))) }
+    ensures { IfOk result (λ labels. labels.items ≡ labels_from (expected_as start.entry) (shapes_of tags.now (map (argument_of V.seen) args.now))) }
 {
     let mut labels = Vec::new(alloc);
     let mut expected = start;
     for argument in args {
-        let shape = shape_of(tags, argument);
+        let shape = shape_of::<V>(tags, argument);
         labels.push(expected.label(shape))?;
         expected = expected.behind(shape);
     }
@@ -82,12 +89,12 @@ fn labels_from<S: TreeString>(
 }
 
 /// Whether the positional arguments are exactly those that are expected.
-fn fills<S: TreeString>(start: Expected<'_>, tags: &[Tag], args: &[Argument<S>]) -> bool
-    ensures { result ≡ fills (expected_as start.entry) (shapes_of tags.now (map (argument_of S.seen) args.now)) }
+fn fills<V: StringView>(start: Expected<'_>, tags: &[Tag], args: &[Argument]) -> bool
+    ensures { result ≡ fills (expected_as start.entry) (shapes_of tags.now (map (argument_of V.seen) args.now)) }
 {
     let mut expected = start;
     for argument in args {
-        let shape = shape_of(tags, argument);
+        let shape = shape_of::<V>(tags, argument);
         if is_unfit(expected.label(shape)) {
             return false;
         }
@@ -98,11 +105,11 @@ fn fills<S: TreeString>(start: Expected<'_>, tags: &[Tag], args: &[Argument<S>])
 
 /// What is expected of a row's arguments, at the first of them (RFC 5228, section 2.6): the positional argument in front too,
 /// where they are then exactly those.
-pub fn row_expected<'a, S: TreeString>(row: &Row, args: &[Argument<S>]) -> Expected<'a>
-    ensures { expected_as result ≡ expecting (slots_of (row_as row.now) (shapes_of row.now.tags.now (map (argument_of S.seen) args.now))) }
+pub fn row_expected<'a, V: StringView>(row: &Row, args: &[Argument]) -> Expected<'a>
+    ensures { expected_as result ≡ expecting (slots_of (row_as row.now) (shapes_of row.now.tags.now (map (argument_of V.seen) args.now))) }
 {
     let longer = Expected::new(row.front, row.slots);
-    if row.front.is_some() && fills(longer, row.tags, args) {
+    if row.front.is_some() && fills::<V>(longer, row.tags, args) {
         longer
     } else {
         Expected::new(None, row.slots)
@@ -110,19 +117,19 @@ pub fn row_expected<'a, S: TreeString>(row: &Row, args: &[Argument<S>]) -> Expec
 }
 
 /// What a row's arguments are, each by its label (RFC 5228, section 2.6).
-pub fn row_labels<S: TreeString>(
+pub fn row_labels<V: StringView>(
     alloc: Global,
     row: &Row,
-    args: &[Argument<S>],
+    args: &[Argument],
 ) -> Result<Vec<Label>, AllocError>
-    ensures { IfOk result (λ labels. labels.items ≡ row_labels (row_as row.now) (map (argument_of S.seen) args.now)) }
+    ensures { IfOk result (λ labels. labels.items ≡ row_labels (row_as row.now) (map (argument_of V.seen) args.now)) }
 {
-    labels_from(alloc, row_expected(row, args), row.tags, args)
+    labels_from::<V>(alloc, row_expected::<V>(row, args), row.tags, args)
 }
 
 /// Whether a row's positional arguments are there and no others (RFC 5228, section 2.6.1).
-pub fn row_is_filled<S: TreeString>(row: &Row, args: &[Argument<S>]) -> bool
-    ensures { result ≡ row_is_filled (row_as row.now) (shapes_of row.now.tags.now (map (argument_of S.seen) args.now)) }
+pub fn row_is_filled<V: StringView>(row: &Row, args: &[Argument]) -> bool
+    ensures { result ≡ row_is_filled (row_as row.now) (shapes_of row.now.tags.now (map (argument_of V.seen) args.now)) }
 {
-    fills(row_expected(row, args), row.tags, args)
+    fills::<V>(row_expected::<V>(row, args), row.tags, args)
 }

@@ -13,7 +13,7 @@ use crate::given::{
 };
 use crate::labelled::{argument_in, has_tag};
 use crate::reading::{Ask, TestReading, ValueSource};
-use crate::tree::{Argument, Test};
+use sieve_syntax::{Argument, Test};
 use sieve_table::{Role, Row, Tag, TestKind, test_named};
 
 /// From where a `header` test takes its values.

@@ -4,6 +4,7 @@ use Rattle.std.specs.declared.alloc.Global.{Global}
 use Rattle.std.specs.declared.boxed.Box.{Box}
 use Rattle.std.specs.declared.vec.Vec.{Vec}
 use Rattle.smallvec.specs.SmallVec.{SmallVec}
+use Rattle.sieve_variables.specs.declared.part.Part as parts
 use Rattle.sieve_syntax.specs.TreeOf.{Node, Test, Tests, no_tests, node, one_test, test, test_list, tests}
 use Rattle.sieve_syntax.specs.view.TreeOf.{block_of, argument_of, command_step, node_of, test_of, test_step, tests_of, tests_step}
 use Rattle.sieve_syntax.specs.declared.tree.Argument as arguments
@@ -15,35 +16,35 @@ use Rattle.sieve_syntax.specs.declared.tree.Tests.TheFolds as test_folds
 use Rattle.sieve_syntax.specs.declared.tree.Tests.TheOpen as test_layers
 use Rattle.sieve_syntax.specs.declared.tree.Tests.TheVariants as test_variants
 
-module _ {S V : Type 0} (view : S → V) where
+module _ {V : Type 0} (view : SmallVec parts.Part → V) where
   pub none_seen : tests_of view test_variants.None ≡ no_tests
-  none_seen = ap (tests_of view) (sym test_variants.rolls-None) ∙ test_folds.fold-roll-Tests S (Tests V) (Test V) tests_step (test_step view) test_layers.None
+  none_seen = ap (tests_of view) (sym test_variants.rolls-None) ∙ test_folds.fold-roll-Tests (Tests V) (Test V) tests_step (test_step view) test_layers.None
 
-  pub one_seen : (t : Box (one_tests.Test S) Global) → tests_of view (test_variants.One t) ≡ one_test (test_of view t.value)
-  one_seen t = ap (tests_of view) (sym (test_variants.rolls-One t)) ∙ test_folds.fold-roll-Tests S (Tests V) (Test V) tests_step (test_step view) (test_layers.One t)
+  pub one_seen : (t : Box one_tests.Test Global) → tests_of view (test_variants.One t) ≡ one_test (test_of view t.value)
+  one_seen t = ap (tests_of view) (sym (test_variants.rolls-One t)) ∙ test_folds.fold-roll-Tests (Tests V) (Test V) tests_step (test_step view) (test_layers.One t)
 
-  pub list_seen : (ts : Vec (one_tests.Test S) Global) → tests_of view (test_variants.List ts) ≡ test_list (tests (map (test_of view) ts.items))
-  list_seen ts = ap (tests_of view) (sym (test_variants.rolls-List ts)) ∙ test_folds.fold-roll-Tests S (Tests V) (Test V) tests_step (test_step view) (test_layers.List ts)
+  pub list_seen : (ts : Vec one_tests.Test Global) → tests_of view (test_variants.List ts) ≡ test_list (tests (map (test_of view) ts.items))
+  list_seen ts = ap (tests_of view) (sym (test_variants.rolls-List ts)) ∙ test_folds.fold-roll-Tests (Tests V) (Test V) tests_step (test_step view) (test_layers.List ts)
 
-  pub seen_test : (t : one_tests.Test S) → test_of view t ≡ test t.name.items t.line (map (argument_of view) t.args.items) (tests_of view t.tests)
-  seen_test t = test_folds.fold_out-Test S (Tests V) (Test V) tests_step (test_step view) t
+  pub seen_test : (t : one_tests.Test) → test_of view t ≡ test t.name.items t.line (map (argument_of view) t.args.items) (tests_of view t.tests)
+  seen_test t = test_folds.fold_out-Test (Tests V) (Test V) tests_step (test_step view) t
 
   -- the tests behind arguments, by whether they are none, one or a list
-  pub seen_none : (ts : test_variants.the_data S) → ts ≡ test_variants.None → tests_of view ts ≡ no_tests
+  pub seen_none : (ts : test_variants.the_data) → ts ≡ test_variants.None → tests_of view ts ≡ no_tests
   seen_none ts is = ap (tests_of view) is ∙ none_seen
 
-  pub seen_one : (ts : test_variants.the_data S) (b : Box (one_tests.Test S) Global) (t : one_tests.Test S) → ts ≡ test_variants.One b → t ≡ b.value → tests_of view ts ≡ one_test (test_of view t)
+  pub seen_one : (ts : test_variants.the_data) (b : Box one_tests.Test Global) (t : one_tests.Test) → ts ≡ test_variants.One b → t ≡ b.value → tests_of view ts ≡ one_test (test_of view t)
   seen_one ts b t is same = ap (tests_of view) is ∙ one_seen b ∙ sym (ap (λ x. one_test (test_of view x)) same)
 
-  pub seen_list : (ts : test_variants.the_data S) (v : Vec (one_tests.Test S) Global) (list : List (one_tests.Test S)) → ts ≡ test_variants.List v → list ≡ v.items → tests_of view ts ≡ test_list (tests (map (test_of view) list))
+  pub seen_list : (ts : test_variants.the_data) (v : Vec one_tests.Test Global) (list : List one_tests.Test) → ts ≡ test_variants.List v → list ≡ v.items → tests_of view ts ≡ test_list (tests (map (test_of view) list))
   seen_list ts v list is same = ap (tests_of view) is ∙ list_seen v ∙ sym (ap (λ l. test_list (tests (map (test_of view) l))) same)
 
-  pub seen : (name : SmallVec ℕ) (line : ℕ) (args : Vec (arguments.Argument S) Global) (ts : test_variants.the_data S) (inner : Option (Vec (commands.Command S) Global)) → node_of view (command_views.roll-Command S (record { name = name; line = line; args = args; tests = ts; block = inner })) ≡ node name.items line (map (argument_of view) args.items) (tests_of view ts) (block_of view inner)
-  seen name line args ts None = command_folds.fold-roll-Command S (Node V) (command_step view) (record { name = name; line = line; args = args; tests = ts; block = None })
-  seen name line args ts (Some v) = command_folds.fold-roll-Command S (Node V) (command_step view) (record { name = name; line = line; args = args; tests = ts; block = Some v })
+  pub seen : (name : SmallVec ℕ) (line : ℕ) (args : Vec arguments.Argument Global) (ts : test_variants.the_data) (inner : Option (Vec commands.Command Global)) → node_of view (command_views.roll-Command (record { name = name; line = line; args = args; tests = ts; block = inner })) ≡ node name.items line (map (argument_of view) args.items) (tests_of view ts) (block_of view inner)
+  seen name line args ts None = command_folds.fold-roll-Command (Node V) (command_step view) (record { name = name; line = line; args = args; tests = ts; block = None })
+  seen name line args ts (Some v) = command_folds.fold-roll-Command (Node V) (command_step view) (record { name = name; line = line; args = args; tests = ts; block = Some v })
 
   -- a command, by its parts
-  pub seen_command : (c : commands.Command S) → let o = command_views.out-Command S c in node_of view c ≡ node o.name.items o.line (map (argument_of view) o.args.items) (tests_of view o.tests) (block_of view o.block)
+  pub seen_command : (c : commands.Command) → let o = command_views.out-Command c in node_of view c ≡ node o.name.items o.line (map (argument_of view) o.args.items) (tests_of view o.tests) (block_of view o.block)
   seen_command c =
-      let o = command_views.out-Command S c in
-      ap (node_of view) (sym (command_views.roll-out-Command S c)) ∙ seen o.name o.line o.args o.tests o.block
+      let o = command_views.out-Command c in
+      ap (node_of view) (sym (command_views.roll-out-Command c)) ∙ seen o.name o.line o.args o.tests o.block

@@ -19,4 +19,4 @@ mod white;
 
 pub use parser::{SyntaxFault, parse};
 pub use token::{Token, TokenKind, tokens};
-pub use tree::{Argument, Command, ParsedScript, Test, Tests, Text};
+pub use tree::{Argument, Command, ParsedScript, Test, Tests, Text, octets_in};

@@ -105,10 +105,7 @@ fn in_arguments(
     match symbol {
         Symbol::String { octets, line } => {
             let mut items = Vec::with_capacity(alloc, 1)?;
-            items.push(Text {
-                string: octets,
-                line,
-            })?;
+            items.push(Text::written(alloc, octets, line))?;
             let argument = Argument::Strings {
                 items,
                 bracketed: false,
@@ -160,16 +157,18 @@ fn open_list(alloc: Global, outer: &mut Outer, head: Head) -> Result<ParserState
 
 /// In a list of strings, where a string has to come.
 #[tactic(auto, unfolding(crate::specs::Machine::step))]
-fn before_string(head: Head, items: Vec<Text>, symbol: Symbol) -> Result<ParserState, Stop>
+fn before_string(
+    alloc: Global,
+    head: Head,
+    items: Vec<Text>,
+    symbol: Symbol,
+) -> Result<ParserState, Stop>
     ensures { (outer : Outer) → Advances outer result (step test_depth block_room (Machine.before_string (outer_value outer) (levels_value outer.levels.items) (head_value head) (map text_of items.items)) (symbol_as symbol)) }
 {
     match symbol {
         Symbol::String { octets, line } => {
             let mut items = items;
-            items.push(Text {
-                string: octets,
-                line,
-            })?;
+            items.push(Text::written(alloc, octets, line))?;
             Ok(ParserState::AfterString(head, items))
         }
         _ => Err(Stop::Fault),
@@ -295,7 +294,7 @@ pub(crate) fn step(
     match state {
         ParserState::Between => between(alloc, outer, symbol),
         ParserState::Arguments(head) => in_arguments(alloc, outer, head, symbol),
-        ParserState::BeforeString(head, items) => before_string(head, items, symbol),
+        ParserState::BeforeString(head, items) => before_string(alloc, head, items, symbol),
         ParserState::AfterString(head, items) => after_string(head, items, symbol),
         ParserState::BeforeTest => before_test(alloc, symbol),
         ParserState::AfterTests(head, tests) => close(alloc, outer, head, tests, symbol),

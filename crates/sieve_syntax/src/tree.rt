@@ -1,7 +1,13 @@
-//! The generic tree of a script (RFC 5228, section 8.2), over what its strings are: in the tree of a text, the octets that they
-//! stand for. A line is one plus the number of LF before it.
+//! The generic tree of a script (RFC 5228, section 8.2). In the tree of a text a string is one literal, the octets that it stands
+//! for; the validator cuts it into parts where it stands. A line is one plus the number of LF before it.
+
+ghost use Rattle.std.specs.Prelude.{◌≡◌, map};
+ghost use Rattle.sieve_syntax.specs.view.Tree.{literal_octets, text_of};
+ghost use Rattle.sieve_variables.specs.view.Part.{part_of};
 
 use sieve_base::SmallOctets;
+use sieve_variables::{Part, Parts};
+use std::alloc::Global;
 
 /// A whole script of a text: its commands in the order of the text.
 #[derive(Drop)]
@@ -11,62 +17,83 @@ pub struct ParsedScript {
 
 /// A command, with its arguments, its tests and its block (RFC 5228, section 2.9).
 #[derive(Drop)]
-pub struct Command<S = SmallOctets> {
+pub struct Command {
     /// The identifier, as it is written. Case doesn't matter to Sieve.
     pub name: SmallOctets,
     /// The line of the identifier.
     pub line: u64,
-    pub args: Vec<Argument<S>>,
-    pub tests: Tests<S>,
+    pub args: Vec<Argument>,
+    pub tests: Tests,
     /// The commands between `{` and `}`, or `None` where the command ends by `;`.
-    pub block: Option<Vec<Command<S>>>,
+    pub block: Option<Vec<Command>>,
 }
 
 /// A test, with its arguments and its own tests (RFC 5228, section 2.5).
 #[derive(Drop)]
 #[cycle(tests)]
-pub struct Test<S = SmallOctets> {
+pub struct Test {
     /// The identifier, as it is written. Case doesn't matter to Sieve.
     pub name: SmallOctets,
     /// The line of the identifier.
     pub line: u64,
-    pub args: Vec<Argument<S>>,
-    pub tests: Tests<S>,
+    pub args: Vec<Argument>,
+    pub tests: Tests,
 }
 
 /// The tests that stand behind the arguments of a command or a test.
 #[derive(Drop)]
 #[cycle(tests)]
-pub enum Tests<S = SmallOctets> {
+pub enum Tests {
     None,
-    One(Box<Test<S>>),
+    One(Box<Test>),
     /// The tests of a list in parentheses, one or more.
-    List(Vec<Test<S>>),
+    List(Vec<Test>),
 }
 
 /// An argument (RFC 5228, section 2.6).
 #[derive(Drop)]
-pub enum Argument<S = SmallOctets> {
+pub enum Argument {
     /// A list of one or more strings in brackets, or one string without brackets.
-    Strings {
-        items: Vec<Text<S>>,
-        bracketed: bool,
-    },
+    Strings { items: Vec<Text>, bracketed: bool },
     /// A number with its unit multiplied in, or `None` where it is past `u64::MAX`, and its line.
-    Number {
-        value: Option<u64>,
-        line: u64,
-    },
+    Number { value: Option<u64>, line: u64 },
     /// A tag without its colon, as it is written, and the line of the colon.
-    Tag {
-        name: SmallOctets,
-        line: u64,
-    },
+    Tag { name: SmallOctets, line: u64 },
 }
 
-/// A string: what it is, and the line where it begins.
+/// A string: its parts in order, and the line where it begins. What the parts stand for, joined, is what the string stands for.
 #[derive(Drop)]
-pub struct Text<S = SmallOctets> {
-    pub string: S,
+pub struct Text {
+    pub string: Parts,
     pub line: u64,
+}
+
+impl Text {
+    /// A string of a text's tree.
+    pub(crate) fn written(alloc: Global, octets: SmallOctets, line: u64) -> Text
+        ensures { text_of result ≡ record { string = octets.items; line = line } }
+    {
+        Text {
+            string: Parts::from_buf(alloc, [Part::Literal(octets)]),
+            line,
+        }
+    }
+
+    /// The octets that a string of a text's tree stands for. Takes no memory.
+    pub fn octets(&self) -> &[u8]
+        ensures { result.now ≡ (text_of self.now).string }
+    {
+        octets_in(&self.string)
+    }
+}
+
+/// The octets that parts stand for that are one literal, as those of each string of a text's tree; others stand for none here. Takes no
+/// memory.
+pub fn octets_in(parts: &[Part]) -> &[u8]
+    ensures { result.now ≡ literal_octets (map part_of parts.now) }
+{
+    match parts {
+        [Part::Literal(octets)] => octets.as_slice(),
+        _ => &[],
+    }
 }

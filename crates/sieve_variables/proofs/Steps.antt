@@ -1,5 +1,5 @@
 -- What a piece adds to what is found in a text, and to its parts.
-use Rattle.std.proofs.Common.{◌≡◌, ℕ, zero, suc, ◌+◌, ◌<◌, ◌≤◌, Bool, true, false, ◌||◌, not, cond, List, [], ◌∷◌, ◌++◌, length, take, drop, None, Some, refl, sym, ◌∙◌, ap, append_assoc, arith}
+use Rattle.std.proofs.Common.{◌≡◌, ℕ, zero, suc, ◌+◌, ◌<◌, ◌≤◌, Bool, true, false, ◌||◌, not, cond, List, [], ◌∷◌, ◌++◌, length, take, drop, Option, None, Some, refl, sym, ◌∙◌, ap, append_assoc, arith}
 use Rattle.std.specs.List.{list_any}
 use Rattle.std.proofs.Math.Seq.{take-add, take-append_seam}
 use Rattle.std.proofs.lemmas.Bool.{false≢true}
@@ -7,7 +7,7 @@ use Rattle.std.proofs.lemmas.List.{drop-drop}
 use Rattle.sieve_variables.specs.Name.{folded_name, index_of, is_identifier}
 use Rattle.sieve_variables.specs.Part.{Part, global_part, grouped, is_shared, literal, local_part, match_part, octet_before, part_of_words, variable_part}
 use Rattle.sieve_variables.specs.Reference.{TextPiece, octet, reference, written}
-use Rattle.sieve_variables.specs.Scan.{inside_at, is_foreign, parts_of_text, pieces_from, words_of}
+use Rattle.sieve_variables.specs.Scan.{has_reference, inside_at, is_foreign, is_reference, parts_of_text, pieces_from, words_of}
 use Rattle.sieve_variables.specs.Variable.{Variable, global_variable, local_variable}
 use Rattle.sieve_variables.specs.view.Part.{added, literal_part}
 use Rattle.sieve_variables.proofs.Cut.{inside_written, length-written, pieces-octet, pieces-reference}
@@ -79,6 +79,17 @@ literal_more c (d ∷ octets) = refl
 none_left : parts_of_text [] ≡ []
 unfolding pieces_from
 none_left = refl
+
+-- a text without a reference is one literal, or no part where it is empty
+pub plain_parts : (text : List ℕ) → has_reference text ≡ false → parts_of_text text ≡ literal_part text
+plain_parts [] none = none_left
+plain_parts (c ∷ rest) none = by_first (inside_at (c ∷ rest)) refl (plain_parts rest)
+  where
+    by_first : (found : Option (List ℕ)) → inside_at (c ∷ rest) ≡ found → (has_reference rest ≡ false → parts_of_text rest ≡ literal_part rest) → parts_of_text (c ∷ rest) ≡ literal_part (c ∷ rest)
+    by_first None is behind =
+        let cut = pieces-octet c rest is in
+        ap grouped cut ∙ ap (octet_before c) (behind (sym (ap (list_any is_reference) cut) ∙ none)) ∙ literal_more c rest
+    by_first (Some inside) is behind = absurd (false≢true (sym none ∙ ap (list_any is_reference) (pieces-reference c rest inside is)))
 
 pub last_step : (left : List ℕ) (plain : ℕ) → length left ≤ plain → in_front (take plain left) (parts_of_text (drop plain left)) ≡ literal_part left
 last_step [] zero ended = none_left

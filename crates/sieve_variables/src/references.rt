@@ -58,6 +58,7 @@ pub fn parts_of_text(alloc: Global, text: &[u8]) -> Result<Parts, AllocError>
 /// What references the text has.
 pub fn references_in(text: &[u8]) -> References
     ensures any { result.any ≡ spec.has_reference text.now }
+    ensures plain { result.any ≡ false → spec.parts_of_text text.now ≡ literal_part text.now }
     ensures namespaced { result.namespaced ≡ spec.has_namespace text.now }
     ensures foreign { result.foreign ≡ spec.has_foreign_namespace text.now }
     ensures far { result.far ≡ spec.has_far_index text.now }

@@ -1,7 +1,7 @@
 //! Variables by their names (RFC 5229, section 3; RFC 6609, section 3.4).
 ghost use Rattle.sieve_base.specs.Octet.{is_among};
 ghost use Rattle.std.specs.Prelude.{◌≡◌, [], IfOk, IsOk, OnErr, OnOk, true};
-ghost use Rattle.sieve_variables.specs.Variable.{scoped, variable_named, with_name};
+ghost use Rattle.sieve_variables.specs.Variable.{scoped, variable_named, with_name, with_names};
 ghost use Rattle.sieve_variables.specs.view.Part.{variable_of};
 
 use crate::name::{folded, global_name};
@@ -108,5 +108,15 @@ impl Names {
             Ok(_) => Ok(()),
             Err(_) => Err(AllocError),
         }
+    }
+
+    /// Adds other names, in their order.
+    pub fn add_all(&mut self, alloc: Global, others: &Names) -> Result<(), AllocError>
+        ensures { OnOk result (self.new ≡ with_names others.now self.old) }
+    {
+        for name in others.names.as_slice() {
+            self.add(alloc, name.as_slice())?;
+        }
+        Ok(())
     }
 }

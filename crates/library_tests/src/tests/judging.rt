@@ -100,14 +100,9 @@ fn check_both(rt: &impl Abort, commands: &[Command]) {
     }
 }
 
-/// The tree of a script that breaks no rule.
-fn checked_script(alloc: Global, script: &ParsedScript) -> Result<Checked, Fail> {
-    Ok(check(alloc, script)?)
-}
-
 /// The tree of a text that breaks no rule.
 fn checked_text(alloc: Global, text: &[u8]) -> Result<Checked, Fail> {
-    checked_script(alloc, &parse(alloc, text)?)
+    Ok(check(alloc, parse(alloc, text)?)?)
 }
 
 #[test]
@@ -171,7 +166,7 @@ fn a_header_test_has_its_strings(rt: HostRuntime) -> Result<(), Fail> {
 }
 
 /// Compares the rule that a script breaks first, and its line.
-fn check_breach(rt: &(impl AllocGlobal + Abort), script: &ParsedScript, line: u64, rule: Rule) {
+fn check_breach(rt: &(impl AllocGlobal + Abort), script: ParsedScript, line: u64, rule: Rule) {
     match check(rt.alloc(), script) {
         Err(fault) => holds(rt, "a breach", fault == CheckFault::Breach { line, rule }),
         Ok(_) => panic!(rt; "no breach"),
@@ -181,7 +176,7 @@ fn check_breach(rt: &(impl AllocGlobal + Abort), script: &ParsedScript, line: u6
 #[test]
 fn a_breach_has_its_line_and_rule(rt: HostRuntime) -> Result<(), Fail> {
     let script = parse(rt.alloc(), b"keep;\nstop {}\nkep;")?;
-    check_breach(&rt, &script, 2, Rule::BadArguments);
+    check_breach(&rt, script, 2, Rule::BadArguments);
     same(&rt, "its word", Rule::BadArguments.word(), b"bad-arguments");
     Ok(())
 }

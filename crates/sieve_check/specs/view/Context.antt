@@ -5,7 +5,7 @@ use Rattle.sieve_check.specs.Scope.{Scope}
 use Rattle.sieve_check.specs.declared.context.Context as contexts
 use Rattle.sieve_check.specs.declared.context.Required as requireds
 use Rattle.sieve_check.specs.declared.context.Spot as spots
-use Rattle.sieve_check.specs.declared.copying.Cutting as cuttings
+use Rattle.sieve_check.specs.declared.cutting.Cutting as cuttings
 
 abbrev pub required_as : requireds.Required → Required
 required_as r = record { fileinto = r.fileinto; envelope = r.envelope; variables = r.variables; imap4flags = r.imap4flags; include = r.include; copy = r.copy }

@@ -12,24 +12,24 @@ use Rattle.sieve_table.specs.declared.table.CommandKind.{CommandKind}
 use Rattle.smallvec.specs.SmallVec.{SmallVec}
 
 -- a test and its arguments
-abbrev pub test_head : Context → one_tests.Test (SmallVec ℕ) → List Element
-test_head context t = let o = one_tests.out-Test (SmallVec ℕ) t in the_test context o.name.items o.line (map argument_of o.args.items) (tests_of o.tests) ∷ test_arguments context (test_named o.name.items) (map argument_of o.args.items) (tests_of o.tests)
+abbrev pub test_head : Context → one_tests.Test → List Element
+test_head context t = let o = one_tests.out-Test t in the_test context o.name.items o.line (map argument_of o.args.items) (tests_of o.tests) ∷ test_arguments context (test_named o.name.items) (map argument_of o.args.items) (tests_of o.tests)
 
 -- a command and its arguments
-abbrev pub command_head : Context → commands.Command (SmallVec ℕ) → List Element
-command_head context c = let o = commands.out-Command (SmallVec ℕ) c in the_command context o.name.items o.line (map argument_of o.args.items) (tests_of o.tests) (block_of o.block) ∷ command_arguments context (command_named o.name.items) (map argument_of o.args.items) (tests_of o.tests) (block_of o.block)
+abbrev pub command_head : Context → commands.Command → List Element
+command_head context c = let o = commands.out-Command c in the_command context o.name.items o.line (map argument_of o.args.items) (tests_of o.tests) (block_of o.block) ∷ command_arguments context (command_named o.name.items) (map argument_of o.args.items) (tests_of o.tests) (block_of o.block)
 
 -- a command, its arguments and its tests
-abbrev pub command_front : Context → commands.Command (SmallVec ℕ) → List Element
-command_front context c = command_head context c ++ tests_elements context (tests_of (commands.out-Command (SmallVec ℕ) c).tests)
+abbrev pub command_front : Context → commands.Command → List Element
+command_front context c = command_head context c ++ tests_elements context (tests_of (commands.out-Command c).tests)
 
 -- behind a command and before its block
-abbrev pub behind_front : Context → commands.Command (SmallVec ℕ) → Context
-behind_front context c = let o = commands.out-Command (SmallVec ℕ) c in behind_kind context (command_named o.name.items) (map argument_of o.args.items)
+abbrev pub behind_front : Context → commands.Command → Context
+behind_front context c = let o = commands.out-Command c in behind_kind context (command_named o.name.items) (map argument_of o.args.items)
 
 -- the rules that a command of a kind breaks itself, and then those of its arguments
-abbrev pub kind_found : Context → CommandKind → commands.Command (SmallVec ℕ) → List Breach
+abbrev pub kind_found : Context → CommandKind → commands.Command → List Breach
 kind_found context kind c =
-    let o = commands.out-Command (SmallVec ℕ) c in
+    let o = commands.out-Command c in
     breaches_by (command_breaks context (Some kind) (map argument_of o.args.items) (tests_of o.tests) (block_of o.block)) o.line all_rules
     ++ breaches_in (command_arguments context (Some kind) (map argument_of o.args.items) (tests_of o.tests) (block_of o.block))

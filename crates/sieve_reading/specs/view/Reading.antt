@@ -17,11 +17,9 @@ use Rattle.sieve_reading.specs.declared.reading.ValueSource.TheVariants as sourc
 use Rattle.sieve_reading.specs.declared.reading.TestReading.{TestReading}
 use Rattle.sieve_reading.specs.declared.reading.TestReading.TheVariants.{Always, Never, Asks, AllOf, AnyOf, Not}
 use Rattle.sieve_syntax.specs.declared.tree.Text.{Text}
-use Rattle.sieve_variables.specs.declared.part.Part as parts
-use Rattle.smallvec.specs.SmallVec.{SmallVec}
 
 -- strings, each as its parts
-abbrev pub texts_as : List (Text (SmallVec parts.Part)) → List (List Part)
+abbrev pub texts_as : List Text → List (List Part)
 texts_as texts = map (λ t. t.string) (map text_of texts)
 
 abbrev pub source_as : ValueSource → reading.ValueSource

@@ -17,20 +17,20 @@ use Rattle.sieve_variables.specs.view.Part.{part_of}
 abbrev pub parts_of : SmallVec parts.Part → List Part
 parts_of parts = map part_of parts.items
 
-abbrev pub text_of : texts.Text (SmallVec parts.Part) → Text
+abbrev pub text_of : texts.Text → Text
 text_of = by.text_of parts_of
 
-abbrev pub argument_of : arguments.Argument (SmallVec parts.Part) → Argument
+abbrev pub argument_of : arguments.Argument → Argument
 argument_of = by.argument_of parts_of
 
-abbrev pub tests_of : some_tests.Tests (SmallVec parts.Part) → Tests
+abbrev pub tests_of : some_tests.Tests → Tests
 tests_of = by.tests_of parts_of
 
-abbrev pub test_of : one_tests.Test (SmallVec parts.Part) → Test
+abbrev pub test_of : one_tests.Test → Test
 test_of = by.test_of parts_of
 
-abbrev pub node_of : commands.Command (SmallVec parts.Part) → Node
+abbrev pub node_of : commands.Command → Node
 node_of = by.node_of parts_of
 
-abbrev pub block_of : Option (Vec (commands.Command (SmallVec parts.Part)) Global) → Block
+abbrev pub block_of : Option (Vec commands.Command Global) → Block
 block_of = by.block_of parts_of

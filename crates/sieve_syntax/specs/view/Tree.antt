@@ -1,5 +1,5 @@
 -- The program's tree of a text.
-use Rattle.std.specs.Prelude.{ℕ, List, Option, map}
+use Rattle.std.specs.Prelude.{ℕ, List, [], ◌∷◌, Option, map}
 use Rattle.std.specs.declared.alloc.Global.{Global}
 use Rattle.std.specs.declared.vec.Vec.{Vec}
 use Rattle.smallvec.specs.SmallVec.{SmallVec}
@@ -11,27 +11,38 @@ use Rattle.sieve_syntax.specs.declared.tree.Test as one_tests
 use Rattle.sieve_syntax.specs.declared.tree.Tests as some_tests
 use Rattle.sieve_syntax.specs.declared.tree.Text as texts
 use Rattle.sieve_syntax.specs.view.TreeOf as by
+use Rattle.sieve_variables.specs.Part.{Part, literal, variable_part, match_part}
+use Rattle.sieve_variables.specs.declared.part.Part as parts
+use Rattle.sieve_variables.specs.view.Part.{part_of}
 
-abbrev pub octets_of : SmallVec ℕ → List ℕ
-octets_of octets = octets.items
+-- the octets of a string that is one literal, as each string of a text's tree is
+abbrev pub literal_octets : List Part → List ℕ
+literal_octets [] = []
+literal_octets (literal octets ∷ []) = octets
+literal_octets (literal octets ∷ part ∷ parts) = []
+literal_octets (variable_part variable ∷ parts) = []
+literal_octets (match_part index ∷ parts) = []
 
-abbrev pub text_of : texts.Text (SmallVec ℕ) → Text
+abbrev pub octets_of : SmallVec parts.Part → List ℕ
+octets_of parts = literal_octets (map part_of parts.items)
+
+abbrev pub text_of : texts.Text → Text
 text_of = by.text_of octets_of
 
-abbrev pub argument_of : arguments.Argument (SmallVec ℕ) → Argument
+abbrev pub argument_of : arguments.Argument → Argument
 argument_of = by.argument_of octets_of
 
-abbrev pub tests_of : some_tests.Tests (SmallVec ℕ) → Tests
+abbrev pub tests_of : some_tests.Tests → Tests
 tests_of = by.tests_of octets_of
 
-abbrev pub test_of : one_tests.Test (SmallVec ℕ) → Test
+abbrev pub test_of : one_tests.Test → Test
 test_of = by.test_of octets_of
 
-abbrev pub node_of : commands.Command (SmallVec ℕ) → Node
+abbrev pub node_of : commands.Command → Node
 node_of = by.node_of octets_of
 
 abbrev pub nodes_of : scripts.ParsedScript → List Node
 nodes_of s = map node_of s.commands.items
 
-abbrev pub block_of : Option (Vec (commands.Command (SmallVec ℕ)) Global) → Block
+abbrev pub block_of : Option (Vec commands.Command Global) → Block
 block_of = by.block_of octets_of

@@ -34,7 +34,7 @@ fn print_number(out: &mut String, alloc: Global, number: u64) -> Result<(), Allo
 
 fn print_text(out: &mut String, alloc: Global, text: &Text) -> Result<(), AllocError> {
     out.push_str("\"")?;
-    print_octets(out, &text.string)?;
+    print_octets(out, text.octets())?;
     out.push_str("\"")?;
     print_number(out, alloc, text.line)
 }

@@ -7,4 +7,4 @@ use Rattle.sieve_reading.proofs.shape.fills.Given as goal
 
 -- the arguments that are left decide
 abbrev pub invariant-loop-argument : goal.invariant-loop-argument
-invariant-loop-argument g l = fills (expected_as l.expected) (shapes_of l.tags (map (argument_of g.S.TreeString.seen) (drop l.argument-index l.args))) ≡ fills (expected_as l.start) (shapes_of l.tags (map (argument_of g.S.TreeString.seen) l.args))
+invariant-loop-argument g l = fills (expected_as l.expected) (shapes_of l.tags (map (argument_of g.V.StringView.seen) (drop l.argument-index l.args))) ≡ fills (expected_as l.start) (shapes_of l.tags (map (argument_of g.V.StringView.seen) l.args))

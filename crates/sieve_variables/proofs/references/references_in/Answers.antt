@@ -1,7 +1,7 @@
-use Rattle.std.proofs.Common.{◌≡◌, ◌<◌, length, refl, arith}
+use Rattle.std.proofs.Common.{◌≡◌, ◌<◌, length, refl, sym, ◌∙◌, arith}
 use Rattle.std.proofs.lemmas.Bool.{eqb-false, eqb-true}
 use Rattle.sieve_variables.specs.Scan.{is_far, is_foreign, is_namespaced, is_reference}
-use Rattle.sieve_variables.proofs.Steps.{passed_all, passed_octet, passed_reference, true_once}
+use Rattle.sieve_variables.proofs.Steps.{passed_all, passed_octet, passed_reference, plain_parts, true_once}
 use Rattle.sieve_variables.proofs.references.references_in.Goals as goal
 
 pub loop-rest-preserved-in-None : goal.loop-rest-preserved-in-None
@@ -40,6 +40,11 @@ pub returns-clause-any : goal.returns-clause-any
 returns-clause-any c =
     let none : length c.loop-rest.rest.now ≡ 0 = grind (arith, eqb-true) in
     passed_all is_reference c.loop-rest.rest.now c.loop-rest.any _ none c.loop-rest.invariant.any
+
+pub returns-clause-plain : goal.returns-clause-plain
+returns-clause-plain c plain =
+    let none : length c.loop-rest.rest.now ≡ 0 = grind (arith, eqb-true) in
+    plain_parts c.args.text.now (sym (passed_all is_reference c.loop-rest.rest.now c.loop-rest.any _ none c.loop-rest.invariant.any) ∙ plain)
 
 pub returns-clause-namespaced : goal.returns-clause-namespaced
 returns-clause-namespaced c =
