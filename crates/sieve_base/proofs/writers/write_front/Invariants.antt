@@ -1,4 +1,4 @@
--- Each turn so far was interrupted, so nothing is written yet.
+-- Nothing is written by the tries so far, each of which was interrupted.
 use Rattle.std.proofs.Common.{[]}
 use Rattle.sieve_base.specs.Writers.{Wrote}
 use Rattle.sieve_base.proofs.writers.write_front.Given as goal

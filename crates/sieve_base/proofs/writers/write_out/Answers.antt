@@ -1,4 +1,4 @@
--- What one turn writes goes to the end of what is done.
+-- The octets that a turn writes go to the end of those that the turns before it wrote.
 use Rattle.std.proofs.Common.{take, ◌++◌}
 use Rattle.sieve_base.proofs.Writing.{front_moves, wrote_both}
 use Rattle.sieve_base.proofs.writers.write_out.Goals as goal

@@ -1,4 +1,4 @@
--- What is written when a piece fails is a front of the whole.
+-- What is written when the writing of a piece fails is a front of the text of all pieces.
 use Rattle.sieve_base.specs.Writers.{piece_text}
 use Rattle.sieve_base.proofs.Writing.{wrote_items_then_front_at, writes_failed}
 use Rattle.sieve_base.proofs.writers.write_pieces.Goals as goal

@@ -1,4 +1,4 @@
--- What is written when one of the three parts fails is a front of the whole.
+-- When the writing of one of the three parts of a quoted form fails, a front of the quoted form is written, and else all of it.
 use Rattle.std.proofs.Common.{◌++◌, codes}
 use Rattle.std.specs.List.{flat_map}
 use Rattle.sieve_base.specs.Writers.{quoted, octet_spelling}

@@ -1,4 +1,4 @@
--- What one turn writes goes to the end of what is done.
+-- The spelling that a turn writes goes to the end of the spelling that the turns before it wrote.
 use Rattle.std.proofs.Common.{take, ◌++◌, subst, sym}
 use Rattle.std.proofs.lemmas.Grind.{flat_map-append}
 use Rattle.sieve_base.specs.Writers.{Wrote, octet_spelling}

@@ -5,6 +5,6 @@ use Rattle.sieve_check.specs.Context.{nothing_required, required_from}
 use Rattle.sieve_check.specs.view.Context.{required_as}
 use Rattle.sieve_check.proofs.context.required_in.Given as goal
 
--- with what is named so far, the commands that are left require what all do
+-- the commands that are left require, with what the commands so far name, what all commands require
 abbrev pub invariant-loop-command : goal.invariant-loop-command
 invariant-loop-command l = required_from (required_as l.required) (nodes (map node_of (drop l.command-index l.commands))) ≡ required_from nothing_required (nodes (map node_of l.commands))

@@ -1,4 +1,4 @@
--- The law is the lemma.
+-- That the elements of a tree are in the order of its text is the lemma `in_text_order`.
 use Rattle.sieve_check.proofs.TextOrder.{in_text_order}
 use Rattle.sieve_check.proofs.laws.elements_are_in_text_order.Goals as goal
 

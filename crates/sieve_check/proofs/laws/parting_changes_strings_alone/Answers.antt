@@ -1,4 +1,4 @@
--- The law is the lemma.
+-- That cutting strings into parts changes nothing else of a tree is the lemma `tree_kept`.
 use Rattle.sieve_check.proofs.Bare.{tree_kept}
 use Rattle.sieve_check.proofs.laws.parting_changes_strings_alone.Goals as goal
 

@@ -1,4 +1,4 @@
--- What is written when the writing of a part fails is a front of what all the parts are written as.
+-- What is written when the writing of a part fails is a front of the text of all parts.
 use Rattle.sieve_base.proofs.Writing.{wrote_items_then_front_at, writes_failed}
 use Rattle.sieve_code.specs.view.Marked.{marked_part}
 use Rattle.sieve_code.proofs.dump_strings.write_marked_parts.Goals as goal

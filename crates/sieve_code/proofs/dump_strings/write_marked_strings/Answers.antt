@@ -1,4 +1,4 @@
--- What is written when the writing of a string fails is a front of what all the strings are written as.
+-- What is written when the writing of a string fails is a front of the text of all strings.
 use Rattle.sieve_base.proofs.Writing.{wrote_items_then_front_at, writes_failed}
 use Rattle.sieve_code.specs.view.Marked.{marked_string}
 use Rattle.sieve_code.proofs.dump_strings.write_marked_strings.Goals as goal

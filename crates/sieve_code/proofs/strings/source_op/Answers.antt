@@ -1,4 +1,4 @@
--- The strings of what is copied are the same.
+-- The copy of a source of values is the same source, with the same strings.
 use Rattle.std.proofs.Common.{ap, sym, ◌∙◌}
 use Rattle.sieve_reading.specs.Reading.{address_values, envelope_values, flag_values, header_values, string_values}
 use Rattle.sieve_reading.specs.view.Reading.{source_as}

@@ -4,7 +4,7 @@ use Rattle.sieve_effects.specs.declared.action.Action.TheVariants.{Store}
 use Rattle.sieve_effects.specs.view.Actions.{AreKnown}
 use Rattle.sieve_effects.proofs.actions.all_with_flags.Given as goal
 
--- the actions that are joined, and then those that are left, are all, with what is known of both
+-- the joined actions so far, and then those left, joined with the store, are all actions joined with it; of both the numbers of known flags hold, one for each joined action
 abbrev pub invariant-loop-there : goal.invariant-loop-there
 invariant-loop-there l =
     (l.joined.items ++ map (joined_with (Store l.mailbox l.flags)) l.there-iterator.rest.items ≡ map (joined_with (Store l.mailbox l.flags)) l.fn.actions.items)

@@ -5,7 +5,7 @@ use Rattle.sieve_effects.specs.view.FieldTests.{found_with, name_found}
 use Rattle.sieve_variables.specs.Value.{text_value}
 use Rattle.sieve_effects.proofs.field_values.find_by_names.Given as goal
 
--- the message stays, and the names that are left decide
+-- the message stays, and what the names that are left give is what all names give
 abbrev pub invariant-loop-i : goal.invariant-loop-i
 invariant-loop-i l =
     let find = name_found (found_with l.comparison) l.part (fields_of l.initial.fields) in

@@ -3,7 +3,7 @@ use Rattle.sieve_effects.specs.Matching.{first_some}
 use Rattle.sieve_effects.specs.view.FieldTests.{found_with, part_found}
 use Rattle.sieve_effects.proofs.field_values.find_in_addresses.Given as goal
 
--- the addresses that are left decide
+-- what the addresses that are left give is what all addresses give
 abbrev pub invariant-loop-address : goal.invariant-loop-address
 invariant-loop-address l =
     let find = part_found (found_with l.comparison) l.fn.part in

@@ -4,7 +4,7 @@ use Rattle.sieve_effects.specs.Matching.{first_some}
 use Rattle.sieve_effects.specs.view.FieldTests.{field_found, found_with}
 use Rattle.sieve_effects.proofs.field_values.find_in_fields.Given as goal
 
--- the message stays, and the fields that are left decide
+-- the message stays, and what the fields that are left give is what all fields give
 abbrev pub invariant-loop-start : goal.invariant-loop-start
 invariant-loop-start l =
     let find = field_found (found_with l.comparison) l.part l.name in

@@ -5,7 +5,7 @@ use Rattle.sieve_variables.specs.Value.{text_value}
 use Rattle.sieve_variables.specs.view.Part.{strings_of}
 use Rattle.sieve_effects.proofs.path_values.find_by_path_names.Given as goal
 
--- the names that are left decide
+-- what the names that are left give is what all names give
 abbrev pub invariant-loop-parts : goal.invariant-loop-parts
 invariant-loop-parts l =
     let find = path_name_found (found_with l.comparison) l.part l.envelope in

@@ -1,4 +1,4 @@
--- The laws are the lemmas.
+-- Each clause of the law on the labels of arguments is a lemma of `Labelling`.
 use Rattle.sieve_reading.specs.Label.{expecting, slots_of}
 use Rattle.sieve_reading.proofs.Labelling.{filled_one_by_one, own_labelled, positional_labelled, slots_in_turn, slots_meant, tags_labelled}
 use Rattle.sieve_reading.proofs.laws.arguments_are_tags_own_or_positional.Goals as goal

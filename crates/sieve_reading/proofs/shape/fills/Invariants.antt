@@ -5,6 +5,6 @@ use Rattle.sieve_reading.specs.Shape.{shapes_of}
 use Rattle.sieve_reading.specs.view.Expected.{expected_as}
 use Rattle.sieve_reading.proofs.shape.fills.Given as goal
 
--- the arguments that are left decide
+-- the arguments fill what is expected at the start exactly where those that are left fill what is still expected
 abbrev pub invariant-loop-argument : goal.invariant-loop-argument
 invariant-loop-argument g l = fills (expected_as l.expected) (shapes_of l.tags (map (argument_of g.V.StringView.seen) (drop l.argument-index l.args))) ≡ fills (expected_as l.start) (shapes_of l.tags (map (argument_of g.V.StringView.seen) l.args))

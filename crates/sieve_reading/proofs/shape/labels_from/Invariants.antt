@@ -5,6 +5,6 @@ use Rattle.sieve_reading.specs.Shape.{shapes_of}
 use Rattle.sieve_reading.specs.view.Expected.{expected_as}
 use Rattle.sieve_reading.proofs.shape.labels_from.Given as goal
 
--- the labels so far, and then those of the arguments that are left
+-- the labels so far, and then those of the arguments that are left, are the labels of all arguments
 abbrev pub invariant-loop-argument : goal.invariant-loop-argument
 invariant-loop-argument g l = labels_from (expected_as l.start) (shapes_of l.tags (map (argument_of g.V.StringView.seen) l.args)) ≡ l.labels.items ++ labels_from (expected_as l.expected) (shapes_of l.tags (map (argument_of g.V.StringView.seen) (drop l.argument-index l.args)))

@@ -4,6 +4,6 @@ use Rattle.sieve_check.specs.Context.{requiring_arguments}
 use Rattle.sieve_check.specs.view.Context.{required_as}
 use Rattle.sieve_check.proofs.context.Required.with_arguments.Given as goal
 
--- what the arguments that are left add
+-- what is required so far, with what the arguments that are left name, is what is required at the start with what all arguments name
 abbrev pub invariant-loop-argument : goal.invariant-loop-argument
 invariant-loop-argument l = requiring_arguments (required_as l.required) (map argument_of (drop l.argument-index l.args)) ≡ requiring_arguments (required_as l.fn.self) (map argument_of l.args)

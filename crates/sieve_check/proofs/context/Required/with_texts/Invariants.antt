@@ -4,6 +4,6 @@ use Rattle.sieve_check.specs.Context.{requiring_texts}
 use Rattle.sieve_check.specs.view.Context.{required_as}
 use Rattle.sieve_check.proofs.context.Required.with_texts.Given as goal
 
--- what the strings that are left add
+-- what is required so far, with what the strings that are left name, is what is required at the start with what all strings name
 abbrev pub invariant-loop-text : goal.invariant-loop-text
 invariant-loop-text l = requiring_texts (required_as l.required) (map text_of (drop l.text-index l.texts)) ≡ requiring_texts (required_as l.fn.self) (map text_of l.texts)

@@ -2,7 +2,7 @@ use Rattle.std.proofs.Common.{◌≡◌, length}
 use Rattle.sieve_code.specs.view.Branches.{last}
 use Rattle.sieve_code.proofs.tail.Tail.keep_last.Given as goal
 
--- the last operations, as many as are to be kept, are still those of the tail at the start
+-- the last `count` operations of the tail are the last `count` operations of the tail at the start
 abbrev pub invariant-loop-self : goal.invariant-loop-self
 invariant-loop-self l = last l.count l.self ≡ last l.count l.initial.self
 

@@ -2,7 +2,7 @@ use Rattle.std.proofs.Common.{◌≡◌, length}
 use Rattle.match_text.specs.Flags.{flags_in, flags_without}
 use Rattle.sieve_effects.proofs.actions.Actions.remove_text.Given as goal
 
--- without the flags of what is left of the text, the flags are those that are wanted
+-- the internal flags without those of the rest of the text are the flags at the start without those of the whole text, and the actions stay
 abbrev pub invariant-loop-flag : goal.invariant-loop-flag
 invariant-loop-flag l = record l.self { flags = flags_without l.self.flags (flags_in l.rest) } ≡ record l.initial.self { flags = flags_without l.initial.self.flags (flags_in l.text) }
 

@@ -5,7 +5,7 @@ use Rattle.sieve_variables.specs.Value.{text_value}
 use Rattle.sieve_variables.specs.view.Part.{strings_of}
 use Rattle.sieve_effects.proofs.comparison.Comparison.first_of_strings.Given as goal
 
--- the keys that are left decide
+-- what the value gives by the first key that it matches is decided by the keys that are left
 abbrev pub invariant-loop-parts : goal.invariant-loop-parts
 invariant-loop-parts l =
     let first = first_match l.self.match_type (fold_of l.self.collation) in

@@ -4,7 +4,7 @@ use Rattle.match_text.specs.Comparator.{fold_of}
 use Rattle.sieve_base.specs.view.Texts.{octets_of_each}
 use Rattle.sieve_effects.proofs.comparison.Comparison.first_of_texts.Given as goal
 
--- the keys that are left decide
+-- what the value gives by the first key that it matches is decided by the keys that are left
 abbrev pub invariant-loop-key : goal.invariant-loop-key
 invariant-loop-key l =
     let first = first_match l.self.match_type (fold_of l.self.collation) in
