@@ -1,6 +1,6 @@
--- The pieces of a text, and its flags, one after the other.
+-- The pieces of a text, and flags that are added one after the other.
 use Rattle.sieve_base.specs.Octet.{octet_of}
-use Rattle.std.proofs.Common.{◌≡◌, ℕ, ◌+◌, ◌<◌, true, false, cond, length, take, drop, get_or, List, [], ◌∷◌, ◌++◌, filter, SomeIndex, refl, sym, ap, subst, ◌∙◌, append-nil, append_assoc, arith, true≢false}
+use Rattle.std.proofs.Common.{◌≡◌, ℕ, ◌+◌, true, length, take, drop, get_or, List, [], ◌∷◌, ◌++◌, SomeIndex, refl, sym, ap, subst, ◌∙◌, append_assoc, arith}
 use Rattle.std.specs.List.{All, position_or_len}
 use Rattle.std.proofs.lemmas.Bool.{false_from_ne_true}
 use Rattle.std.proofs.lemmas.List.{get_or_default, length-append}
@@ -9,7 +9,7 @@ use Rattle.std.proofs.lemmas.List.Splits.{slice_split_first, slice_split_none}
 use Rattle.std.proofs.lemmas.List.Sums.{position_or_len_is}
 use Rattle.std.proofs.Math.Seq.{get_or-append_seam, take-append_seam}
 use Rattle.memchr.specs.Find.{NoneBefore, Nowhere, Passes, is_byte}
-use Rattle.match_text.specs.Flags.{flag_union, flags_in, has_flag, is_flag, is_space, pieces}
+use Rattle.match_text.specs.Flags.{flag_union, has_flag, is_space, pieces}
 use Rattle.match_text.proofs.FlagLists.{union_append, union_keeps, union_nil}
 
 -- PIECES
@@ -31,27 +31,6 @@ pieces_some text k first space =
     position_or_len_is is_space text k 0 (omega arith) (λ j below. false_from_ne_true _ (λ is. first.before j (omega arith) below is)) (λ _. space) in
     slice_split_first is_space text 0 (omega (arith, at)) ∙ ap (λ n. take n text ∷ pieces (drop (n + 1) text)) at
 
--- FLAGS
-
--- the flags of a text are its first piece, where this is a flag, and the flags behind it
-pub flag_first : (text piece rest : List ℕ) → pieces text ≡ piece ∷ pieces rest → is_flag piece ≡ true → flags_in text ≡ piece ∷ flags_in rest
-flag_first text piece rest cut is = ap (filter is_flag) cut ∙ ap (λ b. cond b (piece ∷ flags_in rest) (flags_in rest)) is
-
-pub no_flag_first : (text piece rest : List ℕ) → pieces text ≡ piece ∷ pieces rest → is_flag piece ≡ false → flags_in text ≡ flags_in rest
-no_flag_first text piece rest cut is = ap (filter is_flag) cut ∙ ap (λ b. cond b (piece ∷ flags_in rest) (flags_in rest)) is
-
--- a text of one piece is a flag, or has none
-pub flag_alone : (text : List ℕ) → pieces text ≡ text ∷ [] → is_flag text ≡ true → flags_in text ≡ text ∷ flags_in []
-flag_alone text cut is = ap (filter is_flag) cut ∙ ap (λ b. cond b (text ∷ []) []) is
-
-pub no_flag_alone : (text : List ℕ) → pieces text ≡ text ∷ [] → is_flag text ≡ false → flags_in text ≡ []
-no_flag_alone text cut is = ap (filter is_flag) cut ∙ ap (λ b. cond b (text ∷ []) []) is
-
--- a flag has octets
-pub flag_filled : (text : List ℕ) → is_flag text ≡ true → 0 < length text
-flag_filled [] is = absurd (true≢false (sym is))
-flag_filled (b ∷ text) is = omega arith
-
 -- FLAGS THAT ARE ADDED IN TURN
 
 -- the flags in front of those that are left have been added
@@ -67,9 +46,6 @@ added_more all left rest flag old new newer next made (done, cut, is) = (
   cut ∙ ap (λ l. done ++ l) next ∙ sym (append_assoc done (flag ∷ []) rest),
   made ∙ ap (λ l. flag_union l (flag ∷ [])) is ∙ union_append old done (flag ∷ []),
 )
-
-pub added_all : (all left old new : List (List ℕ)) → left ≡ [] → AddedSoFar all left old new → new ≡ flag_union old all
-added_all all left old new none (done, cut, is) = is ∙ ap (flag_union old) (sym (append-nil done) ∙ ap (λ l. done ++ l) (sym none) ∙ sym cut)
 
 pub added_some : (all left rest : List (List ℕ)) (flag : List ℕ) (old new : List (List ℕ)) → left ≡ flag ∷ rest → AddedSoFar all left old new → SomeIndex all (λ i. new ≡ flag_union old (take i all))
 added_some all left rest flag old new next (done, cut, is) =

@@ -1,4 +1,4 @@
--- The subcommand with its argument is the one that the definition names.
+-- A parse reads the subcommand `dump` with its argument as `dump_shape` says.
 use Rattle.std.proofs.Common.{ap, ap₂, ◌∙◌}
 use Rattle.std.proofs.lemmas.Result.{IfOk-weaker}
 use Rattle.clap.specs.Simple.{App, with_rule}

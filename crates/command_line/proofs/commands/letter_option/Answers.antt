@@ -1,4 +1,4 @@
--- What a parse reads of the option is what the definition names.
+-- A parse reads an option that a letter names as `letter_rule` says.
 use Rattle.std.proofs.Common.{ap, ◌∙◌, Some}
 use Rattle.clap.specs.Walk.{Rule, rule_of}
 use Rattle.command_line.specs.CommandLine.{letter_rule}

@@ -1,4 +1,4 @@
--- What a parse reads of the argument is what the definition names.
+-- A parse reads a path that must be there as `path_rule` says.
 use Rattle.std.proofs.Common.{ap, ◌∙◌, true}
 use Rattle.clap.specs.Walk.{Rule, rule_of}
 use Rattle.command_line.specs.CommandLine.{path_rule}

@@ -1,4 +1,4 @@
--- The program with its subcommands is the one that the definition names.
+-- A parse reads the program with its subcommands as `the_app` says.
 use Rattle.std.proofs.Common.{ap₂, ◌∙◌}
 use Rattle.std.proofs.lemmas.Result.{IfOk-weaker}
 use Rattle.clap.specs.Simple.{with_subcommand}

@@ -1,4 +1,4 @@
--- The settings that a parse reads are those that the definition names.
+-- The settings of the program that a parse reads are those of `top_app`.
 use Rattle.std.proofs.Common.{ap, ◌∙◌, true}
 use Rattle.std.proofs.lemmas.Result.{IfOk-weaker}
 use Rattle.clap.specs.Simple.{Shape, app_of_fields, on_top}

@@ -1,4 +1,4 @@
--- The arguments are those that the definition names.
+-- The command gets the options of `folder_rules`, none of them global.
 use Rattle.std.proofs.lemmas.Result.{IfOk-weaker}
 use Rattle.command_line.proofs.Adding.{one_more, two_more}
 use Rattle.command_line.proofs.commands.with_folders.Goals as goal

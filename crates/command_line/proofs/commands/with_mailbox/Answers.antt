@@ -1,4 +1,4 @@
--- The option is the one that the definition names.
+-- The command gets the option of `mailbox_rules`, which is not global.
 use Rattle.std.proofs.lemmas.Result.{IfOk-weaker}
 use Rattle.command_line.proofs.Adding.{one_more}
 use Rattle.command_line.proofs.commands.with_mailbox.Goals as goal

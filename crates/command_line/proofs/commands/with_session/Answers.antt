@@ -1,4 +1,4 @@
--- The subcommand is added to the program.
+-- The subcommand `session` is added to the program.
 use Rattle.std.proofs.Common.{ap₂, ◌∙◌}
 use Rattle.std.proofs.lemmas.Result.{IfOk-weaker}
 use Rattle.clap.specs.Simple.{with_subcommand}

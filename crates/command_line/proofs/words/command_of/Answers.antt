@@ -1,4 +1,4 @@
--- What `clap` says of the program's command, read at the program that the definition names.
+-- What `clap` answers to the words of a command line, for the program `the_app`: the job that the words name, or why they are refused.
 use Rattle.std.proofs.Common.{◌≡◌, ◌∙◌, true, List, [], ◌∷◌, map, Option, Some, None, IsSome, is_some, refl, sym, ap, subst, inl, inr}
 use Rattle.clap.specs.Words.{App, HasKind, HasMatchesOf, Row, Kinds, Text, fault_of, is_simple, is_simple_and_free, kind_of, subcommand_of, subcommand_rows_of}
 use Rattle.clap.specs.declared.error.Error.{Error}
@@ -20,12 +20,12 @@ simple_and_free : is_simple_and_free the_app ≡ true
 unfolding the_app top_app session_shape dump_shape test_shape path_rule letter_rule name_rule clap_on_literals
 simple_and_free = refl
 
--- words that name a job have no fault
+-- a job counts only where there are no faults
 none_where_named : (kinds : Kinds) (job : Option Job) → IsSome (where_taken kinds job) → kinds ≡ []
 none_where_named [] job named = refl
 none_where_named (kind ∷ kinds) job named = absurd (cc)
 
--- with no other kind, memory ran out
+-- where there are no faults, an error says that memory ran out
 only_memory : (kinds : Kinds) (e : Error) → kinds ≡ [] → HasKind kinds e → kind_of e ≡ OutOfMemory
 only_memory [] e none (inl memory) = memory
 only_memory [] e none (inr among) = absurd among
@@ -36,6 +36,7 @@ refusal kinds e NoMemory has answers = tt
 refusal kinds e (Usage help text) (inl memory) answers = absurd (answers.0 memory)
 refusal kinds e (Usage help text) (inr among) answers = (kind_of e, among, answers.1)
 
+-- words that name a job have no fault
 named_none : (words : List Text) → IsSome (named_job words) → fault_of the_app words ≡ []
 unfolding named_job
 named_none words named = none_where_named (fault_of the_app words) _ named
@@ -46,13 +47,13 @@ unfolding named_job
 named_from words met job one none is_met is_job is_one =
     ap (λ kinds. where_taken kinds (job_of (subcommand_of the_app words))) none ∙ ap job_of (sym is_met) ∙ sym is_job ∙ is_one
 
--- no job was met, though the words name one
+-- where the subcommand that was met has a job, the job is found
 none_met : (met : Option (Text × List Row)) (job : Option Job) → job ≡ job_of met → job ≡ None → is_some (job_of met) ≡ true → ⊥
 none_met met None is_job is_none named =
     let bad : is_some {T = Job} None ≡ true = ap is_some is_job ∙ named in absurd (cc)
 none_met met (Some job) is_job is_none named = absurd (cc)
 
--- what is said of an app, at the program
+-- what `clap` says of simple and free apps holds of one that is `the_app`
 kind_at : (a : App) (words : List Text) (e : Error) → a ≡ the_app → (is_simple_and_free a ≡ true → HasKind (fault_of a words) e)
     → HasKind (fault_of the_app words) e
 kind_at a words e is_program has =

@@ -3,7 +3,7 @@ use Rattle.std.specs.Hash as fed
 use Rattle.match_text.specs.Comparator.{ascii_casemap}
 use Rattle.match_text.proofs.flags.write_folded.Given as goal
 
--- what was written so far
+-- since the loop began the hasher was fed the octets so far in upper case
 abbrev pub invariant-loop-octet : goal.invariant-loop-octet
 invariant-loop-octet g l =
     l.state

@@ -2,7 +2,7 @@ use Rattle.std.proofs.Common.{◌≡◌, ◌++◌, take, drop}
 use Rattle.match_text.specs.view.Segment.{before_star, from_star}
 use Rattle.match_text.proofs.segments.cut.Given as goal
 
--- there is no star so far
+-- no star is among the items so far
 abbrev pub invariant-loop-i : goal.invariant-loop-i
 invariant-loop-i l = record {
   segment : take l.i l.items ++ before_star (drop l.i l.items) ≡ before_star l.items;

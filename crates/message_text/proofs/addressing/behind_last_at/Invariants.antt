@@ -4,7 +4,7 @@ use Rattle.sieve_base.specs.Octet.{octet_of}
 use Rattle.message_text.specs.Addresses.{is_free}
 use Rattle.message_text.proofs.addressing.behind_last_at.Given as goal
 
--- no free sign stands from the place on
+-- no free `@` stands among the marked octets from `behind` on
 abbrev pub invariant-loop-behind : goal.invariant-loop-behind
 invariant-loop-behind l =
     (l.behind ≤ length l.marks) × (l.behind + suffix_len (λ m. not (is_free (octet_of "@") m)) l.marks

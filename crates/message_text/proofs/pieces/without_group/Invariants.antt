@@ -4,7 +4,7 @@ use Rattle.sieve_base.specs.Octet.{octet_of}
 use Rattle.message_text.specs.Addresses.{is_bare}
 use Rattle.message_text.proofs.pieces.without_group.Given as goal
 
--- no bare colon stands from the place on
+-- no bare colon stands in the piece from `start` on
 abbrev pub invariant-loop-start : goal.invariant-loop-start
 invariant-loop-start l =
     (l.start ≤ length l.piece) × (l.start + suffix_len (λ m. not (is_bare (octet_of ":") m)) l.piece

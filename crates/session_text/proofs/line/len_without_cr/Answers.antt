@@ -6,7 +6,7 @@ use Rattle.session_text.proofs.Lines.{without_cr-take}
 use Rattle.session_text.proofs.line.len_without_cr.Goals as goal
 use Rattle.session_text.proofs.line.len_without_cr.Goals.{else-end-gt0-via-then-end-gt0+else-octets-end-eq13, else-end-gt0-via-else-end-gt0}
 
--- a CR before the place
+-- a CR directly before `end` is dropped from the octets before `end`
 with_cr : (bs : List ℕ) (end : ℕ) → 0 < end → end ≤ length bs → get_or bs (end - 1) 0 ≡ octet_of "\r" → without_cr (take end bs) ≡ take (end - 1) bs
 with_cr bs end some within is =
     let i = end - 1 in
@@ -14,7 +14,7 @@ with_cr bs end some within is =
     let step = without_cr-take bs i (omega arith) in
     ap (λ n. without_cr (take n bs)) e ∙ step ∙ ap (λ b. cond (eqb b (octet_of "\r")) (take i bs) (take (i + 1) bs)) is
 
--- another octet than a CR before the place stays
+-- the octets before `end` stay as they are where the last of them is no CR
 without : (bs : List ℕ) (end : ℕ) → 0 < end → end ≤ length bs → get_or bs (end - 1) 0 ≢ octet_of "\r" → without_cr (take end bs) ≡ take end bs
 without bs end some within is =
     let i = end - 1 in
@@ -22,7 +22,7 @@ without bs end some within is =
     let step = without_cr-take bs i (omega arith) in
     grind (arith, nat_tests, e, step)
 
--- no octet before the place
+-- where no octets stand before `end`, none is dropped
 none : (bs : List ℕ) (end : ℕ) → end ≤ 0 → without_cr (take end bs) ≡ take end bs
 none bs end is = let e : end ≡ 0 = omega arith in rw e refl
 

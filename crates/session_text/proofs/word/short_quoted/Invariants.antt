@@ -3,7 +3,7 @@ use Rattle.std.specs.Option.{option_map}
 use Rattle.session_text.specs.SessionLine.{quoted_value}
 use Rattle.session_text.proofs.word.short_quoted.Given as goal
 
--- the octets so far, and those of what is left, are those of the word
+-- the word stands for the octets so far and then those that the rest stands for
 abbrev pub invariant-loop-octets : goal.invariant-loop-octets
 invariant-loop-octets g l = quoted_value l.word ≡ option_map (λ more. l.octets.items ++ more) (quoted_value l.rest)
 

@@ -4,7 +4,7 @@ use Rattle.sievebench.specs.Session.{Moved, served}
 use Rattle.sievebench.specs.view.Progress.{SoFar}
 use Rattle.sievebench.proofs.server.session.Given as goal
 
--- the commands so far are carried out
+-- the commands so far are carried out, and their replies written
 abbrev pub invariant-loop-end : goal.invariant-loop-end
 invariant-loop-end g l =
     SoFar l.input.ended (served l.fn.bench l.fn.meter) (g.R.Source.remaining l.fn.reader) (g.W.Sink.contents l.fn.writer) (served l.bench l.meter) (unused l.input (g.R.Source.remaining l.reader)) (g.W.Sink.contents l.writer)

@@ -8,7 +8,7 @@ returns-then-pending-gt-MAX_LINE-clause-line c =
     let found = first_line-last c.args.pending.now c.requires in
     rw found (omega arith)
 
--- a pair of other names
+-- in the pair that a cut is equal to, each text may be replaced by an equal one
 renamed : (cut : List ℕ × List ℕ) (a b c d : List ℕ) → cut ≡ (b, d) → b ≡ a → d ≡ c → cut ≡ (a, c)
 renamed cut a b c d is left right = is ∙ ap (λ (l : List ℕ). (l, d)) left ∙ ap (λ (l : List ℕ). (a, l)) right
 
