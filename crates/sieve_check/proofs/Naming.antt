@@ -152,7 +152,7 @@ same a b = str_eq_ignore_ascii_case a b
 same_names : (a b : List ℕ) → same a b ≡ true → folded_name a ≡ folded_name b
 same_names a b is = (bytes_decides (folded_name a) (folded_name b)).0 is
 
-octets_either_way : (a b : List ℕ) → pointwise nat_eq a b ≡ pointwise nat_eq b a
+pub octets_either_way : (a b : List ℕ) → pointwise nat_eq a b ≡ pointwise nat_eq b a
 octets_either_way a b = one_answer {P = a ≡ b} (pointwise nat_eq a b) (pointwise nat_eq b a) (bytes_decides a b) ((λ is. sym ((bytes_decides b a).0 is)), (λ e. (bytes_decides b a).1 (sym e)))
 
 any_append : {X : Type 0} (p : X → Bool) (xs ys : List X) → list_any p (xs ++ ys) ≡ (list_any p xs || list_any p ys)
@@ -205,7 +205,7 @@ fresh_behind_set scope name other =
     regroup false false true = refl
     regroup false false false = refl
 
-among_with : (name other : List ℕ) (names : List (List ℕ)) → is_among other (with_name name names) ≡ (is_among other names || pointwise nat_eq name other)
+pub among_with : (name other : List ℕ) (names : List (List ℕ)) → is_among other (with_name name names) ≡ (is_among other names || pointwise nat_eq name other)
 among_with name other names = by_there (is_among name names) refl
   where
     or_false : (b : Bool) → (b || false) ≡ b

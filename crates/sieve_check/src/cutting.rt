@@ -57,12 +57,12 @@ fn reference_parts(alloc: Global, declared: &Names, string: Parts) -> Result<Par
     ensures { IfOk result (λ parts. map part_of parts.items ≡ map (scoped_part declared.now) (parts_of_text (seen.octets_of string))) }
 {
     let octets = octets_in(&string);
-    if octets.is_empty() {
-        return Ok(Parts::new(alloc));
-    }
     if references_in(octets).any {
         let parts = parts_of_text(alloc, octets)?;
-        scoped_parts(alloc, parts, declared)
+        return scoped_parts(alloc, parts, declared);
+    }
+    if octets.is_empty() {
+        Ok(Parts::new(alloc))
     } else {
         Ok(literal_parts(alloc, string))
     }
@@ -207,18 +207,28 @@ fn cut_test(alloc: Global, cutting: Cutting<'_>, test: &mut Test) -> Result<(), 
     ensures { OnOk result (test_of test.new ≡ spec.parted_test (cutting_as cutting.entry) (seen.test_of test.old)) }
 {
     cut_test_arguments(alloc, cutting, &test.name, &mut test.args)?;
-    cut_tests(alloc, cutting, &mut test.tests)
+    let tests = mem::replace(&mut test.tests, Tests::None);
+    test.tests = cut_tests(alloc, cutting, tests)?;
+    Ok(())
 }
 
-/// Cuts the strings of the tests behind arguments.
+/// The tests behind arguments, with their strings cut.
 #[cycle(cut_tests)]
-fn cut_tests(alloc: Global, cutting: Cutting<'_>, tests: &mut Tests) -> Result<(), AllocError>
-    ensures { OnOk result (tests_of tests.new ≡ spec.parted_tests (cutting_as cutting.entry) (seen.tests_of tests.old)) }
+fn cut_tests(alloc: Global, cutting: Cutting<'_>, tests: Tests) -> Result<Tests, AllocError>
+    ensures { IfOk result (λ cut. tests_of cut ≡ spec.parted_tests (cutting_as cutting.entry) (seen.tests_of tests)) }
 {
     match tests {
-        Tests::None => Ok(()),
-        Tests::One(test) => cut_test(alloc, cutting, test),
-        Tests::List(list) => cut_test_list(alloc, cutting, list),
+        Tests::None => Ok(Tests::None),
+        Tests::One(test) => {
+            let mut test = test;
+            cut_test(alloc, cutting, &mut test)?;
+            Ok(Tests::One(test))
+        }
+        Tests::List(list) => {
+            let mut list = list;
+            cut_test_list(alloc, cutting, &mut list)?;
+            Ok(Tests::List(list))
+        }
     }
 }
 
@@ -256,7 +266,7 @@ fn cut_front(
     };
     let mut names = Names::new(alloc);
     cut_command_arguments(alloc, cutting, command_named(name), args, &mut names)?;
-    cut_tests(alloc, cutting, tests)?;
+    *tests = cut_tests(alloc, cutting, mem::replace(tests, Tests::None))?;
     declared.add_all(alloc, &names)
 }
 
