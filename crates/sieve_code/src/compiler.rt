@@ -37,12 +37,14 @@ fn with_place(op: Op, count: usize) -> Op
     }
 }
 
-/// All operations of the code, with the places of their targets.
+/// All operations of the code, with the places of their targets, and with room for no more.
 fn with_places(alloc: Global, ops: Vec<Op>) -> Result<Vec<Op>, AllocError>
     ensures { IfOk result (λ placed. placed.items ≡ map (with_place_of (length ops.items)) ops.items) }
 {
     let count = ops.len();
-    ops.into_iter()
-        .map(|op| with_place(op, count))
-        .collect(alloc)
+    let mut placed = Vec::with_capacity(alloc, count)?;
+    for op in ops {
+        placed.push(with_place(op, count))?;
+    }
+    Ok(placed)
 }
