@@ -7,47 +7,52 @@ ghost use Rattle.sieve_reading.specs.Given.{given_texts, given_variable, has_tag
 ghost use Rattle.sieve_reading.specs.view.Labels.{labels_in};
 ghost use Rattle.sieve_reading.specs.view.Reading.{command_reading_as, settings_as};
 ghost use Rattle.sieve_reading.specs.view.Tree.{argument_of, node_of};
+ghost use Rattle.sieve_table.specs.Table.{command_named};
 
-use crate::given::{given_texts, given_variable, literal_in, text_in, texts_in, variable_in};
-use crate::labelled::{argument_in, has_tag};
+use crate::given::{given_texts, given_variable, name_in, text_in, texts_in, variable_in};
+use crate::labelled::{has_tag, into_argument, into_arguments};
 use crate::reading::{CommandReading, FlagChange, Leaf, Settings};
 use sieve_base::Place;
 use sieve_syntax::{Argument, Command};
 use sieve_table::{CommandKind, Role, Row, Tag, command_named};
 use sieve_variables::{LetterCase, Modifiers};
 
-/// What a command says beside its mailbox or its address.
-fn settings_by<'a>(row: &Row, args: &'a [Argument]) -> Option<Settings<'a>>
-    ensures { option_map settings_as result ≡ spec.settings_by (labels_in row.now args.now) (map argument_of args.now) }
+/// What a command says beside its mailbox or its address, by the argument that names flags, if it has one.
+fn settings_from(copy: bool, flags: Option<Argument>) -> Option<Settings>
+    ensures { option_map settings_as result ≡ option_map (spec.settings_with copy) (given_texts (option_map argument_of flags)) }
 {
-    let flags = given_texts(argument_in(row, Role::Flags, args))?;
-    let copy = has_tag(row, Tag::Copy, args);
+    let flags = given_texts(flags)?;
     Some(Settings { flags, copy })
 }
 
 /// What a `keep` does.
-fn keep_leaf<'a>(row: &Row, args: &'a [Argument]) -> Option<CommandReading<'a>>
-    ensures { option_map command_reading_as result ≡ option_map reads_act (spec.keep_by (labels_in row.now args.now) (map argument_of args.now)) }
+fn keep_leaf(row: &Row, args: Vec<Argument>) -> Option<CommandReading>
+    ensures { option_map command_reading_as result ≡ option_map reads_act (spec.keep_by (labels_in row.now args.items) (map argument_of args.items)) }
 {
-    let settings = settings_by(row, args)?;
+    let copy = has_tag(row, Tag::Copy, &args);
+    let settings = settings_from(copy, into_argument(row, Role::Flags, args))?;
     Some(CommandReading::Act(Leaf::Keep { settings }))
 }
 
 /// What a `fileinto` does.
-fn fileinto_leaf<'a>(row: &Row, args: &'a [Argument]) -> Option<CommandReading<'a>>
-    ensures { option_map command_reading_as result ≡ option_map reads_act (spec.fileinto_by (labels_in row.now args.now) (map argument_of args.now)) }
+fn fileinto_leaf(row: &Row, args: Vec<Argument>) -> Option<CommandReading>
+    ensures { option_map command_reading_as result ≡ option_map reads_act (spec.fileinto_by (labels_in row.now args.items) (map argument_of args.items)) }
 {
-    let mailbox = text_in(argument_in(row, Role::Mailbox, args))?;
-    let settings = settings_by(row, args)?;
+    let copy = has_tag(row, Tag::Copy, &args);
+    let (mailbox, flags) = into_arguments(row, Role::Mailbox, Role::Flags, args);
+    let mailbox = text_in(mailbox)?;
+    let settings = settings_from(copy, flags)?;
     Some(CommandReading::Act(Leaf::Fileinto { mailbox, settings }))
 }
 
 /// What a `redirect` does.
-fn redirect_leaf<'a>(row: &Row, args: &'a [Argument]) -> Option<CommandReading<'a>>
-    ensures { option_map command_reading_as result ≡ option_map reads_act (spec.redirect_by (labels_in row.now args.now) (map argument_of args.now)) }
+fn redirect_leaf(row: &Row, args: Vec<Argument>) -> Option<CommandReading>
+    ensures { option_map command_reading_as result ≡ option_map reads_act (spec.redirect_by (labels_in row.now args.items) (map argument_of args.items)) }
 {
-    let address = text_in(argument_in(row, Role::Address, args))?;
-    let settings = settings_by(row, args)?;
+    let copy = has_tag(row, Tag::Copy, &args);
+    let (address, flags) = into_arguments(row, Role::Address, Role::Flags, args);
+    let address = text_in(address)?;
+    let settings = settings_from(copy, flags)?;
     Some(CommandReading::Act(Leaf::Redirect { address, settings }))
 }
 
@@ -79,12 +84,13 @@ fn modifiers_of(row: &Row, args: &[Argument]) -> Modifiers
 }
 
 /// What a `set` does.
-fn set_by<'a>(row: &Row, args: &'a [Argument]) -> Option<CommandReading<'a>>
-    ensures { option_map command_reading_as result ≡ option_map reads_act (spec.set_by (labels_in row.now args.now) (map argument_of args.now)) }
+fn set_by(row: &Row, args: Vec<Argument>) -> Option<CommandReading>
+    ensures { option_map command_reading_as result ≡ option_map reads_act (spec.set_by (labels_in row.now args.items) (map argument_of args.items)) }
 {
-    let modifiers = modifiers_of(row, args);
-    let variable = variable_in(argument_in(row, Role::NameToSet, args))?;
-    let value = text_in(argument_in(row, Role::Text, args))?;
+    let modifiers = modifiers_of(row, &args);
+    let (name, value) = into_arguments(row, Role::NameToSet, Role::Text, args);
+    let variable = variable_in(name)?;
+    let value = text_in(value)?;
     Some(CommandReading::Act(Leaf::Set {
         variable,
         modifiers,
@@ -93,11 +99,12 @@ fn set_by<'a>(row: &Row, args: &'a [Argument]) -> Option<CommandReading<'a>>
 }
 
 /// What a command does that changes flags.
-fn flags_by<'a>(change: FlagChange, row: &Row, args: &'a [Argument]) -> Option<CommandReading<'a>>
-    ensures { option_map command_reading_as result ≡ option_map reads_act (spec.flags_by change (labels_in row.now args.now) (map argument_of args.now)) }
+fn flags_by(change: FlagChange, row: &Row, args: Vec<Argument>) -> Option<CommandReading>
+    ensures { option_map command_reading_as result ≡ option_map reads_act (spec.flags_by change (labels_in row.now args.items) (map argument_of args.items)) }
 {
-    let variable = given_variable(argument_in(row, Role::NameToSet, args))?;
-    let flags = texts_in(argument_in(row, Role::Flags, args))?;
+    let (name, flags) = into_arguments(row, Role::NameToSet, Role::Flags, args);
+    let variable = given_variable(name)?;
+    let flags = texts_in(flags)?;
     Some(CommandReading::Act(Leaf::Flags {
         change,
         variable,
@@ -117,13 +124,13 @@ fn place_of(row: &Row, args: &[Argument]) -> Place
 }
 
 /// What an `include` does.
-fn include_by<'a>(row: &Row, args: &'a [Argument]) -> Option<CommandReading<'a>>
-    ensures { option_map command_reading_as result ≡ option_map reads_act (spec.include_by (labels_in row.now args.now) (map argument_of args.now)) }
+fn include_by(row: &Row, args: Vec<Argument>) -> Option<CommandReading>
+    ensures { option_map command_reading_as result ≡ option_map reads_act (spec.include_by (labels_in row.now args.items) (map argument_of args.items)) }
 {
-    let place = place_of(row, args);
-    let once = has_tag(row, Tag::Once, args);
-    let optional = has_tag(row, Tag::Optional, args);
-    let name = literal_in(argument_in(row, Role::ScriptName, args))?;
+    let place = place_of(row, &args);
+    let once = has_tag(row, Tag::Once, &args);
+    let optional = has_tag(row, Tag::Optional, &args);
+    let name = name_in(into_argument(row, Role::ScriptName, args))?;
     Some(CommandReading::Act(Leaf::Include {
         place,
         once,
@@ -133,8 +140,8 @@ fn include_by<'a>(row: &Row, args: &'a [Argument]) -> Option<CommandReading<'a>>
 }
 
 /// What a command of a kind is.
-fn command_reading_by(kind: CommandKind, args: &[Argument]) -> Option<CommandReading<'_>>
-    ensures { option_map command_reading_as result ≡ spec.command_reading_by (Some kind) (map argument_of args.now) }
+fn command_reading_by(kind: CommandKind, args: Vec<Argument>) -> Option<CommandReading>
+    ensures { option_map command_reading_as result ≡ spec.command_reading_by (Some kind) (map argument_of args.items) }
 {
     let row = &kind.row();
     match kind {
@@ -164,13 +171,13 @@ pub fn kind_of(command: &Command) -> Option<CommandKind>
     command_named(&command.name)
 }
 
-/// What the command is, apart from its test and its block. Each command of a checked script is read as something. Takes no
-/// memory.
-pub fn read_command(command: &Command) -> Option<CommandReading<'_>>
-    ensures { option_map command_reading_as result ≡ spec.command_reading (node_of command.now) }
+/// What a command of that name and with these arguments is, apart from its test and its block. Each command of a checked script is read
+/// as something. What is read has the strings of the arguments. Takes no memory.
+pub fn read_command(name: &[u8], args: Vec<Argument>) -> Option<CommandReading>
+    ensures { option_map command_reading_as result ≡ spec.command_reading_by (command_named name.now) (map argument_of args.items) }
 {
-    match kind_of(command) {
-        Some(kind) => command_reading_by(kind, &command.args),
+    match command_named(name) {
+        Some(kind) => command_reading_by(kind, args),
         None => None,
     }
 }

@@ -1,27 +1,29 @@
 //! What the arguments of a command or a test give, by their labels. None of it takes memory.
-ghost use Rattle.std.specs.Prelude.{◌≡◌, Some, None, map};
+ghost use Rattle.std.specs.Prelude.{◌≡◌, Bool, Some, None, map};
 ghost use Rattle.std.specs.Option.{option_map};
 ghost use Rattle.sieve_reading.specs.Given as spec;
 ghost use Rattle.sieve_reading.specs.view.Labels.{labels_in};
 ghost use Rattle.match_text.specs.Comparator.{collation_named};
 ghost use Rattle.sieve_reading.specs.view.Reading.{texts_as};
-ghost use Rattle.sieve_reading.specs.view.Tree.{argument_of};
+ghost use Rattle.sieve_reading.specs.Tree.{strings};
+ghost use Rattle.sieve_reading.specs.view.Tree.{argument_of, parts_of, text_of};
 ghost use Rattle.sieve_variables.specs.view.Part.{part_of, variable_of};
 
 use crate::labelled::has_tag;
 use crate::reading::MatchType;
 use match_text::{Collation, collation_named};
 use message_text::AddressPart;
+use sieve_base::SmallOctets;
 use sieve_syntax::{Argument, Text};
 use sieve_table::{Row, Tag};
-use sieve_variables::{Part, Variable};
+use sieve_variables::{Part, Parts, Variable};
 
 /// The strings of an argument.
-pub(crate) fn texts_in(argument: Option<&Argument>) -> Option<&[Text]>
-    ensures { option_map (λ texts. texts_as texts.now) result ≡ spec.texts_in (option_map (λ a. argument_of a.now) argument.entry) }
+pub(crate) fn texts_in(argument: Option<Argument>) -> Option<Vec<Text>>
+    ensures { option_map (λ texts. texts_as texts.items) result ≡ spec.texts_in (option_map argument_of argument) }
 {
     match argument {
-        Some(Argument::Strings { items, .. }) => Some(items.as_slice()),
+        Some(Argument::Strings { items, .. }) => Some(items),
         Some(Argument::Number { .. }) => None,
         Some(Argument::Tag { .. }) => None,
         None => None,
@@ -29,8 +31,8 @@ pub(crate) fn texts_in(argument: Option<&Argument>) -> Option<&[Text]>
 }
 
 /// The strings of an argument that may be left out.
-pub(crate) fn given_texts(argument: Option<&Argument>) -> Option<Option<&[Text]>>
-    ensures { option_map (option_map (λ texts. texts_as texts.now)) result ≡ spec.given_texts (option_map (λ a. argument_of a.now) argument.entry) }
+pub(crate) fn given_texts(argument: Option<Argument>) -> Option<Option<Vec<Text>>>
+    ensures { option_map (option_map (λ texts. texts_as texts.items)) result ≡ spec.given_texts (option_map argument_of argument) }
 {
     match argument {
         Some(argument) => Some(Some(texts_in(Some(argument))?)),
@@ -38,15 +40,24 @@ pub(crate) fn given_texts(argument: Option<&Argument>) -> Option<Option<&[Text]>
     }
 }
 
+/// The one string that strings are.
+fn one_text(texts: Vec<Text>) -> Option<Parts>
+    ensures { (bracketed : Bool) → option_map parts_of result ≡ spec.text_in (Some (strings (map text_of texts.items) bracketed)) }
+{
+    let mut texts = texts.into_iter();
+    let text = texts.next()?;
+    match texts.next() {
+        None => Some(text.string),
+        Some(_) => None,
+    }
+}
+
 /// The one string that an argument is.
-pub(crate) fn text_in(argument: Option<&Argument>) -> Option<&[Part]>
-    ensures { option_map (λ parts. map part_of parts.now) result ≡ spec.text_in (option_map (λ a. argument_of a.now) argument.entry) }
+pub(crate) fn text_in(argument: Option<Argument>) -> Option<Parts>
+    ensures { option_map parts_of result ≡ spec.text_in (option_map argument_of argument) }
 {
     match argument {
-        Some(Argument::Strings { items, .. }) => match items.as_slice() {
-            [text] => Some(text.string.as_slice()),
-            _ => None,
-        },
+        Some(Argument::Strings { items, .. }) => one_text(items),
         Some(Argument::Number { .. }) => None,
         Some(Argument::Tag { .. }) => None,
         None => None,
@@ -54,33 +65,29 @@ pub(crate) fn text_in(argument: Option<&Argument>) -> Option<&[Part]>
 }
 
 /// The variable that parts name.
-fn variable_in_parts(parts: &[Part]) -> Option<&Variable>
-    ensures { option_map (λ variable. variable_of variable.now) result ≡ spec.variable_in_parts (map part_of parts.now) }
+fn variable_in_parts(parts: Parts) -> Option<Variable>
+    ensures { option_map variable_of result ≡ spec.variable_in_parts (parts_of parts) }
 {
-    match parts {
-        [Part::Variable(variable)] => Some(variable),
+    let mut parts = parts.into_iter();
+    match (parts.next(), parts.next()) {
+        (Some(Part::Variable(variable)), None) => Some(variable),
         _ => None,
     }
 }
 
 /// The variable that an argument names (RFC 5229, section 4).
-pub(crate) fn variable_in(argument: Option<&Argument>) -> Option<&Variable>
-    ensures { option_map (λ variable. variable_of variable.now) result ≡ spec.variable_in (option_map (λ a. argument_of a.now) argument.entry) }
+pub(crate) fn variable_in(argument: Option<Argument>) -> Option<Variable>
+    ensures { option_map variable_of result ≡ spec.variable_in (option_map argument_of argument) }
 {
-    match argument {
-        Some(Argument::Strings { items, .. }) => match items.as_slice() {
-            [text] => variable_in_parts(&text.string),
-            _ => None,
-        },
-        Some(Argument::Number { .. }) => None,
-        Some(Argument::Tag { .. }) => None,
+    match text_in(argument) {
+        Some(parts) => variable_in_parts(parts),
         None => None,
     }
 }
 
 /// The variable that an argument names that may be left out.
-pub(crate) fn given_variable(argument: Option<&Argument>) -> Option<Option<&Variable>>
-    ensures { option_map (option_map (λ variable. variable_of variable.now)) result ≡ spec.given_variable (option_map (λ a. argument_of a.now) argument.entry) }
+pub(crate) fn given_variable(argument: Option<Argument>) -> Option<Option<Variable>>
+    ensures { option_map (option_map variable_of) result ≡ spec.given_variable (option_map argument_of argument) }
 {
     match argument {
         Some(argument) => Some(Some(variable_in(Some(argument))?)),
@@ -109,6 +116,27 @@ pub(crate) fn literal_in(argument: Option<&Argument>) -> Option<&[u8]>
         },
         Some(Argument::Number { .. }) => None,
         Some(Argument::Tag { .. }) => None,
+        None => None,
+    }
+}
+
+/// The octets of parts that are one literal.
+fn octets_of_literal(parts: Parts) -> Option<SmallOctets>
+    ensures { option_map (λ octets. octets.items) result ≡ spec.literal_in_parts (parts_of parts) }
+{
+    let mut parts = parts.into_iter();
+    match (parts.next(), parts.next()) {
+        (Some(Part::Literal(octets)), None) => Some(octets),
+        _ => None,
+    }
+}
+
+/// The octets, to be kept, of an argument that is one string, which stands for itself.
+pub(crate) fn name_in(argument: Option<Argument>) -> Option<SmallOctets>
+    ensures { option_map (λ octets. octets.items) result ≡ spec.literal_in (option_map argument_of argument) }
+{
+    match text_in(argument) {
+        Some(parts) => octets_of_literal(parts),
         None => None,
     }
 }

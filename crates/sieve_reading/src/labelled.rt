@@ -1,10 +1,12 @@
 //! The arguments of a checked tree by their labels. None of it takes memory.
-ghost use Rattle.std.specs.Prelude.{◌≡◌, map};
+ghost use Rattle.std.specs.Prelude.{◌≡◌, Some, false, map};
 ghost use Rattle.std.specs.Option.{option_map};
 ghost use Rattle.sieve_reading.specs.Given.{has_tag, in_role};
 ghost use Rattle.sieve_reading.specs.Shape.{shape_of};
 ghost use Rattle.sieve_reading.specs.view.Labels.{labels_in};
 ghost use Rattle.sieve_reading.specs.view.Expected.{shows_tag};
+ghost use Rattle.sieve_reading.specs.view.Reading.{first_or};
+ghost use Rattle.sieve_table.specs.Role.{same_role};
 ghost use Rattle.sieve_reading.specs.view.Tree.{argument_of};
 
 use crate::role::role_of;
@@ -25,6 +27,58 @@ pub(crate) fn argument_in<'a>(row: &Row, wanted: Role, args: &'a [Argument]) -> 
         expected = expected.behind(shape);
     }
     None
+}
+
+/// The first argument in a role, to be kept.
+pub(crate) fn into_argument(row: &Row, wanted: Role, args: Vec<Argument>) -> Option<Argument>
+    ensures { option_map argument_of result ≡ in_role wanted (labels_in row.now args.items) (map argument_of args.items) }
+{
+    let mut expected = row_expected::<AsParts>(row, &args);
+    for argument in args {
+        let shape = shape_of::<AsParts>(row.tags, &argument);
+        if has_role(wanted, role_of(expected.label(shape))) {
+            return Some(argument);
+        }
+        expected = expected.behind(shape);
+    }
+    None
+}
+
+/// The one that is there already, or the other.
+fn first_or(first: Option<Argument>, other: Argument) -> Option<Argument>
+    ensures { option_map argument_of result ≡ first_or (option_map argument_of first) (Some (argument_of other)) }
+{
+    match first {
+        Some(first) => Some(first),
+        None => Some(other),
+    }
+}
+
+/// The first arguments in each of two roles, to be kept.
+pub(crate) fn into_arguments(
+    row: &Row,
+    wanted: Role,
+    other: Role,
+    args: Vec<Argument>,
+) -> (Option<Argument>, Option<Argument>)
+    requires { same_role other wanted ≡ false }
+    ensures wanted { option_map argument_of result.0 ≡ in_role wanted (labels_in row.now args.items) (map argument_of args.items) }
+    ensures other { option_map argument_of result.1 ≡ in_role other (labels_in row.now args.items) (map argument_of args.items) }
+{
+    let mut expected = row_expected::<AsParts>(row, &args);
+    let mut in_wanted = None;
+    let mut in_other = None;
+    for argument in args {
+        let shape = shape_of::<AsParts>(row.tags, &argument);
+        let role = role_of(expected.label(shape));
+        expected = expected.behind(shape);
+        if has_role(wanted, role) {
+            in_wanted = first_or(in_wanted, argument);
+        } else if has_role(other, role) {
+            in_other = first_or(in_other, argument);
+        }
+    }
+    (in_wanted, in_other)
 }
 
 /// Whether an argument is this tag, where these are taken.

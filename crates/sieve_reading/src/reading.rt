@@ -1,10 +1,11 @@
-//! What the commands and tests of a checked script are, with defaults filled in (RFC 5228, sections 3, 4 and 5).
+//! What the commands and tests of a checked script are, with defaults filled in (RFC 5228, sections 3, 4 and 5). A reading has the
+//! strings of the arguments that it is made of.
 
 use match_text::Collation;
 use message_text::AddressPart;
-use sieve_base::Place;
+use sieve_base::{Place, SmallOctets};
 use sieve_syntax::Text;
-use sieve_variables::{Modifiers, Part, Variable};
+use sieve_variables::{Modifiers, Parts, Variable};
 
 /// How a test compares values with keys (RFC 5228, section 2.7.1).
 #[derive(Clone, Copy, PartialEq, Eq)]
@@ -18,57 +19,57 @@ pub enum MatchType {
 }
 
 /// Where a test takes values from.
-#[derive(Clone, Copy)]
-pub enum ValueSource<'a> {
+#[derive(Drop)]
+pub enum ValueSource {
     /// From the fields of some names (RFC 5228, section 5.7).
     Header {
         /// The names of fields.
-        names: &'a [Text],
+        names: Vec<Text>,
     },
     /// From the addresses in the fields of some names (RFC 5228, section 5.1).
     Address {
         /// Which part of an address.
         part: AddressPart,
         /// The names of fields.
-        names: &'a [Text],
+        names: Vec<Text>,
     },
     /// From the envelope (RFC 5228, section 5.4).
     Envelope {
         /// Which part of an address.
         part: AddressPart,
         /// The names of the envelope's parts.
-        names: &'a [Text],
+        names: Vec<Text>,
     },
     /// Strings themselves (RFC 5229, section 5).
     String {
         /// The strings.
-        texts: &'a [Text],
+        texts: Vec<Text>,
     },
     /// Flags (RFC 5232, section 4).
     Flags {
         /// The variables that hold them, each by its name; the internal flags where none are named.
-        variables: Option<&'a [Text]>,
+        variables: Option<Vec<Text>>,
     },
 }
 
 /// What a test asks of the delivery.
-#[derive(Clone, Copy)]
-pub enum Ask<'a> {
+#[derive(Drop)]
+pub enum Ask {
     /// Whether some value matches some key (RFC 5228, section 2.7).
     Compares {
         /// Where the values are from.
-        source: ValueSource<'a>,
+        source: ValueSource,
         /// How a value is compared with a key.
         match_type: MatchType,
         /// Which octets are equal.
         collation: Collation,
         /// The keys.
-        keys: &'a [Text],
+        keys: Vec<Text>,
     },
     /// Whether all named fields are there (RFC 5228, section 5.5).
     Exists {
         /// The names of fields.
-        names: &'a [Text],
+        names: Vec<Text>,
     },
     /// Whether the message has more octets (RFC 5228, section 5.9).
     Over {
@@ -83,14 +84,14 @@ pub enum Ask<'a> {
 }
 
 /// What a test is, apart from the tests in it.
-#[derive(Clone, Copy)]
-pub enum TestReading<'a> {
+#[derive(Drop)]
+pub enum TestReading {
     /// True (RFC 5228, section 5.10).
     Always,
     /// False (RFC 5228, section 5.6).
     Never,
     /// What the test asks of the message.
-    Asks(Ask<'a>),
+    Asks(Ask),
     /// Whether all tests in it hold (RFC 5228, section 5.2).
     AllOf,
     /// Whether some test in it holds (RFC 5228, section 5.3).
@@ -111,55 +112,55 @@ pub enum FlagChange {
 }
 
 /// What a command that stores or redirects says beside its mailbox or its address.
-#[derive(Clone, Copy)]
-pub struct Settings<'a> {
+#[derive(Drop)]
+pub struct Settings {
     /// The flags of what the command stores, where it names them (RFC 5232, section 5).
-    pub flags: Option<&'a [Text]>,
+    pub flags: Option<Vec<Text>>,
     /// Whether the command's action leaves the implicit keep as it is (RFC 3894, section 3).
     pub copy: bool,
 }
 
 /// What a command does that acts.
-#[derive(Clone, Copy)]
-pub enum Leaf<'a> {
+#[derive(Drop)]
+pub enum Leaf {
     /// A command that stores into the mailbox of the delivery (RFC 5228, section 4.3).
     Keep {
         /// What the command says beside.
-        settings: Settings<'a>,
+        settings: Settings,
     },
     /// A command that stores into the mailbox of that name (RFC 5228, section 4.1).
     Fileinto {
         /// The name, as its parts.
-        mailbox: &'a [Part],
+        mailbox: Parts,
         /// What the command says beside.
-        settings: Settings<'a>,
+        settings: Settings,
     },
     /// A command that sends the message on to that address (RFC 5228, section 4.2).
     Redirect {
         /// The address, as its parts.
-        address: &'a [Part],
+        address: Parts,
         /// What the command says beside.
-        settings: Settings<'a>,
+        settings: Settings,
     },
     /// A command that discards the message (RFC 5228, section 4.4).
     Discard,
     /// A command that gives a variable a value (RFC 5229, section 4).
     Set {
         /// The variable.
-        variable: &'a Variable,
+        variable: Variable,
         /// What is done to the value.
         modifiers: Modifiers,
         /// The value, as its parts.
-        value: &'a [Part],
+        value: Parts,
     },
     /// A command that changes flags (RFC 5232, section 3).
     Flags {
         /// How the command changes them.
         change: FlagChange,
         /// The variable that holds them; the internal flags where none is named.
-        variable: Option<&'a Variable>,
+        variable: Option<Variable>,
         /// The flags that the command names.
-        flags: &'a [Text],
+        flags: Vec<Text>,
     },
     /// A command that runs another script (RFC 6609, section 3.2).
     Include {
@@ -170,13 +171,13 @@ pub enum Leaf<'a> {
         /// Whether the script may be missing.
         optional: bool,
         /// The script's name.
-        name: &'a [u8],
+        name: SmallOctets,
     },
 }
 
 /// What a command is, apart from its test and its block.
-#[derive(Clone, Copy)]
-pub enum CommandReading<'a> {
+#[derive(Drop)]
+pub enum CommandReading {
     /// The first branch of a chain (RFC 5228, section 3.1).
     If,
     /// A branch behind another, with a test (RFC 5228, section 3.1).
@@ -190,5 +191,5 @@ pub enum CommandReading<'a> {
     /// A command that does nothing when it runs (RFC 5228, section 3.2; RFC 6609, section 3.4.1).
     Nothing,
     /// A command that acts.
-    Act(Leaf<'a>),
+    Act(Leaf),
 }

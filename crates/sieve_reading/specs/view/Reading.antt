@@ -1,10 +1,10 @@
 -- The program's readings of commands and tests.
-use Rattle.std.specs.Prelude.{List, map}
+use Rattle.std.specs.Prelude.{List, Option, Some, None, map}
 use Rattle.std.specs.Option.{option_map}
 use Rattle.sieve_reading.specs.Reading as reading
-use Rattle.sieve_reading.specs.view.Tree.{text_of}
+use Rattle.sieve_reading.specs.view.Tree.{parts_of, text_of}
 use Rattle.sieve_variables.specs.Part.{Part}
-use Rattle.sieve_variables.specs.view.Part.{part_of, variable_of}
+use Rattle.sieve_variables.specs.view.Part.{variable_of}
 use Rattle.sieve_reading.specs.declared.reading.Ask.{Ask}
 use Rattle.sieve_reading.specs.declared.reading.Ask.TheVariants.{Compares, Exists, Over, Under}
 use Rattle.sieve_reading.specs.declared.reading.CommandReading.{CommandReading}
@@ -18,20 +18,25 @@ use Rattle.sieve_reading.specs.declared.reading.TestReading.{TestReading}
 use Rattle.sieve_reading.specs.declared.reading.TestReading.TheVariants.{Always, Never, Asks, AllOf, AnyOf, Not}
 use Rattle.sieve_syntax.specs.declared.tree.Text.{Text}
 
+-- the one that is there, or the other
+abbrev pub first_or : {A : Type 0} → Option A → Option A → Option A
+first_or None other = other
+first_or (Some first) other = Some first
+
 -- strings, each as its parts
 abbrev pub texts_as : List Text → List (List Part)
 texts_as texts = map (λ t. t.string) (map text_of texts)
 
 abbrev pub source_as : ValueSource → reading.ValueSource
-source_as (source.Header names) = reading.header_values (texts_as names.now)
-source_as (source.Address part names) = reading.address_values part (texts_as names.now)
-source_as (source.Envelope part names) = reading.envelope_values part (texts_as names.now)
-source_as (source.String texts) = reading.string_values (texts_as texts.now)
-source_as (source.Flags variables) = reading.flag_values (option_map (λ texts. texts_as texts.now) variables)
+source_as (source.Header names) = reading.header_values (texts_as names.items)
+source_as (source.Address part names) = reading.address_values part (texts_as names.items)
+source_as (source.Envelope part names) = reading.envelope_values part (texts_as names.items)
+source_as (source.String texts) = reading.string_values (texts_as texts.items)
+source_as (source.Flags variables) = reading.flag_values (option_map (λ texts. texts_as texts.items) variables)
 
 abbrev pub ask_as : Ask → reading.Ask
-ask_as (Compares source match_type collation keys) = reading.compares (source_as source) match_type collation (texts_as keys.now)
-ask_as (Exists names) = reading.exists_ask (texts_as names.now)
+ask_as (Compares source match_type collation keys) = reading.compares (source_as source) match_type collation (texts_as keys.items)
+ask_as (Exists names) = reading.exists_ask (texts_as names.items)
 ask_as (Over limit) = reading.over_ask limit
 ask_as (Under limit) = reading.under_ask limit
 
@@ -44,16 +49,16 @@ test_reading_as AnyOf = reading.reads_any
 test_reading_as Not = reading.reads_not
 
 abbrev pub settings_as : Settings → reading.Settings
-settings_as s = record { flags = option_map (λ texts. texts_as texts.now) s.flags; copy = s.copy }
+settings_as s = record { flags = option_map (λ texts. texts_as texts.items) s.flags; copy = s.copy }
 
 abbrev pub leaf_as : Leaf → reading.Leaf
 leaf_as (Keep settings) = reading.keep_leaf (settings_as settings)
-leaf_as (Fileinto mailbox settings) = reading.fileinto_leaf (map part_of mailbox.now) (settings_as settings)
-leaf_as (Redirect address settings) = reading.redirect_leaf (map part_of address.now) (settings_as settings)
+leaf_as (Fileinto mailbox settings) = reading.fileinto_leaf (parts_of mailbox) (settings_as settings)
+leaf_as (Redirect address settings) = reading.redirect_leaf (parts_of address) (settings_as settings)
 leaf_as Discard = reading.discard_leaf
-leaf_as (Set variable modifiers value) = reading.set_leaf (variable_of variable.now) modifiers (map part_of value.now)
-leaf_as (Flags change variable flags) = reading.flag_leaf change (option_map (λ one. variable_of one.now) variable) (texts_as flags.now)
-leaf_as (Include place once optional name) = reading.include_leaf place once optional name.now
+leaf_as (Set variable modifiers value) = reading.set_leaf (variable_of variable) modifiers (parts_of value)
+leaf_as (Flags change variable flags) = reading.flag_leaf change (option_map variable_of variable) (texts_as flags.items)
+leaf_as (Include place once optional name) = reading.include_leaf place once optional name.items
 
 abbrev pub command_reading_as : CommandReading → reading.CommandReading
 command_reading_as If = reading.reads_if
