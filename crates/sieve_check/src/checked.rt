@@ -21,4 +21,11 @@ impl Checked {
     {
         self.commands.as_slice()
     }
+
+    /// The commands, to be kept. Takes no memory.
+    pub fn into_commands(self) -> Vec<Command>
+        ensures { map node_of result.items ≡ tree_of self }
+    {
+        self.commands
+    }
 }

@@ -1,20 +1,21 @@
 -- What single steps of the compiler put in front of a tail.
 use Rattle.std.proofs.Common.{◌≡◌, ℕ, suc, ◌+◌, ◌-◌, ◌<◌, ◌≤◌, Bool, true, false, not, nat_lt, List, [], ◌∷◌, ◌++◌, length, length-append, length-drop, map, get_or, drop, if◌then◌else◌, Option, Some, None, Result, IfOk, OnOk, refl, sym, ap, ◌∙◌, subst, arith}
-use Rattle.std.proofs.lemmas.List.{at_drop_all, at_drop_more}
+use Rattle.std.proofs.lemmas.List.{append-nil, append_assoc, at_drop_all, at_drop_more}
 use borrow.Author.Tests.{ltb-true, ltb-false}
 use Rattle.std.specs.declared.alloc.Global.{Global}
 use Rattle.std.specs.declared.boxed.Box.{Box}
 use Rattle.std.specs.declared.vec.Vec.{Vec}
 use Rattle.sieve_reading.specs.Reading.{TestReading, CommandReading}
-use Rattle.sieve_reading.specs.CommandReading.{command_reading}
-use Rattle.sieve_reading.specs.TestReading.{test_reading}
-use Rattle.sieve_reading.specs.Tree.{TestList, test_list, tests, Node, node, nodes}
-use Rattle.sieve_reading.specs.view.Tree.{block_of, node_of, parts_of, test_of, tests_of}
+use Rattle.sieve_reading.specs.CommandReading.{command_reading, command_reading_by}
+use Rattle.sieve_reading.specs.TestReading.{test_reading, test_reading_by}
+use Rattle.sieve_table.specs.Table.{command_named, test_named}
+use Rattle.sieve_reading.specs.Tree.{TestList, test_list, tests, Node, node, block, nodes}
+use Rattle.sieve_reading.specs.view.Tree.{argument_of, block_of, node_of, parts_of, test_of, tests_of}
 use Rattle.sieve_syntax.specs.declared.tree.Command as commands
 use Rattle.sieve_syntax.specs.declared.tree.Command.TheViews as command_views
 use Rattle.sieve_syntax.specs.declared.tree.Test as one_tests
 use Rattle.sieve_syntax.specs.declared.tree.Tests.TheVariants as test_variants
-use Rattle.sieve_code.specs.Choice.{Tail, Branches, no_branch, past_branches, joint, reading_before, test_before, tests_before, list_before, first_before, command_before, node_before, block_before, nodes_before}
+use Rattle.sieve_code.specs.Choice.{Tail, Branches, no_branch, past_branches, joint, reading_before, test_before, tests_before, list_before, first_before, branch_before, command_before, node_before, block_before, nodes_before}
 use Rattle.sieve_code.specs.Operation.{Operation, set_op, jump_op, jump_if_op}
 use Rattle.sieve_code.specs.view.Branches.{block_at, branch_at, branches_as, first_at, last}
 use Rattle.sieve_code.specs.declared.command_code.TailFront.{TailFront}
@@ -24,6 +25,62 @@ use Rattle.sieve_code.proofs.Suffixes.{Extends, block_ends, branch_ends}
 use Rattle.sieve_syntax.proofs.Views.{seen_command, seen_list, seen_none, seen_one, seen_test}
 use Rattle.smallvec.specs.SmallVec.{SmallVec}
 use Rattle.sieve_variables.specs.declared.part.Part as parts
+
+-- LISTS FROM THEIR END
+
+at_end : {X : Type 0} (front rest : List X) (x d : X) → get_or (front ++ x ∷ rest) (length front) d ≡ x
+at_end [] rest x d = refl
+at_end (y ∷ front) rest x d = at_end front rest x d
+
+behind_front : {X : Type 0} (front rest : List X) → drop (length front) (front ++ rest) ≡ rest
+behind_front [] rest = refl
+behind_front (y ∷ front) rest = behind_front front rest
+
+-- where a list is what is left of it and what was taken from its end, the item taken next stands at the place of what is left then
+pub record IsTaken {X : Type 0} (all left : List X) (x : X) : Type 0 where
+  pub below : length left < length all
+  pub there : x ≡ get_or all (length left) x
+  pub split : all ≡ left ++ drop (length left) all
+
+pub taken : {X : Type 0} (all now left : List X) (x : X) → all ≡ now ++ drop (length now) all → now ≡ left ++ x ∷ [] → IsTaken all left x
+taken all now left x whole is = record {
+  below = omega (arith, long, length-append left (x ∷ drop (length now) all));
+  there = sym (ap (λ l. get_or l (length left) x) split ∙ at_end left (drop (length now) all) x x);
+  split = split ∙ ap (λ l. left ++ l) (sym (ap (drop (length left)) split ∙ behind_front left (x ∷ drop (length now) all)));
+}
+  where
+    split : all ≡ left ++ x ∷ drop (length now) all
+    split = whole ∙ ap (λ l. l ++ drop (length now) all) is ∙ append_assoc left (x ∷ []) (drop (length now) all)
+
+    long : length all ≡ length (left ++ x ∷ drop (length now) all)
+    long = ap length split
+
+-- a list without items is empty
+pub no_items : {X : Type 0} (xs : List X) → length xs ≡ 0 → xs ≡ []
+no_items [] none = refl
+no_items (x ∷ xs) none = absurd (omega (arith, none))
+
+-- before anything is taken from the end of a list, all of it is left
+pub none_taken : {X : Type 0} (xs : List X) → xs ≡ xs ++ drop (length xs) xs
+none_taken xs = sym (ap (λ l. xs ++ l) (at_drop_all (λ l. l) xs (length xs) (omega arith)) ∙ append-nil xs)
+
+pub is_below : (n m : ℕ) → n < m → true ≡ nat_lt n m
+is_below n m below = by_test (nat_lt n m) refl
+  where
+    by_test : (b : Bool) → nat_lt n m ≡ b → true ≡ b
+    by_test true is = refl
+    by_test false is = let above = ltb-false n m is in absurd (omega (arith, above, below))
+
+pub not_below : (n : ℕ) → false ≡ nat_lt n n
+not_below n = by_test (nat_lt n n) refl
+  where
+    by_test : (b : Bool) → nat_lt n n ≡ b → false ≡ b
+    by_test true is = let below = ltb-true n n is in absurd (omega (arith, below))
+    by_test false is = refl
+
+-- all but the last are one fewer
+pub one_fewer : {X : Type 0} (now left : List X) (x : X) → now ≡ left ++ x ∷ [] → length now ≡ length left + 1
+one_fewer now left x is = ap length is ∙ length-append left (x ∷ [])
 
 -- what a step that succeeds puts in front of a tail may be said as anything that is equal to it
 pub on_ok_along : {T E X : Type 0} (r : Result T E) (a b c : X) → b ≡ c → OnOk r (a ≡ b) → OnOk r (a ≡ c)
@@ -62,24 +119,20 @@ pub all_one : (truth : Bool) (ts : test_variants.the_data) (b : Box one_tests.Te
 unfolding tests_before
 all_one truth ts b t behind is same = sym (ap (λ x. tests_before truth x behind) (seen_one parts_of ts b t is same))
 
-pub all_list : (truth : Bool) (ts : test_variants.the_data) (v : Vec one_tests.Test Global) (list : List one_tests.Test) (behind : Tail) → ts ≡ test_variants.List v → list ≡ v.items → tests_before truth (test_list (tests (map test_of list))) behind ≡ tests_before truth (tests_of ts) behind
-all_list truth ts v list behind is same = sym (ap (λ x. tests_before truth x behind) (seen_list parts_of ts v list is same))
+pub all_list : (truth : Bool) (ts : test_variants.the_data) (v : Vec one_tests.Test Global) (behind : Tail) → ts ≡ test_variants.List v → tests_before truth (test_list (tests (map test_of v.items))) behind ≡ tests_before truth (tests_of ts) behind
+all_list truth ts v behind is = sym (ap (λ x. tests_before truth x behind) (seen_list parts_of ts v v.items is refl))
 
-first_of_none : (list : List one_tests.Test) (behind : Tail) → length list ≤ 0 → set_op false ∷ behind ≡ first_before (test_list (tests (map test_of list))) behind
+pub first_empty : (ts : test_variants.the_data) (v : Vec one_tests.Test Global) (behind : Tail) → ts ≡ test_variants.List v → v.items ≡ [] → set_op false ∷ behind ≡ first_before (tests_of ts) behind
 unfolding first_before
-first_of_none [] behind le = refl
-first_of_none (t ∷ list) behind le = absurd (omega (arith, le))
+first_empty ts v behind is none = sym (ap (λ x. first_before x behind) (seen_list parts_of ts v [] is (sym none)))
 
-first_of_some : (list : List one_tests.Test) (t : one_tests.Test) (behind : Tail) → 0 < length list → t ≡ get_or list 0 t → test_before (test_of t) behind ≡ first_before (test_list (tests (map test_of list))) behind
+pub first_listed : (ts : test_variants.the_data) (v : Vec one_tests.Test Global) (t : one_tests.Test) (rest : List one_tests.Test) (behind : Tail) → ts ≡ test_variants.List v → v.items ≡ t ∷ rest → test_before (test_of t) behind ≡ first_before (tests_of ts) behind
 unfolding first_before
-first_of_some [] t behind some is = absurd (omega (arith, some))
-first_of_some (u ∷ list) t behind some is = ap (λ x. test_before (test_of x) behind) is
+first_listed ts v t rest behind is first = sym (ap (λ x. first_before x behind) (seen_list parts_of ts v (t ∷ rest) is (sym first)))
 
-pub first_empty : (ts : test_variants.the_data) (v : Vec one_tests.Test Global) (list : List one_tests.Test) (behind : Tail) → ts ≡ test_variants.List v → list ≡ v.items → length list ≤ 0 → set_op false ∷ behind ≡ first_before (tests_of ts) behind
-first_empty ts v list behind is same none = first_of_none list behind none ∙ sym (ap (λ x. first_before x behind) (seen_list parts_of ts v list is same))
-
-pub first_listed : (ts : test_variants.the_data) (v : Vec one_tests.Test Global) (list : List one_tests.Test) (t : one_tests.Test) (behind : Tail) → ts ≡ test_variants.List v → list ≡ v.items → 0 < length list → t ≡ get_or list 0 t → test_before (test_of t) behind ≡ first_before (tests_of ts) behind
-first_listed ts v list t behind is same some first = first_of_some list t behind some first ∙ sym (ap (λ x. first_before x behind) (seen_list parts_of ts v list is same))
+-- what is read by a test's name and arguments is read of the test
+pub test_seen : (t : one_tests.Test) (name : List ℕ) → name ≡ t.name.items → test_reading_by (test_named name) (map argument_of t.args.items) ≡ test_reading (test_of t)
+test_seen t name is = ap (λ n. test_reading_by (test_named n) (map argument_of t.args.items)) is ∙ sym (ap test_reading (seen_test parts_of t))
 
 pub test_put : (t : one_tests.Test) (r : Option TestReading) (behind : Tail) → r ≡ test_reading (test_of t) → reading_before r (tests_before false (tests_of t.tests)) (tests_before true (tests_of t.tests)) (first_before (tests_of t.tests)) behind ≡ test_before (test_of t) behind
 unfolding test_before
@@ -197,21 +250,36 @@ pub line_seen : (c : commands.Command) → line_at (node_of c) ≡ (command_view
 unfolding line_at
 line_seen c = ap line_at (seen_command parts_of c)
 
-pub first_seen : (c : commands.Command) (behind : Tail) → first_before (tests_of (command_views.out-Command c).tests) behind ≡ first_at (node_of c) behind
-first_seen c behind = sym (ap (λ n. first_at n behind) (seen_command parts_of c))
+pub branch_seen : (c : commands.Command) (b : Branches) → let o = command_views.out-Command c in branch_before (first_before (tests_of o.tests)) (block_before (block_of o.block)) b ≡ branch_at (node_of c) b
+branch_seen c b = sym (ap (λ n. branch_at n b) (seen_command parts_of c))
 
-block_seen : (c : commands.Command) (behind : Tail) → block_at (node_of c) behind ≡ block_before (block_of (command_views.out-Command c).block) behind
-block_seen c behind = ap (λ n. block_at n behind) (seen_command parts_of c)
+pub block_seen : (c : commands.Command) (behind : Tail) → block_before (block_of (command_views.out-Command c).block) behind ≡ block_at (node_of c) behind
+block_seen c behind = sym (ap (λ n. block_at n behind) (seen_command parts_of c))
 
-pub block_none : (c : commands.Command) (behind : Tail) → (command_views.out-Command c).block ≡ None → behind ≡ block_at (node_of c) behind
+-- what is read by a command's name and arguments is read of its node
+pub reading_seen : (c : commands.Command) (name : List ℕ) → let o = command_views.out-Command c in name ≡ o.name.items → command_reading_by (command_named name) (map argument_of o.args.items) ≡ command_reading (node_of c)
+reading_seen c name is =
+    let args = map argument_of (command_views.out-Command c).args.items in
+    ap (λ n. command_reading_by (command_named n) args) is ∙ sym (ap command_reading (seen_command parts_of c))
+
+abbrev pub block_on : List commands.Command → Tail → Tail
+block_on list = block_before (block (nodes (map node_of list)))
+
+-- the commands of a block make what the block makes; none are in the place of a block that there isn't
+pub block_some : (b : Option (Vec commands.Command Global)) (v cs : Vec commands.Command Global) → b ≡ Some v → cs ≡ v → (behind : Tail) → block_on cs.items behind ≡ block_before (block_of b) behind
+block_some b v cs is same behind = ap (λ l. block_on l.items behind) same ∙ sym (ap (λ x. block_before (block_of x) behind) is)
+
+pub block_none : (b : Option (Vec commands.Command Global)) (v cs : Vec commands.Command Global) → b ≡ None → v.items ≡ [] → cs ≡ v → (behind : Tail) → block_on cs.items behind ≡ block_before (block_of b) behind
+unfolding block_before nodes_before
+block_none b v cs is empty same behind = ap (λ l. block_on l.items behind) same ∙ ap (λ l. block_on l behind) empty ∙ sym (ap (λ x. block_before (block_of x) behind) is)
+
+pub block_put : (list : List commands.Command) (behind : Tail) → (nodes_before (nodes (map node_of list)) behind).behind_branches ≡ block_on list behind
 unfolding block_before
-block_none c behind is = sym (block_seen c behind ∙ ap (λ b. block_before (block_of b) behind) is)
+block_put list behind = refl
 
-pub block_some : (c : commands.Command) (v : Vec commands.Command Global) (list : List commands.Command) (behind : Tail) → (command_views.out-Command c).block ≡ Some v → list ≡ v.items → (nodes_before (nodes (map node_of list)) behind).behind_branches ≡ block_at (node_of c) behind
-unfolding block_before
-block_some c v list behind is same =
-    ap (λ l. (nodes_before (nodes (map node_of l)) behind).behind_branches) same
-    ∙ sym (block_seen c behind ∙ ap (λ b. block_before (block_of b) behind) is)
+-- a branch, by what its block makes
+pub branch_along : (first here there : Tail → Tail) (b : Branches) → ((behind : Tail) → here behind ≡ there behind) → branch_before first here b ≡ branch_before first there b
+branch_along first here there b same = ap (λ tail. first (jump_if_op false (length b.with_branch) ∷ tail)) (same (past_branches b))
 
 -- LISTS OF COMMANDS
 

@@ -1,16 +1,16 @@
 //! The operations of commands (RFC 5228, sections 3 and 4).
 ghost use Rattle.std.specs.Prelude.{◌≡◌, ◌≤◌, ◌∷◌, false, length, map, OnOk, IfOk};
-ghost use Rattle.sieve_reading.specs.Tree.{nodes};
-ghost use Rattle.sieve_reading.specs.view.Tree.{node_of};
-ghost use Rattle.sieve_code.specs.Choice.{no_branch, node_before, nodes_before, past_branches};
-ghost use Rattle.sieve_code.specs.view.Branches.{block_at, branch_at, branches_as, last};
+ghost use Rattle.sieve_reading.specs.Tree.{block, nodes};
+ghost use Rattle.sieve_reading.specs.view.Tree.{node_of, tests_of};
+ghost use Rattle.sieve_code.specs.Choice.{block_before, branch_before, first_before, no_branch, node_before, nodes_before, past_branches};
+ghost use Rattle.sieve_code.specs.view.Branches.{branches_as, last};
 ghost use Rattle.sieve_code.specs.view.Op.{op_as};
 
 use crate::op::Op;
 use crate::strings::command_op;
 use crate::tail::Tail;
 use crate::test_code::put_first;
-use sieve_reading::{Command, CommandReading, read_command};
+use sieve_reading::{Command, CommandReading, Tests, read_command};
 use std::alloc::{AllocError, Global};
 
 /// What stands at the front of a tail.
@@ -69,14 +69,15 @@ fn put_past(front: TailFront, tail: &mut Tail) -> Result<(), AllocError>
 #[cycle(command_code)]
 pub(crate) fn put_commands(
     alloc: Global,
-    commands: &[Command],
+    commands: Vec<Command>,
     tail: &mut Tail,
 ) -> Result<(), AllocError>
-    ensures { OnOk result (tail.new ≡ (nodes_before (nodes (map node_of commands.now)) tail.old).behind_branches) }
+    ensures { OnOk result (tail.new ≡ (nodes_before (nodes (map node_of commands.items)) tail.old).behind_branches) }
 {
+    let mut commands = commands;
     let mut front = without_branch(tail);
-    for i in (0..commands.len()).rev() {
-        front = put_command(alloc, &commands[i], front, tail)?;
+    while let Some(command) = commands.pop() {
+        front = put_command(alloc, command, front, tail)?;
     }
     // Branches that no `if` opens do nothing. A checked script has none.
     tail.keep_last(front.behind);
@@ -87,21 +88,32 @@ pub(crate) fn put_commands(
 #[cycle(command_code)]
 fn put_command(
     alloc: Global,
-    command: &Command,
+    command: Command,
     front: TailFront,
     tail: &mut Tail,
 ) -> Result<TailFront, AllocError>
     requires { front.behind ≤ length tail.old }
     ensures within { IfOk result (λ new. new.behind ≤ length tail.new) }
-    ensures value { IfOk result (λ new. branches_as new tail.new ≡ node_before (node_of command.now) (branches_as front tail.old)) }
+    ensures value { IfOk result (λ new. branches_as new tail.new ≡ node_before (node_of command) (branches_as front tail.old)) }
 {
-    match read_command(command) {
+    let Command {
+        name,
+        line,
+        args,
+        tests,
+        block,
+    } = command;
+    let commands = match block {
+        Some(commands) => commands,
+        None => Vec::new(alloc),
+    };
+    match read_command(&name, args) {
         Some(CommandReading::If) => {
-            put_branch(alloc, command, front, tail)?;
+            put_branch(alloc, commands, tests, front, tail)?;
             Ok(without_branch(tail))
         }
         Some(CommandReading::Elsif) => {
-            put_branch(alloc, command, front, tail)?;
+            put_branch(alloc, commands, tests, front, tail)?;
             Ok(TailFront {
                 has_branch: true,
                 behind: front.behind,
@@ -109,14 +121,14 @@ fn put_command(
         }
         Some(CommandReading::Else) => {
             tail.keep_last(front.behind);
-            put_block(alloc, command, tail)?;
+            put_commands(alloc, commands, tail)?;
             Ok(TailFront {
                 has_branch: true,
                 behind: front.behind,
             })
         }
         Some(CommandReading::Act(leaf)) => {
-            let op = command_op(alloc, leaf, command.line)?;
+            let op = command_op(alloc, leaf, line)?;
             put_alone(Op::Command(op), front, tail)
         }
         Some(CommandReading::Stop) => put_alone(Op::Stop, front, tail),
@@ -130,27 +142,17 @@ fn put_command(
 #[cycle(command_code)]
 fn put_branch(
     alloc: Global,
-    command: &Command,
+    commands: Vec<Command>,
+    tests: Tests,
     front: TailFront,
     tail: &mut Tail,
 ) -> Result<(), AllocError>
     requires { front.behind ≤ length tail.old }
-    ensures { OnOk result (tail.new ≡ branch_at (node_of command.now) (branches_as front tail.old)) }
+    ensures { OnOk result (tail.new ≡ branch_before (first_before (tests_of tests)) (block_before (block (nodes (map node_of commands.items)))) (branches_as front tail.old)) }
 {
     let next = tail.len();
     put_past(front, tail)?;
-    put_block(alloc, command, tail)?;
+    put_commands(alloc, commands, tail)?;
     tail.put(Op::JumpIfFalse(next))?;
-    put_first(alloc, &command.tests, tail)
-}
-
-/// Puts the block of a command in front of a tail.
-#[cycle(command_code)]
-fn put_block(alloc: Global, command: &Command, tail: &mut Tail) -> Result<(), AllocError>
-    ensures { OnOk result (tail.new ≡ block_at (node_of command.now) tail.old) }
-{
-    match &command.block {
-        Some(commands) => put_commands(alloc, commands, tail),
-        None => Ok(()),
-    }
+    put_first(alloc, tests, tail)
 }

@@ -15,12 +15,12 @@ use std::alloc::{AllocError, Global};
 
 /// The code of a checked script, which does what the script does: its walk is the script's, so for every list of answers it
 /// meets what the script meets, in that order, and ends as the script ends.
-pub fn compile(alloc: Global, checked: &Checked) -> Result<Code, AllocError>
-    ensures code { IfOk result (λ code. Compiles (tree_of checked.now) (ops_of code)) }
-    ensures answers { IfOk result (λ code. (answers : List Bool) → gone (code_walk (ops_of code) (length (ops_of code))) answers ≡ gone (tree_walk (tree_of checked.now)) answers) }
+pub fn compile(alloc: Global, checked: Checked) -> Result<Code, AllocError>
+    ensures code { IfOk result (λ code. Compiles (tree_of checked) (ops_of code)) }
+    ensures answers { IfOk result (λ code. (answers : List Bool) → gone (code_walk (ops_of code) (length (ops_of code))) answers ≡ gone (tree_walk (tree_of checked)) answers) }
 {
     let mut tail = Tail::new(alloc);
-    put_commands(alloc, checked.commands(), &mut tail)?;
+    put_commands(alloc, checked.into_commands(), &mut tail)?;
     let ops = with_places(alloc, tail.into_ops())?;
     Ok(Code { ops })
 }

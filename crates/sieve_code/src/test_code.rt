@@ -32,8 +32,8 @@ fn jump_if(truth: bool, target: usize) -> Op
 }
 
 /// The operation of a test that asks.
-fn ask_op(alloc: Global, ask: &Ask<'_>) -> Result<Op, AllocError>
-    ensures { IfOk result (λ op. op_as op ≡ test_op (ask_as ask.now)) }
+fn ask_op(alloc: Global, ask: Ask) -> Result<Op, AllocError>
+    ensures { IfOk result (λ op. op_as op ≡ test_op (ask_as ask)) }
 {
     Ok(Op::Test(Box::new(alloc, test_op(alloc, ask)?)?))
 }
@@ -51,62 +51,71 @@ fn put_joint(follows: bool, truth: bool, end: usize, tail: &mut Tail) -> Result<
 
 /// Puts a test in front of a tail.
 #[cycle(test_code)]
-fn put_test(alloc: Global, test: &Test, tail: &mut Tail) -> Result<(), AllocError>
-    ensures { OnOk result (tail.new ≡ test_before (test_of test.now) tail.old) }
+fn put_test(alloc: Global, test: Test, tail: &mut Tail) -> Result<(), AllocError>
+    ensures { OnOk result (tail.new ≡ test_before (test_of test) tail.old) }
 {
-    match read_test(test) {
+    let Test {
+        name,
+        args,
+        tests,
+        ..
+    } = test;
+    match read_test(&name, args) {
         Some(TestReading::Always) => tail.put(Op::True),
         Some(TestReading::Never) => tail.put(Op::False),
         None => tail.put(Op::False),
-        Some(TestReading::Asks(ask)) => tail.put(ask_op(alloc, &ask)?),
-        Some(TestReading::AllOf) => put_tests(alloc, false, &test.tests, tail),
-        Some(TestReading::AnyOf) => put_tests(alloc, true, &test.tests, tail),
+        Some(TestReading::Asks(ask)) => tail.put(ask_op(alloc, ask)?),
+        Some(TestReading::AllOf) => put_tests(alloc, false, tests, tail),
+        Some(TestReading::AnyOf) => put_tests(alloc, true, tests, tail),
         Some(TestReading::Not) => {
             tail.put(Op::Not)?;
-            put_first(alloc, &test.tests, tail)
+            put_first(alloc, tests, tail)
         }
     }
 }
 
 /// Puts all tests in front of a tail, with jumps past the last one where one comes to that truth.
 #[cycle(test_code)]
-fn put_tests(alloc: Global, truth: bool, tests: &Tests, tail: &mut Tail) -> Result<(), AllocError>
-    ensures { OnOk result (tail.new ≡ tests_before truth (tests_of tests.now) tail.old) }
+fn put_tests(alloc: Global, truth: bool, tests: Tests, tail: &mut Tail) -> Result<(), AllocError>
+    ensures { OnOk result (tail.new ≡ tests_before truth (tests_of tests) tail.old) }
 {
     match tests {
         Tests::None => tail.put(constant(!truth)),
-        Tests::One(test) => put_test(alloc, test, tail),
-        Tests::List(tests) => put_list(alloc, truth, tests, tail),
+        Tests::One(test) => put_test(alloc, Box::into_inner(test), tail),
+        Tests::List(list) => put_list(alloc, truth, list, tail),
     }
 }
 
 /// Puts the tests of a list in front of a tail.
 #[cycle(test_code)]
-fn put_list(alloc: Global, truth: bool, list: &[Test], tail: &mut Tail) -> Result<(), AllocError>
-    ensures { OnOk result (tail.new ≡ tests_before truth (test_list (tests (map test_of list.now))) tail.old) }
+fn put_list(alloc: Global, truth: bool, list: Vec<Test>, tail: &mut Tail) -> Result<(), AllocError>
+    ensures { OnOk result (tail.new ≡ tests_before truth (test_list (tests (map test_of list.items))) tail.old) }
 {
     if list.is_empty() {
         return tail.put(constant(!truth));
     }
     let end = tail.len();
-    for i in (0..list.len()).rev() {
-        put_joint(i + 1 < list.len(), truth, end, tail)?;
-        put_test(alloc, &list[i], tail)?;
+    let mut list = list;
+    let mut follows = false;
+    while let Some(test) = list.pop() {
+        put_joint(follows, truth, end, tail)?;
+        put_test(alloc, test, tail)?;
+        follows = true;
     }
     Ok(())
 }
 
 /// Puts the first of the tests in front of a tail.
 #[cycle(test_code)]
-pub(crate) fn put_first(alloc: Global, tests: &Tests, tail: &mut Tail) -> Result<(), AllocError>
-    ensures { OnOk result (tail.new ≡ first_before (tests_of tests.now) tail.old) }
+pub(crate) fn put_first(alloc: Global, tests: Tests, tail: &mut Tail) -> Result<(), AllocError>
+    ensures { OnOk result (tail.new ≡ first_before (tests_of tests) tail.old) }
 {
     match tests {
         Tests::None => tail.put(Op::False),
-        Tests::One(test) => put_test(alloc, test, tail),
-        Tests::List(tests) => match tests.as_slice() {
-            [] => tail.put(Op::False),
-            [test, ..] => put_test(alloc, test, tail),
+        Tests::One(test) => put_test(alloc, Box::into_inner(test), tail),
+        Tests::List(list) => match list.into_iter().next() {
+            None => tail.put(Op::False),
+            Some(test) => put_test(alloc, test, tail),
         },
     }
 }

@@ -28,7 +28,7 @@ fn without_tree(alloc: Global, judged: Judged) -> Result<Compiled, AllocError>
     ensures { IfOk result (λ compiled. CompiledFrom compiled (judged_as judged)) }
 {
     match judged {
-        Judged::Sound(checked) => Ok(Compiled::Sound(compile(alloc, &checked)?)),
+        Judged::Sound(checked) => Ok(Compiled::Sound(compile(alloc, checked)?)),
         Judged::Faulty { line, kind } => Ok(Compiled::Faulty { line, kind }),
     }
 }

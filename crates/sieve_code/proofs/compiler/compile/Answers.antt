@@ -10,8 +10,8 @@ use Rattle.sieve_code.proofs.compiler.compile.Goals as goal
 
 pub invariant_of-result : goal.invariant_of-result
 invariant_of-result c =
-    let tree = tree_of c.args.checked.now in
-    let tail = c.in_ok-put_commands.ensures ∙ ap (λ b. (nodes_before (nodes (map node_of c.commands.result.now)) b).behind_branches) c.new-tail.ensures ∙ ap tail_of c.commands.ensures in
+    let tree = tree_of c.args.checked in
+    let tail = c.in_ok-put_commands.ensures ∙ ap (λ b. (nodes_before (nodes (map node_of c.into_commands.result.items)) b).behind_branches) c.new-tail.ensures ∙ ap tail_of c.into_commands.ensures in
     let made = code_made tree c.in_ok-ops.ops.items c.into_ops.result.items c.put_commands.new.tail c.in_ok-ops.ensures c.into_ops.ensures tail in
     record {
       forward = subst (λ ops. AllGoForward ops) (sym made) (code_forward tree);
@@ -23,14 +23,14 @@ invariant_of-result c =
 
 pub returns-clause-code : goal.returns-clause-code
 returns-clause-code c =
-    let tree = tree_of c.args.checked.now in
-    let tail = c.in_ok-put_commands.ensures ∙ ap (λ b. (nodes_before (nodes (map node_of c.commands.result.now)) b).behind_branches) c.new-tail.ensures ∙ ap tail_of c.commands.ensures in
+    let tree = tree_of c.args.checked in
+    let tail = c.in_ok-put_commands.ensures ∙ ap (λ b. (nodes_before (nodes (map node_of c.into_commands.result.items)) b).behind_branches) c.new-tail.ensures ∙ ap tail_of c.into_commands.ensures in
     let made = code_made tree c.in_ok-ops.ops.items c.into_ops.result.items c.put_commands.new.tail c.in_ok-ops.ensures c.into_ops.ensures tail in
     record { chosen = made; does = ap (λ ops. code_walk ops (length ops)) made ∙ code_walks tree }
 
 pub returns-clause-answers : goal.returns-clause-answers
 returns-clause-answers c = λ answers.
-    let tree = tree_of c.args.checked.now in
-    let tail = c.in_ok-put_commands.ensures ∙ ap (λ b. (nodes_before (nodes (map node_of c.commands.result.now)) b).behind_branches) c.new-tail.ensures ∙ ap tail_of c.commands.ensures in
+    let tree = tree_of c.args.checked in
+    let tail = c.in_ok-put_commands.ensures ∙ ap (λ b. (nodes_before (nodes (map node_of c.into_commands.result.items)) b).behind_branches) c.new-tail.ensures ∙ ap tail_of c.into_commands.ensures in
     let made = code_made tree c.in_ok-ops.ops.items c.into_ops.result.items c.put_commands.new.tail c.in_ok-ops.ensures c.into_ops.ensures tail in
     ap (λ walk. gone walk answers) (ap (λ ops. code_walk ops (length ops)) made ∙ code_walks tree)
