@@ -141,7 +141,7 @@ fn checked_of(rt: &impl Host) -> io::Result<Checked> {
 pub(crate) fn compile_script(rt: &impl Host) -> io::Result<()> {
     let checked = checked_of(rt)?;
     mark(rt);
-    let answer = compile(rt.alloc(), &checked);
+    let answer = compile(rt.alloc(), checked);
     mark(rt);
     match answer {
         Ok(code) => tell_code(rt, &code),
@@ -179,7 +179,7 @@ pub(crate) fn ask_checked(rt: &impl Host) -> io::Result<()> {
 }
 
 fn code_of(rt: &impl Host) -> io::Result<Code> {
-    Ok(compile(rt.alloc(), &checked_of(rt)?)?)
+    Ok(compile(rt.alloc(), checked_of(rt)?)?)
 }
 
 /// The lines of all operations, which are written in the call, and how many there are.

@@ -26,6 +26,7 @@ impl Checked {
     pub fn into_commands(self) -> Vec<Command>
         ensures { map node_of result.items ≡ tree_of self }
     {
-        self.commands
+        let Checked { commands, .. } = self;
+        commands
     }
 }

@@ -25,7 +25,7 @@ fn check_code(rt: &(impl AllocGlobal + Abort), code: &Code, lines: &[u8]) {
 /// Compiles a text, and compares its code.
 fn check_compiled(
     rt: &(impl AllocGlobal + Abort),
-    checked: &Checked,
+    checked: Checked,
     lines: &[u8],
 ) -> Result<(), Fail> {
     check_code(rt, &compile(rt.alloc(), checked)?, lines);
@@ -33,7 +33,7 @@ fn check_compiled(
 }
 
 /// Compares the code of a sound text.
-fn check_sound(rt: &(impl AllocGlobal + Abort), judged: &Judged, lines: &[u8]) -> Result<(), Fail> {
+fn check_sound(rt: &(impl AllocGlobal + Abort), judged: Judged, lines: &[u8]) -> Result<(), Fail> {
     match judged {
         Judged::Sound(checked) => check_compiled(rt, checked, lines),
         _ => panic!(rt; "another judgement"),
@@ -43,7 +43,7 @@ fn check_sound(rt: &(impl AllocGlobal + Abort), judged: &Judged, lines: &[u8]) -
 #[test]
 fn a_sound_text_is_compiled(rt: HostRuntime) -> Result<(), Fail> {
     let judged = judge(rt.alloc(), b"stop;\nkeep;")?;
-    check_sound(&rt, &judged, b"0: stop\n1: keep internal @2\n")
+    check_sound(&rt, judged, b"0: stop\n1: keep internal @2\n")
 }
 
 /// Compares the fault of a text on line 1.

@@ -3,8 +3,8 @@
 use super::{holds, same};
 use sieve_check::{CheckFault, Checked, Rule, check};
 use sieve_reading::{
-    Ask, Command, CommandKind, CommandReading, Leaf, MatchType, Part, Test, TestReading, Tests,
-    Text, ValueSource, kind_of, read_command, read_test,
+    Argument, Ask, Command, CommandKind, CommandReading, Leaf, MatchType, Part, Test, TestReading,
+    Tests, Text, ValueSource, kind_of, read_command, read_test,
 };
 use sieve_syntax::{ParsedScript, parse};
 use std::alloc::Global;
@@ -18,81 +18,93 @@ fn check_named(rt: &impl Abort, command: &Command, name: &[u8], line: u64, kind:
     holds(rt, "its kind", kind_of(command) == Some(kind));
 }
 
-/// Whether a command reads as `keep` without flags.
-fn is_plain_keep(command: &Command) -> bool {
-    match read_command(command) {
-        Some(CommandReading::Act(leaf)) => match leaf {
-            Leaf::Keep { settings } => settings.flags.is_none() && !settings.copy,
-            _ => false,
-        },
+/// Whether a command of that name and with these arguments reads as `keep` without flags.
+fn is_plain_keep(name: &[u8], args: Vec<Argument>) -> bool {
+    match read_command(name, args) {
+        Some(CommandReading::Act(Leaf::Keep { settings })) => {
+            settings.flags.is_none() && !settings.copy
+        }
         _ => false,
     }
 }
 
 /// The first command of `keep;\nif NOT size :over 2K {\nStop; }`.
-fn check_keep(rt: &impl Abort, keep: &Command) {
-    check_named(rt, keep, b"keep", 1, CommandKind::Keep);
-    holds(rt, "the reading of keep", is_plain_keep(keep));
+fn check_keep(rt: &impl Abort, keep: Command) {
+    check_named(rt, &keep, b"keep", 1, CommandKind::Keep);
     holds(
         rt,
         "the rest of keep",
         keep.args.is_empty() && keep.block.is_none(),
     );
+    let reads = is_plain_keep(&keep.name, keep.args);
+    holds(rt, "the reading of keep", reads);
 }
 
 /// The test of the `if`.
-fn check_negation(rt: &impl Abort, negation: &Test) {
-    let negates = matches!(read_test(negation), Some(TestReading::Not));
+fn check_negation(rt: &impl Abort, negation: Test) {
+    let Test {
+        name,
+        args,
+        tests,
+        ..
+    } = negation;
+    let negates = matches!(read_test(&name, args), Some(TestReading::Not));
     holds(rt, "the reading of not", negates);
-    match &negation.tests {
-        Tests::One(size) => holds(rt, "the reading of size", is_over(size)),
+    match tests {
+        Tests::One(size) => holds(rt, "the reading of size", is_over(Box::into_inner(size))),
         _ => panic!(rt; "not one test"),
     }
 }
 
 /// Whether a test asks for more than 2,048 octets.
-fn is_over(test: &Test) -> bool {
-    match read_test(test) {
-        Some(TestReading::Asks(ask)) => match ask {
-            Ask::Over { limit } => limit == 2048,
-            _ => false,
-        },
+fn is_over(test: Test) -> bool {
+    match read_test(&test.name, test.args) {
+        Some(TestReading::Asks(Ask::Over { limit })) => limit == 2048,
         _ => false,
     }
 }
 
 /// The block of the `if`.
-fn check_stop(rt: &impl Abort, block: &[Command]) {
-    let [stop] = block else {
-        panic!(rt; "not one command");
-    };
-    check_named(rt, stop, b"Stop", 3, CommandKind::Stop);
-    let stops = matches!(read_command(stop), Some(CommandReading::Stop));
-    holds(rt, "the reading of stop", stops);
+fn check_stop(rt: &impl Abort, block: Vec<Command>) {
+    let mut commands = block.into_iter();
+    match (commands.next(), commands.next()) {
+        (Some(stop), None) => {
+            check_named(rt, &stop, b"Stop", 3, CommandKind::Stop);
+            let stops = matches!(
+                read_command(&stop.name, stop.args),
+                Some(CommandReading::Stop)
+            );
+            holds(rt, "the reading of stop", stops);
+        }
+        _ => panic!(rt; "not one command"),
+    }
 }
 
 /// The second command, an `if`.
-fn check_choice(rt: &impl Abort, choice: &Command) {
-    holds(rt, "the line of if", choice.line == 2);
-    holds(
-        rt,
-        "the kind of if",
-        kind_of(choice) == Some(CommandKind::If),
-    );
-    let opens = matches!(read_command(choice), Some(CommandReading::If));
+fn check_choice(rt: &impl Abort, choice: Command) {
+    check_named(rt, &choice, b"if", 2, CommandKind::If);
+    let Command {
+        name,
+        args,
+        tests,
+        block,
+        ..
+    } = choice;
+    let opens = matches!(read_command(&name, args), Some(CommandReading::If));
     holds(rt, "the reading of if", opens);
-    match (&choice.tests, &choice.block) {
+    match (tests, block) {
         (Tests::One(negation), Some(block)) => {
-            check_negation(rt, negation);
-            check_stop(rt, block.as_slice());
+            check_negation(rt, Box::into_inner(negation));
+            check_stop(rt, block);
         }
         _ => panic!(rt; "another tree"),
     }
 }
 
-fn check_both(rt: &impl Abort, commands: &[Command]) {
-    match commands {
-        [keep, choice] => {
+fn check_both(rt: &impl Abort, checked: Checked) {
+    let mut commands = checked.into_commands().into_iter();
+    match (commands.next(), commands.next(), commands.next()) {
+        (Some(keep), Some(choice), None) => {
             check_keep(rt, keep);
             check_choice(rt, choice);
         }
@@ -108,7 +120,8 @@ fn checked_text(alloc: Global, text: &[u8]) -> Result<Checked, Fail> {
 #[test]
 fn a_sound_script_has_its_tree(rt: HostRuntime) -> Result<(), Fail> {
     let checked = checked_text(rt.alloc(), b"keep;\nif NOT size :over 2K {\nStop; }")?;
-    check_both(&rt, checked.commands());
+    holds(&rt, "how many commands", checked.commands().len() == 2);
+    check_both(&rt, checked);
     Ok(())
 }
 
@@ -122,35 +135,47 @@ fn check_text(rt: &impl Abort, text: &Text, octets: &[u8], line: u64) {
     }
 }
 
-/// The test of `if header :comparator "i;octet" "a"\n["b", "c"] {}`.
-fn check_header(rt: &impl Abort, test: &Test) {
-    match read_test(test) {
-        Some(
-            TestReading::Asks(
-                Ask::Compares {
-                    source: ValueSource::Header { names: [name] },
-                    match_type: MatchType::Is,
-                    collation: match_text::Collation::Octet,
-                    keys: [first, second],
-                },
-            ),
-        ) => {
+/// The strings of the test.
+fn check_strings(rt: &impl Abort, names: &[Text], keys: &[Text]) {
+    match (names, keys) {
+        ([name], [first, second]) => {
             check_text(rt, name, b"a", 1);
             check_text(rt, first, b"b", 2);
             check_text(rt, second, b"c", 2);
         }
+        _ => panic!(rt; "other strings"),
+    }
+}
+
+/// The test of `if header :comparator "i;octet" "a"\n["b", "c"] {}`.
+fn check_header(rt: &impl Abort, test: Test) {
+    match read_test(&test.name, test.args) {
+        Some(
+            TestReading::Asks(
+                Ask::Compares {
+                    source: ValueSource::Header { names },
+                    match_type: MatchType::Is,
+                    collation: match_text::Collation::Octet,
+                    keys,
+                },
+            ),
+        ) => check_strings(rt, names.as_slice(), keys.as_slice()),
         _ => panic!(rt; "another test"),
     }
 }
 
-fn check_choice_of_header(rt: &impl Abort, commands: &[Command]) {
-    match commands {
-        [
-            Command {
-                tests: Tests::One(test),
-                ..
-            },
-        ] => check_header(rt, test),
+fn check_choice_of_header(rt: &impl Abort, checked: Checked) {
+    let mut commands = checked.into_commands().into_iter();
+    match (commands.next(), commands.next()) {
+        (
+            Some(
+                Command {
+                    tests: Tests::One(test),
+                    ..
+                },
+            ),
+            None,
+        ) => check_header(rt, Box::into_inner(test)),
         _ => panic!(rt; "another tree"),
     }
 }
@@ -161,7 +186,7 @@ fn a_header_test_has_its_strings(rt: HostRuntime) -> Result<(), Fail> {
         rt.alloc(),
         b"if header :comparator \"i;octet\" \"a\"\n[\"b\", \"c\"] {}",
     )?;
-    check_choice_of_header(&rt, checked.commands());
+    check_choice_of_header(&rt, checked);
     Ok(())
 }
 
