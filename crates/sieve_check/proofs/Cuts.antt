@@ -12,7 +12,6 @@ use Rattle.sieve_table.specs.declared.row.Role.{Role}
 use Rattle.sieve_table.specs.declared.table.Tag.{Tag}
 use Rattle.std.specs.declared.boxed.Box.{Box}
 use Rattle.std.specs.declared.vec.Vec.{Vec}
-use Rattle.smallvec.specs.SmallVec.{SmallVec}
 use Rattle.std.specs.declared.alloc.Global.{Global}
 use Rattle.sieve_syntax.proofs.Views as views
 use Rattle.sieve_reading.specs.Tree.{Argument, node, Nodes, end_nodes, items, block, nodes, more_nodes, one_test, test_list, tests, more_tests}
@@ -22,7 +21,6 @@ use Rattle.sieve_syntax.specs.declared.tree.Command as commands
 use Rattle.sieve_syntax.specs.declared.tree.Command.TheViews as command_views
 use Rattle.sieve_syntax.specs.declared.tree.Test as one_tests
 use Rattle.sieve_syntax.specs.declared.tree.Tests.TheVariants as test_variants
-use Rattle.sieve_variables.specs.declared.part.Part as parts
 
 test_list_parted : (cutting : Cutting) (ts : List syntax.Test) → parted_test_list cutting (syntax.tests ts) ≡ tests (map (parted_test cutting) ts)
 test_list_parted cutting [] = refl

@@ -31,7 +31,6 @@ use Rattle.sieve_check.specs.declared.validator.CheckFault.{CheckFault}
 use Rattle.sieve_check.specs.declared.validator.CheckFault.TheVariants as faults
 use Rattle.sieve_check.proofs.Searches.{first_stops, front_stops, front_passes, finds_past, none_in, cons_in}
 use Rattle.sieve_syntax.proofs.Views.{seen_command, seen_test}
-use Rattle.smallvec.specs.SmallVec.{SmallVec}
 
 abbrev Answer : Type 0
 Answer = Result (Unit {0}) CheckFault

@@ -18,7 +18,6 @@ use Rattle.sieve_table.specs.declared.row.Role.{Role}
 use Rattle.sieve_table.specs.declared.rule.Rule.{Rule}
 use Rattle.sieve_check.specs.declared.validator.CheckFault.{CheckFault}
 use Rattle.sieve_check.specs.declared.validator.CheckFault.TheVariants as faults
-use Rattle.smallvec.specs.SmallVec.{SmallVec}
 
 -- the first of some breaches is the first of these and more
 pub first_of : (some more : List Breach) (fault : CheckFault) → IsFirst some fault → IsFirst (some ++ more) fault

@@ -1,6 +1,5 @@
 //! The breaches in commands.
-ghost use Rattle.std.specs.Prelude.{◌≡◌, ◌&&◌, ℕ, not, map, Some, IfOk};
-ghost use Rattle.smallvec.specs.SmallVec.{SmallVec};
+ghost use Rattle.std.specs.Prelude.{◌≡◌, ◌&&◌, not, map, Some, IfOk};
 ghost use Rattle.sieve_syntax.specs.Tree.{nodes};
 ghost use Rattle.sieve_syntax.specs.view.Tree.{argument_of, node_of};
 ghost use Rattle.sieve_syntax.specs.declared.tree.Command.{out-Command};

@@ -23,8 +23,6 @@ use Rattle.sieve_code.proofs.Tails.{Ends, last_of}
 use Rattle.sieve_code.proofs.Conditions.{first_code}
 use Rattle.sieve_code.proofs.Suffixes.{Extends, block_ends, branch_ends}
 use Rattle.sieve_syntax.proofs.Views.{seen_command, seen_list, seen_none, seen_one, seen_test}
-use Rattle.smallvec.specs.SmallVec.{SmallVec}
-use Rattle.sieve_variables.specs.declared.part.Part as parts
 
 -- LISTS FROM THEIR END
 

@@ -3,7 +3,7 @@ ghost use Rattle.std.specs.Prelude.{◌≡◌, true, false, length, Some, None, 
 ghost use Rattle.std.specs.Option.{option_map};
 ghost use Rattle.sieve_reading.specs.Reading.{reads_act};
 ghost use Rattle.sieve_reading.specs.CommandReading as spec;
-ghost use Rattle.sieve_reading.specs.Given.{given_texts, given_variable, has_tag, literal_in, text_in, texts_in, variable_in};
+ghost use Rattle.sieve_reading.specs.Given.{given_texts, given_variable, has_tag, text_in, texts_in, variable_in};
 ghost use Rattle.sieve_reading.specs.view.Labels.{labels_in};
 ghost use Rattle.sieve_reading.specs.view.Reading.{command_reading_as, settings_as};
 ghost use Rattle.sieve_reading.specs.view.Tree.{argument_of, node_of};

@@ -47,16 +47,6 @@ impl Variable {
             Variable::Global(name) => Variable::Global(name),
         }
     }
-
-    /// A copy of the variable's name.
-    pub fn copied(&self, alloc: Global) -> Result<Variable, AllocError>
-        ensures { IfOk result (λ variable. variable_of variable ≡ variable_of self.now) }
-    {
-        match self {
-            Variable::Local(name) => Ok(Variable::Local(SmallOctets::from_slice(alloc, name)?)),
-            Variable::Global(name) => Ok(Variable::Global(SmallOctets::from_slice(alloc, name)?)),
-        }
-    }
 }
 
 /// Names in lower case, each once, in the order in which they came. They are found by a hash, so that no number of them

@@ -1,5 +1,5 @@
 -- What commands and tests of the program's tree have before their tests.
-use Rattle.std.specs.Prelude.{ℕ, map, List, ◌∷◌, ◌++◌, Some}
+use Rattle.std.specs.Prelude.{map, List, ◌∷◌, ◌++◌, Some}
 use Rattle.sieve_syntax.specs.view.Tree.{argument_of, block_of, tests_of}
 use Rattle.sieve_syntax.specs.declared.tree.Command as commands
 use Rattle.sieve_syntax.specs.declared.tree.Test as one_tests
@@ -9,7 +9,6 @@ use Rattle.sieve_check.specs.Context.{Context, behind_kind}
 use Rattle.sieve_check.specs.Element.{Element, the_command, the_test, command_arguments, test_arguments, tests_elements}
 use Rattle.sieve_table.specs.Table.{command_named, test_named}
 use Rattle.sieve_table.specs.declared.table.CommandKind.{CommandKind}
-use Rattle.smallvec.specs.SmallVec.{SmallVec}
 
 -- a test and its arguments
 abbrev pub test_head : Context → one_tests.Test → List Element

@@ -1,4 +1,4 @@
-use Rattle.std.proofs.Common.{◌≡◌, ◌+◌, ◌<◌, ◌≤◌, ◌∷◌, length, rules, List, map, drop, refl, sym, ap, ◌∙◌, arith}
+use Rattle.std.proofs.Common.{◌≡◌, ◌+◌, ◌<◌, ◌≤◌, length, rules, drop, refl, ap, ◌∙◌, arith}
 use Rattle.sieve_syntax.specs.view.Tree as seen
 use Rattle.sieve_check.specs.view.Context.{cutting_as}
 use Rattle.sieve_reading.specs.Label.{expected_behind, label_at}

@@ -1,4 +1,4 @@
-use Rattle.std.proofs.Common.{◌≡◌, [], map, OnOk, ap, ◌∙◌, subst}
+use Rattle.std.proofs.Common.{◌≡◌, map, OnOk, ap, ◌∙◌, subst}
 use Rattle.sieve_syntax.specs.view.Tree as seen
 use Rattle.sieve_check.specs.Parted.{command_labels}
 use Rattle.sieve_check.specs.Scope.{declaring_arguments}

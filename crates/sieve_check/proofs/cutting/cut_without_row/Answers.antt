@@ -1,4 +1,4 @@
-use Rattle.std.proofs.Common.{◌+◌, ◌<◌, ◌≤◌, [], ◌∷◌, length, rules, List, None, map, drop, refl, sym, ap}
+use Rattle.std.proofs.Common.{◌+◌, ◌<◌, ◌≤◌, [], ◌∷◌, length, rules, List, map, drop, refl, sym, ap}
 use Rattle.sieve_syntax.specs.view.Tree as seen
 use Rattle.sieve_syntax.specs.declared.tree.Argument as arguments
 use Rattle.sieve_check.specs.Parted.{parted_labelled}

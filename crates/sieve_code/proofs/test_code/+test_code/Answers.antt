@@ -1,4 +1,4 @@
-use Rattle.std.proofs.Common.{◌≡◌, ◌≤◌, ◌<◌, nat_lt, if◌then◌else◌, Some, [], ◌∷◌, ◌++◌, drop, length, rules, refl, ap, sym, ◌∙◌, arith}
+use Rattle.std.proofs.Common.{◌≡◌, ◌≤◌, ◌<◌, nat_lt, if◌then◌else◌, Some, [], ◌∷◌, ◌++◌, drop, length, rules, ap, sym, ◌∙◌, arith}
 use Rattle.sieve_reading.specs.Reading as reading
 use Rattle.sieve_reading.specs.view.Reading.{ask_as, test_reading_as}
 use Rattle.sieve_reading.specs.view.Tree.{test_of, tests_of}

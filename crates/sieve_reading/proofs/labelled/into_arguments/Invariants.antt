@@ -1,4 +1,4 @@
-use Rattle.std.proofs.Common.{◌≡◌, Option, map}
+use Rattle.std.proofs.Common.{◌≡◌, map}
 use Rattle.std.specs.Option.{option_map}
 use Rattle.sieve_reading.specs.Label.{labels_from}
 use Rattle.sieve_reading.specs.Given.{in_role}
