@@ -3,11 +3,13 @@ ghost use Rattle.std.specs.Prelude.{◌≡◌, true, false, length, Some, None, 
 ghost use Rattle.std.specs.Option.{option_map};
 ghost use Rattle.sieve_reading.specs.Reading.{reads_act};
 ghost use Rattle.sieve_reading.specs.CommandReading as spec;
-ghost use Rattle.sieve_reading.specs.Given.{given_texts, given_variable, has_tag, text_in, texts_in, variable_in};
+ghost use Rattle.sieve_reading.specs.Given.{in_role, given_texts, given_variable, has_tag, text_in, texts_in, variable_in};
 ghost use Rattle.sieve_reading.specs.view.Labels.{labels_in};
 ghost use Rattle.sieve_reading.specs.view.Reading.{command_reading_as, settings_as};
 ghost use Rattle.sieve_reading.specs.view.Tree.{argument_of, node_of};
+ghost use Rattle.sieve_table.specs.Role.{same_role};
 ghost use Rattle.sieve_table.specs.Table.{command_named};
+ghost use Rattle.sieve_table.specs.declared.row.Role.TheVariants as role;
 
 use crate::given::{given_texts, given_variable, name_in, text_in, texts_in, variable_in};
 use crate::labelled::{has_tag, into_argument, into_arguments};
@@ -17,20 +19,30 @@ use sieve_syntax::{Argument, Command};
 use sieve_table::{CommandKind, Role, Row, Tag, command_named};
 use sieve_variables::{LetterCase, Modifiers};
 
-/// What a command says beside its mailbox or its address, by the argument that names flags, if it has one.
-fn settings_from(copy: bool, flags: Option<Argument>) -> Option<Settings>
-    ensures { option_map settings_as result ≡ option_map (spec.settings_with copy) (given_texts (option_map argument_of flags)) }
+/// The first argument in a role, and what the command says beside it.
+fn with_settings(
+    row: &Row,
+    wanted: Role,
+    args: Vec<Argument>,
+) -> (Option<Argument>, Option<Settings>)
+    requires { same_role role.Flags wanted ≡ false }
+    ensures argument { option_map argument_of result.0 ≡ in_role wanted (labels_in row.now args.items) (map argument_of args.items) }
+    ensures settings { option_map settings_as result.1 ≡ spec.settings_by (labels_in row.now args.items) (map argument_of args.items) }
 {
-    let flags = given_texts(flags)?;
-    Some(Settings { flags, copy })
+    let copy = has_tag(row, Tag::Copy, &args);
+    let (argument, flags) = into_arguments(row, wanted, Role::Flags, args);
+    match given_texts(flags) {
+        Some(flags) => (argument, Some(Settings { flags, copy })),
+        None => (argument, None),
+    }
 }
 
-/// What a `keep` does.
+/// What a `keep` does, none of whose arguments names a mailbox.
 fn keep_leaf(row: &Row, args: Vec<Argument>) -> Option<CommandReading>
     ensures { option_map command_reading_as result ≡ option_map reads_act (spec.keep_by (labels_in row.now args.items) (map argument_of args.items)) }
 {
-    let copy = has_tag(row, Tag::Copy, &args);
-    let settings = settings_from(copy, into_argument(row, Role::Flags, args))?;
+    let (_, settings) = with_settings(row, Role::Mailbox, args);
+    let settings = settings?;
     Some(CommandReading::Act(Leaf::Keep { settings }))
 }
 
@@ -38,10 +50,9 @@ fn keep_leaf(row: &Row, args: Vec<Argument>) -> Option<CommandReading>
 fn fileinto_leaf(row: &Row, args: Vec<Argument>) -> Option<CommandReading>
     ensures { option_map command_reading_as result ≡ option_map reads_act (spec.fileinto_by (labels_in row.now args.items) (map argument_of args.items)) }
 {
-    let copy = has_tag(row, Tag::Copy, &args);
-    let (mailbox, flags) = into_arguments(row, Role::Mailbox, Role::Flags, args);
+    let (mailbox, settings) = with_settings(row, Role::Mailbox, args);
     let mailbox = text_in(mailbox)?;
-    let settings = settings_from(copy, flags)?;
+    let settings = settings?;
     Some(CommandReading::Act(Leaf::Fileinto { mailbox, settings }))
 }
 
@@ -49,10 +60,9 @@ fn fileinto_leaf(row: &Row, args: Vec<Argument>) -> Option<CommandReading>
 fn redirect_leaf(row: &Row, args: Vec<Argument>) -> Option<CommandReading>
     ensures { option_map command_reading_as result ≡ option_map reads_act (spec.redirect_by (labels_in row.now args.items) (map argument_of args.items)) }
 {
-    let copy = has_tag(row, Tag::Copy, &args);
-    let (address, flags) = into_arguments(row, Role::Address, Role::Flags, args);
+    let (address, settings) = with_settings(row, Role::Address, args);
     let address = text_in(address)?;
-    let settings = settings_from(copy, flags)?;
+    let settings = settings?;
     Some(CommandReading::Act(Leaf::Redirect { address, settings }))
 }
 
