@@ -67,6 +67,8 @@ def of_times(room):
     yield Linear(room, "the addresses of a field for each test", [judged(anyof(b'address "to" "%d"', count), mail) for count in (3, 300)])
     mail = [b"Subject: =?utf-8?q?a?=" + b"=" * 1_000_000 + b"\n\n"]
     yield Linear(room, "the value of a field for each test", [judged(anyof(b'header "subject" "%d"', count), mail) for count in (3, 300)])
+    mail = [b"Subject: " + b"=?x-none?q?a?= " * 60_000 + b"\n\n"]
+    yield Linear(room, "a value without a known word for each test", [judged(anyof(b'header "subject" "%d"', count), mail) for count in (3, 300)])
     mail = [b"".join(b"x" * 5_000 + b"%04d: v\n" % number for number in range(1_000))]
     names = [b'exists "' + b"x" * 5_000 + b'y%03d"' % number for number in range(60)]
     yield Linear(room, "the octets of names for each name", [judged(b"if anyof (%s) {}" % b", ".join(names[:count]), mail) for count in (2, 60)])
@@ -82,20 +84,21 @@ def of_times(room):
     tests = [require + flags + b", ".join(keys[:count]) + b"] { discard; }" for count in (3, 3_000)]
     yield Linear(room, "a comparison with each flag for each key", [judged(script, [b""]) for script in tests])
     yield Linear(room, "a message for each report", [judged(b"", [b"x" * 10_000_000], count) for count in (3, 300)])
+    yield Linear(room, "a script for each report", [judged(b"keep;\n" * 100_000, [b""], count) for count in (3, 300)])
     yield Linear(room, "the lines of a text for each token", [judged(b"keep;\n" * count, [b""]) for count in (1_000, 50_000)])
     sizes = [(b"a" * size, b"a" * 10 * size) for size in (1_000, 20_000)]
-    searches = [judged(b'if header :contains "subject" "%sb" { discard; }' % key, [b"Subject: %s\n\n" % value]) for key, value in sizes]
-    yield Linear(room, "a long key at each place of a value", searches)
+    for title, search in ("a long key", b':contains "subject" "%sb"'), ("a long part of a pattern", b':matches "subject" "*%sb*"'):
+        searches = [judged(b"if header " + search % key + b" { discard; }", [b"Subject: %s\n\n" % value]) for key, value in sizes]
+        yield Linear(room, f"{title} at each place of a value", searches)
 
 
 class Devices:
     """A session whose input comes at once makes so few reads and writes that one behind these fails unseen."""
 
-    title, command = "few reads and writes", "sievebench session"
+    command = "sievebench session"
 
-    def __init__(self, library):
-        self.library, self.octets = library, put(b"message m", b"x" * 4_000_000) + b"no-main\n" * 100_000
-        self.replies = lines(*["ok"] * 100_001)
+    def __init__(self, library, title, octets, replies):
+        self.title, self.library, self.octets, self.replies = f"few reads and writes: {title}", library, octets, replies
 
     def differences(self, path):
         """What came where a read or a write failed that need not have been made."""
@@ -111,20 +114,34 @@ class Devices:
         return found
 
 
+def of_devices(library):
+    """Much input with short replies, and little with a long one."""
+    yield Devices(library, "much input", put(b"message m", b"x" * 4_000_000) + b"no-main\n" * 100_000, lines(*["ok"] * 100_001))
+    mails = 4_000
+    told = ['main personal "main"', 'envelope "" "" mailbox "INBOX"', 'script personal "main" ok']
+    told += [line for number in range(mails) for line in (f'message "m{number}"', '  implicit "INBOX"', '  read personal "main"')]
+    replies = lines(*["ok"] * (mails + 2), *told, f"total {mails} messages 0 errors")
+    yield Devices(library, "a long report", judged(b"", [b""] * mails), replies)
+
+
 def of_memory(room):
     """What is replaced or dropped makes room again, and what is put takes no more than its octets: each session puts more than the memory
     that it has, or nearly as much."""
     script, expected = put(b"script personal a", b"#" * 1_000_000), put(b"expect m", b"x" * 65_536)
-    main, envelope, mailbox = (b"%s %s\n" % it for it in ((b"main personal", b"n" * 1_024), (b"envelope a", b"b" * 1_024), (b"mailbox", b"b" * 255)))
+    code = put(b"script personal a", b"if size :over 1 { keep; }\n" * 5_000)
+    main, mailbox = b"main personal %s\n" % (b"n" * 1_024), b"mailbox %s\n" % (b"b" * 255)
+    envelope = b"envelope %s %s\n" % (b"a" * 1_024, b"b" * 1_024)
     for title, commands, count in [
         ("a script that is replaced", [script], 50),
+        ("the code of a script that is replaced", [code], 50),
         ("a script that is dropped", [script, b"drop-script personal a\n"], 50),
         ("a script that is renamed and dropped", [script, b"rename personal a global b\n", b"drop-script global b\n"], 50),
         ("a message that is replaced", [put(b"message m", b"x" * 1_000_000)], 50),
         ("an expected text that is replaced", [expected], 750),
         ("an expected text that is dropped", [expected, b"no-expect m\n"], 750),
         ("the name of a main script that is replaced", [main], 50_000),
-        ("an address of the envelope that is replaced", [envelope], 50_000),
+        ("the name of a main script that is taken back", [main, b"no-main\n"], 50_000),
+        ("an envelope that is replaced", [envelope], 50_000),
         ("a mailbox that is replaced", [mailbox], 200_000),
     ]:
         yield bounded(room, title, [b"message m 0\n", *commands * count])
@@ -145,5 +162,5 @@ def of_sessions(room):
     library = room / "refuse.so"
     yield Run("what lets reads and writes fail is built", room, f"cc -shared -fPIC -O2 -o {library} {SOURCE}")
     yield from of_times(room)
-    yield Devices(library)
+    yield from of_devices(library)
     yield from of_memory(room)

@@ -59,6 +59,7 @@ def of_odd_names(room):
     yield Run("a folder for a mail", folder, "sievebench test empty scripts", b"", b'sievebench: cannot read "scripts"\n', 3)
     yield Run("a folder that isn't there", folder, "sievebench test --personal n\u00f3 --global no empty empty", b"", b'sievebench: cannot read "n\\xc3\\xb3"\n', 3)
     yield Run("an output that is full", folder, "sievebench test empty empty > /dev/full", b"", b"sievebench: cannot write\n", 3)
+    yield Run("an output and a standard error that are full", folder, "sievebench test empty empty > /dev/full 2> /dev/full", b"", b"", 3)
 
 
 def limit_files(folder):
