@@ -40,7 +40,7 @@ abbrev pub takes_references : Required → Option Role → Bool
 takes_references required None = false
 takes_references required (Some role) = is_expanded role && required.variables
 
--- with what a string names (RFC 5228, section 3.2)
+-- what is required with what a string of a `require` names (RFC 5228, section 3.2)
 abbrev pub requiring : Required → List ℕ → Required
 requiring required name = record {
   fileinto = required.fileinto || is_name_of name capability.Fileinto;
@@ -51,7 +51,7 @@ requiring required name = record {
   copy = required.copy || is_name_of name capability.Copy;
 }
 
--- with what strings name, and those of arguments
+-- what is required with what strings name, and the strings of arguments
 abbrev pub requiring_texts : Required → List Text → Required
 requiring_texts required [] = required
 requiring_texts required (t ∷ ts) = requiring_texts (requiring required t.string) ts
@@ -174,7 +174,7 @@ abbrev pub requires_kind : Option CommandKind → Bool
 requires_kind None = false
 requires_kind (Some kind) = is_require kind
 
--- with what the requires at the top of a script name, which is all that is required in it (RFC 5228, section 3.2)
+-- what is required with what the requires at the top of a script name, which is all that is required in it (RFC 5228, section 3.2)
 abbrev pub required_from : Required → Nodes → Required
 required_from required end_nodes = required
 required_from required (more_nodes (node name line args ts ending) ns) = if requires_kind (command_named name) then required_from (requiring_arguments required args) ns else required

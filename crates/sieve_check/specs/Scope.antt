@@ -26,18 +26,18 @@ no_names = record { assigned = []; declared = [] }
 -- NAMES THAT ARE DECLARED
 -- A declaration counts from its place in the text to the end of its script, whether its command runs or not.
 
--- with those that strings name
+-- the declared names with those that strings name
 abbrev pub declaring_texts : List (List ℕ) → List Text → List (List ℕ)
 declaring_texts declared [] = declared
 declaring_texts declared (t ∷ ts) = declaring_texts (with_name (folded_name t.string) declared) ts
 
--- with those of an argument in its role
+-- the declared names with those of an argument in its role
 abbrev pub declaring_argument : List (List ℕ) → Option Role → Argument → List (List ℕ)
 declaring_argument declared role (strings items bracketed) = if has_role NamesToDeclare role then declaring_texts declared items else declared
 declaring_argument declared role (number value line) = declared
 declaring_argument declared role (tag name line) = declared
 
--- with those of arguments, each by its label
+-- the declared names with those of arguments, each by its label
 abbrev pub declaring_arguments : List (List ℕ) → List Label → List Argument → List (List ℕ)
 declaring_arguments declared labels [] = declared
 declaring_arguments declared labels (a ∷ args) = declaring_arguments (declaring_argument declared (first_role labels) a) (drop 1 labels) args
@@ -52,22 +52,22 @@ is_assigned name scope = list_any (str_eq_ignore_ascii_case name) scope.assigned
 abbrev pub is_new_local : List ℕ → Scope → Bool
 is_new_local name scope = is_identifier name && (not (is_among (folded_name name) scope.declared) && not (is_assigned name scope))
 
--- with the variable that a string names where one is set
+-- the names of a scope with the variable that a string names where one is set
 unfoldable pub assigning : Scope → List ℕ → Scope
 assigning scope name = if is_new_local name scope then record scope { assigned = scope.assigned ++ name ∷ [] } else scope
 
--- with those that strings name
+-- the names of a scope with the variables that strings name
 abbrev pub assigning_texts : Scope → List Text → Scope
 assigning_texts scope [] = scope
 assigning_texts scope (t ∷ ts) = assigning_texts (assigning scope t.string) ts
 
--- with those of an argument in its role
+-- the names of a scope with the variables that an argument in its role names
 abbrev pub assigning_argument : Scope → Option Role → Argument → Scope
 assigning_argument scope role (strings items bracketed) = if has_role NameToSet role then assigning_texts scope items else scope
 assigning_argument scope role (number value line) = scope
 assigning_argument scope role (tag name line) = scope
 
--- with those of arguments, each by its label
+-- the names of a scope with the variables that arguments name, each by its label
 abbrev pub assigning_arguments : Scope → List Label → List Argument → Scope
 assigning_arguments scope labels [] = scope
 assigning_arguments scope labels (a ∷ args) = assigning_arguments (assigning_argument scope (first_role labels) a) (drop 1 labels) args

@@ -55,7 +55,7 @@ impl Required {
         }
     }
 
-    /// With what a string names.
+    /// What is required with what a string names.
     fn with_name(self, name: &[u8]) -> Required
         ensures { required_as result ≡ spec.requiring (required_as self) name.now }
     {
@@ -69,7 +69,7 @@ impl Required {
         }
     }
 
-    /// With what strings name.
+    /// What is required with what strings name.
     fn with_texts(self, texts: &[Text]) -> Required
         ensures { required_as result ≡ spec.requiring_texts (required_as self) (map text_of texts.now) }
     {
@@ -80,7 +80,7 @@ impl Required {
         required
     }
 
-    /// With what the strings of an argument name.
+    /// What is required with what the strings of an argument name.
     fn with_argument(self, argument: &Argument) -> Required
         ensures { required_as result ≡ spec.requiring_argument (required_as self) (argument_of argument.now) }
     {
@@ -91,7 +91,7 @@ impl Required {
         }
     }
 
-    /// With what the strings of arguments name.
+    /// What is required with what the strings of arguments name.
     fn with_arguments(self, args: &[Argument]) -> Required
         ensures { required_as result ≡ spec.requiring_arguments (required_as self) (map argument_of args.now) }
     {

@@ -9,7 +9,7 @@ use Rattle.session_text.specs.declared.line.Line.TheVariants.{Over, Whole, TooLo
 abbrev pub IsCutOff : List ℕ → Type 0
 IsCutOff pending = (cut_line pending ≡ None) × (is_long_so_far pending ≡ false)
 
--- that it is so, of the octets that are read and not used, and those that are left in the input
+-- a line, or why there is none, is as the octets that are read and not used and those that are left in the input tell
 abbrev pub IsLine : Line → List ℕ → List ℕ → Type 0
 IsLine Over pending left = pending ++ left ≡ []
 IsLine (Whole len skip) pending left = first_line (pending ++ left) ≡ (take len pending, drop skip pending ++ left)
@@ -17,7 +17,7 @@ IsLine TooLong pending left = line_limit < length (first_line (pending ++ left))
 IsLine Failed pending left = ⊤
 IsLine Spent pending left = ⊤
 
--- that the line lies in the octets that are read, and is within the limit; and where it can't be read, what there is of it
+-- a line lies in the octets that are read, and is within the limit; and where it can't be read, what there is of it may still become one
 abbrev pub IsWithin : Line → List ℕ → Type 0
 IsWithin Over pending = ⊤
 IsWithin (Whole len skip) pending = (len ≤ line_limit) × (len ≤ length pending) × (0 < skip) × (skip ≤ length pending)
@@ -25,7 +25,7 @@ IsWithin TooLong pending = 0 < length pending
 IsWithin Failed pending = IsCutOff pending
 IsWithin Spent pending = IsCutOff pending
 
--- that the line ends at an LF, whatever follows it
+-- a line ends at an LF, whatever follows it
 abbrev pub IsEnded : Line → List ℕ → Type 0
 IsEnded Over pending = ⊤
 IsEnded (Whole len skip) pending = (more : List ℕ) → line_so_far (take skip pending ++ more) ≡ Some (take len pending, more)
