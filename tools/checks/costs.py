@@ -126,7 +126,7 @@ def of_devices(library):
 
 def of_memory(room):
     """What is replaced or dropped makes room again, and what is put takes no more than its octets: each session puts more than the memory
-    that it has, or nearly as much."""
+    that it has, or what code of that size is made of, or nearly as much."""
     script, expected = put(b"script personal a", b"#" * 1_000_000), put(b"expect m", b"x" * 65_536)
     code = put(b"script personal a", b"if size :over 1 { keep; }\n" * 5_000)
     main, mailbox = b"main personal %s\n" % (b"n" * 1_024), b"mailbox %s\n" % (b"b" * 255)
