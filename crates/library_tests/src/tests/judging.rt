@@ -36,8 +36,8 @@ fn check_keep(rt: &impl Abort, keep: Command) {
         "the rest of keep",
         keep.args.is_empty() && keep.block.is_none(),
     );
-    let reads = is_plain_keep(&keep.name, keep.args);
-    holds(rt, "the reading of keep", reads);
+    let Command { name, args, .. } = keep;
+    holds(rt, "the reading of keep", is_plain_keep(&name, args));
 }
 
 /// The test of the `if`.
@@ -58,7 +58,8 @@ fn check_negation(rt: &impl Abort, negation: Test) {
 
 /// Whether a test asks for more than 2,048 octets.
 fn is_over(test: Test) -> bool {
-    match read_test(&test.name, test.args) {
+    let Test { name, args, .. } = test;
+    match read_test(&name, args) {
         Some(TestReading::Asks(Ask::Over { limit })) => limit == 2048,
         _ => false,
     }
@@ -70,10 +71,8 @@ fn check_stop(rt: &impl Abort, block: Vec<Command>) {
     match (commands.next(), commands.next()) {
         (Some(stop), None) => {
             check_named(rt, &stop, b"Stop", 3, CommandKind::Stop);
-            let stops = matches!(
-                read_command(&stop.name, stop.args),
-                Some(CommandReading::Stop)
-            );
+            let Command { name, args, .. } = stop;
+            let stops = matches!(read_command(&name, args), Some(CommandReading::Stop));
             holds(rt, "the reading of stop", stops);
         }
         _ => panic!(rt; "not one command"),
@@ -149,34 +148,43 @@ fn check_strings(rt: &impl Abort, names: &[Text], keys: &[Text]) {
 
 /// The test of `if header :comparator "i;octet" "a"\n["b", "c"] {}`.
 fn check_header(rt: &impl Abort, test: Test) {
-    match read_test(&test.name, test.args) {
+    let Test { name, args, .. } = test;
+    match read_test(&name, args) {
         Some(
             TestReading::Asks(
                 Ask::Compares {
-                    source: ValueSource::Header { names },
+                    source,
                     match_type: MatchType::Is,
                     collation: match_text::Collation::Octet,
                     keys,
                 },
             ),
-        ) => check_strings(rt, names.as_slice(), keys.as_slice()),
+        ) => check_source(rt, source, keys),
         _ => panic!(rt; "another test"),
+    }
+}
+
+/// The names of fields and the keys of the test.
+fn check_source(rt: &impl Abort, source: ValueSource, keys: Vec<Text>) {
+    match source {
+        ValueSource::Header { names } => check_strings(rt, names.as_slice(), keys.as_slice()),
+        _ => panic!(rt; "another source"),
     }
 }
 
 fn check_choice_of_header(rt: &impl Abort, checked: Checked) {
     let mut commands = checked.into_commands().into_iter();
     match (commands.next(), commands.next()) {
-        (
-            Some(
-                Command {
-                    tests: Tests::One(test),
-                    ..
-                },
-            ),
-            None,
-        ) => check_header(rt, Box::into_inner(test)),
+        (Some(choice), None) => check_one_test(rt, choice),
         _ => panic!(rt; "another tree"),
+    }
+}
+
+fn check_one_test(rt: &impl Abort, choice: Command) {
+    let Command { tests, .. } = choice;
+    match tests {
+        Tests::One(test) => check_header(rt, Box::into_inner(test)),
+        _ => panic!(rt; "not one test"),
     }
 }
 
