@@ -20,7 +20,7 @@ main_line (Some name) = codes "main " ++ name_text name ++ codes "\n"
 unfoldable pub envelope_line : Envelope → List ℕ
 envelope_line envelope = codes "envelope " ++ quoted envelope.from ++ codes " " ++ quoted envelope.to ++ codes " mailbox " ++ quoted envelope.mailbox ++ codes "\n"
 
--- that a text has no fault, or the line and the kind of its first one
+-- what is said of a text: that it has no fault, or the line and the kind of its first one
 abbrev pub judgement_text : Judgement → List ℕ
 judgement_text (sound _) = codes "ok"
 judgement_text (faulty line kind) = codes "line " ++ decimal line ++ codes " " ++ fault_word kind

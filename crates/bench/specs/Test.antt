@@ -24,7 +24,7 @@ abbrev pub edits_of : TestJob → List Edit
 edits_of job =
     set_envelope job.from job.to ∷ set_mailbox job.mailbox ∷ (map put_of job.scripts.items ++ set_main job.main ∷ put_message job.id job.message ∷ [])
 
--- one edit more, unless one before it was refused
+-- what comes of one edit more, unless one before it was refused
 abbrev pub then_edit : Result Content EditFault → Edit → Result Content EditFault
 then_edit (Ok content) edit = after content edit
 then_edit (Err refusal) edit = Err refusal

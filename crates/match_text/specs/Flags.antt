@@ -21,7 +21,7 @@ is_flag_octet b = is_visible b && not (is_special b)
 abbrev pub is_keyword : List ℕ → Bool
 is_keyword text = is_filled text && list_all is_flag_octet text
 
--- one of the flags with a `\` that a script may set, in any case of letters; `\Recent` is none of them
+-- whether a text is one of the flags with a `\` that a script may set, in any case of letters; `\Recent` is none of them
 abbrev pub is_system_flag : List ℕ → Bool
 is_system_flag text =
     same ascii_casemap text (codes "\\Answered") || (same ascii_casemap text (codes "\\Flagged")

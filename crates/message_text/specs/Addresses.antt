@@ -27,7 +27,7 @@ part_of_address part.Domain address = address.domain
 
 -- MARKS
 
--- at the start of a value nothing is open; what is opened and not closed lasts to its end
+-- the surroundings at the start of a value, where nothing is open; what is opened and not closed lasts to its end
 abbrev pub value_start : Surroundings
 value_start = record { inside = inside.Nothing; is_protected = false; in_angle = false }
 
@@ -59,20 +59,20 @@ mark_in inside.DomainLiteral is_protected in_angle is_last b = mark.Literal
 abbrev pub mark_at : Surroundings → (is_last : Bool) → ℕ → Mark
 mark_at spot is_last b = mark_in spot.inside spot.is_protected spot.in_angle is_last b
 
--- behind an octet outside of these
+-- what is open behind an octet that stands outside of these
 abbrev pub opened_by : ℕ → Inside
 opened_by b =
     if b == octet_of "\"" then inside.QuotedString else
     if b == octet_of "(" then inside.Comment 1 else
     if b == octet_of "[" then inside.DomainLiteral else inside.Nothing
 
--- behind an octet of so many comments in one another (RFC 5322, section 3.2.2)
+-- what is open behind an octet that stands in so many comments in one another (RFC 5322, section 3.2.2)
 abbrev pub comment_behind : (depth : ℕ) → ℕ → Inside
 comment_behind depth b =
     if b == octet_of "(" then inside.Comment (depth + 1) else
     if b == octet_of ")" then (if nat_le depth 1 then inside.Nothing else inside.Comment (depth - 1)) else inside.Comment depth
 
--- behind an octet that isn't protected
+-- what is open behind an octet that isn't protected
 abbrev pub inside_behind : Inside → ℕ → Inside
 inside_behind inside.Nothing b = opened_by b
 inside_behind inside.QuotedString b = if b == octet_of "\"" then inside.Nothing else inside.QuotedString
@@ -134,7 +134,7 @@ is_bare b m = is_free b m && not m.in_angle
 abbrev pub separates : Marked → Bool
 separates m = is_bare (octet_of ",") m || is_bare (octet_of ";") m
 
--- without the name of a group, which a colon ends (RFC 5322, section 3.4)
+-- a piece without the name of a group, which a colon ends (RFC 5322, section 3.4)
 abbrev pub without_group : List Marked → List Marked
 without_group piece = after_last (is_bare (octet_of ":")) piece
 
@@ -187,7 +187,8 @@ abbrev pub begins_route : List Marked → Bool
 begins_route [] = false
 begins_route (m ∷ ms) = if is_gap m then begins_route ms else is_free (octet_of "@") m
 
--- without a source route, which begins with `@` and ends with a colon (RFC 5322, section 4.4); without the colon there is none
+-- what stands in angle brackets, without a source route, which begins with `@` and ends with a colon (RFC 5322, section 4.4);
+-- without the colon there is none
 abbrev pub without_route : List Marked → List Marked
 without_route inside = if begins_route inside && list_any (is_free (octet_of ":")) inside then after_first (is_free (octet_of ":")) inside else inside
 

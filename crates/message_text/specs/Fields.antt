@@ -38,7 +38,7 @@ groups_of (line ∷ more) =
 abbrev pub is_colon : ℕ → Bool
 is_colon b = b == octet_of ":"
 
--- one or more octets, all of them visible; a colon ends a name (RFC 5322, section 2.2)
+-- whether a text is a name: one or more octets, all of them visible; a colon ends a name (RFC 5322, section 2.2)
 abbrev pub is_name : List ℕ → Bool
 is_name text = nat_lt 0 (length text) && list_all is_visible text
 

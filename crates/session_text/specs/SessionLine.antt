@@ -102,7 +102,7 @@ unfoldable mutual
   quoted_value [] = None
   quoted_value (b ∷ bs) = if b == octet_of "\"" then nothing_more bs else if b == octet_of "\\" then escaped_value bs else behind b (quoted_value bs)
 
-  -- behind a backslash: a quote, a backslash, or x and two hexadecimal digits
+  -- what stands behind a backslash: a quote, a backslash, or x and two hexadecimal digits
   pub escaped_value : List ℕ → Option (List ℕ)
   escaped_value [] = None
   escaped_value (b ∷ bs) = if b == octet_of "\"" || b == octet_of "\\" then behind b (quoted_value bs) else if b == octet_of "x" then hex_octets bs else None

@@ -16,7 +16,7 @@ place_cmp Personal Global = Less
 place_cmp Global Personal = Greater
 place_cmp Global Global = Equal
 
--- by place, and then by octets
+-- the order of names: by place, and then by octets
 abbrev pub name_cmp : ScriptName → ScriptName → Ordering
 name_cmp a b = ordering_then (place_cmp a.place b.place) (slice_cmp nat_cmp a.name b.name)
 

@@ -9,7 +9,7 @@ use Rattle.std.specs.List.{list_any}
 abbrev pub octet_of : Char → ℕ
 octet_of character = code character
 
--- from one octet to another
+-- whether an octet is one of those from a low one to a high one
 abbrev pub is_between : ℕ → ℕ → ℕ → Bool
 is_between low high octet = nat_le low octet && nat_le octet high
 
@@ -43,7 +43,7 @@ is_name_octet octet = begins_name octet || is_digit octet
 
 -- LISTS OF OCTETS
 
--- one or more octets
+-- whether there are octets
 abbrev pub is_filled : List ℕ → Bool
 is_filled octets = nat_lt 0 (length octets)
 

@@ -76,7 +76,7 @@ pub record Context : Type 0 where
   -- the names of variables in the text before it (RFC 5229, section 4; RFC 6609, section 3.4.1)
   pub scope : Scope
 
--- at the start of a script
+-- the context at the start of a script
 abbrev pub script_start : Context
 script_start = record { leads = true; follows_if = false; required = nothing_required; scope = no_names }
 
@@ -140,7 +140,7 @@ continues_if Global = false
 abbrev pub required_behind : Context → CommandKind → List Argument → Required
 required_behind context kind args = if context.leads && is_require kind then requiring_arguments context.required args else context.required
 
--- behind a command of a kind, with its arguments, and before its block
+-- the context behind a command of a kind, with its arguments, and before its block
 abbrev pub behind_kind : Context → Option CommandKind → List Argument → Context
 behind_kind context None args = record context { leads = false; follows_if = false }
 behind_kind context (Some kind) args = record {
@@ -150,21 +150,21 @@ behind_kind context (Some kind) args = record {
   scope = naming_arguments context.scope (row_labels (command_row kind) args) args;
 }
 
--- at the start of a block
+-- the context at the start of a block
 abbrev pub inside : Context → Context
 inside context = record context { leads = false; follows_if = false }
 
 unfoldable mutual
-  -- behind a whole command
+  -- the context behind a whole command
   pub behind : Context → Node → Context
   behind context (node name line args ts ending) = behind_block (behind_kind context (command_named name) args) ending
 
-  -- behind its block, in which variables may be set and declared
+  -- the context behind a block, in which variables may be set and declared
   pub behind_block : Context → Block → Context
   behind_block context no_block = context
   behind_block context (block ns) = record context { scope = (behind_nodes (inside context) ns).scope }
 
-  -- behind commands in turn
+  -- the context behind commands in turn
   pub behind_nodes : Context → Nodes → Context
   behind_nodes context end_nodes = context
   behind_nodes context (more_nodes n ns) = behind_nodes (behind context n) ns

@@ -94,7 +94,7 @@ abbrev mutual
   parted_nodes cutting syntax.end_nodes = end_nodes
   parted_nodes cutting (syntax.more_nodes n ns) = more_nodes (parted_node cutting n) (parted_nodes (record cutting { declared = declared_behind cutting.declared n }) ns)
 
--- at the start of a script
+-- what strings are cut by at the start of a script
 abbrev pub cutting_at_start : List syntax.Node → Cutting
 cutting_at_start tree = record { required = required_from nothing_required (syntax.nodes tree); declared = [] }
 

@@ -19,7 +19,7 @@ pub record Scope : Type 0 where
   -- the names that are declared, each once, in lower case
   pub declared : List (List ℕ)
 
--- at the start of a script
+-- the scope at the start of a script
 abbrev pub no_names : Scope
 no_names = record { assigned = []; declared = [] }
 

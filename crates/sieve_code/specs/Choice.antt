@@ -69,7 +69,7 @@ pub record Branches : Type 0 where
 abbrev pub no_branch : Tail → Branches
 no_branch tail = record { has_branch = false; with_branch = tail; behind_branches = tail }
 
--- behind a block: where a branch follows, a jump past the branches
+-- what stands behind a block: where a branch follows, a jump past the branches
 abbrev pub past_branches : Branches → Tail
 past_branches branches = if branches.has_branch then jump_op (length branches.behind_branches) ∷ branches.with_branch else branches.with_branch
 

@@ -55,12 +55,12 @@ step go (Some (act_op leaf line)) place register = acted leaf line (go (place + 
 step go (Some stop_op) place register = by_stop
 step go (Some return_op) place register = by_return
 
--- without a further operation: the end, where the code ends there
+-- the walk where no further operation may be met: the end, where the code ends there
 abbrev pub at_limit : Option Operation → Walk
 at_limit None = at_end
 at_limit (Some op) = cut_off
 
--- from a place, with a truth in the register, in at most so many operations
+-- the walk from a place, with a truth in the register, in at most so many operations
 unfoldable pub walk_from : List Operation → ℕ → (place : ℕ) (register : Bool) → Walk
 walk_from ops zero place register = at_limit (slice_get ops place)
 walk_from ops (suc n) place register = step (walk_from ops n) (slice_get ops place) place register

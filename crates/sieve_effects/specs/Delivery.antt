@@ -13,6 +13,6 @@ pub record Delivery : Type 0 where
   -- the scripts that include it, each by the one before, from the main script on (RFC 6609, section 3.2)
   pub including : List ScriptName
 
--- in a script that the running one includes
+-- the delivery in a script that the running one includes
 abbrev pub inside : ScriptName → Delivery → Delivery
 inside name delivery = record delivery { script = name; including = delivery.including ++ delivery.script ∷ [] }

@@ -8,7 +8,7 @@ use Rattle.sieve_reading.specs.declared.label.Shape.{Shape}
 use Rattle.sieve_reading.specs.declared.label.Shape.TheVariants as shape
 use Rattle.sieve_table.specs.declared.table.Tag.{Tag}
 
--- one string without brackets, or a list (RFC 5228, section 2.4.2.1)
+-- the shape of strings: one string without brackets, or a list (RFC 5228, section 2.4.2.1)
 abbrev pub texts_shape : ℕ → Bool → Shape
 texts_shape count bracketed = if nat_eq count 1 && not bracketed then shape.Text else shape.Texts
 

@@ -25,7 +25,7 @@ compares_from None match_type collation keys = None
 abbrev pub compares_by : Option ValueSource → List Label → List Argument → Option Ask
 compares_by source labels args = compares_from source (match_type_of labels) (collation_by (in_role role.ComparatorName labels args)) (texts_in (in_role role.Keys labels args))
 
--- from where a `header` test takes its values (RFC 5228, section 5.7)
+-- where a `header` test takes its values from (RFC 5228, section 5.7)
 abbrev pub header_source : List Label → List Argument → Option ValueSource
 header_source labels args = option_map header_values (texts_in (in_role role.FieldNames labels args))
 

@@ -20,7 +20,7 @@ abbrev pub entered_within : (ScriptName → Lookup) → Delivery → Option (Scr
 entered_within find delivery =
     if nat_lt (length delivery.including) include_depth then Some (λ name. running find (depth_left (inside name delivery)) (inside name delivery)) else None
 
--- as many scripts include the running one as may
+-- the running script is included by as many others as may include it
 abbrev pub IsDeepest : Delivery → Type 0
 IsDeepest delivery = include_depth ≤ length delivery.including
 

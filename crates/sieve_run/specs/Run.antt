@@ -35,7 +35,7 @@ pub record Answer : Type 0 where
 abbrev pub answer_of : Delivery → Ask → RunState → Answer
 answer_of delivery ask state = record { truth = truth_of delivery state ask; state = behind_test delivery ask state }
 
--- one state is another but for what a match gave
+-- a state is another one but for what a match gave
 abbrev pub SetsMatched : RunState → RunState → Type 0
 SetsMatched state next = (matched : List (List ℕ)) × (next ≡ record state { values = with_matched matched state.values })
 
@@ -63,7 +63,7 @@ decide ask (either c d) state = or_else (decide ask c state).truth (decide ask d
 
 -- COMMANDS
 
--- one of two blocks
+-- the block of two that a truth chooses
 abbrev pub chosen : Bool → (RunState → Ending) → (RunState → Ending) → RunState → Ending
 chosen true block otherwise state = block state
 chosen false block otherwise state = otherwise state
@@ -110,7 +110,7 @@ looked_up name lookup state = record state { reads = with_read name (is_there lo
 abbrev pub entering : ScriptName → RunState → RunState
 entering name state = record state { entered = state.entered ++ name ∷ []; values = begun_values state.values }
 
--- behind it: the variables of the including script stand again
+-- the state behind an included script, in which the variables of the including one stand again
 abbrev pub resuming : Values → RunState → RunState
 resuming before state = record state { values = resumed_values before state.values }
 

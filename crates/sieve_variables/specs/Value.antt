@@ -17,7 +17,7 @@ pub record Values : Type 0 where
   -- what the last successful `:matches` of the script gave: the whole value, and what each wildcard took (RFC 5229, section 3.2)
   pub matched : List (List ℕ)
 
--- at the start of a run
+-- the values at the start of a run
 abbrev pub no_values : Values
 no_values = record { locals = []; globals = []; matched = [] }
 
@@ -32,11 +32,11 @@ own_of values = record { locals = values.locals; matched = values.matched }
 abbrev pub with_own : Own → Values → Values
 with_own own values = record values { locals = own.locals; matched = own.matched }
 
--- at the start of a script that another one includes: it has nothing of its own
+-- the values at the start of a script that another one includes: it has nothing of its own
 abbrev pub begun_values : Values → Values
 begun_values values = with_own (record { locals = []; matched = [] }) values
 
--- behind it: the including script has its own again (RFC 6609, section 3.4)
+-- the values behind it: the including script has its own again (RFC 6609, section 3.4)
 abbrev pub resumed_values : (before ended : Values) → Values
 resumed_values before ended = with_own (own_of before) ended
 
@@ -81,15 +81,15 @@ abbrev pub has_room_for : Variable → Values → Bool
 has_room_for (local_variable name) values = true
 has_room_for (global_variable name) values = has_room_under name values.globals
 
--- with a value under a name
+-- variables by their names, with a value under one of them
 abbrev pub with_held : List ℕ → List ℕ → List (List ℕ × List ℕ) → List (List ℕ × List ℕ)
 with_held name value variables = ordered.insert_entry (pointwise nat_eq) variables name value
 
--- with a variable set
+-- the values with a variable set
 abbrev pub with_variable : Variable → List ℕ → Values → Values
 with_variable (local_variable name) value values = record values { locals = with_held name value values.locals }
 with_variable (global_variable name) value values = record values { globals = with_held name value values.globals }
 
--- with what a match gave
+-- the values with what a match gave
 abbrev pub with_matched : List (List ℕ) → Values → Values
 with_matched matched values = record values { matched = matched }

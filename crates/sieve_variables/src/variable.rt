@@ -13,9 +13,9 @@ use std::marker::Model;
 /// A variable, by its name in lower case.
 #[derive(Drop)]
 pub enum Variable {
-    /// One of the script (RFC 5229, section 3).
+    /// A variable of the script (RFC 5229, section 3).
     Local(SmallOctets),
-    /// One that scripts share (RFC 6609, section 3.4).
+    /// A variable that scripts share (RFC 6609, section 3.4).
     Global(SmallOctets),
 }
 

@@ -2,7 +2,7 @@
 use Rattle.bench.specs.declared.fault.ReportFault.{ReportFault}
 use Rattle.bench.specs.declared.fault.ReportFault.TheVariants.{NoMemory, Write}
 
--- one fact where memory was refused, and another where the writer failed
+-- a choice of two facts: one where memory was refused, the other where the writer failed
 abbrev pub MatchReportFault : ReportFault → Type 0 → Type 0 → Type 0
 MatchReportFault NoMemory P Q = P
 MatchReportFault Write P Q = Q

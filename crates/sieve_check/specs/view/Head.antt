@@ -22,7 +22,7 @@ command_head context c = let o = commands.out-Command c in the_command context o
 abbrev pub command_front : Context → commands.Command → List Element
 command_front context c = command_head context c ++ tests_elements context (tests_of (commands.out-Command c).tests)
 
--- behind a command and before its block
+-- the context behind a command and before its block
 abbrev pub behind_front : Context → commands.Command → Context
 behind_front context c = let o = commands.out-Command c in behind_kind context (command_named o.name.items) (map argument_of o.args.items)
 

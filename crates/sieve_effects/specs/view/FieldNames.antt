@@ -4,7 +4,7 @@ use Rattle.message_text.specs.view.NameHash.{name_hash}
 use Rattle.sieve_reading.specs.Given.{literal_in_parts}
 use Rattle.sieve_variables.specs.Part.{Part}
 
--- of octets, where there are any, their hash, and else 0
+-- the hash of octets, where there are any, and else 0
 abbrev pub hash_or_zero : Option (List ℕ) → ℕ
 hash_or_zero None = 0
 hash_or_zero (Some octets) = name_hash octets

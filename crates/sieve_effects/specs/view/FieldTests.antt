@@ -27,7 +27,7 @@ key_texts (Texts texts) = octets_of_each texts.now
 abbrev pub found_with : Comparison → List ℕ → Option (List (List ℕ))
 found_with comparison value = first_match comparison.match_type (fold_of comparison.collation) (pairs_with (key_texts comparison.keys) value)
 
--- from where values are taken: the values of fields, or a part of the addresses in them
+-- where values are taken from: the values of fields, or a part of the addresses in them
 abbrev pub field_source : Option AddressPart → List (List Part) → ValueSource
 field_source None names = header_values names
 field_source (Some part) names = address_values part names
