@@ -60,7 +60,7 @@ impl Part {
 pub fn scoped_parts(alloc: Global, parts: Parts, declared: &Names) -> Result<Parts, AllocError>
     ensures { IfOk result (λ scoped. map part_of scoped.items ≡ map (scoped_part declared.now) (map part_of parts.items)) }
 {
-    let mut scoped = Parts::new(alloc);
+    let mut scoped = Parts::with_capacity(alloc, parts.len())?;
     for part in parts {
         scoped.push(part.scoped(declared))?;
     }
