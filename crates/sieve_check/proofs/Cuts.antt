@@ -67,11 +67,11 @@ one_cut cutting old new whole x is same made =
     ∙ sym (ap (parted_tests cutting) (ap seen.tests_of is ∙ views.one_seen seen.octets_of old))
 
 -- a list of tests that are cut is the list cut
-pub list_cut : (cutting : Cutting) (copies : Vec one_tests.Test Global) (ts : Vec one_tests.Test Global) (xs : List one_tests.Test) (whole : test_variants.the_data) → whole ≡ test_variants.List ts → xs ≡ ts.items → map test_of copies.items ≡ map (parted_test cutting) (map seen.test_of xs) → tests_of (test_variants.List copies) ≡ parted_tests cutting (seen.tests_of whole)
-list_cut cutting copies ts xs whole is same e =
-    views.list_seen parts_of copies
-    ∙ ap (λ cs. test_list (tests cs)) (e ∙ ap (λ l. map (parted_test cutting) (map seen.test_of l)) same)
-    ∙ sym (ap (λ cs. test_list cs) (test_list_parted cutting (map seen.test_of ts.items)))
+pub list_cut : (cutting : Cutting) (new : Vec one_tests.Test Global) (ts : Vec one_tests.Test Global) (xs : List one_tests.Test) (whole : test_variants.the_data) → whole ≡ test_variants.List ts → xs ≡ ts.items → map test_of new.items ≡ map (parted_test cutting) (map seen.test_of xs) → tests_of (test_variants.List new) ≡ parted_tests cutting (seen.tests_of whole)
+list_cut cutting new ts xs whole is same e =
+    views.list_seen parts_of new
+    ∙ ap (λ list. test_list (tests list)) (e ∙ ap (λ l. map (parted_test cutting) (map seen.test_of l)) same)
+    ∙ sym (ap (λ list. test_list list) (test_list_parted cutting (map seen.test_of ts.items)))
     ∙ sym (ap (parted_tests cutting) (ap seen.tests_of is ∙ views.list_seen seen.octets_of ts))
 
 -- the arguments of a command of that name, with their strings cut into parts
