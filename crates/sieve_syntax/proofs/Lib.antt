@@ -1,6 +1,8 @@
 pub mod Cases
+pub mod Closing
 pub mod Finding
 pub mod Lines
+pub mod Literals
 pub mod Longest
 pub mod Meaning
 pub mod Opening
