@@ -1,5 +1,6 @@
 pub mod Cases
 pub mod Closing
+pub mod EachString
 pub mod Finding
 pub mod Lines
 pub mod Literals

@@ -4,9 +4,11 @@ ghost use Rattle.std.specs.Prelude.{◌≡◌, ◌≤◌, ◌<◌, ◌↔◌, �
 ghost use Rattle.sieve_base.specs.Limits.{block_room, test_depth, text_limit};
 ghost use Rattle.sieve_syntax.specs.Machine;
 ghost use Rattle.sieve_syntax.specs.Machine.{whole};
-ghost use Rattle.sieve_syntax.specs.view.Literals.{SeesLiterals, View};
+ghost use Rattle.sieve_syntax.specs.view.Literals.{IsOneLiteral, SeesLiterals, View, parts_of};
 ghost use Rattle.sieve_syntax.specs.view.Parsed.{Finishes, Goes, Parses, ParsesAs};
 ghost use Rattle.sieve_syntax.specs.view.Reader.{state_value};
+ghost use Rattle.sieve_syntax.specs.view.TreeOf as by;
+ghost use Rattle.sieve_syntax.specs.EachString.{EachString};
 ghost use Rattle.sieve_syntax.specs.Syntax.{IsFaultLine, WritesText, syntax_of};
 ghost use Rattle.sieve_syntax.specs.Token.{IsInside, line_at};
 ghost use Rattle.sieve_syntax.specs.Tree.{Node};
@@ -61,8 +63,10 @@ pub fn parse(alloc: Global, text: &[u8]) -> Result<ParsedScript, SyntaxFault>
     ensures fault { (line : ℕ) → result ≡ Err (SyntaxFault.Syntax line) → IsFaultLine text.now line × ((tree : List Node) → WritesText tree text.now → ⊥) }
     // The tree or the line is what `syntax_of` says.
     ensures exact { Parses result (syntax_of text.now) }
-    // Each string of the tree is one literal: seen by whatever sees one as its octets, the tree is the same.
-    ensures literal { (view : View) → SeesLiterals view → ParsesAs view result (syntax_of text.now) }
+    // Each string of the tree is one literal.
+    ensures literal { IfOk result (λ script. EachString IsOneLiteral (by.nodes_of parts_of script)) }
+    // The tree is the same by whatever sees one literal as its octets.
+    ensures seen { (view : View) → SeesLiterals view → ParsesAs view result (syntax_of text.now) }
 {
     if text.len() > MAX_TEXT {
         return Err(SyntaxFault::TooLarge);

@@ -1,4 +1,4 @@
-use Rattle.sieve_syntax.proofs.Literals.{octets_see_literals}
+use Rattle.sieve_syntax.proofs.Literals.{each_literal, octets_see_literals}
 use Rattle.sieve_syntax.proofs.Meaning.{parses_tree, parses_fault}
 use Rattle.sieve_syntax.specs.view.Tree.{octets_of}
 use Rattle.sieve_syntax.proofs.parser.parse.Goals as goal
@@ -13,4 +13,7 @@ pub returns-clause-exact : goal.returns-clause-exact
 returns-clause-exact c = c.read_script.ensures.exact octets_of octets_see_literals
 
 pub returns-clause-literal : goal.returns-clause-literal
-returns-clause-literal c = c.read_script.ensures.exact
+returns-clause-literal c = each_literal c.read_script.result _ c.read_script.ensures.exact
+
+pub returns-clause-seen : goal.returns-clause-seen
+returns-clause-seen c = c.read_script.ensures.exact
