@@ -1,6 +1,9 @@
 pub mod Cases
+pub mod Closing
+pub mod EachString
 pub mod Finding
 pub mod Lines
+pub mod Literals
 pub mod Longest
 pub mod Meaning
 pub mod Opening

@@ -1,3 +1,4 @@
+pub mod EachString
 pub mod Grammar
 pub mod Line
 pub mod Machine

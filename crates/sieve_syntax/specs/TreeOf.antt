@@ -1,4 +1,4 @@
--- The generic tree of a script as plain data (RFC 5228, section 8.2), over what its strings are.
+-- The tree of a script by its grammar (RFC 5228, section 8.2) as plain data, over what its strings are.
 use Rattle.std.specs.Prelude.{ℕ, Bool, List, [], ◌∷◌, Option}
 
 -- a string: what it is, and the line where it begins

@@ -4,8 +4,11 @@ ghost use Rattle.std.specs.Prelude.{◌≡◌, ◌≤◌, ◌<◌, ◌↔◌, �
 ghost use Rattle.sieve_base.specs.Limits.{block_room, test_depth, text_limit};
 ghost use Rattle.sieve_syntax.specs.Machine;
 ghost use Rattle.sieve_syntax.specs.Machine.{whole};
-ghost use Rattle.sieve_syntax.specs.view.Parsed.{Finishes, Goes, Parses};
+ghost use Rattle.sieve_syntax.specs.view.Literals.{IsOneLiteral, SeesLiterals, View, parts_of};
+ghost use Rattle.sieve_syntax.specs.view.Parsed.{Finishes, Goes, Parses, ParsesAs};
 ghost use Rattle.sieve_syntax.specs.view.Reader.{state_value};
+ghost use Rattle.sieve_syntax.specs.view.TreeOf as by;
+ghost use Rattle.sieve_syntax.specs.EachString.{EachString};
 ghost use Rattle.sieve_syntax.specs.Syntax.{IsFaultLine, WritesText, syntax_of};
 ghost use Rattle.sieve_syntax.specs.Token.{IsInside, line_at};
 ghost use Rattle.sieve_syntax.specs.Tree.{Node};
@@ -60,6 +63,10 @@ pub fn parse(alloc: Global, text: &[u8]) -> Result<ParsedScript, SyntaxFault>
     ensures fault { (line : ℕ) → result ≡ Err (SyntaxFault.Syntax line) → IsFaultLine text.now line × ((tree : List Node) → WritesText tree text.now → ⊥) }
     // The tree or the line is what `syntax_of` says.
     ensures exact { Parses result (syntax_of text.now) }
+    // Each string of the tree is one literal.
+    ensures literal { IfOk result (λ script. EachString IsOneLiteral (by.nodes_of parts_of script)) }
+    // The tree is the same by whatever sees one literal as its octets.
+    ensures seen { (view : View) → SeesLiterals view → ParsesAs view result (syntax_of text.now) }
 {
     if text.len() > MAX_TEXT {
         return Err(SyntaxFault::TooLarge);
@@ -71,7 +78,7 @@ pub fn parse(alloc: Global, text: &[u8]) -> Result<ParsedScript, SyntaxFault>
 fn read_script(alloc: Global, text: &[u8]) -> Result<ParsedScript, SyntaxFault>
     requires { length text.now ≤ text_limit }
     ensures small { IsErrOf result SyntaxFault.TooLarge → ⊥ }
-    ensures exact { Parses result (syntax_of text.now) }
+    ensures exact { (view : View) → SeesLiterals view → ParsesAs view result (syntax_of text.now) }
 {
     let mut outer = Outer {
         blocks: Vec::new(alloc),
@@ -102,7 +109,7 @@ fn read_token(
     state: ParserState,
 ) -> Result<ParserState, SyntaxFault>
     requires { IsInside text.now token }
-    ensures { Goes outer.new result (Machine.step test_depth block_room (state_value outer.old state) (symbol_of text.now token)) token.line }
+    ensures { (view : View) → SeesLiterals view → Goes view outer.new result (Machine.step test_depth block_room (state_value view outer.old state) (symbol_of text.now token)) token.line }
 {
     let symbol = read_symbol(alloc, text, token)?;
     match step(alloc, outer, state, symbol) {
@@ -116,7 +123,7 @@ fn read_token(
 #[tactic(auto, unfolding(crate::specs::Machine::whole))]
 fn finish(text: &[u8], outer: Outer, state: ParserState) -> Result<ParsedScript, SyntaxFault>
     requires { length text.now ≤ text_limit }
-    ensures { Finishes result (whole (state_value outer state)) (line_at text.now (length text.now)) }
+    ensures { (view : View) → Finishes view result (whole (state_value view outer state)) (line_at text.now (length text.now)) }
 {
     if let ParserState::Between = state {
         if outer.blocks.is_empty() {

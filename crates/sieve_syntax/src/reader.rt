@@ -2,8 +2,9 @@
 
 ghost use Rattle.std.specs.Prelude.{◌≡◌};
 ghost use Rattle.sieve_syntax.specs.Machine.{node_with, test_with};
+ghost use Rattle.sieve_syntax.specs.view.Literals.{View};
 ghost use Rattle.sieve_syntax.specs.view.Reader.{head_value};
-ghost use Rattle.sieve_syntax.specs.view.Tree.{block_of, node_of, test_of, tests_of};
+ghost use Rattle.sieve_syntax.specs.view.TreeOf.{block_of, node_of, test_of, tests_of};
 
 use crate::tree::{Argument, Command, Test, Tests, Text};
 use sieve_base::SmallOctets;
@@ -61,7 +62,7 @@ pub(crate) enum ParserState {
 
 /// The command with this head, these tests and this block.
 pub(crate) fn command_with(head: Head, tests: Tests, block: Option<Vec<Command>>) -> Command
-    ensures { node_of result ≡ node_with (head_value head) (tests_of tests) (block_of block) }
+    ensures { (view : View) → node_of view result ≡ node_with (head_value view head) (tests_of view tests) (block_of view block) }
 {
     Command {
         name: head.name,
@@ -74,7 +75,7 @@ pub(crate) fn command_with(head: Head, tests: Tests, block: Option<Vec<Command>>
 
 /// The test with this head and these tests.
 pub(crate) fn finished_test(head: Head, tests: Tests) -> Test
-    ensures { test_of result ≡ test_with (head_value head) (tests_of tests) }
+    ensures { (view : View) → test_of view result ≡ test_with (head_value view head) (tests_of view tests) }
 {
     Test {
         name: head.name,

@@ -1,8 +1,10 @@
-//! The generic tree of a script (RFC 5228, section 8.2). In the tree of a text a string is one literal, the octets that it stands
-//! for; the validator cuts it into parts where it stands. A line is one plus the number of LF before it.
+//! The tree of a script by its grammar (RFC 5228, section 8.2). In the tree of a text a string is one literal, the octets
+//! that it stands for; the validator cuts it into parts where it stands. A line is one plus the number of LF before it.
 
 ghost use Rattle.std.specs.Prelude.{◌≡◌, map};
+ghost use Rattle.sieve_syntax.specs.view.Literals.{IsLiteral, SeesLiterals, View};
 ghost use Rattle.sieve_syntax.specs.view.Tree.{literal_octets, text_of};
+ghost use Rattle.sieve_syntax.specs.view.TreeOf as by;
 ghost use Rattle.sieve_variables.specs.view.Part.{part_of};
 
 use sieve_base::SmallOctets;
@@ -68,13 +70,20 @@ pub struct Text {
     pub line: u64,
 }
 
+/// The parts of a string that is one literal.
+fn one_literal(alloc: Global, octets: SmallOctets) -> Parts
+    ensures { IsLiteral result octets.items }
+{
+    Parts::from_buf(alloc, [Part::Literal(octets)])
+}
+
 impl Text {
     /// A string of a text's tree.
     pub(crate) fn written(alloc: Global, octets: SmallOctets, line: u64) -> Text
-        ensures { text_of result ≡ record { string = octets.items; line = line } }
+        ensures { (view : View) → SeesLiterals view → by.text_of view result ≡ record { string = octets.items; line = line } }
     {
         Text {
-            string: Parts::from_buf(alloc, [Part::Literal(octets)]),
+            string: one_literal(alloc, octets),
             line,
         }
     }

@@ -1,32 +1,38 @@
 -- What the parser returned, against what the text means.
 use Rattle.std.specs.Prelude.{◌≡◌, ℕ, List, Option, Some, None, Result, Ok, Err}
+use Rattle.sieve_syntax.specs.view.Literals.{View}
 use Rattle.sieve_syntax.specs.Machine.{ParserState}
 use Rattle.sieve_syntax.specs.view.Reader.{state_value}
 use Rattle.sieve_syntax.specs.Tree.{Node}
-use Rattle.sieve_syntax.specs.view.Tree.{nodes_of}
+use Rattle.sieve_syntax.specs.view.Tree.{octets_of}
+use Rattle.sieve_syntax.specs.view.TreeOf.{nodes_of}
 use Rattle.sieve_syntax.specs.declared.parser.SyntaxFault.{SyntaxFault}
 use Rattle.sieve_syntax.specs.declared.parser.SyntaxFault.TheVariants.{Syntax, TooLarge, NoMemory}
 use Rattle.sieve_syntax.specs.declared.tree.ParsedScript as scripts
 use Rattle.sieve_syntax.specs.declared.reader.Outer as outers
 use Rattle.sieve_syntax.specs.declared.reader.ParserState as states
 
+-- the tree, by what its strings are seen as, is what the text means, or the line of the fault is
+abbrev pub ParsesAs : View → Result scripts.ParsedScript SyntaxFault → Result (List Node) ℕ → Type 0
+ParsesAs view (Ok script) meaning = meaning ≡ Ok (nodes_of view script)
+ParsesAs view (Err (Syntax line)) meaning = meaning ≡ Err line
+ParsesAs view (Err TooLarge) meaning = Unit {0}
+ParsesAs view (Err NoMemory) meaning = Unit {0}
+
 -- the tree is what the text means, or the line of the fault is
 abbrev pub Parses : Result scripts.ParsedScript SyntaxFault → Result (List Node) ℕ → Type 0
-Parses (Ok script) meaning = meaning ≡ Ok (nodes_of script)
-Parses (Err (Syntax line)) meaning = meaning ≡ Err line
-Parses (Err TooLarge) meaning = Unit {0}
-Parses (Err NoMemory) meaning = Unit {0}
+Parses = ParsesAs octets_of
 
 -- the state is the next one, or there is none and the line is the token's
-abbrev pub Goes : outers.Outer → Result states.ParserState SyntaxFault → Option ParserState → ℕ → Type 0
-Goes o (Ok s) next line = next ≡ Some (state_value o s)
-Goes o (Err (Syntax at)) next line = (next ≡ None) × (at ≡ line)
-Goes o (Err TooLarge) next line = ⊥
-Goes o (Err NoMemory) next line = Unit {0}
+abbrev pub Goes : View → outers.Outer → Result states.ParserState SyntaxFault → Option ParserState → ℕ → Type 0
+Goes view o (Ok s) next line = next ≡ Some (state_value view o s)
+Goes view o (Err (Syntax at)) next line = (next ≡ None) × (at ≡ line)
+Goes view o (Err TooLarge) next line = ⊥
+Goes view o (Err NoMemory) next line = Unit {0}
 
 -- the script is the whole tree, or there is none and the line is that of the end
-abbrev pub Finishes : Result scripts.ParsedScript SyntaxFault → Option (List Node) → ℕ → Type 0
-Finishes (Ok script) tree line = tree ≡ Some (nodes_of script)
-Finishes (Err (Syntax at)) tree line = (tree ≡ None) × (at ≡ line)
-Finishes (Err TooLarge) tree line = ⊥
-Finishes (Err NoMemory) tree line = ⊥
+abbrev pub Finishes : View → Result scripts.ParsedScript SyntaxFault → Option (List Node) → ℕ → Type 0
+Finishes view (Ok script) tree line = tree ≡ Some (nodes_of view script)
+Finishes view (Err (Syntax at)) tree line = (tree ≡ None) × (at ≡ line)
+Finishes view (Err TooLarge) tree line = ⊥
+Finishes view (Err NoMemory) tree line = ⊥

@@ -42,7 +42,7 @@ abbrev pub node_of : commands.Command → Node
 node_of = by.node_of octets_of
 
 abbrev pub nodes_of : scripts.ParsedScript → List Node
-nodes_of s = map node_of s.commands.items
+nodes_of = by.nodes_of octets_of
 
 abbrev pub block_of : Option (Vec commands.Command Global) → Block
 block_of = by.block_of octets_of

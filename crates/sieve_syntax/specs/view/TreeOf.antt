@@ -1,5 +1,5 @@
 -- The program's tree, by what its strings are seen as.
-use Rattle.std.specs.Prelude.{Option, Some, None, map}
+use Rattle.std.specs.Prelude.{List, Option, Some, None, map}
 use Rattle.std.specs.declared.vec.Vec.{Vec}
 use Rattle.std.specs.declared.alloc.Global.{Global}
 use Rattle.smallvec.specs.SmallVec.{SmallVec}
@@ -7,6 +7,7 @@ use Rattle.sieve_variables.specs.declared.part.Part as parts
 use Rattle.sieve_syntax.specs.TreeOf.{Text, Argument, strings, number, tag, Test, test, Tests, no_tests, one_test, test_list, tests, Node, node, Block, no_block, block, nodes}
 use Rattle.sieve_syntax.specs.declared.tree.Argument as arguments
 use Rattle.sieve_syntax.specs.declared.tree.Command as commands
+use Rattle.sieve_syntax.specs.declared.tree.ParsedScript as scripts
 use Rattle.sieve_syntax.specs.declared.tree.Test as one_tests
 use Rattle.sieve_syntax.specs.declared.tree.Tests as some_tests
 use Rattle.sieve_syntax.specs.declared.tree.Text as texts
@@ -46,6 +47,9 @@ command_step view c = node c.name.items c.line (map (argument_of view) c.args.it
 
 abbrev pub node_of : {V : Type 0} → (SmallVec parts.Part → V) → commands.Command → Node V
 node_of {V} view = commands.fold-Command (Node V) (command_step view)
+
+abbrev pub nodes_of : {V : Type 0} → (SmallVec parts.Part → V) → scripts.ParsedScript → List (Node V)
+nodes_of view s = map (node_of view) s.commands.items
 
 abbrev pub block_of : {V : Type 0} → (SmallVec parts.Part → V) → Option (Vec commands.Command Global) → Block V
 block_of view None = no_block
