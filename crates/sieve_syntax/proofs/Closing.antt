@@ -3,9 +3,9 @@ use Rattle.std.proofs.Common.{◌≡◌, ℕ, List, [], ◌∷◌, ◌++◌, map
 use Rattle.std.proofs.lemmas.List.{map-append, reverse-append}
 use Rattle.std.specs.declared.alloc.Global.{Global}
 use Rattle.std.specs.declared.vec.Vec.{Vec}
-use Rattle.sieve_syntax.specs.Machine.{Outer, ParserState, after_listed, close, test_with}
+use Rattle.sieve_syntax.specs.Machine.{Outer, after_listed, close, test_with}
 use Rattle.sieve_syntax.specs.Symbol.{Symbol}
-use Rattle.sieve_syntax.specs.Tree.{Test, Tests, one_test}
+use Rattle.sieve_syntax.specs.Tree.{one_test}
 use Rattle.sieve_syntax.specs.view.Literals.{View}
 use Rattle.sieve_syntax.specs.view.Reader.{head_value, level_value, levels_value}
 use Rattle.sieve_syntax.specs.view.TreeOf.{test_of, tests_of}

@@ -4,13 +4,12 @@ use Rattle.smallvec.specs.SmallVec.{SmallVec}
 use Rattle.std.specs.declared.alloc.Global.{Global}
 use Rattle.std.specs.declared.vec.Vec.{Vec}
 use Rattle.sieve_variables.specs.declared.part.Part as parts
-use Rattle.sieve_syntax.specs.EachString.{InTexts, InArguments, InTest, InTests, InTestList, InNode, InBlock, InNodes}
-use Rattle.sieve_syntax.specs.TreeOf.{Text, Argument, Test, Tests, Node, test, tests, one_test, test_list, node, nodes, no_block, block}
-use Rattle.sieve_syntax.specs.view.TreeOf.{argument_of, block_of, node_of, test_of, test_step, tests_of, tests_step, text_of}
+use Rattle.sieve_syntax.specs.EachString.{InTexts, InArguments, InTest, InTests, InTestList, InNode, InNodes}
+use Rattle.sieve_syntax.specs.TreeOf.{Text, Test, Tests, test, tests, one_test, test_list, node, nodes, no_block, block}
+use Rattle.sieve_syntax.specs.view.TreeOf.{argument_of, node_of, test_of, test_step, tests_of, tests_step, text_of}
 use Rattle.sieve_syntax.specs.declared.tree.Argument as arguments
 use Rattle.sieve_syntax.specs.declared.tree.Argument.TheVariants as argument_variants
 use Rattle.sieve_syntax.specs.declared.tree.Command as commands
-use Rattle.sieve_syntax.specs.declared.tree.Command.TheFolds as command_folds
 use Rattle.sieve_syntax.specs.declared.tree.Test as one_tests
 use Rattle.sieve_syntax.specs.declared.tree.Tests as some_tests
 use Rattle.sieve_syntax.specs.declared.tree.Tests.TheFolds as test_folds

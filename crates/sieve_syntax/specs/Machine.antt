@@ -27,6 +27,7 @@ pub record Outer : Type 0 where
   pub blocks : List Open
   pub done : List Node
 
+-- where the next token stands
 pub data ParserState : Type 0 where
   -- between two commands
   between : Outer → ParserState

@@ -65,8 +65,6 @@ pub fn parse(alloc: Global, text: &[u8]) -> Result<ParsedScript, SyntaxFault>
     ensures exact { Parses result (syntax_of text.now) }
     // Each string of the tree is one literal.
     ensures literal { IfOk result (λ script. EachString IsOneLiteral (by.nodes_of parts_of script)) }
-    // The tree is the same by whatever sees one literal as its octets.
-    ensures seen { (view : View) → SeesLiterals view → ParsesAs view result (syntax_of text.now) }
 {
     if text.len() > MAX_TEXT {
         return Err(SyntaxFault::TooLarge);

@@ -86,11 +86,17 @@ fn close_block(outer: &mut Outer) -> Result<ParserState, Stop>
     }
 }
 
+/// How many arguments are given room one by one. Few commands and tests have more of them.
+const FEW_ARGUMENTS: usize = 4;
+
 /// Behind one more argument of a head.
 fn behind_argument(head: Head, argument: Argument) -> Result<ParserState, Stop>
     ensures { (view : View) (outer : Outer) → Advances view outer result (Some (Machine.in_arguments (outer_value view outer) (levels_value view outer.levels.items) (with_argument (head_value view head) (argument_of view argument)))) }
 {
     let mut head = head;
+    if head.args.len() < FEW_ARGUMENTS {
+        head.args.reserve_exact(1)?;
+    }
     head.args.push(argument)?;
     Ok(ParserState::Arguments(head))
 }

@@ -1,5 +1,5 @@
 -- The view of the program's reader as a state of the machine, by what its strings are seen as.
-use Rattle.std.specs.Prelude.{◌≡◌, ℕ, List, Option, Some, None, Result, Ok, Err, map, reverse}
+use Rattle.std.specs.Prelude.{◌≡◌, List, Option, Some, None, Result, Ok, Err, map, reverse}
 use Rattle.sieve_syntax.specs.view.Literals.{View}
 use Rattle.sieve_syntax.specs.view.TreeOf.{node_of, test_of, tests_of, text_of, argument_of}
 use Rattle.sieve_syntax.specs.Symbol.{Symbol, identifier, tag_symbol, number_symbol, string_symbol, semicolon, open_brace, close_brace, open_parenthesis, close_parenthesis, open_bracket, close_bracket, comma, bad}

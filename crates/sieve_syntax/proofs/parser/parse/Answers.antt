@@ -14,6 +14,3 @@ returns-clause-exact c = c.read_script.ensures.exact octets_of octets_see_litera
 
 pub returns-clause-literal : goal.returns-clause-literal
 returns-clause-literal c = each_literal c.read_script.result _ c.read_script.ensures.exact
-
-pub returns-clause-seen : goal.returns-clause-seen
-returns-clause-seen c = c.read_script.ensures.exact

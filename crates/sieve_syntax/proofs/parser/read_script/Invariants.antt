@@ -1,4 +1,4 @@
-use Rattle.std.proofs.Common.{◌-◌, ℕ, List, length}
+use Rattle.std.proofs.Common.{◌-◌, length}
 use Rattle.sieve_syntax.specs.view.Cursor.{IsCursor}
 use Rattle.sieve_syntax.specs.view.Literals.{SeesLiterals, View}
 use Rattle.sieve_syntax.specs.view.Reader.{state_value}
