@@ -63,7 +63,7 @@ end_means view text s place (Err (Syntax line)) h so e = sym (so [] h) ∙ read-
 end_means view text s place (Err TooLarge) h so e = absurd e
 end_means view text s place (Err NoMemory) h so e = absurd e
 
--- nor is the end
+-- the end of a text is never refused as a text that is too large
 pub finishes_small : (view : View) (r : Result scripts.ParsedScript SyntaxFault) (tree : Option (List Node)) (line : ℕ) → Finishes view r tree line → r ≡ Err TooLarge → ⊥
 finishes_small view (Ok script) tree line h e = cc
 finishes_small view (Err (Syntax at)) tree line h e = cc

@@ -1,12 +1,14 @@
--- What holds of each string of a tree.
+-- A property of strings, as one of each string of a tree.
 use Rattle.std.specs.Prelude.{List, [], ◌∷◌}
 use Rattle.sieve_syntax.specs.TreeOf.{Text, Argument, strings, number, tag, Test, test, Tests, no_tests, one_test, test_list, TestList, end_tests, more_tests, Node, node, Block, no_block, block, Nodes, end_nodes, more_nodes, nodes}
 
 module _ {S : Type 0} (Is : S → Type 0) where
+  -- each of these strings has it
   abbrev pub InTexts : List (Text S) → Type 0
   InTexts [] = Unit {0}
   InTexts (t ∷ ts) = Is t.string × InTexts ts
 
+  -- each string of these arguments has it
   abbrev pub InArguments : List (Argument S) → Type 0
   InArguments [] = Unit {0}
   InArguments (strings items bracketed ∷ rest) = InTexts items × InArguments rest
@@ -14,6 +16,7 @@ module _ {S : Type 0} (Is : S → Type 0) where
   InArguments (tag name line ∷ rest) = InArguments rest
 
   unfoldable mutual
+    -- each string of a test has it, and of the tests in it
     pub InTest : Test S → Type 0
     InTest (test name line args ts) = InArguments args × InTests ts
 
@@ -27,6 +30,7 @@ module _ {S : Type 0} (Is : S → Type 0) where
     InTestList (more_tests t ts) = InTest t × InTestList ts
 
   unfoldable mutual
+    -- each string of a command has it, of its tests and of its block
     pub InNode : Node S → Type 0
     InNode (node name line args ts ending) = InArguments args × InTests ts × InBlock ending
 
@@ -38,6 +42,6 @@ module _ {S : Type 0} (Is : S → Type 0) where
     InNodes end_nodes = Unit {0}
     InNodes (more_nodes n ns) = InNode n × InNodes ns
 
-  -- of each string of the tree
+  -- each string of a tree has it
   abbrev pub EachString : List (Node S) → Type 0
   EachString tree = InNodes (nodes tree)

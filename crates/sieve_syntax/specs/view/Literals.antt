@@ -1,4 +1,4 @@
--- What the strings of a tree are seen as, and strings that are one literal.
+-- Strings that are one literal, and what they are seen as.
 use Rattle.std.specs.Prelude.{◌≡◌, ℕ, List, [], ◌∷◌, map}
 use Rattle.smallvec.specs.SmallVec.{SmallVec}
 use Rattle.sieve_syntax.specs.view.Tree.{literal_octets}
@@ -6,7 +6,7 @@ use Rattle.sieve_variables.specs.Part.{Part, literal}
 use Rattle.sieve_variables.specs.declared.part.Part as parts
 use Rattle.sieve_variables.specs.view.Part.{part_of}
 
--- each string as its parts
+-- a string is seen as its parts
 abbrev pub parts_of : SmallVec parts.Part → List Part
 parts_of string = map part_of string.items
 
@@ -14,7 +14,7 @@ parts_of string = map part_of string.items
 abbrev pub IsOneLiteral : List Part → Type 0
 IsOneLiteral parts = parts ≡ literal (literal_octets parts) ∷ []
 
--- each string as octets
+-- a string is seen as octets
 abbrev pub View : Type 0
 View = SmallVec parts.Part → List ℕ
 
