@@ -126,7 +126,8 @@ def of_devices(library):
 
 def of_memory(room):
     """What is replaced or dropped makes room again, and what is put takes no more than its octets: each session puts more than the memory
-    that it has, or what code of that size is made of, or nearly as much."""
+    that it has, or what code of that size is made of, or nearly as much. Of many scripts no more is kept than their octets and their code:
+    what their trees took serves the next one."""
     script, expected = put(b"script personal a", b"#" * 1_000_000), put(b"expect m", b"x" * 65_536)
     code = put(b"script personal a", b"if size :over 1 { keep; }\n" * 5_000)
     main, mailbox = b"main personal %s\n" % (b"n" * 1_024), b"mailbox %s\n" % (b"b" * 255)
@@ -146,6 +147,13 @@ def of_memory(room):
     ]:
         yield bounded(room, title, [b"message m 0\n", *commands * count])
     yield bounded(room, "messages as large as nearly all memory", [put(b"message m%d" % number, b"x" * 8_500_000) for number in range(3)])
+    for title, script, count in [
+        ("rules", b"".join(b'if header :contains "subject" "word%d" { discard; }\n' % number for number in range(1_800)), 36),
+        ("keep", b"keep;\n" * 16_000, 52),
+        ("set", b'require "variables";\n' + b'set "a" "b";\n' * 7_000, 22),
+        ("hasflag", b'require "imap4flags";\n' + b'if hasflag "a" {}\n' * 5_000, 17),
+    ]:
+        yield bounded(room, f"{count} scripts of {title}", [put(b"script personal s%d" % number, script) for number in range(count)])
 
 
 def bounded(room, title, commands):
