@@ -21,7 +21,7 @@ class Run:
         except subprocess.TimeoutExpired:
             return [f"no end in {SECONDS} seconds"]
         told = [("standard output", self.output, done.stdout), ("standard error", self.error, done.stderr), ("status", self.status, done.returncode)]
-        return [f"{what}: wanted {wanted!r:.2000}, got {got!r:.2000}" for what, wanted, got in told if not is_as(wanted, got)]
+        return [f"{what}: {wanted_and_got(wanted, got)}" for what, wanted, got in told if not is_as(wanted, got)]
 
 
 def is_as(wanted, got):
@@ -29,6 +29,14 @@ def is_as(wanted, got):
     if isinstance(wanted, list):
         return all(part in got for part in wanted) and (bool(wanted) or not got)
     return wanted == got
+
+
+def wanted_and_got(wanted, got):
+    """Both in words, and octets from the line in which they part."""
+    if not isinstance(wanted, bytes):
+        return f"wanted {wanted!r:.2000}, got {got!r:.2000}"
+    start = wanted.rfind(b"\n", 0, len(os.path.commonprefix([wanted, got]))) + 1
+    return f"behind {start} octets wanted {wanted[start:]!r:.2000}, got {got[start:]!r:.2000}"
 
 
 def lines(*texts):
