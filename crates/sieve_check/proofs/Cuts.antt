@@ -2,6 +2,7 @@
 use Rattle.std.proofs.Common.{◌≡◌, ℕ, Option, Some, List, [], ◌∷◌, map, refl, ap, sym, ◌∙◌}
 use Rattle.sieve_syntax.specs.Tree as syntax
 use Rattle.sieve_syntax.specs.view.Tree as seen
+use Rattle.sieve_syntax.specs.view.TreeOf.{parts_of}
 use Rattle.sieve_check.specs.Parted.{Cutting, command_labels, declaring_command, parted_argument, parted_block, parted_labelled, parted_node, parted_nodes, parted_test, parted_test_list, parted_tests}
 use Rattle.sieve_check.specs.Scope.{declaring_argument, declaring_arguments}
 use Rattle.sieve_reading.specs.Label.{Expected, expected_behind, label_at, labels_from}
@@ -15,7 +16,7 @@ use Rattle.std.specs.declared.vec.Vec.{Vec}
 use Rattle.std.specs.declared.alloc.Global.{Global}
 use Rattle.sieve_syntax.proofs.Views as views
 use Rattle.sieve_reading.specs.Tree.{Argument, node, Nodes, end_nodes, items, block, nodes, more_nodes, one_test, test_list, tests, more_tests}
-use Rattle.sieve_reading.specs.view.Tree.{argument_of, node_of, parts_of, test_of, tests_of}
+use Rattle.sieve_reading.specs.view.Tree.{argument_of, node_of, test_of, tests_of}
 use Rattle.sieve_syntax.specs.declared.tree.Argument as arguments
 use Rattle.sieve_syntax.specs.declared.tree.Command as commands
 use Rattle.sieve_syntax.specs.declared.tree.Command.TheViews as command_views

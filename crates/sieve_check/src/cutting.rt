@@ -15,15 +15,15 @@ ghost use Rattle.sieve_reading.specs.view.Tree.{argument_of, node_of, test_of, t
 ghost use Rattle.sieve_variables.specs.Part.{literal, scoped_part, variable_part};
 ghost use Rattle.sieve_variables.specs.Scan.{parts_of_text};
 ghost use Rattle.sieve_variables.specs.Variable.{scoped, variable_named};
-ghost use Rattle.sieve_variables.specs.view.Part.{part_of};
 
 use crate::context::{Required, required_in, takes_references};
 use crate::scope::declare_argument;
-use sieve_base::SmallOctets;
 use sieve_reading::{AsOctets, role_of, row_expected, shape_of};
 use sieve_syntax::{Argument, Command, ParsedScript, Test, Tests, Text, octets_in};
 use sieve_table::{CommandKind, Role, Row, command_named, names_variable, test_named};
-use sieve_variables::{Names, Part, Parts, Variable, parts_of_text, references_in, scoped_parts};
+use sieve_variables::{
+    Names, Part, PartRef, Parts, Variable, parts_of_text, references_in, scoped_parts,
+};
 use std::alloc::{AllocError, Global};
 use std::mem;
 
@@ -35,36 +35,40 @@ pub(crate) struct Cutting<'a> {
 }
 
 /// The parts of a string of which nothing stands for a value: one literal, which each string of a text's tree is already.
-fn literal_parts(alloc: Global, string: Parts) -> Parts
-    ensures { map part_of result.items ≡ literal (seen.octets_of string) ∷ [] }
+fn literal_parts(string: Parts) -> Parts
+    ensures { result ≡ literal (seen.octets_of string) ∷ [] }
 {
     match string.as_slice() {
-        [Part::Literal(_)] => string,
-        _ => Parts::from_buf(alloc, [Part::Literal(SmallOctets::new(alloc))]),
+        [part] => match part.as_ref() {
+            PartRef::Literal(_) => string,
+            PartRef::Variable(_) => Parts::one(Part::nothing()),
+            PartRef::Match(_) => Parts::one(Part::nothing()),
+        },
+        _ => Parts::one(Part::nothing()),
     }
 }
 
 /// The variable that a string names.
 fn variable_parts(alloc: Global, declared: &Names, name: &[u8]) -> Result<Parts, AllocError>
-    ensures { IfOk result (λ parts. map part_of parts.items ≡ variable_part (scoped declared.now (variable_named name.now)) ∷ []) }
+    ensures { IfOk result (λ parts. parts ≡ variable_part (scoped declared.now (variable_named name.now)) ∷ []) }
 {
-    let part = Part::Variable(Variable::named(alloc, name)?.scoped(declared));
-    Ok(Parts::from_buf(alloc, [part]))
+    let variable = Variable::named(alloc, name)?.scoped(declared);
+    Ok(Parts::one(Part::variable(variable)))
 }
 
 /// The octets and references in a string.
 fn reference_parts(alloc: Global, declared: &Names, string: Parts) -> Result<Parts, AllocError>
-    ensures { IfOk result (λ parts. map part_of parts.items ≡ map (scoped_part declared.now) (parts_of_text (seen.octets_of string))) }
+    ensures { IfOk result (λ parts. parts ≡ map (scoped_part declared.now) (parts_of_text (seen.octets_of string))) }
 {
-    let octets = octets_in(&string);
+    let octets = octets_in(string.as_slice());
     if references_in(octets).any {
         let parts = parts_of_text(alloc, octets)?;
         return scoped_parts(alloc, parts, declared);
     }
     if octets.is_empty() {
-        Ok(Parts::new(alloc))
+        Ok(Parts::none())
     } else {
-        Ok(literal_parts(alloc, string))
+        Ok(literal_parts(string))
     }
 }
 
@@ -75,15 +79,15 @@ fn parts_in(
     role: Option<Role>,
     string: Parts,
 ) -> Result<Parts, AllocError>
-    ensures { IfOk result (λ parts. map part_of parts.items ≡ spec.parts_in (cutting_as cutting.entry) role (seen.octets_of string)) }
+    ensures { IfOk result (λ parts. parts ≡ spec.parts_in (cutting_as cutting.entry) role (seen.octets_of string)) }
 {
     if names_variable(role) {
-        return variable_parts(alloc, cutting.declared, octets_in(&string));
+        return variable_parts(alloc, cutting.declared, octets_in(string.as_slice()));
     }
     if takes_references(cutting.required, role) {
         reference_parts(alloc, cutting.declared, string)
     } else {
-        Ok(literal_parts(alloc, string))
+        Ok(literal_parts(string))
     }
 }
 
@@ -96,7 +100,7 @@ fn cut_text(
 ) -> Result<(), AllocError>
     ensures { OnOk result (text_of text.new ≡ spec.parted_text (cutting_as cutting.entry) role (seen.text_of text.old)) }
 {
-    let string = mem::replace(&mut text.string, Parts::new(alloc));
+    let string = mem::replace(&mut text.string, Parts::none());
     text.string = parts_in(alloc, cutting, role, string)?;
     Ok(())
 }

@@ -6,17 +6,16 @@ ghost use Rattle.sieve_reading.specs.view.Labels.{labels_in};
 ghost use Rattle.match_text.specs.Comparator.{collation_named};
 ghost use Rattle.sieve_reading.specs.view.Reading.{texts_as};
 ghost use Rattle.sieve_reading.specs.Tree.{strings};
-ghost use Rattle.sieve_reading.specs.view.Tree.{argument_of, parts_of, text_of};
-ghost use Rattle.sieve_variables.specs.view.Part.{part_of, variable_of};
+ghost use Rattle.sieve_reading.specs.view.Tree.{argument_of, text_of};
+ghost use Rattle.sieve_variables.specs.view.Part.{plain_octets};
 
 use crate::labelled::has_tag;
 use crate::reading::MatchType;
 use match_text::{Collation, collation_named};
 use message_text::AddressPart;
-use sieve_base::SmallOctets;
 use sieve_syntax::{Argument, Text};
 use sieve_table::{Row, Tag};
-use sieve_variables::{Part, Parts, Variable};
+use sieve_variables::{Part, PartRef, Parts, Variable};
 
 /// The strings of an argument.
 pub(crate) fn texts_in(argument: Option<Argument>) -> Option<Vec<Text>>
@@ -42,7 +41,7 @@ pub(crate) fn given_texts(argument: Option<Argument>) -> Option<Option<Vec<Text>
 
 /// The one string that strings are.
 fn one_text(texts: Vec<Text>) -> Option<Parts>
-    ensures { (bracketed : Bool) → option_map parts_of result ≡ spec.text_in (Some (strings (map text_of texts.items) bracketed)) }
+    ensures { (bracketed : Bool) → result ≡ spec.text_in (Some (strings (map text_of texts.items) bracketed)) }
 {
     let mut texts = texts.into_iter();
     let text = texts.next()?;
@@ -54,7 +53,7 @@ fn one_text(texts: Vec<Text>) -> Option<Parts>
 
 /// The one string that an argument is.
 pub(crate) fn text_in(argument: Option<Argument>) -> Option<Parts>
-    ensures { option_map parts_of result ≡ spec.text_in (option_map argument_of argument) }
+    ensures { result ≡ spec.text_in (option_map argument_of argument) }
 {
     match argument {
         Some(Argument::Strings { items, .. }) => one_text(items),
@@ -66,18 +65,17 @@ pub(crate) fn text_in(argument: Option<Argument>) -> Option<Parts>
 
 /// The variable that parts name.
 fn variable_in_parts(parts: Parts) -> Option<Variable>
-    ensures { option_map variable_of result ≡ spec.variable_in_parts (parts_of parts) }
+    ensures { result ≡ spec.variable_in_parts parts }
 {
-    let mut parts = parts.into_iter();
-    match (parts.next(), parts.next()) {
-        (Some(Part::Variable(variable)), None) => Some(variable),
-        _ => None,
+    match parts.into_one() {
+        Some(part) => part.into_variable(),
+        None => None,
     }
 }
 
 /// The variable that an argument names (RFC 5229, section 4).
 pub(crate) fn variable_in(argument: Option<Argument>) -> Option<Variable>
-    ensures { option_map variable_of result ≡ spec.variable_in (option_map argument_of argument) }
+    ensures { result ≡ spec.variable_in (option_map argument_of argument) }
 {
     match text_in(argument) {
         Some(parts) => variable_in_parts(parts),
@@ -87,7 +85,7 @@ pub(crate) fn variable_in(argument: Option<Argument>) -> Option<Variable>
 
 /// The variable that an argument names that may be left out.
 pub(crate) fn given_variable(argument: Option<Argument>) -> Option<Option<Variable>>
-    ensures { option_map (option_map variable_of) result ≡ spec.given_variable (option_map argument_of argument) }
+    ensures { result ≡ spec.given_variable (option_map argument_of argument) }
 {
     match argument {
         Some(argument) => Some(Some(variable_in(Some(argument))?)),
@@ -97,10 +95,14 @@ pub(crate) fn given_variable(argument: Option<Argument>) -> Option<Option<Variab
 
 /// The octets of a string that is one literal. Takes no memory.
 pub fn literal_in_parts(parts: &[Part]) -> Option<&[u8]>
-    ensures { option_map (λ octets. octets.now) result ≡ spec.literal_in_parts (map part_of parts.now) }
+    ensures { option_map (λ octets. octets.now) result ≡ spec.literal_in_parts parts.now }
 {
     match parts {
-        [Part::Literal(octets)] => Some(octets.as_slice()),
+        [part] => match part.as_ref() {
+            PartRef::Literal(octets) => Some(octets),
+            PartRef::Variable(_) => None,
+            PartRef::Match(_) => None,
+        },
         _ => None,
     }
 }
@@ -111,7 +113,7 @@ pub(crate) fn literal_in(argument: Option<&Argument>) -> Option<&[u8]>
 {
     match argument {
         Some(Argument::Strings { items, .. }) => match items.as_slice() {
-            [text] => literal_in_parts(&text.string),
+            [text] => literal_in_parts(text.string.as_slice()),
             _ => None,
         },
         Some(Argument::Number { .. }) => None,
@@ -120,23 +122,24 @@ pub(crate) fn literal_in(argument: Option<&Argument>) -> Option<&[u8]>
     }
 }
 
-/// The octets of parts that are one literal.
-fn octets_of_literal(parts: Parts) -> Option<SmallOctets>
-    ensures { option_map (λ octets. octets.items) result ≡ spec.literal_in_parts (parts_of parts) }
+/// The one literal that parts are.
+fn into_literal(parts: Parts) -> Option<Part>
+    ensures { option_map plain_octets result ≡ spec.literal_in_parts parts }
 {
-    let mut parts = parts.into_iter();
-    match (parts.next(), parts.next()) {
-        (Some(Part::Literal(octets)), None) => Some(octets),
-        _ => None,
+    let part = parts.into_one()?;
+    if matches!(part.as_ref(), PartRef::Literal(_)) {
+        Some(part)
+    } else {
+        None
     }
 }
 
-/// The octets, to be kept, of an argument that is one string, which stands for itself.
-pub(crate) fn name_in(argument: Option<Argument>) -> Option<SmallOctets>
-    ensures { option_map (λ octets. octets.items) result ≡ spec.literal_in (option_map argument_of argument) }
+/// The literal that an argument is that is one string, which stands for itself.
+pub(crate) fn name_in(argument: Option<Argument>) -> Option<Part>
+    ensures { option_map plain_octets result ≡ spec.literal_in (option_map argument_of argument) }
 {
     match text_in(argument) {
-        Some(parts) => octets_of_literal(parts),
+        Some(parts) => into_literal(parts),
         None => None,
     }
 }

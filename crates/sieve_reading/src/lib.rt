@@ -20,7 +20,7 @@ pub use reading::{
 };
 pub use role::role_of;
 pub use shape::{AsOctets, AsParts, StringView, row_expected, row_is_filled, row_labels, shape_of};
-pub use sieve_base::{Place, SmallOctets};
+pub use sieve_base::Place;
 pub use sieve_syntax::{Argument, Command, Test, Tests, Text};
 pub use sieve_table::{CommandKind, TestKind};
 pub use sieve_variables::{LetterCase, Modifiers, Part, Parts, Variable};

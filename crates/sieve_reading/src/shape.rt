@@ -13,13 +13,13 @@ use std::alloc::{AllocError, Global};
 
 /// What contracts see the strings of a tree as.
 pub trait StringView {
-    ghost use Rattle.smallvec.specs.SmallVec.{SmallVec};
-    ghost use Rattle.sieve_variables.specs.declared.part.Part.{Part};
+    ghost use Rattle.std.specs.Prelude.{List};
+    ghost use Rattle.sieve_variables.specs.Part.{Part};
 
     // what a string stands for
     ghost Seen: { Type 0 };
 
-    ghost seen: { SmallVec Part → Seen };
+    ghost seen: { List Part → Seen };
 }
 
 /// The strings of a text's tree: as octets.
@@ -39,7 +39,7 @@ impl StringView for AsOctets {
 
 impl StringView for AsParts {
     ghost use Rattle.std.specs.Prelude.{List};
-    ghost use Rattle.sieve_reading.specs.view.Tree.{parts_of};
+    ghost use Rattle.sieve_syntax.specs.view.TreeOf.{parts_of};
     ghost use Rattle.sieve_variables.specs.Part.{Part};
 
     ghost Seen = { List Part };

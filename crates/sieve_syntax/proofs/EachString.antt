@@ -3,7 +3,7 @@ use Rattle.std.proofs.Common.{◌≡◌, ℕ, List, [], ◌∷◌, Option, Some,
 use Rattle.smallvec.specs.SmallVec.{SmallVec}
 use Rattle.std.specs.declared.alloc.Global.{Global}
 use Rattle.std.specs.declared.vec.Vec.{Vec}
-use Rattle.sieve_variables.specs.declared.part.Part as parts
+use Rattle.sieve_variables.specs.Part.{Part}
 use Rattle.sieve_syntax.specs.EachString.{InTexts, InArguments, InTest, InTests, InTestList, InNode, InNodes}
 use Rattle.sieve_syntax.specs.TreeOf.{Text, Test, Tests, test, tests, one_test, test_list, node, nodes, no_block, block}
 use Rattle.sieve_syntax.specs.view.TreeOf.{argument_of, node_of, test_of, test_step, tests_of, tests_step, text_of}
@@ -17,13 +17,13 @@ use Rattle.sieve_syntax.specs.declared.tree.Tests.TheOpen as test_layers
 use Rattle.sieve_syntax.specs.declared.tree.Text as texts
 use Rattle.sieve_syntax.proofs.Views.{seen}
 
-rolled_tests : {V : Type 0} (view : SmallVec parts.Part → V) (layer : some_tests.Tests-F some_tests.Tests one_tests.Test) → tests_of view (some_tests.roll-Tests layer) ≡ tests_step (some_tests.map-Tests some_tests.Tests one_tests.Test (Tests V) (Test V) (tests_of view) (test_of view) layer)
+rolled_tests : {V : Type 0} (view : List Part → V) (layer : some_tests.Tests-F some_tests.Tests one_tests.Test) → tests_of view (some_tests.roll-Tests layer) ≡ tests_step (some_tests.map-Tests some_tests.Tests one_tests.Test (Tests V) (Test V) (tests_of view) (test_of view) layer)
 rolled_tests {V} view layer = test_folds.fold-roll-Tests (Tests V) (Test V) tests_step (test_step view) layer
 
-rolled_test : {V : Type 0} (view : SmallVec parts.Part → V) (layer : one_tests.Test-F some_tests.Tests one_tests.Test) → test_of view (one_tests.roll-Test layer) ≡ test layer.name.items layer.line (map (argument_of view) layer.args.items) (tests_of view layer.tests)
+rolled_test : {V : Type 0} (view : List Part → V) (layer : one_tests.Test-F some_tests.Tests one_tests.Test) → test_of view (one_tests.roll-Test layer) ≡ test layer.name.items layer.line (map (argument_of view) layer.args.items) (tests_of view layer.tests)
 rolled_test {V} view layer = test_folds.fold-roll-Test (Tests V) (Test V) tests_step (test_step view) layer
 
-module _ {V W : Type 0} (a b : SmallVec parts.Part → V) (c : SmallVec parts.Part → W) (Is : W → Type 0) (agree : (string : SmallVec parts.Part) → a string ≡ b string → Is (c string)) where
+module _ {V W : Type 0} (a b : List Part → V) (c : List Part → W) (Is : W → Type 0) (agree : (string : List Part) → a string ≡ b string → Is (c string)) where
   in_texts : (ts : List texts.Text) → map (text_of a) ts ≡ map (text_of b) ts → InTexts Is (map (text_of c) ts)
   in_texts [] e = tt
   in_texts (t ∷ ts) e =

@@ -3,17 +3,17 @@ use Rattle.std.proofs.Common.{◌≡◌, ℕ, List, [], ◌∷◌, Result, Ok, E
 use Rattle.std.specs.Result.{IfOk}
 use Rattle.sieve_syntax.specs.EachString.{EachString}
 use Rattle.sieve_syntax.specs.Tree.{Node}
-use Rattle.sieve_syntax.specs.view.Literals.{IsOneLiteral, SeesLiterals, View, parts_of}
+use Rattle.sieve_syntax.specs.view.Literals.{IsOneLiteral, SeesLiterals, View}
 use Rattle.sieve_syntax.specs.view.Parsed.{ParsesAs}
-use Rattle.sieve_syntax.specs.view.Tree.{literal_octets, octets_of}
-use Rattle.sieve_syntax.specs.view.TreeOf.{node_of, nodes_of}
+use Rattle.sieve_syntax.specs.view.Tree.{octets_of}
+use Rattle.sieve_syntax.specs.view.TreeOf.{node_of, nodes_of, parts_of}
 use Rattle.sieve_variables.specs.Part.{Part, literal, variable_part, match_part}
 use Rattle.sieve_syntax.specs.declared.parser.SyntaxFault.{SyntaxFault}
 use Rattle.sieve_syntax.specs.declared.tree.ParsedScript as scripts
 use Rattle.sieve_syntax.proofs.EachString.{in_commands}
 
 pub octets_see_literals : SeesLiterals octets_of
-octets_see_literals = record { sees = λ string octets is. ap literal_octets is }
+octets_see_literals = record { sees = λ string octets is. ap octets_of is }
 
 -- the octets of one literal, or these where the parts are anything else
 abbrev octets_or : List ℕ → List Part → List ℕ
@@ -24,7 +24,7 @@ octets_or other (variable_part variable ∷ parts) = other
 octets_or other (match_part index ∷ parts) = other
 
 abbrev view_or : List ℕ → View
-view_or other string = octets_or other (parts_of string)
+view_or other = octets_or other
 
 view_or_sees : (other : List ℕ) → SeesLiterals (view_or other)
 view_or_sees other = record { sees = λ string octets is. ap (octets_or other) is }
@@ -43,5 +43,5 @@ each_literal (Ok script) meaning h =
     let some = h (view_or []) (view_or_sees []) in
     let others = h (view_or (0 ∷ [])) (view_or_sees (0 ∷ [])) in
     let same : map (node_of (view_or [])) script.commands.items ≡ map (node_of (view_or (0 ∷ []))) script.commands.items = cc in
-    in_commands (view_or []) (view_or (0 ∷ [])) parts_of IsOneLiteral (λ string. seen_alike (parts_of string)) script.commands.items same
+    in_commands (view_or []) (view_or (0 ∷ [])) parts_of IsOneLiteral seen_alike script.commands.items same
 each_literal (Err fault) meaning h = tt

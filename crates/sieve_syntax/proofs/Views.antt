@@ -4,7 +4,7 @@ use Rattle.std.specs.declared.alloc.Global.{Global}
 use Rattle.std.specs.declared.boxed.Box.{Box}
 use Rattle.std.specs.declared.vec.Vec.{Vec}
 use Rattle.smallvec.specs.SmallVec.{SmallVec}
-use Rattle.sieve_variables.specs.declared.part.Part as parts
+use Rattle.sieve_variables.specs.Part.{Part}
 use Rattle.sieve_syntax.specs.TreeOf.{Node, Test, Tests, no_tests, node, one_test, test, test_list, tests}
 use Rattle.sieve_syntax.specs.view.TreeOf.{block_of, argument_of, command_step, node_of, test_of, test_step, tests_of, tests_step}
 use Rattle.sieve_syntax.specs.declared.tree.Argument as arguments
@@ -16,7 +16,7 @@ use Rattle.sieve_syntax.specs.declared.tree.Tests.TheFolds as test_folds
 use Rattle.sieve_syntax.specs.declared.tree.Tests.TheOpen as test_layers
 use Rattle.sieve_syntax.specs.declared.tree.Tests.TheVariants as test_variants
 
-module _ {V : Type 0} (view : SmallVec parts.Part → V) where
+module _ {V : Type 0} (view : List Part → V) where
   pub none_seen : tests_of view test_variants.None ≡ no_tests
   none_seen = ap (tests_of view) (sym test_variants.rolls-None) ∙ test_folds.fold-roll-Tests (Tests V) (Test V) tests_step (test_step view) test_layers.None
 

@@ -4,7 +4,7 @@ ghost use Rattle.std.specs.Prelude.{◌≡◌, ◌≤◌, ◌<◌, ◌↔◌, �
 ghost use Rattle.sieve_base.specs.Limits.{block_room, test_depth, text_limit};
 ghost use Rattle.sieve_syntax.specs.Machine;
 ghost use Rattle.sieve_syntax.specs.Machine.{whole};
-ghost use Rattle.sieve_syntax.specs.view.Literals.{IsOneLiteral, SeesLiterals, View, parts_of};
+ghost use Rattle.sieve_syntax.specs.view.Literals.{IsOneLiteral, SeesLiterals, View};
 ghost use Rattle.sieve_syntax.specs.view.Parsed.{Finishes, Goes, Parses, ParsesAs};
 ghost use Rattle.sieve_syntax.specs.view.Reader.{state_value};
 ghost use Rattle.sieve_syntax.specs.view.TreeOf as by;
@@ -64,7 +64,7 @@ pub fn parse(alloc: Global, text: &[u8]) -> Result<ParsedScript, SyntaxFault>
     // The tree or the line is what `syntax_of` says.
     ensures exact { Parses result (syntax_of text.now) }
     // Each string of the tree is one literal.
-    ensures literal { IfOk result (λ script. EachString IsOneLiteral (by.nodes_of parts_of script)) }
+    ensures literal { IfOk result (λ script. EachString IsOneLiteral (by.nodes_of by.parts_of script)) }
 {
     if text.len() > MAX_TEXT {
         return Err(SyntaxFault::TooLarge);

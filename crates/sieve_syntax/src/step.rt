@@ -114,7 +114,7 @@ fn in_arguments(
     match symbol {
         Symbol::String { octets, line } => {
             let mut items = Vec::with_capacity(alloc, 1)?;
-            items.push(Text::written(alloc, octets, line))?;
+            items.push(Text::written(alloc, octets, line)?)?;
             let argument = Argument::Strings {
                 items,
                 bracketed: false,
@@ -177,7 +177,7 @@ fn before_string(
     match symbol {
         Symbol::String { octets, line } => {
             let mut items = items;
-            items.push(Text::written(alloc, octets, line))?;
+            items.push(Text::written(alloc, octets, line)?)?;
             Ok(ParserState::AfterString(head, items))
         }
         _ => Err(Stop::Fault),

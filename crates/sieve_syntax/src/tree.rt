@@ -1,15 +1,14 @@
 //! The tree of a script by its grammar (RFC 5228, section 8.2). In the tree of a text a string is one literal, the octets
 //! that it stands for; the validator cuts it into parts where it stands. A line is one plus the number of LF before it.
 
-ghost use Rattle.std.specs.Prelude.{◌≡◌, map};
+ghost use Rattle.std.specs.Prelude.{◌≡◌, IfOk};
 ghost use Rattle.sieve_syntax.specs.view.Literals.{IsLiteral, SeesLiterals, View};
-ghost use Rattle.sieve_syntax.specs.view.Tree.{literal_octets, text_of};
+ghost use Rattle.sieve_syntax.specs.view.Tree.{octets_of, text_of};
 ghost use Rattle.sieve_syntax.specs.view.TreeOf as by;
-ghost use Rattle.sieve_variables.specs.view.Part.{part_of};
 
 use sieve_base::SmallOctets;
 use sieve_variables::{Part, Parts};
-use std::alloc::Global;
+use std::alloc::{AllocError, Global};
 
 /// A whole script of a text: its commands in the order of the text.
 #[derive(Drop)]
@@ -71,38 +70,36 @@ pub struct Text {
 }
 
 /// The parts of a string that is one literal.
-fn one_literal(alloc: Global, octets: SmallOctets) -> Parts
-    ensures { IsLiteral result octets.items }
+fn one_literal(alloc: Global, octets: SmallOctets) -> Result<Parts, AllocError>
+    ensures { IfOk result (λ string. IsLiteral string octets.items) }
 {
-    Parts::from_buf(alloc, [Part::Literal(octets)])
+    Ok(Parts::one(Part::literal(alloc, octets)?))
 }
 
 impl Text {
     /// A string of a text's tree.
-    pub(crate) fn written(alloc: Global, octets: SmallOctets, line: u64) -> Text
-        ensures { (view : View) → SeesLiterals view → by.text_of view result ≡ record { string = octets.items; line = line } }
+    pub(crate) fn written(alloc: Global, octets: SmallOctets, line: u64) -> Result<Text, AllocError>
+        ensures { (view : View) → SeesLiterals view → IfOk result (λ text. by.text_of view text ≡ record { string = octets.items; line = line }) }
     {
-        Text {
-            string: one_literal(alloc, octets),
-            line,
-        }
+        let string = one_literal(alloc, octets)?;
+        Ok(Text { string, line })
     }
 
     /// The octets that a string of a text's tree stands for. Takes no memory.
     pub fn octets(&self) -> &[u8]
         ensures { result.now ≡ (text_of self.now).string }
     {
-        octets_in(&self.string)
+        octets_in(self.string.as_slice())
     }
 }
 
 /// The octets that parts stand for that are one literal, as those of each string of a text's tree; others stand for none here. Takes no
 /// memory.
 pub fn octets_in(parts: &[Part]) -> &[u8]
-    ensures { result.now ≡ literal_octets (map part_of parts.now) }
+    ensures { result.now ≡ octets_of parts.now }
 {
     match parts {
-        [Part::Literal(octets)] => octets.as_slice(),
+        [part] => part.plain_octets(),
         _ => &[],
     }
 }

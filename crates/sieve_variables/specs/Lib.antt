@@ -1,3 +1,4 @@
+pub mod Labelled
 pub mod Modifier
 pub mod Name
 pub mod Part

@@ -2,10 +2,10 @@
 ghost use Rattle.std.specs.Prelude.{◌≡◌, [], length, map, IfOk, IsOk, IsOkAnd, OnOk};
 ghost use Rattle.std.specs.Cow.{IsBorrowedSlice, cow_slice_items};
 ghost use Rattle.sieve_variables.specs.Value.{text_value};
-ghost use Rattle.sieve_variables.specs.view.Part.{part_of, strings_of};
 ghost use Rattle.sieve_base.specs.view.Texts.{octets_of_each};
 
-use crate::part::{Part, Parts};
+use crate::part::Part;
+use crate::parts::Parts;
 use crate::values::Values;
 use std::alloc::{AllocError, Global};
 use std::borrow::CowSlice;
@@ -13,7 +13,7 @@ use std::borrow::CowSlice;
 impl Values {
     /// How many octets the parts of a string stand for. More than a number holds are want of memory.
     fn joined_len(&self, parts: &[Part]) -> Result<usize, AllocError>
-        ensures { IfOk result (λ len. len ≡ length (text_value self.now (map part_of parts.now))) }
+        ensures { IfOk result (λ len. len ≡ length (text_value self.now parts.now)) }
     {
         let mut len: usize = 0;
         for part in parts {
@@ -28,7 +28,7 @@ impl Values {
     /// Puts the octets that the parts of a string stand for into a buffer, in place of what it holds. Room for all of them is asked for
     /// before the first.
     fn join(&self, parts: &[Part], buffer: &mut Vec<u8>) -> Result<(), AllocError>
-        ensures { OnOk result (buffer.new.items ≡ text_value self.now (map part_of parts.now)) }
+        ensures { OnOk result (buffer.new.items ≡ text_value self.now parts.now) }
     {
         let len = self.joined_len(parts)?;
         buffer.clear();
@@ -45,7 +45,7 @@ impl Values {
         alloc: Global,
         parts: &'a [Part],
     ) -> Result<CowSlice<'a, u8>, AllocError>
-        ensures octets { IfOk result (λ octets. cow_slice_items octets ≡ text_value self.now (map part_of parts.now)) }
+        ensures octets { IfOk result (λ octets. cow_slice_items octets ≡ text_value self.now parts.now) }
         ensures one_part { length parts.now ≡ 1 → IsOkAnd result IsBorrowedSlice }
         ensures no_part { parts.now ≡ [] → IsOk result }
     {
@@ -67,7 +67,7 @@ impl Values {
         parts: &'a [Part],
         buffer: &'a mut Vec<u8>,
     ) -> Result<&'a [u8], AllocError>
-        ensures octets { IfOk result (λ octets. octets.now ≡ text_value self.now (map part_of parts.now)) }
+        ensures octets { IfOk result (λ octets. octets.now ≡ text_value self.now parts.now) }
         ensures one_part { length parts.now ≡ 1 → IsOk result }
         ensures no_part { parts.now ≡ [] → IsOk result }
     {
@@ -86,11 +86,11 @@ impl Values {
         alloc: Global,
         strings: &'a [Parts],
     ) -> Result<Vec<CowSlice<'a, u8>>, AllocError>
-        ensures { IfOk result (λ values. octets_of_each values.items ≡ map (text_value self.now) (strings_of strings.now)) }
+        ensures { IfOk result (λ values. octets_of_each values.items ≡ map (text_value self.now) strings.now) }
     {
         let mut values = Vec::new(alloc);
         for parts in strings {
-            values.push(self.expanded_string(alloc, parts)?)?;
+            values.push(self.expanded_string(alloc, parts.as_slice())?)?;
         }
         Ok(values)
     }

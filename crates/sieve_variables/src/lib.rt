@@ -3,10 +3,13 @@
 #![tactic(auto)]
 
 mod expansion;
+mod few;
+mod labelled;
 pub mod laws;
 mod modifier;
 mod name;
 mod part;
+mod parts;
 mod references;
 mod values;
 mod variable;
@@ -14,7 +17,8 @@ mod variables;
 
 pub use modifier::{LetterCase, Modifiers};
 pub use name::{folded, is_global_name, is_identifier};
-pub use part::{Part, Parts, Strings, scoped_parts};
+pub use part::{Part, PartRef};
+pub use parts::{Parts, Strings, scoped_parts};
 pub use references::{References, parts_of_text, references_in};
 pub use values::{Own, Values};
-pub use variable::{Names, Variable};
+pub use variable::{Names, Variable, VariableRef};

@@ -1,68 +1,156 @@
-//! Strings as their parts (RFC 5229, section 3).
+//! The parts of strings (RFC 5229, section 3).
+ghost use Rattle.std.specs.Prelude.{◌≡◌, [], IfOk};
+ghost use Rattle.sieve_variables.specs.Part.{literal, match_part, scoped_part, variable_part};
+ghost use Rattle.sieve_variables.specs.view.Part.{part_ref_as, plain_octets, variable_in};
 
-ghost use Rattle.std.specs.Prelude.{◌≡◌, map, IfOk};
-ghost use Rattle.sieve_variables.specs.Part.{scoped_part};
-ghost use Rattle.sieve_variables.specs.view.Part.{part_of};
-
-use crate::variable::{Names, Variable};
+use crate::labelled::Labelled;
+use crate::variable::{Names, Scope, Variable, VariableRef};
 use sieve_base::SmallOctets;
-use smallvec::SmallVec;
 use std::alloc::{AllocError, Global};
-use std::default::MadeWith;
+use std::marker::Model;
+use std::mem::size_of;
+
+/// What a part is.
+#[derive(Clone, Copy)]
+pub(crate) enum PartKind {
+    /// Octets that stand for themselves.
+    Literal,
+    /// The value of a variable of the script, by its name.
+    Local,
+    /// The value of a variable that scripts share, by its name.
+    Global,
+    /// What a match gave, by its number.
+    Match(u8),
+}
 
 /// A part of a string.
 #[derive(Drop)]
-pub enum Part {
+pub struct Part {
+    octets: Labelled<PartKind>,
+}
+
+/// A part takes two words. A script can have one for each four octets of its text.
+const _: () = prove!(size_of::<Part>() == 16);
+
+/// A part of a string that is looked at.
+#[derive(Clone, Copy)]
+pub enum PartRef<'a> {
     /// Octets that stand for themselves.
-    Literal(SmallOctets),
+    Literal(&'a [u8]),
     /// The value of a variable (RFC 5229, section 3).
-    Variable(Variable),
+    Variable(VariableRef<'a>),
     /// What a match gave, by its number: 0 for the whole value, from 1 on for what each wildcard took (RFC 5229, section
     /// 3.2). A checked script has none past 99.
     Match(u8),
 }
 
-/// A part of no octets, which a [`Parts`] holds where it has room for a part.
-impl MadeWith<Global> for Part {
-    ghost use Rattle.std.specs.Prelude.{◌≡◌, []};
-    ghost use Rattle.sieve_variables.specs.Part.{literal};
+impl Model for Part {
+    ghost use Rattle.sieve_variables.specs.Part.{Part};
     ghost use Rattle.sieve_variables.specs.view.Part.{part_of};
 
-    ghost is_made_with = { λ part. part_of part ≡ literal [] };
+    ghost Value = { Part };
 
-    fn made_with(alloc: Global) -> Part {
-        Part::Literal(SmallOctets::new(alloc))
-    }
+    ghost view = { λ p. part_of p.octets.label p.octets.octets };
 }
-
-/// The parts of a string. One, as nearly all strings have, lies in the value itself.
-pub type Parts = SmallVec<Part, 1>;
-
-/// Strings, each as its parts. One, as most lists have, lies in the value itself.
-pub type Strings = SmallVec<Parts, 1>;
 
 impl Part {
-    /// The part where these names are declared to be those of variables that scripts share (RFC 6609, section 3.4.1). Takes no
-    /// memory.
-    fn scoped(self, declared: &Names) -> Part
-        ensures { part_of result ≡ scoped_part declared.now (part_of self) }
+    /// Octets that stand for themselves. More than twelve take memory.
+    pub fn literal(alloc: Global, octets: SmallOctets) -> Result<Part, AllocError>
+        ensures { IfOk result (λ part. part ≡ literal octets.items) }
     {
-        match self {
-            Part::Literal(octets) => Part::Literal(octets),
-            Part::Variable(variable) => Part::Variable(variable.scoped(declared)),
-            Part::Match(index) => Part::Match(index),
+        Ok(Part {
+            octets: Labelled::kept(alloc, PartKind::Literal, octets)?,
+        })
+    }
+
+    /// No octets. Takes no memory.
+    pub fn nothing() -> Part
+        ensures { result ≡ literal [] }
+    {
+        Part {
+            octets: Labelled::none(PartKind::Literal),
         }
     }
-}
 
-/// The parts of a string where these names, in lower case, are declared to be those of variables that scripts share (RFC 6609,
-/// section 3.4.1).
-pub fn scoped_parts(alloc: Global, parts: Parts, declared: &Names) -> Result<Parts, AllocError>
-    ensures { IfOk result (λ scoped. map part_of scoped.items ≡ map (scoped_part declared.now) (map part_of parts.items)) }
-{
-    let mut scoped = Parts::with_capacity(alloc, parts.len())?;
-    for part in parts {
-        scoped.push(part.scoped(declared))?;
+    /// The value of a variable. Takes no memory.
+    pub fn variable(variable: Variable) -> Part
+        ensures { result ≡ variable_part variable }
+    {
+        let kind = match variable.name.label() {
+            Scope::Local => PartKind::Local,
+            Scope::Global => PartKind::Global,
+        };
+        Part {
+            octets: variable.name.with_label(kind),
+        }
     }
-    Ok(scoped)
+
+    /// What a match gave at a number. Takes no memory.
+    pub fn matched(index: u8) -> Part
+        ensures { result ≡ match_part index }
+    {
+        Part {
+            octets: Labelled::none(PartKind::Match(index)),
+        }
+    }
+
+    /// The part, to be looked at. Takes no memory.
+    pub fn as_ref(&self) -> PartRef<'_>
+        ensures { part_ref_as result ≡ self.now }
+    {
+        let octets = self.octets.octets();
+        match self.octets.label() {
+            PartKind::Literal => PartRef::Literal(octets),
+            PartKind::Local => PartRef::Variable(VariableRef::Local(octets)),
+            PartKind::Global => PartRef::Variable(VariableRef::Global(octets)),
+            PartKind::Match(index) => PartRef::Match(index),
+        }
+    }
+
+    /// The octets of a part that stands for itself; no others have any. Takes no memory.
+    pub fn plain_octets(&self) -> &[u8]
+        ensures { result.now ≡ plain_octets self.now }
+    {
+        match self.as_ref() {
+            PartRef::Literal(octets) => octets,
+            PartRef::Variable(_) => &[],
+            PartRef::Match(_) => &[],
+        }
+    }
+
+    /// The variable whose value the part is. Takes no memory.
+    pub fn into_variable(self) -> Option<Variable>
+        ensures { result ≡ variable_in self }
+    {
+        let scope = match self.octets.label() {
+            PartKind::Local => Scope::Local,
+            PartKind::Global => Scope::Global,
+            PartKind::Literal => return None,
+            PartKind::Match(_) => return None,
+        };
+        Some(Variable {
+            name: self.octets.with_label(scope),
+        })
+    }
+
+    /// The part where these names are declared to be those of variables that scripts share (RFC 6609, section 3.4.1). Takes no
+    /// memory.
+    pub(crate) fn scoped(self, declared: &Names) -> Part
+        ensures { result ≡ scoped_part declared.now self }
+    {
+        match self.octets.label() {
+            PartKind::Local => {
+                if declared.has(self.octets.octets()) {
+                    Part {
+                        octets: self.octets.with_label(PartKind::Global),
+                    }
+                } else {
+                    self
+                }
+            }
+            PartKind::Global => self,
+            PartKind::Literal => self,
+            PartKind::Match(_) => self,
+        }
+    }
 }

@@ -5,10 +5,11 @@ ghost use Rattle.std.specs.Option.{option_map};
 ghost use Rattle.sieve_variables.specs.Part.{part_of_words};
 ghost use Rattle.sieve_variables.specs.Reference.{is_legal, is_name, reference};
 ghost use Rattle.sieve_variables.specs.Scan as spec;
-ghost use Rattle.sieve_variables.specs.view.Part.{added, literal_part, part_of};
+ghost use Rattle.sieve_variables.specs.view.Part.{added, literal_part};
 
 use crate::name::{folded, index_of, is_identifier, is_name, is_number, is_shared};
-use crate::part::{Part, Parts};
+use crate::part::Part;
+use crate::parts::Parts;
 use crate::variable::Variable;
 use sieve_base::SmallOctets;
 use sieve_base::limits::MAX_MATCH;
@@ -33,9 +34,9 @@ const SIGN_COUNT: usize = 3;
 
 /// The parts of a text.
 pub fn parts_of_text(alloc: Global, text: &[u8]) -> Result<Parts, AllocError>
-    ensures { IfOk result (λ parts. map part_of parts.items ≡ spec.parts_of_text text.now) }
+    ensures { IfOk result (λ parts. parts ≡ spec.parts_of_text text.now) }
 {
-    let mut parts = Parts::new(alloc);
+    let mut parts = Parts::none();
     // What isn't yet in the parts, and how many of its octets are known to stand for themselves.
     let mut left = text;
     let mut plain = 0;
@@ -208,33 +209,34 @@ fn is_far(inside: &[u8]) -> bool
 
 // Adds the octets as a literal, if there are any.
 fn push_literal(alloc: Global, parts: &mut Parts, octets: &[u8]) -> Result<(), AllocError>
-    ensures { OnOk result (map part_of parts.new.items ≡ map part_of parts.old.items ++ literal_part octets.now) }
+    ensures { OnOk result (parts.new ≡ parts.old ++ literal_part octets.now) }
 {
     if !octets.is_empty() {
-        parts.push(Part::Literal(SmallOctets::from_slice(alloc, octets)?))?;
+        let octets = SmallOctets::from_slice(alloc, octets)?;
+        parts.push(alloc, Part::literal(alloc, octets)?)?;
     }
     Ok(())
 }
 
 // What a word refers to that is a reference alone.
 fn part_of_word(alloc: Global, word: &[u8]) -> Result<Part, AllocError>
-    ensures { IfOk result (λ part. part_of part ≡ part_of_words (word.now ∷ [])) }
+    ensures { IfOk result (λ part. part ≡ part_of_words (word.now ∷ [])) }
 {
     if is_identifier(word) {
-        Ok(Part::Variable(Variable::Local(folded(alloc, word)?)))
+        Ok(Part::variable(Variable::local(alloc, word)?))
     } else {
-        Ok(Part::Match(index_of(word)))
+        Ok(Part::matched(index_of(word)))
     }
 }
 
 // What a reference refers to that isn't in another namespace than that of the variables that scripts share.
 fn part_inside(alloc: Global, inside: &[u8]) -> Result<Part, AllocError>
     requires { spec.is_foreign (reference (spec.words_of inside.now)) ≡ false }
-    ensures { IfOk result (λ part. part_of part ≡ part_of_words (spec.words_of inside.now)) }
+    ensures { IfOk result (λ part. part ≡ part_of_words (spec.words_of inside.now)) }
 {
     match cut(inside) {
         None => part_of_word(alloc, inside),
-        Some((_, name)) => Ok(Part::Variable(Variable::Global(folded(alloc, name)?))),
+        Some((_, name)) => Ok(Part::variable(Variable::shared(alloc, name)?)),
     }
 }
 
@@ -246,12 +248,12 @@ fn push_reference(
     octets: &[u8],
     written: &[u8],
 ) -> Result<(), AllocError>
-    ensures { OnOk result (map part_of parts.new.items ≡ map part_of parts.old.items ++ added inside.now octets.now written.now) }
+    ensures { OnOk result (parts.new ≡ parts.old ++ added inside.now octets.now written.now) }
 {
     if is_foreign(inside) {
         return push_literal(alloc, parts, written);
     }
     push_literal(alloc, parts, octets)?;
-    parts.push(part_inside(alloc, inside)?)?;
+    parts.push(alloc, part_inside(alloc, inside)?)?;
     Ok(())
 }

@@ -1,10 +1,10 @@
 //! What variables hold while a script runs (RFC 5229, section 3).
 ghost use Rattle.std.specs.Prelude.{◌≡◌, IsOk, OnErr, OnOk, slice_get, true};
 ghost use Rattle.sieve_variables.specs.Value as spec;
-ghost use Rattle.sieve_variables.specs.view.Part.{part_of, variable_of};
+ghost use Rattle.sieve_variables.specs.view.Variable.{variable_ref_as};
 
-use crate::part::Part;
-use crate::variable::Variable;
+use crate::part::{Part, PartRef};
+use crate::variable::{Variable, VariableRef};
 use crate::variables::Variables;
 use sieve_base::Octets;
 use std::alloc::{AllocError, Global};
@@ -78,11 +78,11 @@ impl Values {
     /// Whether a variable can be set: one that scripts share where it is set already, or fewer than 128 are (RFC 5229, section
     /// 6); one of the script always, since these were counted before it runs. Takes no memory.
     pub fn has_room_for(&self, variable: &Variable) -> bool
-        ensures { result ≡ spec.has_room_for (variable_of variable.now) self.now }
+        ensures { result ≡ spec.has_room_for variable.now self.now }
     {
-        match variable {
-            Variable::Local(_) => true,
-            Variable::Global(name) => self.globals.has_room(name.as_slice()),
+        match variable.as_ref() {
+            VariableRef::Local(_) => true,
+            VariableRef::Global(name) => self.globals.has_room(name),
         }
     }
 
@@ -94,13 +94,13 @@ impl Values {
         variable: &Variable,
         value: Octets,
     ) -> Result<(), AllocError>
-        ensures ok { OnOk result (self.new ≡ spec.with_variable (variable_of variable.now) value self.old) }
+        ensures ok { OnOk result (self.new ≡ spec.with_variable variable.now value self.old) }
         ensures err { OnErr result (self.new ≡ self.old) }
-        ensures held { spec.is_set (variable_of variable.now) self.old ≡ true → IsOk result }
+        ensures held { spec.is_set variable.now self.old ≡ true → IsOk result }
     {
-        match variable {
-            Variable::Local(name) => self.locals.set(alloc, name.as_slice(), value),
-            Variable::Global(name) => self.globals.set(alloc, name.as_slice(), value),
+        match variable.as_ref() {
+            VariableRef::Local(name) => self.locals.set(alloc, name, value),
+            VariableRef::Global(name) => self.globals.set(alloc, name, value),
         }
     }
 
@@ -113,11 +113,18 @@ impl Values {
 
     /// What a variable holds: nothing where it isn't set. Takes no memory.
     pub fn variable(&self, variable: &Variable) -> &[u8]
-        ensures { result.now ≡ spec.variable_value self.now (variable_of variable.now) }
+        ensures { result.now ≡ spec.variable_value self.now variable.now }
+    {
+        self.held(variable.as_ref())
+    }
+
+    /// What a variable that is looked at holds.
+    fn held(&self, variable: VariableRef<'_>) -> &[u8]
+        ensures { result.now ≡ spec.variable_value self.now (variable_ref_as variable.entry) }
     {
         match variable {
-            Variable::Local(name) => self.locals.get(name.as_slice()),
-            Variable::Global(name) => self.globals.get(name.as_slice()),
+            VariableRef::Local(name) => self.locals.get(name),
+            VariableRef::Global(name) => self.globals.get(name),
         }
     }
 
@@ -133,12 +140,12 @@ impl Values {
 
     /// The octets that a part stands for. Takes no memory.
     pub fn part<'a>(&'a self, part: &'a Part) -> &'a [u8]
-        ensures { result.now ≡ spec.part_value self.now (part_of part.now) }
+        ensures { result.now ≡ spec.part_value self.now part.now }
     {
-        match part {
-            Part::Literal(octets) => octets.as_slice(),
-            Part::Variable(variable) => self.variable(variable),
-            Part::Match(index) => self.matched_text(usize::from(*index)),
+        match part.as_ref() {
+            PartRef::Literal(octets) => octets,
+            PartRef::Variable(variable) => self.held(variable),
+            PartRef::Match(index) => self.matched_text(usize::from(index)),
         }
     }
 }

@@ -1,50 +1,105 @@
 //! Variables by their names (RFC 5229, section 3; RFC 6609, section 3.4).
 ghost use Rattle.sieve_base.specs.Octet.{is_among};
 ghost use Rattle.std.specs.Prelude.{◌≡◌, [], IfOk, IsOk, OnErr, OnOk, true};
-ghost use Rattle.sieve_variables.specs.Variable.{scoped, variable_named, with_name, with_names};
-ghost use Rattle.sieve_variables.specs.view.Part.{variable_of};
+ghost use Rattle.sieve_variables.specs.Name.{folded_name};
+ghost use Rattle.sieve_variables.specs.Variable.{global_variable, local_variable, scoped, variable_named, with_name, with_names};
+ghost use Rattle.sieve_variables.specs.view.Variable.{variable_ref_as};
 
+use crate::labelled::Labelled;
 use crate::name::{folded, global_name};
 use indexmap::IndexSet;
-use sieve_base::SmallOctets;
 use std::alloc::{AllocError, Global};
 use std::marker::Model;
+use std::mem::size_of;
+
+/// Whose a variable is.
+#[derive(Clone, Copy)]
+pub(crate) enum Scope {
+    /// The script's (RFC 5229, section 3).
+    Local,
+    /// That of all scripts (RFC 6609, section 3.4).
+    Global,
+}
 
 /// A variable, by its name in lower case.
 #[derive(Drop)]
-pub enum Variable {
+pub struct Variable {
+    pub(crate) name: Labelled<Scope>,
+}
+
+/// A variable takes two words.
+const _: () = prove!(size_of::<Variable>() == 16);
+
+/// A variable that is looked at, by its name in lower case.
+#[derive(Clone, Copy)]
+pub enum VariableRef<'a> {
     /// A variable of the script (RFC 5229, section 3).
-    Local(SmallOctets),
+    Local(&'a [u8]),
     /// A variable that scripts share (RFC 6609, section 3.4).
-    Global(SmallOctets),
+    Global(&'a [u8]),
+}
+
+impl Model for Variable {
+    ghost use Rattle.sieve_variables.specs.Variable.{Variable};
+    ghost use Rattle.sieve_variables.specs.view.Variable.{variable_of};
+
+    ghost Value = { Variable };
+
+    ghost view = { λ v. variable_of v.name.label v.name.octets };
 }
 
 impl Variable {
+    /// The variable of the script that has this name, in any case.
+    pub(crate) fn local(alloc: Global, name: &[u8]) -> Result<Variable, AllocError>
+        ensures { IfOk result (λ variable. variable ≡ local_variable (folded_name name.now)) }
+    {
+        Ok(Variable {
+            name: Labelled::kept(alloc, Scope::Local, folded(alloc, name)?)?,
+        })
+    }
+
+    /// The variable that scripts share that has this name, in any case.
+    pub(crate) fn shared(alloc: Global, name: &[u8]) -> Result<Variable, AllocError>
+        ensures { IfOk result (λ variable. variable ≡ global_variable (folded_name name.now)) }
+    {
+        Ok(Variable {
+            name: Labelled::kept(alloc, Scope::Global, folded(alloc, name)?)?,
+        })
+    }
+
     /// The variable of a name that a command or a test has: behind `global.`, in any case, it is one that scripts share (RFC
     /// 6609, section 3.4.2).
     pub fn named(alloc: Global, name: &[u8]) -> Result<Variable, AllocError>
-        ensures { IfOk result (λ variable. variable_of variable ≡ variable_named name.now) }
+        ensures { IfOk result (λ variable. variable ≡ variable_named name.now) }
     {
         match global_name(name) {
-            Some(rest) => Ok(Variable::Global(folded(alloc, rest)?)),
-            None => Ok(Variable::Local(folded(alloc, name)?)),
+            Some(rest) => Variable::shared(alloc, rest),
+            None => Variable::local(alloc, name),
+        }
+    }
+
+    /// The variable, to be looked at. Takes no memory.
+    pub fn as_ref(&self) -> VariableRef<'_>
+        ensures { variable_ref_as result ≡ self.now }
+    {
+        let name = self.name.octets();
+        match self.name.label() {
+            Scope::Local => VariableRef::Local(name),
+            Scope::Global => VariableRef::Global(name),
         }
     }
 
     /// The variable where these names are declared to be those of variables that scripts share (RFC 6609, section 3.4.1).
     /// Takes no memory.
     pub fn scoped(self, declared: &Names) -> Variable
-        ensures { variable_of result ≡ scoped declared.now (variable_of self) }
+        ensures { result ≡ scoped declared.now self }
     {
-        match self {
-            Variable::Local(name) => {
-                if declared.has(name.as_slice()) {
-                    Variable::Global(name)
-                } else {
-                    Variable::Local(name)
-                }
+        if declared.has(self.name.octets()) {
+            Variable {
+                name: self.name.with_label(Scope::Global),
             }
-            Variable::Global(name) => Variable::Global(name),
+        } else {
+            self
         }
     }
 }

@@ -2,9 +2,9 @@
 use Rattle.std.specs.Prelude.{List, Option, Some, None, map}
 use Rattle.std.specs.Option.{option_map}
 use Rattle.sieve_reading.specs.Reading as reading
-use Rattle.sieve_reading.specs.view.Tree.{parts_of, text_of}
+use Rattle.sieve_reading.specs.view.Tree.{text_of}
 use Rattle.sieve_variables.specs.Part.{Part}
-use Rattle.sieve_variables.specs.view.Part.{variable_of}
+use Rattle.sieve_variables.specs.view.Part.{plain_octets}
 use Rattle.sieve_reading.specs.declared.reading.Ask.{Ask}
 use Rattle.sieve_reading.specs.declared.reading.Ask.TheVariants.{Compares, Exists, Over, Under}
 use Rattle.sieve_reading.specs.declared.reading.CommandReading.{CommandReading}
@@ -53,12 +53,12 @@ settings_as s = record { flags = option_map (λ texts. texts_as texts.items) s.f
 
 abbrev pub leaf_as : Leaf → reading.Leaf
 leaf_as (Keep settings) = reading.keep_leaf (settings_as settings)
-leaf_as (Fileinto mailbox settings) = reading.fileinto_leaf (parts_of mailbox) (settings_as settings)
-leaf_as (Redirect address settings) = reading.redirect_leaf (parts_of address) (settings_as settings)
+leaf_as (Fileinto mailbox settings) = reading.fileinto_leaf mailbox (settings_as settings)
+leaf_as (Redirect address settings) = reading.redirect_leaf address (settings_as settings)
 leaf_as Discard = reading.discard_leaf
-leaf_as (Set variable modifiers value) = reading.set_leaf (variable_of variable) modifiers (parts_of value)
-leaf_as (Flags change variable flags) = reading.flag_leaf change (option_map variable_of variable) (texts_as flags.items)
-leaf_as (Include place once optional name) = reading.include_leaf place once optional name.items
+leaf_as (Set variable modifiers value) = reading.set_leaf variable modifiers value
+leaf_as (Flags change variable flags) = reading.flag_leaf change variable (texts_as flags.items)
+leaf_as (Include place once optional name) = reading.include_leaf place once optional (plain_octets name)
 
 abbrev pub command_reading_as : CommandReading → reading.CommandReading
 command_reading_as If = reading.reads_if

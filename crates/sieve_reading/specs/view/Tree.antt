@@ -1,8 +1,7 @@
 -- The program's tree of a checked script.
-use Rattle.std.specs.Prelude.{List, Option, map}
+use Rattle.std.specs.Prelude.{Option}
 use Rattle.std.specs.declared.alloc.Global.{Global}
 use Rattle.std.specs.declared.vec.Vec.{Vec}
-use Rattle.smallvec.specs.SmallVec.{SmallVec}
 use Rattle.sieve_reading.specs.Tree.{Text, Argument, Test, Tests, Node, Block}
 use Rattle.sieve_syntax.specs.declared.tree.Argument as arguments
 use Rattle.sieve_syntax.specs.declared.tree.Command as commands
@@ -10,27 +9,21 @@ use Rattle.sieve_syntax.specs.declared.tree.Test as one_tests
 use Rattle.sieve_syntax.specs.declared.tree.Tests as some_tests
 use Rattle.sieve_syntax.specs.declared.tree.Text as texts
 use Rattle.sieve_syntax.specs.view.TreeOf as by
-use Rattle.sieve_variables.specs.Part.{Part}
-use Rattle.sieve_variables.specs.declared.part.Part as parts
-use Rattle.sieve_variables.specs.view.Part.{part_of}
-
-abbrev pub parts_of : SmallVec parts.Part → List Part
-parts_of parts = map part_of parts.items
 
 abbrev pub text_of : texts.Text → Text
-text_of = by.text_of parts_of
+text_of = by.text_of by.parts_of
 
 abbrev pub argument_of : arguments.Argument → Argument
-argument_of = by.argument_of parts_of
+argument_of = by.argument_of by.parts_of
 
 abbrev pub tests_of : some_tests.Tests → Tests
-tests_of = by.tests_of parts_of
+tests_of = by.tests_of by.parts_of
 
 abbrev pub test_of : one_tests.Test → Test
-test_of = by.test_of parts_of
+test_of = by.test_of by.parts_of
 
 abbrev pub node_of : commands.Command → Node
-node_of = by.node_of parts_of
+node_of = by.node_of by.parts_of
 
 abbrev pub block_of : Option (Vec commands.Command Global) → Block
-block_of = by.block_of parts_of
+block_of = by.block_of by.parts_of

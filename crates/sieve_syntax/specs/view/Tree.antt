@@ -1,8 +1,7 @@
 -- The program's tree of a text.
-use Rattle.std.specs.Prelude.{ℕ, List, [], ◌∷◌, Option, map}
+use Rattle.std.specs.Prelude.{ℕ, List, [], ◌∷◌, Option}
 use Rattle.std.specs.declared.alloc.Global.{Global}
 use Rattle.std.specs.declared.vec.Vec.{Vec}
-use Rattle.smallvec.specs.SmallVec.{SmallVec}
 use Rattle.sieve_syntax.specs.Tree.{Text, Argument, Test, Tests, Node, Block}
 use Rattle.sieve_syntax.specs.declared.tree.Argument as arguments
 use Rattle.sieve_syntax.specs.declared.tree.Command as commands
@@ -12,19 +11,14 @@ use Rattle.sieve_syntax.specs.declared.tree.Tests as some_tests
 use Rattle.sieve_syntax.specs.declared.tree.Text as texts
 use Rattle.sieve_syntax.specs.view.TreeOf as by
 use Rattle.sieve_variables.specs.Part.{Part, literal, variable_part, match_part}
-use Rattle.sieve_variables.specs.declared.part.Part as parts
-use Rattle.sieve_variables.specs.view.Part.{part_of}
 
 -- the octets of a string that is one literal, as each string of a text's tree is
-abbrev pub literal_octets : List Part → List ℕ
-literal_octets [] = []
-literal_octets (literal octets ∷ []) = octets
-literal_octets (literal octets ∷ part ∷ parts) = []
-literal_octets (variable_part variable ∷ parts) = []
-literal_octets (match_part index ∷ parts) = []
-
-abbrev pub octets_of : SmallVec parts.Part → List ℕ
-octets_of parts = literal_octets (map part_of parts.items)
+abbrev pub octets_of : List Part → List ℕ
+octets_of [] = []
+octets_of (literal octets ∷ []) = octets
+octets_of (literal octets ∷ part ∷ parts) = []
+octets_of (variable_part variable ∷ parts) = []
+octets_of (match_part index ∷ parts) = []
 
 abbrev pub text_of : texts.Text → Text
 text_of = by.text_of octets_of

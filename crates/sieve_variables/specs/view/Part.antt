@@ -1,23 +1,38 @@
 -- The program's parts.
-use Rattle.std.specs.Prelude.{ℕ, List, [], ◌∷◌, ◌++◌, map, if◌then◌else◌}
-use Rattle.smallvec.specs.SmallVec.{SmallVec}
-use Rattle.sieve_variables.specs.Part.{Part, literal, variable_part, match_part, part_of_words}
+use Rattle.std.specs.Prelude.{ℕ, List, [], ◌∷◌, ◌++◌, if◌then◌else◌, Option, Some, None}
+use Rattle.sieve_variables.specs.Part.{Part, literal, local_part, global_part, variable_part, match_part, part_of_words}
 use Rattle.sieve_variables.specs.Reference.{reference}
 use Rattle.sieve_variables.specs.Scan.{is_foreign, words_of}
-use Rattle.sieve_variables.specs.Variable.{Variable, local_variable, global_variable}
-use Rattle.sieve_variables.specs.declared.part.Part as parts
-use Rattle.sieve_variables.specs.declared.part.Part.TheVariants as variants
-use Rattle.sieve_variables.specs.declared.variable.Variable as variables
-use Rattle.sieve_variables.specs.declared.variable.Variable.TheVariants as scopes
+use Rattle.sieve_variables.specs.Variable.{Variable}
+use Rattle.sieve_variables.specs.declared.part.PartKind as kinds
+use Rattle.sieve_variables.specs.declared.part.PartKind.TheVariants as kind
+use Rattle.sieve_variables.specs.declared.part.PartRef as part_refs
+use Rattle.sieve_variables.specs.declared.part.PartRef.TheVariants as part_ref
+use Rattle.sieve_variables.specs.view.Variable.{variable_ref_as}
 
-abbrev pub variable_of : variables.Variable → Variable
-variable_of (scopes.Local name) = local_variable name.items
-variable_of (scopes.Global name) = global_variable name.items
+-- the part of a kind and octets, of which a match variable has none
+abbrev pub part_of : kinds.PartKind → List ℕ → Part
+part_of kind.Literal octets = literal octets
+part_of kind.Local name = local_part name
+part_of kind.Global name = global_part name
+part_of (kind.Match index) octets = match_part index
 
-abbrev pub part_of : parts.Part → Part
-part_of (variants.Literal octets) = literal octets.items
-part_of (variants.Variable variable) = variable_part (variable_of variable)
-part_of (variants.Match index) = match_part index
+abbrev pub part_ref_as : part_refs.PartRef → Part
+part_ref_as (part_ref.Literal octets) = literal octets.now
+part_ref_as (part_ref.Variable variable) = variable_part (variable_ref_as variable)
+part_ref_as (part_ref.Match index) = match_part index
+
+-- the octets of a part that stands for itself
+abbrev pub plain_octets : Part → List ℕ
+plain_octets (literal octets) = octets
+plain_octets (variable_part variable) = []
+plain_octets (match_part index) = []
+
+-- the variable whose value a part is
+abbrev pub variable_in : Part → Option Variable
+variable_in (literal octets) = None
+variable_in (variable_part variable) = Some variable
+variable_in (match_part index) = None
 
 -- octets as a literal, if there are any
 abbrev pub literal_part : List ℕ → List Part
@@ -29,7 +44,3 @@ literal_part (c ∷ octets) = literal (c ∷ octets) ∷ []
 abbrev pub added : (inside octets written : List ℕ) → List Part
 added inside octets written =
     if is_foreign (reference (words_of inside)) then literal_part written else literal_part octets ++ part_of_words (words_of inside) ∷ []
-
--- strings, each as its parts
-abbrev pub strings_of : List (SmallVec parts.Part) → List (List Part)
-strings_of strings = map (λ string. map part_of string.items) strings

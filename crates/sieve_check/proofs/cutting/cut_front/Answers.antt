@@ -2,7 +2,6 @@ use Rattle.std.proofs.Common.{◌≡◌, map, OnOk, ap, ◌∙◌, subst}
 use Rattle.sieve_syntax.specs.view.Tree as seen
 use Rattle.sieve_check.specs.Parted.{command_labels}
 use Rattle.sieve_check.specs.Scope.{declaring_arguments}
-use Rattle.sieve_table.specs.Table.{command_named}
 use Rattle.sieve_variables.specs.Variable.{with_names}
 use Rattle.sieve_check.proofs.Declares.{declared_apart}
 use Rattle.sieve_check.proofs.cutting.cut_front.Goals as goal

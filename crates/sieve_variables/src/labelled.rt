@@ -1,0 +1,98 @@
+//! Octets with a label, in two words.
+ghost use Rattle.std.specs.Prelude.{◌≡◌, [], IfOk};
+
+use crate::few::{FEW, Few};
+use sieve_base::SmallOctets;
+use std::alloc::{AllocError, Global};
+use std::marker::Model;
+
+/// Where octets lie that have a label.
+#[derive(Drop)]
+enum Word<L> {
+    /// In the value itself.
+    Few { label: L, octets: Few },
+    /// Behind a pointer.
+    Many { label: L, octets: Box<SmallOctets> },
+}
+
+/// Octets with a label. Few of them, as most names and strings have, take no memory of their own. Contracts see both.
+#[derive(Drop)]
+pub(crate) struct Labelled<L> {
+    word: Word<L>,
+}
+
+impl<L> Model for Labelled<L> {
+    ghost use Rattle.sieve_variables.specs.Labelled.{Labelled};
+    ghost use Rattle.sieve_variables.specs.view.Labelled.{labelled_of};
+
+    ghost Value = { Labelled L };
+
+    ghost view = { λ l. labelled_of l.word };
+}
+
+impl<L: Copy> Labelled<L> {
+    /// No octets. Takes no memory.
+    pub(crate) fn none(label: L) -> Labelled<L>
+        ensures { result ≡ record { label = label; octets = [] } }
+    {
+        Labelled {
+            word: Word::Few {
+                label,
+                octets: Few::new(),
+            },
+        }
+    }
+
+    /// Octets with a label. More than twelve take memory.
+    pub(crate) fn kept(
+        alloc: Global,
+        label: L,
+        octets: SmallOctets,
+    ) -> Result<Labelled<L>, AllocError>
+        ensures { IfOk result (λ labelled. labelled ≡ record { label = label; octets = octets.items }) }
+    {
+        let word = if octets.len() <= FEW {
+            Word::Few {
+                label,
+                octets: Few::copied(&octets),
+            }
+        } else {
+            Word::Many {
+                label,
+                octets: Box::new(alloc, octets)?,
+            }
+        };
+        Ok(Labelled { word })
+    }
+
+    /// The octets. Takes no memory.
+    pub(crate) fn octets(&self) -> &[u8]
+        ensures { result.now ≡ self.now.octets }
+    {
+        match &self.word {
+            Word::Few { octets, .. } => octets.as_slice(),
+            Word::Many { octets, .. } => octets.as_slice(),
+        }
+    }
+
+    /// The octets with another label. Takes no memory.
+    pub(crate) fn with_label<M>(self, label: M) -> Labelled<M>
+        ensures { result ≡ record { label = label; octets = self.octets } }
+    {
+        let word = match self.word {
+            Word::Few { octets, .. } => Word::Few { label, octets },
+            Word::Many { octets, .. } => Word::Many { label, octets },
+        };
+        Labelled { word }
+    }
+
+    /// The label.
+    pub(crate) fn label(&self) -> L
+        ensures { result ≡ self.now.label }
+    {
+        match &self.word {
+            Word::Few { label, .. } => *label,
+            Word::Many { label, .. } => *label,
+        }
+    }
+}

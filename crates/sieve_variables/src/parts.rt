@@ -1,0 +1,166 @@
+//! Strings as their parts in order (RFC 5229, section 3).
+ghost use Rattle.std.specs.Prelude.{◌≡◌, ◌∷◌, ◌++◌, [], map, IfOk, OnOk};
+ghost use Rattle.sieve_variables.specs.Part.{scoped_part};
+ghost use Rattle.sieve_variables.specs.view.Parts.{one_part, parts_of};
+
+use crate::part::Part;
+use crate::variable::Names;
+use smallvec::SmallVec;
+use std::alloc::{AllocError, Global};
+use std::default::MadeWith;
+use std::marker::Model;
+use std::mem::size_of;
+use std::{mem, slice};
+
+/// Where parts lie.
+#[derive(Drop)]
+enum Run {
+    /// There are none.
+    None,
+    /// In the value itself.
+    One(Part),
+    /// Behind a pointer.
+    Several(Box<Vec<Part>>),
+}
+
+/// The parts of a string. One, as nearly all strings have, takes no memory of its own.
+#[derive(Drop)]
+pub struct Parts {
+    run: Run,
+}
+
+/// A string takes three words where it has one part or none.
+const _: () = prove!(size_of::<Parts>() == 24);
+
+/// Strings, each as its parts. One, as most lists have, lies in the value itself.
+pub type Strings = SmallVec<Parts, 1>;
+
+impl Model for Parts {
+    ghost use Rattle.std.specs.Prelude.{List};
+    ghost use Rattle.sieve_variables.specs.Part.{Part};
+    ghost use Rattle.sieve_variables.specs.view.Parts.{parts_of};
+
+    ghost Value = { List Part };
+
+    ghost view = { λ p. parts_of p.run };
+}
+
+/// No parts, which a list of strings holds where it has room for a string.
+impl MadeWith<Global> for Parts {
+    ghost use Rattle.std.specs.Prelude.{◌≡◌, []};
+
+    ghost is_made_with = { λ parts. parts ≡ [] };
+
+    fn made_with(_: Global) -> Parts {
+        Parts::none()
+    }
+}
+
+impl Parts {
+    /// No parts. Takes no memory.
+    pub fn none() -> Parts
+        ensures { result ≡ [] }
+    {
+        Parts { run: Run::None }
+    }
+
+    /// One part. Takes no memory.
+    pub fn one(part: Part) -> Parts
+        ensures { result ≡ part ∷ [] }
+    {
+        Parts {
+            run: Run::One(part),
+        }
+    }
+
+    /// The parts in order. Takes no memory.
+    pub fn as_slice(&self) -> &[Part]
+        ensures { result.now ≡ self.now }
+    {
+        match &self.run {
+            Run::None => &[],
+            Run::One(part) => slice::from_ref(part),
+            Run::Several(parts) => parts.as_slice(),
+        }
+    }
+
+    /// The part, where there is one alone. Takes no memory.
+    pub fn into_one(self) -> Option<Part>
+        ensures { result ≡ one_part self }
+    {
+        let run = self.run;
+        match run {
+            Run::None => None,
+            Run::One(part) => Some(part),
+            Run::Several(parts) => one_of(Box::into_inner(parts)),
+        }
+    }
+
+    /// Adds a part. More than one take memory.
+    pub(crate) fn push(&mut self, alloc: Global, part: Part) -> Result<(), AllocError>
+        ensures { OnOk result (self.new ≡ self.old ++ part ∷ []) }
+    {
+        let run = mem::replace(&mut self.run, Run::None);
+        self.run = longer(alloc, run, part)?;
+        Ok(())
+    }
+}
+
+/// Parts and one more.
+fn longer(alloc: Global, run: Run, part: Part) -> Result<Run, AllocError>
+    ensures { IfOk result (λ longer. parts_of longer ≡ parts_of run ++ part ∷ []) }
+{
+    match run {
+        Run::None => Ok(Run::One(part)),
+        Run::One(first) => {
+            let mut parts = Vec::with_capacity(alloc, 2)?;
+            parts.push(first)?;
+            parts.push(part)?;
+            Ok(Run::Several(Box::new(alloc, parts)?))
+        }
+        Run::Several(mut parts) => {
+            parts.push(part)?;
+            Ok(Run::Several(parts))
+        }
+    }
+}
+
+/// The part of a list that has one alone.
+fn one_of(parts: Vec<Part>) -> Option<Part>
+    ensures { result ≡ one_part parts.items }
+{
+    let mut parts = parts.into_iter();
+    match (parts.next(), parts.next()) {
+        (Some(part), None) => Some(part),
+        _ => None,
+    }
+}
+
+/// The parts of a list where these names, in lower case, are declared to be those of variables that scripts share (RFC 6609,
+/// section 3.4.1).
+fn scoped_list(alloc: Global, parts: Vec<Part>, declared: &Names) -> Result<Vec<Part>, AllocError>
+    ensures { IfOk result (λ scoped. scoped.items ≡ map (scoped_part declared.now) parts.items) }
+{
+    let mut scoped = Vec::with_capacity(alloc, parts.len())?;
+    for part in parts {
+        scoped.push(part.scoped(declared))?;
+    }
+    Ok(scoped)
+}
+
+/// The parts of a string where these names, in lower case, are declared to be those of variables that scripts share (RFC 6609,
+/// section 3.4.1).
+pub fn scoped_parts(alloc: Global, parts: Parts, declared: &Names) -> Result<Parts, AllocError>
+    ensures { IfOk result (λ scoped. scoped ≡ map (scoped_part declared.now) parts) }
+{
+    let run = parts.run;
+    let run = match run {
+        Run::None => Run::None,
+        Run::One(part) => Run::One(part.scoped(declared)),
+        Run::Several(parts) => {
+            let scoped = scoped_list(alloc, Box::into_inner(parts), declared)?;
+            Run::Several(Box::new(alloc, scoped)?)
+        }
+    };
+    Ok(Parts { run })
+}
