@@ -13,7 +13,6 @@ ghost use Rattle.sieve_effects.specs.declared.action.Deed as deeds;
 ghost use Rattle.sieve_effects.specs.view.State.{state_of};
 ghost use Rattle.sieve_variables.specs.Modifier.{modified};
 ghost use Rattle.sieve_variables.specs.Value.{text_value};
-ghost use Rattle.sieve_variables.specs.view.Part.{part_of, variable_of};
 
 use crate::action::{Action, Deed};
 use crate::delivery::Delivery;
@@ -133,7 +132,7 @@ fn mailbox_named(
     values: &Values,
     mailbox: &[Part],
 ) -> Result<Option<Octets>, AllocError>
-    ensures { IfOk result (λ name. name ≡ mailbox_named values.now (map part_of mailbox.now)) }
+    ensures { IfOk result (λ name. name ≡ mailbox_named values.now mailbox.now) }
 {
     let name = values.expanded_string(delivery.alloc, mailbox)?;
     if is_mailbox(name.as_slice()) {
@@ -154,7 +153,7 @@ pub fn file_into(
     line: u64,
     state: &mut State,
 ) -> Result<Flow, AllocError>
-    ensures { IfOk result (λ flow. ending_by flow (state_of state.new) ≡ spec.files_into (delivery_as delivery.now) (map part_of mailbox.now) (settings_op_as settings.now) line (state_of state.old)) }
+    ensures { IfOk result (λ flow. ending_by flow (state_of state.new) ≡ spec.files_into (delivery_as delivery.now) mailbox.now (settings_op_as settings.now) line (state_of state.old)) }
 {
     match mailbox_named(delivery, &state.values, mailbox)? {
         Some(mailbox) => store(delivery, mailbox, settings, line, state),
@@ -189,7 +188,7 @@ fn address_named(
     values: &Values,
     address: &[Part],
 ) -> Result<Option<Octets>, AllocError>
-    ensures { IfOk result (λ octets. octets ≡ spec.only_address (addresses_of (text_value values.now (map part_of address.now)))) }
+    ensures { IfOk result (λ octets. octets ≡ spec.only_address (addresses_of (text_value values.now address.now))) }
 {
     let text = values.expanded_string(delivery.alloc, address)?;
     let found = addresses(delivery.alloc, text.as_slice())?;
@@ -210,7 +209,7 @@ pub fn redirect(
     line: u64,
     state: &mut State,
 ) -> Result<Flow, AllocError>
-    ensures { IfOk result (λ flow. ending_by flow (state_of state.new) ≡ spec.sends (delivery_as delivery.now) (map part_of address.now) (settings_op_as settings.now) line (state_of state.old)) }
+    ensures { IfOk result (λ flow. ending_by flow (state_of state.new) ≡ spec.sends (delivery_as delivery.now) address.now (settings_op_as settings.now) line (state_of state.old)) }
 {
     match address_named(delivery, &state.values, address)? {
         Some(address) => {
@@ -229,7 +228,7 @@ fn value_of(
     modifiers: Modifiers,
     value: &[Part],
 ) -> Result<Octets, AllocError>
-    ensures { IfOk result (λ octets. octets ≡ modified modifiers (text_value values.now (map part_of value.now))) }
+    ensures { IfOk result (λ octets. octets ≡ modified modifiers (text_value values.now value.now)) }
 {
     let text = values.expanded_string(delivery.alloc, value)?;
     Ok(Octets::from_vec(modifiers.modified(delivery.alloc, text.as_slice())?))
@@ -243,7 +242,7 @@ pub(crate) fn give(
     line: u64,
     state: &mut State,
 ) -> Result<Flow, AllocError>
-    ensures { IfOk result (λ flow. ending_by flow (state_of state.new) ≡ spec.gives (delivery_as delivery.now) line (variable_of variable.now) value (state_of state.old)) }
+    ensures { IfOk result (λ flow. ending_by flow (state_of state.new) ≡ spec.gives (delivery_as delivery.now) line variable.now value (state_of state.old)) }
 {
     if !state.values.has_room_for(variable) {
         return fail(delivery, line, ErrorKind::TooManyGlobals);
@@ -262,7 +261,7 @@ pub fn set(
     line: u64,
     state: &mut State,
 ) -> Result<Flow, AllocError>
-    ensures { IfOk result (λ flow. ending_by flow (state_of state.new) ≡ spec.sets (delivery_as delivery.now) (variable_of variable.now) modifiers (map part_of value.now) line (state_of state.old)) }
+    ensures { IfOk result (λ flow. ending_by flow (state_of state.new) ≡ spec.sets (delivery_as delivery.now) variable.now modifiers value.now line (state_of state.old)) }
 {
     let octets = value_of(delivery, &state.values, modifiers, value)?;
     give(delivery, variable, octets, line, state)

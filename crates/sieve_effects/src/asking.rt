@@ -8,7 +8,6 @@ ghost use Rattle.sieve_effects.specs.view.FieldTests.{cuts_keys, found_with, key
 ghost use Rattle.sieve_effects.specs.view.Ops.{source_op_as, test_op_as};
 ghost use Rattle.sieve_effects.specs.view.State.{state_of};
 ghost use Rattle.sieve_variables.specs.Value.{text_value};
-ghost use Rattle.sieve_variables.specs.view.Part.{strings_of};
 
 use crate::comparison::{Comparison, Keys, MatchValues, keep_found};
 use crate::delivery::Delivery;
@@ -45,9 +44,11 @@ fn find_in_source(
             find_in_named(delivery, fields, state, Some(*part), names, comparison)
         }
         SourceOp::Envelope { part, names } => {
-            find_in_paths(delivery, state, *part, names, comparison)
+            find_in_paths(delivery, state, *part, names.as_slice(), comparison)
         }
-        SourceOp::String { texts } => find_in_strings(delivery, state, texts, comparison),
+        SourceOp::String { texts } => {
+            find_in_strings(delivery, state, texts.as_slice(), comparison)
+        }
         SourceOp::Flags { variables } => find_in_held(delivery, state, variables, comparison),
     }
 }
@@ -89,7 +90,7 @@ fn cuts_keys(source: &SourceOp) -> bool
 
 /// Whether each of these strings is borrowed where it is expanded.
 fn are_borrowed(strings: &[Parts]) -> bool {
-    strings.iter().all(|parts| parts.len() == 1)
+    strings.iter().all(|parts| parts.as_slice().len() == 1)
 }
 
 /// What the first value of a source gives that matches one of these keys. Keys that have to be made are made first, since each value is
@@ -105,7 +106,7 @@ fn find_whole(
 ) -> Result<Option<MatchValues>, AllocError>
     requires { fields.old ≡ (delivery_as delivery.now).message }
     ensures message { fields.new ≡ fields.old }
-    ensures found { IfOk result (λ found. found ≡ first_some (λ value. first_match match_type (fold_of collation) (pairs_with (map (text_value (state_of state.now).values) (strings_of keys.now)) value)) (values_of (delivery_as delivery.now) (state_of state.now) (source_op_as source.now))) }
+    ensures found { IfOk result (λ found. found ≡ first_some (λ value. first_match match_type (fold_of collation) (pairs_with (map (text_value (state_of state.now).values) keys.now) value)) (values_of (delivery_as delivery.now) (state_of state.now) (source_op_as source.now))) }
 {
     let values = &state.values;
     if are_borrowed(keys) {
@@ -134,7 +135,7 @@ fn find_match(
 ) -> Result<Option<MatchValues>, AllocError>
     requires { fields.old ≡ (delivery_as delivery.now).message }
     ensures message { fields.new ≡ fields.old }
-    ensures found { IfOk result (λ found. found ≡ match_found (delivery_as delivery.now) (state_of state.now) (source_op_as source.now) match_type collation (strings_of keys.now)) }
+    ensures found { IfOk result (λ found. found ≡ match_found (delivery_as delivery.now) (state_of state.now) (source_op_as source.now) match_type collation keys.now) }
 {
     if !cuts_keys(source) {
         return find_whole(delivery, fields, state, source, match_type, collation, keys);
@@ -159,8 +160,8 @@ fn compare(
 ) -> Result<bool, AllocError>
     requires { fields.old ≡ (delivery_as delivery.now).message }
     ensures message { fields.new ≡ fields.old }
-    ensures truth { IfOk result (λ truth. truth ≡ truth_of (delivery_as delivery.now) (state_of state.old) (compares (source_op_as source.now) match_type collation (strings_of keys.now))) }
-    ensures behind { IfOk result (λ truth. state_of state.new ≡ behind_test (delivery_as delivery.now) (compares (source_op_as source.now) match_type collation (strings_of keys.now)) (state_of state.old)) }
+    ensures truth { IfOk result (λ truth. truth ≡ truth_of (delivery_as delivery.now) (state_of state.old) (compares (source_op_as source.now) match_type collation keys.now)) }
+    ensures behind { IfOk result (λ truth. state_of state.new ≡ behind_test (delivery_as delivery.now) (compares (source_op_as source.now) match_type collation keys.now) (state_of state.old)) }
 {
     let found = find_match(
         delivery, fields, &*state, source, match_type, collation, keys,
@@ -207,9 +208,9 @@ pub fn holds(
 {
     match test {
         TestOp::Compares {
-            source,
             match_type,
             collation,
+            source,
             keys,
         } => compare(
             delivery,

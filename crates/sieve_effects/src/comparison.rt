@@ -8,7 +8,6 @@ ghost use Rattle.sieve_effects.specs.Matching.{first_match, pairs_with};
 ghost use Rattle.sieve_effects.specs.view.FieldTests.{found_with};
 ghost use Rattle.sieve_effects.specs.view.State.{state_of};
 ghost use Rattle.sieve_variables.specs.Value.{text_value};
-ghost use Rattle.sieve_variables.specs.view.Part.{strings_of};
 
 use crate::state::State;
 use match_text::{
@@ -178,11 +177,11 @@ impl Comparison<'_> {
         strings: &[Parts],
         value: &[u8],
     ) -> Result<Option<MatchValues>, AllocError>
-        ensures { IfOk result (λ found. found ≡ first_match self.now.match_type (fold_of self.now.collation) (pairs_with (map (text_value values.now) (strings_of strings.now)) value.now)) }
+        ensures { IfOk result (λ found. found ≡ first_match self.now.match_type (fold_of self.now.collation) (pairs_with (map (text_value values.now) strings.now) value.now)) }
     {
         let mut buffer = Vec::new(alloc);
         for parts in strings {
-            let key = values.expanded_in(parts, &mut buffer)?;
+            let key = values.expanded_in(parts.as_slice(), &mut buffer)?;
             if let Some(found) = self.match_of(alloc, value, key)? {
                 return Ok(Some(found));
             }

@@ -2,7 +2,6 @@
 ghost use Rattle.std.specs.Prelude.{◌≡◌, ◌<◌, length, map, slice_get, IfOk, Some};
 ghost use Rattle.sieve_effects.specs.view.FieldNames.{kept_hash};
 ghost use Rattle.sieve_variables.specs.Value.{text_value};
-ghost use Rattle.sieve_variables.specs.view.Part.{part_of, strings_of};
 
 use message_text::{FieldName, name_hash};
 use sieve_reading::literal_in_parts;
@@ -26,18 +25,17 @@ impl Model for FieldNames {
     ghost use Rattle.std.specs.Prelude.{◌≡◌, List, map};
     ghost use Rattle.sieve_effects.specs.view.FieldNames.{kept_hash};
     ghost use Rattle.sieve_variables.specs.Part.{Part};
-    ghost use Rattle.sieve_variables.specs.view.Part.{strings_of};
 
     ghost Value = { List (List Part) };
 
-    ghost view = { λ n. strings_of n.strings.items };
+    ghost view = { λ n. n.strings.items };
 
-    ghost invariant = { λ n. n.hashes.items ≡ map kept_hash (strings_of n.strings.items) };
+    ghost invariant = { λ n. n.hashes.items ≡ map kept_hash n.strings.items };
 }
 
 /// What is kept for a name: its hash, where it is one literal.
 fn kept_hash(parts: &[Part]) -> u32
-    ensures { result ≡ kept_hash (map part_of parts.now) }
+    ensures { result ≡ kept_hash parts.now }
 {
     match literal_in_parts(parts) {
         Some(octets) => name_hash(octets),
@@ -47,11 +45,11 @@ fn kept_hash(parts: &[Part]) -> u32
 
 /// What is kept for each name.
 fn kept_hashes(alloc: Global, strings: &[Parts]) -> Result<Hashes, AllocError>
-    ensures { IfOk result (λ hashes. hashes.items ≡ map kept_hash (strings_of strings.now)) }
+    ensures { IfOk result (λ hashes. hashes.items ≡ map kept_hash strings.now) }
 {
     let mut hashes = Hashes::with_capacity(alloc, strings.len())?;
     for parts in strings {
-        hashes.push(kept_hash(parts))?;
+        hashes.push(kept_hash(parts.as_slice()))?;
     }
     Ok(hashes)
 }
@@ -63,8 +61,8 @@ fn prepared_in<'a>(
     values: &'a Values,
     buffer: &'a mut Vec<u8>,
 ) -> Result<FieldName<'a>, AllocError>
-    requires { hash ≡ kept_hash (map part_of parts.now) }
-    ensures { IfOk result (λ name. name ≡ text_value values.now (map part_of parts.now)) }
+    requires { hash ≡ kept_hash parts.now }
+    ensures { IfOk result (λ name. name ≡ text_value values.now parts.now) }
 {
     if let Some(octets) = literal_in_parts(parts) {
         return Ok(FieldName::with_hash(octets, hash));
@@ -76,7 +74,7 @@ fn prepared_in<'a>(
 impl FieldNames {
     /// The names that these strings give. More than four take memory for a number each.
     pub fn new(alloc: Global, strings: Strings) -> Result<FieldNames, AllocError>
-        ensures { IfOk result (λ names. names ≡ strings_of strings.items) }
+        ensures { IfOk result (λ names. names ≡ strings.items) }
     {
         let hashes = kept_hashes(alloc, &strings)?;
         Ok(FieldNames { strings, hashes })
@@ -84,7 +82,7 @@ impl FieldNames {
 
     /// The names as strings, each by its parts. Takes no memory.
     pub fn strings(&self) -> &[Parts]
-        ensures { strings_of result.now ≡ self.now }
+        ensures { result.now ≡ self.now }
     {
         self.strings.as_slice()
     }
@@ -107,6 +105,7 @@ impl FieldNames {
         requires { i < length self.now }
         ensures { IfOk result (λ name. slice_get (map (text_value values.now) self.now) i ≡ Some name) }
     {
-        prepared_in(&self.strings[i], self.hashes[i], values, buffer)
+        let parts = self.strings[i].as_slice();
+        prepared_in(parts, self.hashes[i], values, buffer)
     }
 }

@@ -9,7 +9,6 @@ ghost use Rattle.sieve_effects.specs.Matching.{first_some, values_of};
 ghost use Rattle.sieve_effects.specs.view.Delivery.{delivery_as};
 ghost use Rattle.sieve_effects.specs.view.FieldTests.{found_with};
 ghost use Rattle.sieve_effects.specs.view.State.{state_of};
-ghost use Rattle.sieve_variables.specs.view.Part.{strings_of};
 ghost use Rattle.sieve_base.specs.view.Texts.{octets_of_each};
 
 use crate::comparison::{Comparison, Keys, MatchValues, plain_match};
@@ -101,7 +100,7 @@ fn find_in_variables(
     variables: &[Parts],
     comparison: &Comparison<'_>,
 ) -> Result<Option<MatchValues>, AllocError>
-    ensures { IfOk result (λ found. found ≡ first_some (found_with comparison.now) (values_of (delivery_as delivery.now) (state_of state.now) (flag_values (Some (strings_of variables.now))))) }
+    ensures { IfOk result (λ found. found ≡ first_some (found_with comparison.now) (values_of (delivery_as delivery.now) (state_of state.now) (flag_values (Some variables.now)))) }
 {
     let held = state.values.expanded(delivery.alloc, variables)?;
     find_in_texts(delivery.alloc, &held, comparison)
@@ -111,13 +110,13 @@ fn find_in_variables(
 pub(crate) fn find_in_held(
     delivery: &Delivery<'_>,
     state: &State,
-    variables: &Option<Strings>,
+    variables: &Option<Box<Strings>>,
     comparison: &Comparison<'_>,
 ) -> Result<Option<MatchValues>, AllocError>
     ensures { IfOk result (λ found. found ≡ first_some (found_with comparison.now) (values_of (delivery_as delivery.now) (state_of state.now) (flag_values (given_strings variables.now)))) }
 {
     match variables {
-        Some(variables) => find_in_variables(delivery, state, variables, comparison),
+        Some(variables) => { find_in_variables(delivery, state, variables.as_slice(), comparison) }
         None => find_in_flags(delivery.alloc, state.actions.flags(), comparison),
     }
 }

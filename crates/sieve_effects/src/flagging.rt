@@ -7,7 +7,6 @@ ghost use Rattle.sieve_effects.specs.view.Delivery.{delivery_as};
 ghost use Rattle.sieve_effects.specs.view.Flow.{ending_by};
 ghost use Rattle.sieve_effects.specs.view.State.{state_of};
 ghost use Rattle.sieve_variables.specs.Value.{text_value};
-ghost use Rattle.sieve_variables.specs.view.Part.{strings_of, variable_of};
 
 use crate::acting::give;
 use crate::actions::Actions;
@@ -28,7 +27,7 @@ pub(crate) fn flags_named(
     state: &State,
     texts: &[Parts],
 ) -> Result<FlagList, AllocError>
-    ensures { IfOk result (λ list. list ≡ flags_named (state_of state.now) (strings_of texts.now)) }
+    ensures { IfOk result (λ list. list ≡ flags_named (state_of state.now) texts.now) }
 {
     let texts = state.values.expanded(delivery.alloc, texts)?;
     flags_of_texts(delivery.alloc, &texts)
@@ -95,7 +94,7 @@ fn change_variable(
     line: u64,
     state: &mut State,
 ) -> Result<Flow, AllocError>
-    ensures { IfOk result (λ flow. ending_by flow (state_of state.new) ≡ changes (delivery_as delivery.now) line change (Some (variable_of variable.now)) (strings_of texts.now) (state_of state.old)) }
+    ensures { IfOk result (λ flow. ending_by flow (state_of state.new) ≡ changes (delivery_as delivery.now) line change (Some variable.now) texts.now (state_of state.old)) }
 {
     let named = flags_named(delivery, &*state, texts)?;
     let value = changed_value(
@@ -114,12 +113,12 @@ fn add_named(
     texts: &[Parts],
     actions: &mut Actions,
 ) -> Result<(), AllocError>
-    ensures { OnOk result (actions.new ≡ record actions.old { flags = flag_union actions.old.flags (flags_of_texts (map (text_value values.now) (strings_of texts.now))) }) }
+    ensures { OnOk result (actions.new ≡ record actions.old { flags = flag_union actions.old.flags (flags_of_texts (map (text_value values.now) texts.now)) }) }
 {
     texts_are_changed_in_turn();
     let mut buffer = Vec::new(alloc);
     for parts in texts {
-        let text = values.expanded_in(parts, &mut buffer)?;
+        let text = values.expanded_in(parts.as_slice(), &mut buffer)?;
         actions.add_text(alloc, text)?;
     }
     Ok(())
@@ -132,12 +131,12 @@ fn remove_named(
     texts: &[Parts],
     actions: &mut Actions,
 ) -> Result<(), AllocError>
-    ensures { OnOk result (actions.new ≡ record actions.old { flags = flags_without actions.old.flags (flags_of_texts (map (text_value values.now) (strings_of texts.now))) }) }
+    ensures { OnOk result (actions.new ≡ record actions.old { flags = flags_without actions.old.flags (flags_of_texts (map (text_value values.now) texts.now)) }) }
 {
     texts_are_changed_in_turn();
     let mut buffer = Vec::new(alloc);
     for parts in texts {
-        let text = values.expanded_in(parts, &mut buffer)?;
+        let text = values.expanded_in(parts.as_slice(), &mut buffer)?;
         actions.remove_text(text);
     }
     Ok(())
@@ -151,7 +150,7 @@ fn change_internal(
     line: u64,
     state: &mut State,
 ) -> Result<Flow, AllocError>
-    ensures { IfOk result (λ flow. ending_by flow (state_of state.new) ≡ changes (delivery_as delivery.now) line change None (strings_of texts.now) (state_of state.old)) }
+    ensures { IfOk result (λ flow. ending_by flow (state_of state.new) ≡ changes (delivery_as delivery.now) line change None texts.now (state_of state.old)) }
 {
     match change {
         FlagChange::Set => {
@@ -179,7 +178,7 @@ pub fn change(
     line: u64,
     state: &mut State,
 ) -> Result<Flow, AllocError>
-    ensures { IfOk result (λ flow. ending_by flow (state_of state.new) ≡ changes (delivery_as delivery.now) line change (option_map variable_of variable.now) (strings_of texts.now) (state_of state.old)) }
+    ensures { IfOk result (λ flow. ending_by flow (state_of state.new) ≡ changes (delivery_as delivery.now) line change variable.now texts.now (state_of state.old)) }
 {
     match variable {
         Some(variable) => change_variable(delivery, change, variable, texts, line, state),

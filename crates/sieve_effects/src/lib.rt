@@ -33,8 +33,5 @@ pub use field_names::FieldNames;
 pub use field_reads::FieldReads;
 pub use flagging::change;
 pub use flow::{Flow, fail};
-pub use ops::{
-    CommandOp, FileintoOp, FlagsOp, IncludeOp, KeepOp, RedirectOp, Said, SetOp, SettingsOp,
-    SourceOp, TestOp,
-};
+pub use ops::{CommandOp, Said, SettingsOp, SourceOp, TestOp};
 pub use state::State;

@@ -7,7 +7,6 @@ ghost use Rattle.sieve_effects.specs.Matching.{envelope_text, first_some, values
 ghost use Rattle.sieve_effects.specs.view.Delivery.{delivery_as};
 ghost use Rattle.sieve_effects.specs.view.FieldTests.{found_with, path_found, path_name_found};
 ghost use Rattle.sieve_effects.specs.view.State.{state_of};
-ghost use Rattle.sieve_variables.specs.view.Part.{strings_of};
 ghost use Rattle.sieve_variables.specs.Value.{text_value};
 
 use crate::comparison::{Comparison, MatchValues};
@@ -95,11 +94,11 @@ fn find_by_path_names(
     names: &[Parts],
     comparison: &Comparison<'_>,
 ) -> Result<Option<MatchValues>, AllocError>
-    ensures { IfOk result (λ found. found ≡ first_some (path_name_found (found_with comparison.now) part envelope.now) (map (text_value values.now) (strings_of names.now))) }
+    ensures { IfOk result (λ found. found ≡ first_some (path_name_found (found_with comparison.now) part envelope.now) (map (text_value values.now) names.now)) }
 {
     let mut buffer = Vec::new(alloc);
     for parts in names {
-        let name = values.expanded_in(parts, &mut buffer)?;
+        let name = values.expanded_in(parts.as_slice(), &mut buffer)?;
         if let Some(found) = find_by_path_name(alloc, envelope, part, name, comparison)? {
             return Ok(Some(found));
         }
@@ -115,7 +114,7 @@ pub(crate) fn find_in_paths(
     names: &[Parts],
     comparison: &Comparison<'_>,
 ) -> Result<Option<MatchValues>, AllocError>
-    ensures { IfOk result (λ found. found ≡ first_some (found_with comparison.now) (values_of (delivery_as delivery.now) (state_of state.now) (envelope_values part (strings_of names.now)))) }
+    ensures { IfOk result (λ found. found ≡ first_some (found_with comparison.now) (values_of (delivery_as delivery.now) (state_of state.now) (envelope_values part names.now))) }
 {
     find_by_path_names(
         delivery.alloc,

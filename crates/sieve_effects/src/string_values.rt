@@ -5,7 +5,6 @@ ghost use Rattle.sieve_effects.specs.Matching.{first_some, values_of};
 ghost use Rattle.sieve_effects.specs.view.Delivery.{delivery_as};
 ghost use Rattle.sieve_effects.specs.view.FieldTests.{found_with};
 ghost use Rattle.sieve_effects.specs.view.State.{state_of};
-ghost use Rattle.sieve_variables.specs.view.Part.{strings_of};
 ghost use Rattle.sieve_variables.specs.Value.{text_value};
 
 use crate::comparison::{Comparison, MatchValues};
@@ -21,11 +20,11 @@ fn find_in_texts(
     texts: &[Parts],
     comparison: &Comparison<'_>,
 ) -> Result<Option<MatchValues>, AllocError>
-    ensures { IfOk result (λ found. found ≡ first_some (found_with comparison.now) (map (text_value values.now) (strings_of texts.now))) }
+    ensures { IfOk result (λ found. found ≡ first_some (found_with comparison.now) (map (text_value values.now) texts.now)) }
 {
     let mut buffer = Vec::new(alloc);
     for parts in texts {
-        let text = values.expanded_in(parts, &mut buffer)?;
+        let text = values.expanded_in(parts.as_slice(), &mut buffer)?;
         if let Some(found) = comparison.first_match(alloc, text)? {
             return Ok(Some(found));
         }
@@ -40,7 +39,7 @@ pub(crate) fn find_in_strings(
     texts: &[Parts],
     comparison: &Comparison<'_>,
 ) -> Result<Option<MatchValues>, AllocError>
-    ensures { IfOk result (λ found. found ≡ first_some (found_with comparison.now) (values_of (delivery_as delivery.now) (state_of state.now) (string_values (strings_of texts.now)))) }
+    ensures { IfOk result (λ found. found ≡ first_some (found_with comparison.now) (values_of (delivery_as delivery.now) (state_of state.now) (string_values texts.now))) }
 {
     find_in_texts(delivery.alloc, &state.values, texts, comparison)
 }

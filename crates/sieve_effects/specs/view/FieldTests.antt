@@ -8,7 +8,6 @@ use Rattle.message_text.specs.declared.addressing.AddressPart.{AddressPart}
 use Rattle.sieve_reading.specs.Reading.{ValueSource, address_values, envelope_values, flag_values, header_values, string_values}
 use Rattle.sieve_variables.specs.Part.{Part}
 use Rattle.sieve_variables.specs.Value.{text_value}
-use Rattle.sieve_variables.specs.view.Part.{strings_of}
 use Rattle.sieve_base.specs.view.Texts.{octets_of_each}
 use Rattle.sieve_table.specs.Address.{is_address_field}
 use Rattle.sieve_effects.specs.Matching.{envelope_text, first_match, first_some, pairs_with}
@@ -20,7 +19,7 @@ use Rattle.sieve_effects.specs.declared.envelope.Envelope.{Envelope}
 
 -- the keys that a value is compared with
 abbrev pub key_texts : Keys → List (List ℕ)
-key_texts (Strings values strings) = map (text_value values.now) (strings_of strings.now)
+key_texts (Strings values strings) = map (text_value values.now) strings.now
 key_texts (Texts texts) = octets_of_each texts.now
 
 -- what the first key gives that a value matches

@@ -2,11 +2,10 @@ use Rattle.std.proofs.Common.{◌≡◌, drop, map}
 use Rattle.sieve_effects.specs.Matching.{first_some}
 use Rattle.sieve_effects.specs.view.FieldTests.{found_with, path_name_found}
 use Rattle.sieve_variables.specs.Value.{text_value}
-use Rattle.sieve_variables.specs.view.Part.{strings_of}
 use Rattle.sieve_effects.proofs.path_values.find_by_path_names.Given as goal
 
 -- what the names that are left give is what all names give
 abbrev pub invariant-loop-parts : goal.invariant-loop-parts
 invariant-loop-parts l =
     let find = path_name_found (found_with l.comparison) l.part l.envelope in
-    first_some find (map (text_value l.values) (strings_of (drop l.parts-index l.names))) ≡ first_some find (map (text_value l.values) (strings_of l.names))
+    first_some find (map (text_value l.values) (drop l.parts-index l.names)) ≡ first_some find (map (text_value l.values) l.names)

@@ -2,11 +2,10 @@ use Rattle.std.proofs.Common.{◌≡◌, drop, map}
 use Rattle.sieve_effects.specs.Matching.{first_match, pairs_with}
 use Rattle.match_text.specs.Comparator.{fold_of}
 use Rattle.sieve_variables.specs.Value.{text_value}
-use Rattle.sieve_variables.specs.view.Part.{strings_of}
 use Rattle.sieve_effects.proofs.comparison.Comparison.first_of_strings.Given as goal
 
 -- what the value gives by the first key that it matches is decided by the keys that are left
 abbrev pub invariant-loop-parts : goal.invariant-loop-parts
 invariant-loop-parts l =
     let first = first_match l.self.match_type (fold_of l.self.collation) in
-    first (pairs_with (map (text_value l.values) (strings_of (drop l.parts-index l.strings))) l.value) ≡ first (pairs_with (map (text_value l.values) (strings_of l.strings)) l.value)
+    first (pairs_with (map (text_value l.values) (drop l.parts-index l.strings)) l.value) ≡ first (pairs_with (map (text_value l.values) l.strings) l.value)
