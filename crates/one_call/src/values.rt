@@ -2,7 +2,7 @@
 
 use crate::telling::{Host, mark, tell, tell_done, tell_octets, tell_refused};
 use sieve_base::{Octets, Piece};
-use sieve_variables::{Part, Parts, Values, Variable, parts_of_text};
+use sieve_variables::{Part, PartRef, Parts, Values, Variable, VariableRef, parts_of_text};
 use std::borrow::CowSlice;
 use std::io;
 
@@ -17,7 +17,7 @@ pub(crate) fn cut(rt: &impl Host) -> io::Result<()> {
     let answer = parts_of_text(rt.alloc(), TEXT);
     mark(rt);
     match answer {
-        Ok(parts) => tell_parts(rt, &parts),
+        Ok(parts) => tell_parts(rt, parts.as_slice()),
         Err(_) => tell_refused(rt),
     }
 }
@@ -30,11 +30,11 @@ fn tell_parts(rt: &impl Print, parts: &[Part]) -> io::Result<()> {
 }
 
 fn tell_part(rt: &impl Print, part: &Part) -> io::Result<()> {
-    match part {
-        Part::Literal(octets) => tell_octets(rt, octets),
-        Part::Variable(Variable::Local(name)) => tell_name(rt, b"local ", name),
-        Part::Variable(Variable::Global(name)) => tell_name(rt, b"global ", name),
-        Part::Match(index) => println!(rt; "match {index}"),
+    match part.as_ref() {
+        PartRef::Literal(octets) => tell_octets(rt, octets),
+        PartRef::Variable(VariableRef::Local(name)) => tell_name(rt, b"local ", name),
+        PartRef::Variable(VariableRef::Global(name)) => tell_name(rt, b"global ", name),
+        PartRef::Match(index) => println!(rt; "match {index}"),
     }
 }
 

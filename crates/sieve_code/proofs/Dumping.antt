@@ -1,67 +1,62 @@
 -- What the dump writes of parts and strings.
-use Rattle.std.proofs.Common.{◌≡◌, ℕ, ◌-◌, ◌<◌, ◌≤◌, List, [], ◌∷◌, ◌++◌, length, map, get_or, take, drop, codes, refl, sym, ap, ◌∙◌, arith, append_assoc}
+use Rattle.std.proofs.Common.{◌≡◌, ℕ, ◌-◌, ◌<◌, ◌≤◌, List, [], ◌∷◌, ◌++◌, length, get_or, take, drop, codes, refl, sym, ap, ◌∙◌, arith, append_assoc}
 use Rattle.std.specs.List.{flat_map}
 use Rattle.std.proofs.lemmas.List.{take_rest}
-use Rattle.smallvec.specs.SmallVec.{SmallVec}
-use Rattle.sieve_variables.specs.Part as part
-use Rattle.sieve_variables.specs.view.Part.{part_of}
-use Rattle.sieve_variables.specs.declared.part.Part.{Part}
+use Rattle.sieve_variables.specs.Part.{Part}
 use Rattle.sieve_code.specs.Dump.{case_word, first_word, given_word, list_text, modifier_words, part_text, separated, string_text}
 use Rattle.sieve_variables.specs.declared.modifier.Modifiers.{Modifiers}
 use Rattle.sieve_code.specs.view.Marked.{marked_part, marked_string}
-use Rattle.sieve_effects.specs.view.Ops.{held_parts}
-use Rattle.sieve_variables.specs.view.Part.{strings_of}
 
-parts_marked : (parts : List Part) → flat_map (λ p. codes "+" ++ part_text p) (map part_of parts) ≡ flat_map marked_part parts
+parts_marked : (parts : List Part) → flat_map (λ p. codes "+" ++ part_text p) parts ≡ flat_map marked_part parts
 unfolding marked_part
 parts_marked [] = refl
-parts_marked (p ∷ ps) = ap (λ t. (codes "+" ++ part_text (part_of p)) ++ t) (parts_marked ps)
+parts_marked (p ∷ ps) = ap (λ t. (codes "+" ++ part_text p) ++ t) (parts_marked ps)
 
-strings_marked : (strings : List (SmallVec Part)) → flat_map (λ s. codes ", " ++ string_text s) (strings_of strings) ≡ flat_map marked_string strings
+strings_marked : (strings : List (List Part)) → flat_map (λ s. codes ", " ++ string_text s) strings ≡ flat_map marked_string strings
 unfolding marked_string
 strings_marked [] = refl
-strings_marked (s ∷ ss) = ap (λ t. (codes ", " ++ string_text (held_parts s)) ++ t) (strings_marked ss)
+strings_marked (s ∷ ss) = ap (λ t. (codes ", " ++ string_text s) ++ t) (strings_marked ss)
 
 -- a string without parts is written as an empty string in quotes
-pub string_none : (parts : List Part) → length parts ≤ 0 → codes "\"\"" ≡ string_text (map part_of parts)
+pub string_none : (parts : List Part) → length parts ≤ 0 → codes "\"\"" ≡ string_text parts
 unfolding string_text
 string_none [] none = refl
 string_none (p ∷ ps) none = absurd (omega (arith, none))
 
 -- what is written of a string with parts is its first part without a mark, and the others behind their marks
-pub string_some : (parts : List Part) (part : Part) → 0 < length parts → part ≡ get_or parts 0 part → part_text (part_of part) ++ flat_map marked_part (drop 1 parts) ≡ string_text (map part_of parts)
+pub string_some : (parts : List Part) (part : Part) → 0 < length parts → part ≡ get_or parts 0 part → part_text part ++ flat_map marked_part (drop 1 parts) ≡ string_text parts
 unfolding string_text
 string_some [] part some is = absurd (omega (arith, some))
 string_some (p ∷ ps) part some is =
-    ap (λ x. part_text (part_of x) ++ flat_map marked_part ps) is ∙ ap (λ t. part_text (part_of p) ++ t) (sym (parts_marked ps))
+    ap (λ x. part_text x ++ flat_map marked_part ps) is ∙ ap (λ t. part_text p ++ t) (sym (parts_marked ps))
 
-pub strings_some : (strings : List (SmallVec Part)) (string : SmallVec Part) (parts : List Part) → 0 < length strings → parts ≡ string.items → string ≡ get_or strings 0 string → string_text (map part_of parts) ++ flat_map marked_string (drop 1 strings) ≡ separated (codes ", ") string_text (strings_of strings)
+pub strings_some : (strings : List (List Part)) (string : List Part) (parts : List Part) → 0 < length strings → parts ≡ string → string ≡ get_or strings 0 string → string_text parts ++ flat_map marked_string (drop 1 strings) ≡ separated (codes ", ") string_text strings
 strings_some [] string parts some same is = absurd (omega (arith, some))
 strings_some (s ∷ ss) string parts some same is =
-    ap (λ ps. string_text (map part_of ps) ++ flat_map marked_string ss) same
-    ∙ ap (λ x. string_text (held_parts x) ++ flat_map marked_string ss) is
-    ∙ ap (λ t. string_text (held_parts s) ++ t) (sym (strings_marked ss))
+    ap (λ ps. string_text ps ++ flat_map marked_string ss) same
+    ∙ ap (λ x. string_text x ++ flat_map marked_string ss) is
+    ∙ ap (λ t. string_text s ++ t) (sym (strings_marked ss))
 
 -- all items of a list but the first
 abbrev pub others_of : {X : Type 0} → List X → List X
 others_of xs = take (length xs - 1) (drop 1 xs)
 
-pub string_front : (front : List ℕ) (parts : List Part) (part : Part) → 0 < length parts → part ≡ get_or parts 0 part → (front ++ part_text (part_of part)) ++ flat_map marked_part (others_of parts) ≡ front ++ string_text (map part_of parts)
+pub string_front : (front : List ℕ) (parts : List Part) (part : Part) → 0 < length parts → part ≡ get_or parts 0 part → (front ++ part_text part) ++ flat_map marked_part (others_of parts) ≡ front ++ string_text parts
 string_front front parts part some is =
-    append_assoc front (part_text (part_of part)) (flat_map marked_part (others_of parts))
-    ∙ ap (λ ps. front ++ (part_text (part_of part) ++ flat_map marked_part ps)) (take_rest parts 1)
+    append_assoc front (part_text part) (flat_map marked_part (others_of parts))
+    ∙ ap (λ ps. front ++ (part_text part ++ flat_map marked_part ps)) (take_rest parts 1)
     ∙ ap (λ t. front ++ t) (string_some parts part some is)
 
-pub strings_front : (front : List ℕ) (strings : List (SmallVec Part)) (string : SmallVec Part) (parts : List Part) → 0 < length strings → parts ≡ string.items → string ≡ get_or strings 0 string → (front ++ string_text (map part_of parts)) ++ flat_map marked_string (others_of strings) ≡ front ++ separated (codes ", ") string_text (strings_of strings)
+pub strings_front : (front : List ℕ) (strings : List (List Part)) (string : List Part) (parts : List Part) → 0 < length strings → parts ≡ string → string ≡ get_or strings 0 string → (front ++ string_text parts) ++ flat_map marked_string (others_of strings) ≡ front ++ separated (codes ", ") string_text strings
 strings_front front strings string parts some same is =
-    append_assoc front (string_text (map part_of parts)) (flat_map marked_string (others_of strings))
-    ∙ ap (λ ss. front ++ (string_text (map part_of parts) ++ flat_map marked_string ss)) (take_rest strings 1)
+    append_assoc front (string_text parts) (flat_map marked_string (others_of strings))
+    ∙ ap (λ ss. front ++ (string_text parts ++ flat_map marked_string ss)) (take_rest strings 1)
     ∙ ap (λ t. front ++ t) (strings_some strings string parts some same is)
 
-abbrev pub opened : List (List part.Part) → List ℕ
+abbrev pub opened : List (List Part) → List ℕ
 opened strings = codes "[" ++ separated (codes ", ") string_text strings
 
-pub list_whole : (front : List ℕ) (strings : List (List part.Part)) → (front ++ opened strings) ++ codes "]" ≡ front ++ list_text strings
+pub list_whole : (front : List ℕ) (strings : List (List Part)) → (front ++ opened strings) ++ codes "]" ≡ front ++ list_text strings
 unfolding list_text
 list_whole front strings = append_assoc front (opened strings) (codes "]")
 

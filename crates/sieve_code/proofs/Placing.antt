@@ -5,7 +5,7 @@ use Rattle.sieve_reading.specs.Tree.{Node}
 use Rattle.sieve_code.specs.Choice.{Tail, code_of, placed, tail_of}
 use Rattle.sieve_code.specs.Operation.{targeting}
 use Rattle.sieve_code.specs.declared.op.Op.{Op}
-use Rattle.sieve_code.specs.declared.op.Op.TheVariants.{True, False, Not, Test, Jump, JumpIfFalse, JumpIfTrue, Command, Stop, Return}
+use Rattle.sieve_code.specs.declared.op.Op.TheVariants.{True, False, Not, Test, Jump, JumpIfFalse, JumpIfTrue, Keep, Discard, Command, Stop, Return}
 use Rattle.sieve_code.specs.view.Op.{op_as, with_place_of}
 
 place_seen : (count : ℕ) (op : Op) → op_as (with_place_of count op) ≡ targeting (λ left. count - left) (op_as op)
@@ -16,6 +16,8 @@ place_seen count (Test test) = refl
 place_seen count (Jump left) = refl
 place_seen count (JumpIfFalse left) = refl
 place_seen count (JumpIfTrue left) = refl
+place_seen count (Keep line) = refl
+place_seen count (Discard line) = refl
 place_seen count (Command command) = refl
 place_seen count Stop = refl
 place_seen count Return = refl

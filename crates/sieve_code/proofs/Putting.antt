@@ -10,7 +10,8 @@ use Rattle.sieve_reading.specs.CommandReading.{command_reading, command_reading_
 use Rattle.sieve_reading.specs.TestReading.{test_reading, test_reading_by}
 use Rattle.sieve_table.specs.Table.{command_named, test_named}
 use Rattle.sieve_reading.specs.Tree.{TestList, test_list, tests, Node, node, block, nodes}
-use Rattle.sieve_reading.specs.view.Tree.{argument_of, block_of, node_of, parts_of, test_of, tests_of}
+use Rattle.sieve_syntax.specs.view.TreeOf.{parts_of}
+use Rattle.sieve_reading.specs.view.Tree.{argument_of, block_of, node_of, test_of, tests_of}
 use Rattle.sieve_syntax.specs.declared.tree.Command as commands
 use Rattle.sieve_syntax.specs.declared.tree.Command.TheViews as command_views
 use Rattle.sieve_syntax.specs.declared.tree.Test as one_tests

@@ -7,7 +7,7 @@ ghost use Rattle.sieve_code.specs.view.Branches.{branches_as, last};
 ghost use Rattle.sieve_code.specs.view.Op.{op_as};
 
 use crate::op::Op;
-use crate::strings::command_op;
+use crate::strings::act_op;
 use crate::tail::Tail;
 use crate::test_code::put_first;
 use sieve_reading::{Command, CommandReading, Tests, read_command};
@@ -128,8 +128,8 @@ fn put_command(
             })
         }
         Some(CommandReading::Act(leaf)) => {
-            let op = command_op(alloc, leaf, line)?;
-            put_alone(Op::Command(op), front, tail)
+            let op = act_op(alloc, leaf, line)?;
+            put_alone(op, front, tail)
         }
         Some(CommandReading::Stop) => put_alone(Op::Stop, front, tail),
         Some(CommandReading::Return) => put_alone(Op::Return, front, tail),

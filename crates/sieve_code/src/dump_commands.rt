@@ -1,10 +1,8 @@
 //! The commands of a dump.
-ghost use Rattle.std.specs.Prelude.{◌≡◌, ◌++◌, codes, map};
-ghost use Rattle.std.specs.Option.{option_map};
+ghost use Rattle.std.specs.Prelude.{◌≡◌, ◌++◌, codes};
 ghost use Rattle.sieve_base.specs.Writers.{Writes};
 ghost use Rattle.sieve_code.specs.Dump as spec;
 ghost use Rattle.sieve_effects.specs.view.Ops.{command_op_as, settings_op_as};
-ghost use Rattle.sieve_variables.specs.view.Part.{part_of, strings_of, variable_of};
 
 use crate::dump_strings::{name_of, scope_word, write_list, write_string};
 use sieve_base::{Piece, Place, Sink, WriteFault, write_out, write_pieces};
@@ -15,7 +13,7 @@ use sieve_variables::{LetterCase, Modifiers, Part, Parts, Variable};
 /// Writes a command's word and then a string.
 #[tactic(auto, unfolding(crate::specs::Dump::worded_text))]
 fn write_worded<W: Sink>(word: &[u8], string: &[Part], writer: &mut W) -> Result<(), WriteFault>
-    ensures { Writes W.contents W.fault_count result writer.old writer.new (spec.worded_text word.now (map part_of string.now)) }
+    ensures { Writes W.contents W.fault_count result writer.old writer.new (spec.worded_text word.now string.now) }
 {
     write_string(word, string, writer)
 }
@@ -75,7 +73,7 @@ fn write_redirect<W: Sink>(
     settings: &SettingsOp,
     writer: &mut W,
 ) -> Result<(), WriteFault>
-    ensures { Writes W.contents W.fault_count result writer.old writer.new (spec.worded_text (codes "redirect ") (map part_of address.now) ++ spec.copy_word (settings_op_as settings.now).copy) }
+    ensures { Writes W.contents W.fault_count result writer.old writer.new (spec.worded_text (codes "redirect ") address.now ++ spec.copy_word (settings_op_as settings.now).copy) }
 {
     write_worded(b"redirect ", address, writer)?;
     write_copy(settings, writer)
@@ -88,7 +86,7 @@ fn write_fileinto<W: Sink>(
     settings: &SettingsOp,
     writer: &mut W,
 ) -> Result<(), WriteFault>
-    ensures { Writes W.contents W.fault_count result writer.old writer.new (spec.worded_text (codes "fileinto ") (map part_of mailbox.now) ++ spec.stored_text (settings_op_as settings.now)) }
+    ensures { Writes W.contents W.fault_count result writer.old writer.new (spec.worded_text (codes "fileinto ") mailbox.now ++ spec.stored_text (settings_op_as settings.now)) }
 {
     write_worded(b"fileinto ", mailbox, writer)?;
     write_stored(settings, writer)
@@ -123,8 +121,9 @@ fn write_variable<'x, W: Sink>(
     variable: &'x Variable,
     writer: &mut W,
 ) -> Result<(), WriteFault>
-    ensures { Writes W.contents W.fault_count result writer.old writer.new (spec.worded_variable word.now (variable_of variable.now)) }
+    ensures { Writes W.contents W.fault_count result writer.old writer.new (spec.worded_variable word.now variable.now) }
 {
+    let variable = variable.as_ref();
     write_pieces(
         &[
             Piece::Raw(word),
@@ -159,7 +158,7 @@ fn write_set_words<W: Sink>(
     modifiers: Modifiers,
     writer: &mut W,
 ) -> Result<(), WriteFault>
-    ensures { Writes W.contents W.fault_count result writer.old writer.new (spec.set_words (variable_of variable.now) modifiers) }
+    ensures { Writes W.contents W.fault_count result writer.old writer.new (spec.set_words variable.now modifiers) }
 {
     write_variable(b"set ", variable, writer)?;
     write_modifiers(modifiers, writer)
@@ -173,7 +172,7 @@ fn write_set<W: Sink>(
     value: &[Part],
     writer: &mut W,
 ) -> Result<(), WriteFault>
-    ensures { Writes W.contents W.fault_count result writer.old writer.new (spec.worded_text (spec.set_words (variable_of variable.now) modifiers) (map part_of value.now)) }
+    ensures { Writes W.contents W.fault_count result writer.old writer.new (spec.worded_text (spec.set_words variable.now modifiers) value.now) }
 {
     write_set_words(variable, modifiers, writer)?;
     write_string(b"", value, writer)
@@ -197,20 +196,23 @@ fn write_changing_words<W: Sink>(
     variable: &Option<Variable>,
     writer: &mut W,
 ) -> Result<(), WriteFault>
-    ensures { Writes W.contents W.fault_count result writer.old writer.new (spec.changing_words change (option_map variable_of variable.now)) }
+    ensures { Writes W.contents W.fault_count result writer.old writer.new (spec.changing_words change variable.now) }
 {
     let word = change_word(change);
     match variable {
-        Some(variable) => write_pieces(
-            &[
-                Piece::Raw(word),
-                Piece::Raw(b" "),
-                Piece::Raw(scope_word(variable)),
-                Piece::Raw(name_of(variable)),
-                Piece::Raw(b") "),
-            ],
-            writer,
-        ),
+        Some(variable) => {
+            let variable = variable.as_ref();
+            write_pieces(
+                &[
+                    Piece::Raw(word),
+                    Piece::Raw(b" "),
+                    Piece::Raw(scope_word(variable)),
+                    Piece::Raw(name_of(variable)),
+                    Piece::Raw(b") "),
+                ],
+                writer,
+            )
+        }
         None => write_pieces(&[Piece::Raw(word), Piece::Raw(b" internal ")], writer),
     }
 }
@@ -223,7 +225,7 @@ fn write_flags<W: Sink>(
     flags: &[Parts],
     writer: &mut W,
 ) -> Result<(), WriteFault>
-    ensures { Writes W.contents W.fault_count result writer.old writer.new (spec.changing_words change (option_map variable_of variable.now) ++ spec.list_text (strings_of flags.now)) }
+    ensures { Writes W.contents W.fault_count result writer.old writer.new (spec.changing_words change variable.now ++ spec.list_text flags.now) }
 {
     write_changing_words(change, variable, writer)?;
     write_list(b"", flags, writer)
@@ -259,15 +261,35 @@ pub(crate) fn write_command<W: Sink>(command: &CommandOp, writer: &mut W) -> Res
     ensures { Writes W.contents W.fault_count result writer.old writer.new (spec.leaf_text (command_op_as command.now)) }
 {
     match command {
-        CommandOp::Keep { .. } => {
-            write_worded_settings(b"keep", &SettingsOp { said: None }, writer)
-        }
-        CommandOp::KeepWith(op) => write_worded_settings(b"keep", &op.settings, writer),
-        CommandOp::Fileinto(op) => write_fileinto(&op.mailbox, &op.settings, writer),
-        CommandOp::Redirect(op) => write_redirect(&op.address, &op.settings, writer),
-        CommandOp::Discard { .. } => write_out(b"discard", writer),
-        CommandOp::Set(op) => write_set(&op.variable, op.modifiers, &op.value, writer),
-        CommandOp::Flags(op) => write_flags(op.change, &op.variable, &op.flags, writer),
-        CommandOp::Include(op) => write_include(op.place, op.once, op.optional, &op.name, writer),
+        CommandOp::Keep { settings, .. } => write_worded_settings(b"keep", settings, writer),
+        CommandOp::Fileinto {
+            mailbox,
+            settings,
+            ..
+        } => write_fileinto(mailbox.as_slice(), settings, writer),
+        CommandOp::Redirect {
+            address,
+            settings,
+            ..
+        } => write_redirect(address.as_slice(), settings, writer),
+        CommandOp::Set {
+            modifiers,
+            variable,
+            value,
+            ..
+        } => write_set(variable, *modifiers, value.as_slice(), writer),
+        CommandOp::Flags {
+            change,
+            variable,
+            flags,
+            ..
+        } => write_flags(*change, variable, flags.as_slice(), writer),
+        CommandOp::Include {
+            place,
+            once,
+            optional,
+            name,
+            ..
+        } => write_include(*place, *once, *optional, name.plain_octets(), writer),
     }
 }

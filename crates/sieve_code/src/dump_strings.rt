@@ -1,31 +1,31 @@
 //! The parts and strings of a dump.
-ghost use Rattle.std.specs.Prelude.{◌≡◌, ◌++◌, codes, map};
+ghost use Rattle.std.specs.Prelude.{◌≡◌, ◌++◌, codes};
 ghost use Rattle.std.specs.List.{flat_map};
 ghost use Rattle.sieve_base.specs.Writers.{Writes};
 ghost use Rattle.sieve_code.specs.Dump.{further_list, list_text, name_of, part_text, scope_word, separated, string_text};
+ghost use Rattle.sieve_variables.specs.view.Variable.{variable_ref_as};
 ghost use Rattle.sieve_code.specs.view.Marked.{marked_part, marked_string};
-ghost use Rattle.sieve_variables.specs.view.Part.{part_of, strings_of, variable_of};
 
 use sieve_base::{Piece, Sink, WriteFault, write_out, write_pieces};
-use sieve_variables::{Part, Parts, Variable};
+use sieve_variables::{Part, PartRef, Parts, VariableRef};
 
 /// The word that says whose a variable is.
-pub(crate) fn scope_word(variable: &Variable) -> &'static [u8]
-    ensures { result.now ≡ scope_word (variable_of variable.now) }
+pub(crate) fn scope_word(variable: VariableRef<'_>) -> &'static [u8]
+    ensures { result.now ≡ scope_word (variable_ref_as variable.entry) }
 {
     match variable {
-        Variable::Local(_) => b"local(",
-        Variable::Global(_) => b"global(",
+        VariableRef::Local(_) => b"local(",
+        VariableRef::Global(_) => b"global(",
     }
 }
 
 /// The name of a variable.
-pub(crate) fn name_of(variable: &Variable) -> &[u8]
-    ensures { result.now ≡ name_of (variable_of variable.now) }
+pub(crate) fn name_of(variable: VariableRef<'_>) -> &[u8]
+    ensures { result.now ≡ name_of (variable_ref_as variable.entry) }
 {
     match variable {
-        Variable::Local(name) => name.as_slice(),
-        Variable::Global(name) => name.as_slice(),
+        VariableRef::Local(name) => name,
+        VariableRef::Global(name) => name,
     }
 }
 
@@ -35,11 +35,14 @@ fn write_part<'x, W: Sink>(
     part: &'x Part,
     writer: &mut W,
 ) -> Result<(), WriteFault>
-    ensures { Writes W.contents W.fault_count result writer.old writer.new (front.now ++ part_text (part_of part.now)) }
+    ensures { Writes W.contents W.fault_count result writer.old writer.new (front.now ++ part_text part.now) }
 {
-    match part {
-        Part::Literal(octets) => write_pieces(&[Piece::Raw(front), Piece::Quoted(octets)], writer),
-        Part::Variable(variable) => write_pieces(
+    match part.as_ref() {
+        PartRef::Literal(octets) => write_pieces(
+            &[Piece::Raw(front), Piece::Quoted(octets)],
+            writer,
+        ),
+        PartRef::Variable(variable) => write_pieces(
             &[
                 Piece::Raw(front),
                 Piece::Raw(scope_word(variable)),
@@ -48,11 +51,11 @@ fn write_part<'x, W: Sink>(
             ],
             writer,
         ),
-        Part::Match(index) => write_pieces(
+        PartRef::Match(index) => write_pieces(
             &[
                 Piece::Raw(front),
                 Piece::Raw(b"match("),
-                Piece::Number(u64::from(*index)),
+                Piece::Number(u64::from(index)),
                 Piece::Raw(b")"),
             ],
             writer,
@@ -77,7 +80,7 @@ pub(crate) fn write_string<W: Sink>(
     parts: &[Part],
     writer: &mut W,
 ) -> Result<(), WriteFault>
-    ensures { Writes W.contents W.fault_count result writer.old writer.new (front.now ++ string_text (map part_of parts.now)) }
+    ensures { Writes W.contents W.fault_count result writer.old writer.new (front.now ++ string_text parts.now) }
 {
     match parts {
         [] => write_pieces(&[Piece::Raw(front), Piece::Raw(b"\"\"")], writer),
@@ -94,7 +97,7 @@ fn write_marked_strings<W: Sink>(strings: &[Parts], writer: &mut W) -> Result<()
     ensures { Writes W.contents W.fault_count result writer.old writer.new (flat_map marked_string strings.now) }
 {
     for string in strings {
-        write_string(b", ", string, writer)?;
+        write_string(b", ", string.as_slice(), writer)?;
     }
     Ok(())
 }
@@ -102,12 +105,12 @@ fn write_marked_strings<W: Sink>(strings: &[Parts], writer: &mut W) -> Result<()
 /// Writes these octets and then strings with commas between them.
 #[tactic(auto, using(sieve_base::proofs::Writing::writing))]
 fn write_strings<W: Sink>(front: &[u8], strings: &[Parts], writer: &mut W) -> Result<(), WriteFault>
-    ensures { Writes W.contents W.fault_count result writer.old writer.new (front.now ++ separated (codes ", ") string_text (strings_of strings.now)) }
+    ensures { Writes W.contents W.fault_count result writer.old writer.new (front.now ++ separated (codes ", ") string_text strings.now) }
 {
     match strings {
         [] => write_out(front, writer),
         [string, others @ ..] => {
-            write_string(front, string, writer)?;
+            write_string(front, string.as_slice(), writer)?;
             write_marked_strings(others, writer)
         }
     }
@@ -120,7 +123,7 @@ pub(crate) fn write_list<W: Sink>(
     strings: &[Parts],
     writer: &mut W,
 ) -> Result<(), WriteFault>
-    ensures { Writes W.contents W.fault_count result writer.old writer.new (front.now ++ list_text (strings_of strings.now)) }
+    ensures { Writes W.contents W.fault_count result writer.old writer.new (front.now ++ list_text strings.now) }
 {
     write_out(front, writer)?;
     write_strings(b"[", strings, writer)?;
@@ -133,7 +136,7 @@ pub(crate) fn write_further_list<W: Sink>(
     strings: &[Parts],
     writer: &mut W,
 ) -> Result<(), WriteFault>
-    ensures { Writes W.contents W.fault_count result writer.old writer.new (further_list (strings_of strings.now)) }
+    ensures { Writes W.contents W.fault_count result writer.old writer.new (further_list strings.now) }
 {
     write_list(b" ", strings, writer)
 }

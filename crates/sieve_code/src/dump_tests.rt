@@ -3,7 +3,6 @@ ghost use Rattle.std.specs.Prelude.{◌≡◌, ◌++◌, codes, decimal};
 ghost use Rattle.sieve_base.specs.Writers.{Writes};
 ghost use Rattle.sieve_code.specs.Dump.{address_part_word, address_words, ask_text, collation_word, comparing_words, further_list, internal_list, match_word, source_text};
 ghost use Rattle.sieve_effects.specs.view.Ops.{given_strings, source_op_as, test_op_as};
-ghost use Rattle.sieve_variables.specs.view.Part.{strings_of};
 
 use crate::dump_strings::{write_further_list, write_list};
 use match_text::Collation;
@@ -88,13 +87,13 @@ fn write_address_words<W: Sink>(
 /// Writes the variables whose flags a test looks at, or that these are the internal ones.
 #[tactic(auto, unfolding(crate::specs::Dump::internal_list))]
 fn write_internal_list<W: Sink>(
-    variables: &Option<Strings>,
+    variables: &Option<Box<Strings>>,
     writer: &mut W,
 ) -> Result<(), WriteFault>
     ensures { Writes W.contents W.fault_count result writer.old writer.new (internal_list (given_strings variables.now)) }
 {
     match variables {
-        Some(variables) => write_further_list(variables, writer),
+        Some(variables) => write_further_list(variables.as_slice(), writer),
         None => write_out(b" internal", writer),
     }
 }
@@ -108,7 +107,7 @@ fn write_values<W: Sink>(
     values: &[Parts],
     writer: &mut W,
 ) -> Result<(), WriteFault>
-    ensures { Writes W.contents W.fault_count result writer.old writer.new (comparing_words test.now match_type collation ++ further_list (strings_of values.now)) }
+    ensures { Writes W.contents W.fault_count result writer.old writer.new (comparing_words test.now match_type collation ++ further_list values.now) }
 {
     write_comparing(test, match_type, collation, writer)?;
     write_further_list(values, writer)
@@ -124,7 +123,7 @@ fn write_address<W: Sink>(
     names: &[Parts],
     writer: &mut W,
 ) -> Result<(), WriteFault>
-    ensures { Writes W.contents W.fault_count result writer.old writer.new (address_words test.now match_type collation part ++ further_list (strings_of names.now)) }
+    ensures { Writes W.contents W.fault_count result writer.old writer.new (address_words test.now match_type collation part ++ further_list names.now) }
 {
     write_address_words(test, match_type, collation, part, writer)?;
     write_further_list(names, writer)
@@ -135,7 +134,7 @@ fn write_address<W: Sink>(
 fn write_hasflag<W: Sink>(
     match_type: MatchType,
     collation: Collation,
-    variables: &Option<Strings>,
+    variables: &Option<Box<Strings>>,
     writer: &mut W,
 ) -> Result<(), WriteFault>
     ensures { Writes W.contents W.fault_count result writer.old writer.new (comparing_words (codes "hasflag") match_type collation ++ internal_list (given_strings variables.now)) }
@@ -169,9 +168,18 @@ fn write_source<W: Sink>(
             )
         }
         SourceOp::Envelope { part, names } => {
-            write_address(b"envelope", match_type, collation, *part, names, writer)
+            write_address(
+                b"envelope",
+                match_type,
+                collation,
+                *part,
+                names.as_slice(),
+                writer,
+            )
         }
-        SourceOp::String { texts } => write_values(b"string", match_type, collation, texts, writer),
+        SourceOp::String { texts } => {
+            write_values(b"string", match_type, collation, texts.as_slice(), writer)
+        }
         SourceOp::Flags { variables } => write_hasflag(match_type, collation, variables, writer),
     }
 }
@@ -185,7 +193,7 @@ fn write_compares<W: Sink>(
     keys: &[Parts],
     writer: &mut W,
 ) -> Result<(), WriteFault>
-    ensures { Writes W.contents W.fault_count result writer.old writer.new (source_text (source_op_as source.now) match_type collation ++ further_list (strings_of keys.now)) }
+    ensures { Writes W.contents W.fault_count result writer.old writer.new (source_text (source_op_as source.now) match_type collation ++ further_list keys.now) }
 {
     write_source(source, match_type, collation, writer)?;
     write_further_list(keys, writer)
@@ -209,9 +217,9 @@ pub(crate) fn write_test<W: Sink>(test: &TestOp, writer: &mut W) -> Result<(), W
 {
     match test {
         TestOp::Compares {
-            source,
             match_type,
             collation,
+            source,
             keys,
         } => write_compares(source, *match_type, *collation, keys, writer),
         TestOp::Exists { names } => write_list(b"exists ", names.strings(), writer),

@@ -20,13 +20,23 @@ pub enum Op {
     JumpIfFalse(usize),
     /// Goes on there where the register is true, and else behind this operation.
     JumpIfTrue(usize),
-    /// Does what a command does that acts (RFC 5228, section 4).
-    Command(CommandOp),
+    /// Stores into the mailbox of the delivery, as a `keep` does that says nothing (RFC 5228, section 4.3).
+    Keep {
+        /// The command's line.
+        line: u64,
+    },
+    /// Discards the message (RFC 5228, section 4.4).
+    Discard {
+        /// The command's line.
+        line: u64,
+    },
+    /// Does what another command does that acts (RFC 5228, section 4).
+    Command(Box<CommandOp>),
     /// Ends the run (RFC 5228, section 3.3).
     Stop,
     /// Ends its script (RFC 6609, section 3.3).
     Return,
 }
 
-/// An operation takes three words. Code can have about one for each three octets of its text, so their size is most of what is kept.
-const _: () = prove!(size_of::<Op>() == 24);
+/// An operation takes two words. Code can have about one for each three octets of its text, so their size is much of what is kept.
+const _: () = prove!(size_of::<Op>() == 16);

@@ -1,24 +1,21 @@
 //! What code keeps of tests and commands: what is read, with its strings.
 ghost use Rattle.std.specs.Prelude.{◌≡◌, IfOk};
 ghost use Rattle.std.specs.Option.{option_map};
-ghost use Rattle.sieve_reading.specs.Reading.{fileinto_leaf, flag_leaf, include_leaf, keep_leaf, redirect_leaf, set_leaf};
+ghost use Rattle.sieve_reading.specs.Reading.{fileinto_leaf, flag_leaf, keep_leaf, redirect_leaf};
 ghost use Rattle.sieve_reading.specs.view.Reading.{ask_as, leaf_as, settings_as, source_as, texts_as};
 ghost use Rattle.sieve_effects.specs.view.Ops.{command_op_as, given_strings, line_of, settings_op_as, source_op_as, test_op_as};
-ghost use Rattle.sieve_reading.specs.view.Tree.{parts_of};
-ghost use Rattle.sieve_variables.specs.view.Part.{strings_of, variable_of};
+ghost use Rattle.sieve_code.specs.Operation.{act_op};
+ghost use Rattle.sieve_code.specs.view.Op.{op_as};
 
-use sieve_base::{Place, SmallOctets};
-use sieve_effects::{
-    CommandOp, FieldNames, FileintoOp, FlagsOp, IncludeOp, KeepOp, RedirectOp, Said, SetOp,
-    SettingsOp, SourceOp, TestOp,
-};
+use crate::op::Op;
+use sieve_effects::{CommandOp, FieldNames, Said, SettingsOp, SourceOp, TestOp};
 use sieve_reading::{Ask, FlagChange, Leaf, Settings, Text, ValueSource};
-use sieve_variables::{Modifiers, Parts, Strings, Variable};
+use sieve_variables::{Parts, Strings, Variable};
 use std::alloc::{AllocError, Global};
 
 /// The parts of strings, without their lines.
 fn strings_of(alloc: Global, texts: Vec<Text>) -> Result<Strings, AllocError>
-    ensures { IfOk result (λ strings. strings_of strings.items ≡ texts_as texts.items) }
+    ensures { IfOk result (λ strings. strings.items ≡ texts_as texts.items) }
 {
     let mut strings = Strings::with_capacity(alloc, texts.len())?;
     for text in texts {
@@ -28,19 +25,29 @@ fn strings_of(alloc: Global, texts: Vec<Text>) -> Result<Strings, AllocError>
 }
 
 /// Names of fields.
-fn field_names(alloc: Global, names: Vec<Text>) -> Result<FieldNames, AllocError>
-    ensures { IfOk result (λ kept. kept ≡ texts_as names.items) }
+fn field_names(alloc: Global, names: Vec<Text>) -> Result<Box<FieldNames>, AllocError>
+    ensures { IfOk result (λ kept. kept.value ≡ texts_as names.items) }
 {
     let strings = strings_of(alloc, names)?;
-    FieldNames::new(alloc, strings)
+    Ok(Box::new(alloc, FieldNames::new(alloc, strings)?)?)
+}
+
+/// The parts of strings, without their lines, behind a pointer.
+fn boxed_strings(alloc: Global, texts: Vec<Text>) -> Result<Box<Strings>, AllocError>
+    ensures { IfOk result (λ strings. strings.value.items ≡ texts_as texts.items) }
+{
+    Ok(Box::new(alloc, strings_of(alloc, texts)?)?)
 }
 
 /// The parts of strings that may be left out.
-fn given_strings(alloc: Global, texts: Option<Vec<Text>>) -> Result<Option<Strings>, AllocError>
+fn given_strings(
+    alloc: Global,
+    texts: Option<Vec<Text>>,
+) -> Result<Option<Box<Strings>>, AllocError>
     ensures { IfOk result (λ strings. given_strings strings ≡ option_map (λ given. texts_as given.items) texts) }
 {
     match texts {
-        Some(texts) => Ok(Some(strings_of(alloc, texts)?)),
+        Some(texts) => Ok(Some(boxed_strings(alloc, texts)?)),
         None => Ok(None),
     }
 }
@@ -59,10 +66,10 @@ fn source_op(alloc: Global, source: ValueSource) -> Result<SourceOp, AllocError>
         }),
         ValueSource::Envelope { part, names } => Ok(SourceOp::Envelope {
             part,
-            names: strings_of(alloc, names)?,
+            names: boxed_strings(alloc, names)?,
         }),
         ValueSource::String { texts } => Ok(SourceOp::String {
-            texts: strings_of(alloc, texts)?,
+            texts: boxed_strings(alloc, texts)?,
         }),
         ValueSource::Flags { variables } => Ok(SourceOp::Flags {
             variables: given_strings(alloc, variables)?,
@@ -81,9 +88,9 @@ pub(crate) fn test_op(alloc: Global, ask: Ask) -> Result<TestOp, AllocError>
             collation,
             keys,
         } => Ok(TestOp::Compares {
-            source: source_op(alloc, source)?,
             match_type,
             collation,
+            source: source_op(alloc, source)?,
             keys: strings_of(alloc, keys)?,
         }),
         Ask::Exists { names } => Ok(TestOp::Exists {
@@ -108,137 +115,101 @@ fn settings_op(alloc: Global, settings: Settings) -> Result<SettingsOp, AllocErr
     }
 }
 
-/// A `keep` with its strings.
-fn keep_op(alloc: Global, settings: Settings, line: u64) -> Result<CommandOp, AllocError>
-    ensures leaf { IfOk result (λ op. command_op_as op ≡ keep_leaf (settings_as settings)) }
-    ensures line { IfOk result (λ op. line_of op ≡ line) }
+/// The operation of a command that says something.
+fn command_op(alloc: Global, command: CommandOp) -> Result<Op, AllocError>
+    ensures { IfOk result (λ op. op_as op ≡ act_op (command_op_as command) (line_of command)) }
+{
+    Ok(Op::Command(Box::new(alloc, command)?))
+}
+
+/// The operation of a `keep`.
+fn keep_op(alloc: Global, settings: Settings, line: u64) -> Result<Op, AllocError>
+    ensures { IfOk result (λ op. op_as op ≡ act_op (keep_leaf (settings_as settings)) line) }
 {
     match settings_op(alloc, settings)? {
-        SettingsOp { said: None } => Ok(CommandOp::Keep { line }),
-        settings => Ok(CommandOp::KeepWith(Box::new(alloc, KeepOp { line, settings })?)),
+        SettingsOp { said: None } => Ok(Op::Keep { line }),
+        settings => command_op(alloc, CommandOp::Keep { line, settings }),
     }
 }
 
-/// A `fileinto` with its strings.
+/// The operation of a `fileinto`.
 fn fileinto_op(
     alloc: Global,
     mailbox: Parts,
     settings: Settings,
     line: u64,
-) -> Result<CommandOp, AllocError>
-    ensures leaf { IfOk result (λ op. command_op_as op ≡ fileinto_leaf (parts_of mailbox) (settings_as settings)) }
-    ensures line { IfOk result (λ op. line_of op ≡ line) }
+) -> Result<Op, AllocError>
+    ensures { IfOk result (λ op. op_as op ≡ act_op (fileinto_leaf mailbox (settings_as settings)) line) }
 {
     let settings = settings_op(alloc, settings)?;
-    Ok(CommandOp::Fileinto(Box::new(
-        alloc,
-        FileintoOp {
-            line,
-            mailbox,
-            settings,
-        },
-    )?))
+    let command = CommandOp::Fileinto {
+        line,
+        mailbox,
+        settings,
+    };
+    command_op(alloc, command)
 }
 
-/// A `redirect` with its strings.
+/// The operation of a `redirect`.
 fn redirect_op(
     alloc: Global,
     address: Parts,
     settings: Settings,
     line: u64,
-) -> Result<CommandOp, AllocError>
-    ensures leaf { IfOk result (λ op. command_op_as op ≡ redirect_leaf (parts_of address) (settings_as settings)) }
-    ensures line { IfOk result (λ op. line_of op ≡ line) }
+) -> Result<Op, AllocError>
+    ensures { IfOk result (λ op. op_as op ≡ act_op (redirect_leaf address (settings_as settings)) line) }
 {
     let settings = settings_op(alloc, settings)?;
-    Ok(CommandOp::Redirect(Box::new(
-        alloc,
-        RedirectOp {
-            line,
-            address,
-            settings,
-        },
-    )?))
-}
-
-/// A `set` with its strings.
-fn set_op(
-    alloc: Global,
-    variable: Variable,
-    modifiers: Modifiers,
-    value: Parts,
-    line: u64,
-) -> Result<CommandOp, AllocError>
-    ensures leaf { IfOk result (λ op. command_op_as op ≡ set_leaf (variable_of variable) modifiers (parts_of value)) }
-    ensures line { IfOk result (λ op. line_of op ≡ line) }
-{
-    let op = SetOp {
+    let command = CommandOp::Redirect {
         line,
-        variable,
-        modifiers,
-        value,
+        address,
+        settings,
     };
-    Ok(CommandOp::Set(Box::new(alloc, op)?))
+    command_op(alloc, command)
 }
 
-/// A command that changes flags.
+/// The operation of a command that changes flags.
 fn flags_op(
     alloc: Global,
     change: FlagChange,
     variable: Option<Variable>,
     flags: Vec<Text>,
     line: u64,
-) -> Result<CommandOp, AllocError>
-    ensures leaf { IfOk result (λ op. command_op_as op ≡ flag_leaf change (option_map variable_of variable) (texts_as flags.items)) }
-    ensures line { IfOk result (λ op. line_of op ≡ line) }
+) -> Result<Op, AllocError>
+    ensures { IfOk result (λ op. op_as op ≡ act_op (flag_leaf change variable (texts_as flags.items)) line) }
 {
-    let flags = strings_of(alloc, flags)?;
-    let op = FlagsOp {
-        line,
+    let flags = boxed_strings(alloc, flags)?;
+    let command = CommandOp::Flags {
         change,
+        line,
         variable,
         flags,
     };
-    Ok(CommandOp::Flags(Box::new(alloc, op)?))
+    command_op(alloc, command)
 }
 
-/// An `include` with its name.
-fn include_op(
-    alloc: Global,
-    place: Place,
-    once: bool,
-    optional: bool,
-    name: SmallOctets,
-    line: u64,
-) -> Result<CommandOp, AllocError>
-    ensures leaf { IfOk result (λ op. command_op_as op ≡ include_leaf place once optional name.items) }
-    ensures line { IfOk result (λ op. line_of op ≡ line) }
-{
-    let op = IncludeOp {
-        line,
-        place,
-        once,
-        optional,
-        name,
-    };
-    Ok(CommandOp::Include(Box::new(alloc, op)?))
-}
-
-/// What a command of a line does.
-pub(crate) fn command_op(alloc: Global, leaf: Leaf, line: u64) -> Result<CommandOp, AllocError>
-    ensures leaf { IfOk result (λ op. command_op_as op ≡ leaf_as leaf) }
-    ensures line { IfOk result (λ op. line_of op ≡ line) }
+/// The operation of a command of a line that acts.
+pub(crate) fn act_op(alloc: Global, leaf: Leaf, line: u64) -> Result<Op, AllocError>
+    ensures { IfOk result (λ op. op_as op ≡ act_op (leaf_as leaf) line) }
 {
     match leaf {
         Leaf::Keep { settings } => keep_op(alloc, settings, line),
         Leaf::Fileinto { mailbox, settings } => fileinto_op(alloc, mailbox, settings, line),
         Leaf::Redirect { address, settings } => redirect_op(alloc, address, settings, line),
-        Leaf::Discard => Ok(CommandOp::Discard { line }),
+        Leaf::Discard => Ok(Op::Discard { line }),
         Leaf::Set {
             variable,
             modifiers,
             value,
-        } => set_op(alloc, variable, modifiers, value, line),
+        } => {
+            let command = CommandOp::Set {
+                modifiers,
+                line,
+                variable,
+                value,
+            };
+            command_op(alloc, command)
+        }
         Leaf::Flags {
             change,
             variable,
@@ -249,6 +220,15 @@ pub(crate) fn command_op(alloc: Global, leaf: Leaf, line: u64) -> Result<Command
             once,
             optional,
             name,
-        } => include_op(alloc, place, once, optional, name, line),
+        } => {
+            let command = CommandOp::Include {
+                place,
+                once,
+                optional,
+                line,
+                name,
+            };
+            command_op(alloc, command)
+        }
     }
 }

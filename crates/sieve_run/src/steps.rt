@@ -112,6 +112,14 @@ fn carry_out<L: Library>(
         Op::Jump(target) => Ok(proceed(register, *target)),
         Op::JumpIfFalse(target) => Ok(proceed(register, chosen(register, behind, *target))),
         Op::JumpIfTrue(target) => Ok(proceed(register, chosen(register, *target, behind))),
+        Op::Keep { line } => {
+            let flow = keep(delivery, &SettingsOp { said: None }, *line, state);
+            acted(flow, behind, register)
+        }
+        Op::Discard { line } => {
+            let flow = discard(delivery, *line, state);
+            acted(flow, behind, register)
+        }
         Op::Command(command) => {
             let flow = act(lib, depth, delivery, command, fields, state);
             acted(flow, behind, register)
@@ -137,25 +145,43 @@ fn act<L: Library>(
 {
     let line = command.line();
     match command {
-        CommandOp::Keep { .. } => keep(delivery, &SettingsOp { said: None }, line, state),
-        CommandOp::KeepWith(op) => keep(delivery, &op.settings, line, state),
-        CommandOp::Fileinto(op) => file_into(delivery, &op.mailbox, &op.settings, line, state),
-        CommandOp::Redirect(op) => redirect(delivery, &op.address, &op.settings, line, state),
-        CommandOp::Discard { .. } => discard(delivery, line, state),
-        CommandOp::Set(op) => set(delivery, &op.variable, op.modifiers, &op.value, line, state),
-        CommandOp::Flags(op) => change(delivery, op.change, &op.variable, &op.flags, line, state),
-        CommandOp::Include(op) => {
+        CommandOp::Keep { settings, .. } => keep(delivery, settings, line, state),
+        CommandOp::Fileinto {
+            mailbox, settings, ..
+        } => file_into(delivery, mailbox.as_slice(), settings, line, state),
+        CommandOp::Redirect {
+            address, settings, ..
+        } => redirect(delivery, address.as_slice(), settings, line, state),
+        CommandOp::Set {
+            modifiers,
+            variable,
+            value,
+            ..
+        } => set(delivery, variable, *modifiers, value.as_slice(), line, state),
+        CommandOp::Flags {
+            change: how,
+            variable,
+            flags,
+            ..
+        } => change(delivery, *how, variable, flags.as_slice(), line, state),
+        CommandOp::Include {
+            place,
+            once,
+            optional,
+            name,
+            ..
+        } => {
             let name = ScriptName {
-                place: op.place,
-                name: Octets::copied(delivery.alloc, &op.name)?,
+                place: *place,
+                name: Octets::copied(delivery.alloc, name.plain_octets())?,
             };
             include(
                 lib,
                 depth,
                 delivery,
                 &name,
-                op.once,
-                op.optional,
+                *once,
+                *optional,
                 line,
                 fields,
                 state,

@@ -126,8 +126,8 @@ fn a_sound_script_has_its_tree(rt: HostRuntime) -> Result<(), Fail> {
 
 fn check_text(rt: &impl Abort, text: &Text, octets: &[u8], line: u64) {
     match text.string.as_slice() {
-        [Part::Literal(literal)] => {
-            same(rt, "a literal", literal.as_slice(), octets);
+        [part] => {
+            same(rt, "a literal", part.plain_octets(), octets);
             holds(rt, "its line", text.line == line);
         }
         _ => panic!(rt; "another tree"),

@@ -3,7 +3,6 @@ use Rattle.sieve_reading.specs.Reading as reading
 use Rattle.sieve_reading.specs.view.Reading.{command_reading_as, leaf_as}
 use Rattle.sieve_reading.specs.view.Tree.{block_of, node_of, tests_of}
 use Rattle.sieve_syntax.specs.declared.tree.Command.{out-Command}
-use Rattle.sieve_effects.specs.view.Ops.{line_of}
 use Rattle.sieve_code.specs.Choice.{Tail, block_before, first_before, no_branch}
 use Rattle.sieve_code.specs.Operation.{act_op, jump_if_op}
 use Rattle.sieve_code.specs.view.Branches.{block_at, branch_at, branches_as, last}
@@ -98,8 +97,7 @@ put_command-returns-in-Some-Act-clause-value t c =
     let b = branches_as c.args.front c.args.tail.now in
     let leaf = leaf_as c.in-Some-Act.leaf in
     fronts_along _ _ _ _
-    (ap (λ kept. no_branch (act_op kept (line_of c.in_ok-op-in-Some-Act.op) ∷ b.behind_branches)) c.in_ok-op-in-Some-Act.ensures.leaf
-    ∙ ap (λ line. no_branch (act_op leaf line ∷ b.behind_branches)) (c.in_ok-op-in-Some-Act.ensures.line ∙ sym (line_seen c.args.command))
+    (ap (λ op. no_branch (op ∷ b.behind_branches)) (c.in_ok-op-in-Some-Act.ensures ∙ ap (act_op leaf) (sym (line_seen c.args.command)))
     ∙ command_put (node_of c.args.command) (Some (reading.reads_act leaf)) b
     (ap (λ r. Some (command_reading_as r)) (sym c.in-Some-Act.field-0-is) ∙ c.in-Some-Act.ensures ∙ reading_seen c.args.command c.deref.result.now c.deref.ensures))
     c.put_alone.ensures.value

@@ -7,4 +7,4 @@ pub returns-in_err-write_string : goal.returns-in_err-write_string
 unfolding marked_string
 returns-in_err-write_string g c =
     writes_failed _ _ _ _ _ _ c.from_residual.ensures.0 (wrote_items_then_front_at _ _ _ _ _ marked_string c.args.strings.now c.loop-string.string-index _ c.string-item.result c.loop-string-test.true
-    c.string-item.is c.loop-string.invariant (rw c.deref.ensures at c.in_err-write_string.ensures))
+    c.string-item.is c.loop-string.invariant (rw c.as_slice.ensures at c.in_err-write_string.ensures))
