@@ -90,7 +90,7 @@ act-returns-in-Flags-clause-ending g t c =
     let find : ScriptName → Lookup = library_of (g.L.Library.texts c.args.lib.now) in
     let d = delivery_as c.args.delivery.now in
     does_at c.change.result (state_of c.change.new.state) (act_of find c.args.depth d) (flag_leaf c.in-Flags.how c.in-Flags.variable c.as_slice-in-Flags.result.now) (command_op_as c.args.command.now) c.line-line.result (line_of c.args.command.now) (state_of c.args.state.now) c.line-line.ensures
-    (rw (c.as_slice-in-Flags.ensures.value, c.deref.ensures) (ap command_op_as (sym c.in-Flags.is)))
+    (rw (c.as_slice-in-Flags.ensures, c.deref.ensures) (ap command_op_as (sym c.in-Flags.is)))
     c.change.ensures
 
 pub act-returns-in_ok-copied-in-Include-clause-ending : goal.act-returns-in_ok-copied-in-Include-clause-ending
