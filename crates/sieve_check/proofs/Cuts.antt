@@ -2,7 +2,7 @@
 use Rattle.std.proofs.Common.{◌≡◌, ℕ, Option, Some, List, [], ◌∷◌, map, refl, ap, sym, ◌∙◌}
 use Rattle.sieve_syntax.specs.Tree as syntax
 use Rattle.sieve_syntax.specs.view.Tree as seen
-use Rattle.sieve_syntax.specs.view.TreeOf.{parts_of}
+use Rattle.sieve_syntax.specs.view.TreeOf.{as_parts}
 use Rattle.sieve_check.specs.Parted.{Cutting, command_labels, declaring_command, parted_argument, parted_block, parted_labelled, parted_node, parted_nodes, parted_test, parted_test_list, parted_tests}
 use Rattle.sieve_check.specs.Scope.{declaring_argument, declaring_arguments}
 use Rattle.sieve_reading.specs.Label.{Expected, expected_behind, label_at, labels_from}
@@ -63,14 +63,14 @@ first_declares tags before behind names new x rest old all role is next was made
 -- one test that is cut is the tests cut
 pub one_cut : (cutting : Cutting) (old new : Box one_tests.Test Global) (whole : test_variants.the_data) (x : one_tests.Test) → whole ≡ test_variants.One old → x ≡ old.value → test_of new.value ≡ parted_test cutting (seen.test_of x) → tests_of (test_variants.One new) ≡ parted_tests cutting (seen.tests_of whole)
 one_cut cutting old new whole x is same made =
-    views.one_seen parts_of new
+    views.one_seen as_parts new
     ∙ ap one_test (made ∙ ap (λ t. parted_test cutting (seen.test_of t)) same)
     ∙ sym (ap (parted_tests cutting) (ap seen.tests_of is ∙ views.one_seen seen.octets_of old))
 
 -- a list of tests that are cut is the list cut
 pub list_cut : (cutting : Cutting) (new : Vec one_tests.Test Global) (ts : Vec one_tests.Test Global) (xs : List one_tests.Test) (whole : test_variants.the_data) → whole ≡ test_variants.List ts → xs ≡ ts.items → map test_of new.items ≡ map (parted_test cutting) (map seen.test_of xs) → tests_of (test_variants.List new) ≡ parted_tests cutting (seen.tests_of whole)
 list_cut cutting new ts xs whole is same e =
-    views.list_seen parts_of new
+    views.list_seen as_parts new
     ∙ ap (λ list. test_list (tests list)) (e ∙ ap (λ l. map (parted_test cutting) (map seen.test_of l)) same)
     ∙ sym (ap (λ list. test_list list) (test_list_parted cutting (map seen.test_of ts.items)))
     ∙ sym (ap (parted_tests cutting) (ap seen.tests_of is ∙ views.list_seen seen.octets_of ts))
@@ -96,7 +96,7 @@ command_cut cutting within args ts cut whole inner a t b w e =
     ap nodes e ∙ nodes-items (parted_nodes within (syntax.nodes (map seen.node_of inner.items)))
     ∙ ap (λ c. parted_nodes c (syntax.nodes (map seen.node_of inner.items))) w in
     ap (λ r. node_of (command_views.roll-Command (record r { block = Some cut }))) rolled
-    ∙ views.seen parts_of o.name o.line args ts (Some cut)
+    ∙ views.seen as_parts o.name o.line args ts (Some cut)
     ∙ ap (λ x. node name o.line x (tests_of ts) (block (nodes (map node_of cut.items)))) a
     ∙ ap (λ x. node name o.line (parted_args cutting name (map seen.argument_of o.args.items)) x (block (nodes (map node_of cut.items)))) t
     ∙ ap (λ x. node name o.line (parted_args cutting name (map seen.argument_of o.args.items)) (parted_tests cutting (seen.tests_of o.tests)) (block x)) made

@@ -17,6 +17,8 @@ mod validator;
 pub use checked::Checked;
 pub use judged::{FaultKind, JudgeFault, Judged, judge};
 pub use sieve_base::SmallOctets;
-pub use sieve_reading::{Argument, Command, Part, Parts, Test, Tests, Text, Variable};
+pub use sieve_reading::{
+    Argument, Command, Part, PartRef, Parts, Test, Tests, Text, Variable, VariableRef,
+};
 pub use sieve_table::Rule;
 pub use validator::{CheckFault, check};

@@ -10,7 +10,7 @@ use Rattle.sieve_reading.specs.CommandReading.{command_reading, command_reading_
 use Rattle.sieve_reading.specs.TestReading.{test_reading, test_reading_by}
 use Rattle.sieve_table.specs.Table.{command_named, test_named}
 use Rattle.sieve_reading.specs.Tree.{TestList, test_list, tests, Node, node, block, nodes}
-use Rattle.sieve_syntax.specs.view.TreeOf.{parts_of}
+use Rattle.sieve_syntax.specs.view.TreeOf.{as_parts}
 use Rattle.sieve_reading.specs.view.Tree.{argument_of, block_of, node_of, test_of, tests_of}
 use Rattle.sieve_syntax.specs.declared.tree.Command as commands
 use Rattle.sieve_syntax.specs.declared.tree.Command.TheViews as command_views
@@ -104,40 +104,40 @@ all_kept xs count le = let none : length xs - count ≡ 0 = omega arith in ap (�
 
 pub first_none : (ts : test_variants.the_data) (behind : Tail) → ts ≡ test_variants.None → set_op false ∷ behind ≡ first_before (tests_of ts) behind
 unfolding first_before
-first_none ts behind is = sym (ap (λ x. first_before x behind) (seen_none parts_of ts is))
+first_none ts behind is = sym (ap (λ x. first_before x behind) (seen_none as_parts ts is))
 
 pub first_one : (ts : test_variants.the_data) (b : Box one_tests.Test Global) (t : one_tests.Test) (behind : Tail) → ts ≡ test_variants.One b → t ≡ b.value → test_before (test_of t) behind ≡ first_before (tests_of ts) behind
 unfolding first_before
-first_one ts b t behind is same = sym (ap (λ x. first_before x behind) (seen_one parts_of ts b t is same))
+first_one ts b t behind is same = sym (ap (λ x. first_before x behind) (seen_one as_parts ts b t is same))
 
 pub all_none : (truth : Bool) (ts : test_variants.the_data) (behind : Tail) → ts ≡ test_variants.None → set_op (not truth) ∷ behind ≡ tests_before truth (tests_of ts) behind
 unfolding tests_before
-all_none truth ts behind is = sym (ap (λ x. tests_before truth x behind) (seen_none parts_of ts is))
+all_none truth ts behind is = sym (ap (λ x. tests_before truth x behind) (seen_none as_parts ts is))
 
 pub all_one : (truth : Bool) (ts : test_variants.the_data) (b : Box one_tests.Test Global) (t : one_tests.Test) (behind : Tail) → ts ≡ test_variants.One b → t ≡ b.value → test_before (test_of t) behind ≡ tests_before truth (tests_of ts) behind
 unfolding tests_before
-all_one truth ts b t behind is same = sym (ap (λ x. tests_before truth x behind) (seen_one parts_of ts b t is same))
+all_one truth ts b t behind is same = sym (ap (λ x. tests_before truth x behind) (seen_one as_parts ts b t is same))
 
 pub all_list : (truth : Bool) (ts : test_variants.the_data) (v : Vec one_tests.Test Global) (behind : Tail) → ts ≡ test_variants.List v → tests_before truth (test_list (tests (map test_of v.items))) behind ≡ tests_before truth (tests_of ts) behind
-all_list truth ts v behind is = sym (ap (λ x. tests_before truth x behind) (seen_list parts_of ts v v.items is refl))
+all_list truth ts v behind is = sym (ap (λ x. tests_before truth x behind) (seen_list as_parts ts v v.items is refl))
 
 pub first_empty : (ts : test_variants.the_data) (v : Vec one_tests.Test Global) (behind : Tail) → ts ≡ test_variants.List v → v.items ≡ [] → set_op false ∷ behind ≡ first_before (tests_of ts) behind
 unfolding first_before
-first_empty ts v behind is none = sym (ap (λ x. first_before x behind) (seen_list parts_of ts v [] is (sym none)))
+first_empty ts v behind is none = sym (ap (λ x. first_before x behind) (seen_list as_parts ts v [] is (sym none)))
 
 pub first_listed : (ts : test_variants.the_data) (v : Vec one_tests.Test Global) (t : one_tests.Test) (rest : List one_tests.Test) (behind : Tail) → ts ≡ test_variants.List v → v.items ≡ t ∷ rest → test_before (test_of t) behind ≡ first_before (tests_of ts) behind
 unfolding first_before
-first_listed ts v t rest behind is first = sym (ap (λ x. first_before x behind) (seen_list parts_of ts v (t ∷ rest) is (sym first)))
+first_listed ts v t rest behind is first = sym (ap (λ x. first_before x behind) (seen_list as_parts ts v (t ∷ rest) is (sym first)))
 
 -- what is read by a test's name and arguments is read of the test
 pub test_seen : (t : one_tests.Test) (name : List ℕ) → name ≡ t.name.items → test_reading_by (test_named name) (map argument_of t.args.items) ≡ test_reading (test_of t)
-test_seen t name is = ap (λ n. test_reading_by (test_named n) (map argument_of t.args.items)) is ∙ sym (ap test_reading (seen_test parts_of t))
+test_seen t name is = ap (λ n. test_reading_by (test_named n) (map argument_of t.args.items)) is ∙ sym (ap test_reading (seen_test as_parts t))
 
 pub test_put : (t : one_tests.Test) (r : Option TestReading) (behind : Tail) → r ≡ test_reading (test_of t) → reading_before r (tests_before false (tests_of t.tests)) (tests_before true (tests_of t.tests)) (first_before (tests_of t.tests)) behind ≡ test_before (test_of t) behind
 unfolding test_before
 test_put t r behind is =
-    ap (λ x. reading_before x (tests_before false (tests_of t.tests)) (tests_before true (tests_of t.tests)) (first_before (tests_of t.tests)) behind) (is ∙ ap test_reading (seen_test parts_of t))
-    ∙ sym (ap (λ x. test_before x behind) (seen_test parts_of t))
+    ap (λ x. reading_before x (tests_before false (tests_of t.tests)) (tests_before true (tests_of t.tests)) (first_before (tests_of t.tests)) behind) (is ∙ ap test_reading (seen_test as_parts t))
+    ∙ sym (ap (λ x. test_before x behind) (seen_test as_parts t))
 
 -- LISTS OF TESTS
 
@@ -247,19 +247,19 @@ command_put n r b is = ap (λ x. command_before x (line_at n) (first_at n) (bloc
 -- the line, the first test and the block of a command are those of its node
 pub line_seen : (c : commands.Command) → line_at (node_of c) ≡ (command_views.out-Command c).line
 unfolding line_at
-line_seen c = ap line_at (seen_command parts_of c)
+line_seen c = ap line_at (seen_command as_parts c)
 
 pub branch_seen : (c : commands.Command) (b : Branches) → let o = command_views.out-Command c in branch_before (first_before (tests_of o.tests)) (block_before (block_of o.block)) b ≡ branch_at (node_of c) b
-branch_seen c b = sym (ap (λ n. branch_at n b) (seen_command parts_of c))
+branch_seen c b = sym (ap (λ n. branch_at n b) (seen_command as_parts c))
 
 pub block_seen : (c : commands.Command) (behind : Tail) → block_before (block_of (command_views.out-Command c).block) behind ≡ block_at (node_of c) behind
-block_seen c behind = sym (ap (λ n. block_at n behind) (seen_command parts_of c))
+block_seen c behind = sym (ap (λ n. block_at n behind) (seen_command as_parts c))
 
 -- what is read by a command's name and arguments is read of its node
 pub reading_seen : (c : commands.Command) (name : List ℕ) → let o = command_views.out-Command c in name ≡ o.name.items → command_reading_by (command_named name) (map argument_of o.args.items) ≡ command_reading (node_of c)
 reading_seen c name is =
     let args = map argument_of (command_views.out-Command c).args.items in
-    ap (λ n. command_reading_by (command_named n) args) is ∙ sym (ap command_reading (seen_command parts_of c))
+    ap (λ n. command_reading_by (command_named n) args) is ∙ sym (ap command_reading (seen_command as_parts c))
 
 abbrev pub block_on : List commands.Command → Tail → Tail
 block_on list = block_before (block (nodes (map node_of list)))

@@ -290,6 +290,6 @@ pub(crate) fn write_command<W: Sink>(command: &CommandOp, writer: &mut W) -> Res
             optional,
             name,
             ..
-        } => write_include(*place, *once, *optional, name.plain_octets(), writer),
+        } => write_include(*place, *once, *optional, name.as_slice(), writer),
     }
 }

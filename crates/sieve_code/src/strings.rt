@@ -24,7 +24,7 @@ fn strings_of(alloc: Global, texts: Vec<Text>) -> Result<Strings, AllocError>
     Ok(strings)
 }
 
-/// Names of fields.
+/// Names of fields, behind a pointer.
 fn field_names(alloc: Global, names: Vec<Text>) -> Result<Box<FieldNames>, AllocError>
     ensures { IfOk result (λ kept. kept.value ≡ texts_as names.items) }
 {

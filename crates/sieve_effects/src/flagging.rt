@@ -1,6 +1,5 @@
 //! What commands do with flags (RFC 5232, sections 3 and 5).
 ghost use Rattle.std.specs.Prelude.{◌≡◌, IfOk, OnOk, Some, None, map};
-ghost use Rattle.std.specs.Option.{option_map};
 ghost use Rattle.match_text.specs.Flags.{flag_list, flag_union, flags_of_texts, flags_without};
 ghost use Rattle.sieve_effects.specs.Act.{changed_flags, changes, flags_named, held_flags};
 ghost use Rattle.sieve_effects.specs.view.Delivery.{delivery_as};

@@ -9,7 +9,7 @@ use match_text::Collation;
 use message_text::AddressPart;
 use sieve_base::Place;
 use sieve_reading::{FlagChange, MatchType};
-use sieve_variables::{Modifiers, Part, Parts, Strings, Variable};
+use sieve_variables::{Literal, Modifiers, Parts, Strings, Variable};
 use std::mem::size_of;
 
 /// Where a test takes values from.
@@ -181,8 +181,8 @@ pub enum CommandOp {
         optional: bool,
         /// The command's line.
         line: u64,
-        /// The script's name, which is a literal.
-        name: Part,
+        /// The script's name.
+        name: Literal,
     },
 }
 

@@ -7,7 +7,6 @@ ghost use Rattle.match_text.specs.Comparator.{collation_named};
 ghost use Rattle.sieve_reading.specs.view.Reading.{texts_as};
 ghost use Rattle.sieve_reading.specs.Tree.{strings};
 ghost use Rattle.sieve_reading.specs.view.Tree.{argument_of, text_of};
-ghost use Rattle.sieve_variables.specs.view.Part.{plain_octets};
 
 use crate::labelled::has_tag;
 use crate::reading::MatchType;
@@ -15,7 +14,7 @@ use match_text::{Collation, collation_named};
 use message_text::AddressPart;
 use sieve_syntax::{Argument, Text};
 use sieve_table::{Row, Tag};
-use sieve_variables::{Part, PartRef, Parts, Variable};
+use sieve_variables::{Literal, Part, PartRef, Parts, Variable};
 
 /// The strings of an argument.
 pub(crate) fn texts_in(argument: Option<Argument>) -> Option<Vec<Text>>
@@ -123,20 +122,18 @@ pub(crate) fn literal_in(argument: Option<&Argument>) -> Option<&[u8]>
 }
 
 /// The one literal that parts are.
-fn into_literal(parts: Parts) -> Option<Part>
-    ensures { option_map plain_octets result ≡ spec.literal_in_parts parts }
+fn into_literal(parts: Parts) -> Option<Literal>
+    ensures { result ≡ spec.literal_in_parts parts }
 {
-    let part = parts.into_one()?;
-    if matches!(part.as_ref(), PartRef::Literal(_)) {
-        Some(part)
-    } else {
-        None
+    match parts.into_one() {
+        Some(part) => part.into_literal(),
+        None => None,
     }
 }
 
 /// The literal that an argument is that is one string, which stands for itself.
-pub(crate) fn name_in(argument: Option<Argument>) -> Option<Part>
-    ensures { option_map plain_octets result ≡ spec.literal_in (option_map argument_of argument) }
+pub(crate) fn name_in(argument: Option<Argument>) -> Option<Literal>
+    ensures { result ≡ spec.literal_in (option_map argument_of argument) }
 {
     match text_in(argument) {
         Some(parts) => into_literal(parts),

@@ -23,5 +23,7 @@ pub use shape::{AsOctets, AsParts, StringView, row_expected, row_is_filled, row_
 pub use sieve_base::Place;
 pub use sieve_syntax::{Argument, Command, Test, Tests, Text};
 pub use sieve_table::{CommandKind, TestKind};
-pub use sieve_variables::{LetterCase, Modifiers, Part, Parts, Variable};
+pub use sieve_variables::{
+    LetterCase, Literal, Modifiers, Part, PartRef, Parts, Variable, VariableRef,
+};
 pub use test_reading::read_test;

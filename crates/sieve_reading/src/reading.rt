@@ -5,7 +5,7 @@ use match_text::Collation;
 use message_text::AddressPart;
 use sieve_base::Place;
 use sieve_syntax::Text;
-use sieve_variables::{Modifiers, Part, Parts, Variable};
+use sieve_variables::{Literal, Modifiers, Parts, Variable};
 
 /// How a test compares values with keys (RFC 5228, section 2.7.1).
 #[derive(Clone, Copy, PartialEq, Eq)]
@@ -170,8 +170,8 @@ pub enum Leaf {
         once: bool,
         /// Whether the script may be missing.
         optional: bool,
-        /// The script's name, which is a literal.
-        name: Part,
+        /// The script's name.
+        name: Literal,
     },
 }
 

@@ -39,12 +39,12 @@ impl StringView for AsOctets {
 
 impl StringView for AsParts {
     ghost use Rattle.std.specs.Prelude.{List};
-    ghost use Rattle.sieve_syntax.specs.view.TreeOf.{parts_of};
+    ghost use Rattle.sieve_syntax.specs.view.TreeOf.{as_parts};
     ghost use Rattle.sieve_variables.specs.Part.{Part};
 
     ghost Seen = { List Part };
 
-    ghost seen = { parts_of };
+    ghost seen = { as_parts };
 }
 
 /// One string without brackets, or a list.

@@ -147,17 +147,28 @@ fn act<L: Library>(
     match command {
         CommandOp::Keep { settings, .. } => keep(delivery, settings, line, state),
         CommandOp::Fileinto {
-            mailbox, settings, ..
+            mailbox,
+            settings,
+            ..
         } => file_into(delivery, mailbox.as_slice(), settings, line, state),
         CommandOp::Redirect {
-            address, settings, ..
+            address,
+            settings,
+            ..
         } => redirect(delivery, address.as_slice(), settings, line, state),
         CommandOp::Set {
             modifiers,
             variable,
             value,
             ..
-        } => set(delivery, variable, *modifiers, value.as_slice(), line, state),
+        } => set(
+            delivery,
+            variable,
+            *modifiers,
+            value.as_slice(),
+            line,
+            state,
+        ),
         CommandOp::Flags {
             change: how,
             variable,
@@ -173,18 +184,10 @@ fn act<L: Library>(
         } => {
             let name = ScriptName {
                 place: *place,
-                name: Octets::copied(delivery.alloc, name.plain_octets())?,
+                name: Octets::copied(delivery.alloc, name.as_slice())?,
             };
             include(
-                lib,
-                depth,
-                delivery,
-                &name,
-                *once,
-                *optional,
-                line,
-                fields,
-                state,
+                lib, depth, delivery, &name, *once, *optional, line, fields, state,
             )
         }
     }

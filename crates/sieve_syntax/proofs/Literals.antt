@@ -6,7 +6,7 @@ use Rattle.sieve_syntax.specs.Tree.{Node}
 use Rattle.sieve_syntax.specs.view.Literals.{IsOneLiteral, SeesLiterals, View}
 use Rattle.sieve_syntax.specs.view.Parsed.{ParsesAs}
 use Rattle.sieve_syntax.specs.view.Tree.{octets_of}
-use Rattle.sieve_syntax.specs.view.TreeOf.{node_of, nodes_of, parts_of}
+use Rattle.sieve_syntax.specs.view.TreeOf.{node_of, nodes_of, as_parts}
 use Rattle.sieve_variables.specs.Part.{Part, literal, variable_part, match_part}
 use Rattle.sieve_syntax.specs.declared.parser.SyntaxFault.{SyntaxFault}
 use Rattle.sieve_syntax.specs.declared.tree.ParsedScript as scripts
@@ -38,10 +38,10 @@ seen_alike (variable_part variable ∷ parts) e = cc
 seen_alike (match_part index ∷ parts) e = cc
 
 -- where each view that sees literals sees one tree, each string of it is one literal
-pub each_literal : (r : Result scripts.ParsedScript SyntaxFault) (meaning : Result (List Node) ℕ) → ((view : View) → SeesLiterals view → ParsesAs view r meaning) → IfOk r (λ script. EachString IsOneLiteral (nodes_of parts_of script))
+pub each_literal : (r : Result scripts.ParsedScript SyntaxFault) (meaning : Result (List Node) ℕ) → ((view : View) → SeesLiterals view → ParsesAs view r meaning) → IfOk r (λ script. EachString IsOneLiteral (nodes_of as_parts script))
 each_literal (Ok script) meaning h =
     let some = h (view_or []) (view_or_sees []) in
     let others = h (view_or (0 ∷ [])) (view_or_sees (0 ∷ [])) in
     let same : map (node_of (view_or [])) script.commands.items ≡ map (node_of (view_or (0 ∷ []))) script.commands.items = cc in
-    in_commands (view_or []) (view_or (0 ∷ [])) parts_of IsOneLiteral seen_alike script.commands.items same
+    in_commands (view_or []) (view_or (0 ∷ [])) as_parts IsOneLiteral seen_alike script.commands.items same
 each_literal (Err fault) meaning h = tt

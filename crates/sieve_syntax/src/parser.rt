@@ -64,7 +64,7 @@ pub fn parse(alloc: Global, text: &[u8]) -> Result<ParsedScript, SyntaxFault>
     // The tree or the line is what `syntax_of` says.
     ensures exact { Parses result (syntax_of text.now) }
     // Each string of the tree is one literal.
-    ensures literal { IfOk result (λ script. EachString IsOneLiteral (by.nodes_of by.parts_of script)) }
+    ensures literal { IfOk result (λ script. EachString IsOneLiteral (by.nodes_of by.as_parts script)) }
 {
     if text.len() > MAX_TEXT {
         return Err(SyntaxFault::TooLarge);

@@ -3,7 +3,7 @@ ghost use Rattle.std.specs.Prelude.{◌≡◌, ◌<◌, ◌≤◌, ◌++◌, ◌
 
 use std::marker::Model;
 
-/// How many octets are few.
+/// How many octets are few: two words hold them beside their count, a label of two octets and one that says which they are.
 pub(crate) const FEW: usize = 12;
 
 /// At most twelve octets. Contracts see them.
@@ -24,7 +24,7 @@ impl Model for Few {
 }
 
 impl Few {
-    /// None.
+    /// No octets.
     pub(crate) fn new() -> Few
         ensures { result ≡ [] }
     {

@@ -1,5 +1,5 @@
-//! Octets with a label, in two words.
-ghost use Rattle.std.specs.Prelude.{◌≡◌, [], IfOk};
+//! Octets with a label: in two words, where the label has two octets at most.
+ghost use Rattle.std.specs.Prelude.{◌≡◌, ◌≤◌, [], IfOk, IsOk, length};
 
 use crate::few::{FEW, Few};
 use sieve_base::SmallOctets;
@@ -49,7 +49,8 @@ impl<L: Copy> Labelled<L> {
         label: L,
         octets: SmallOctets,
     ) -> Result<Labelled<L>, AllocError>
-        ensures { IfOk result (λ labelled. labelled ≡ record { label = label; octets = octets.items }) }
+        ensures ok { IfOk result (λ labelled. labelled ≡ record { label = label; octets = octets.items }) }
+        ensures few { length octets.items ≤ 12 → IsOk result }
     {
         let word = if octets.len() <= FEW {
             Word::Few {

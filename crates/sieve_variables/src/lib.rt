@@ -17,7 +17,7 @@ mod variables;
 
 pub use modifier::{LetterCase, Modifiers};
 pub use name::{folded, is_global_name, is_identifier};
-pub use part::{Part, PartRef};
+pub use part::{Literal, Part, PartRef};
 pub use parts::{Parts, Strings, scoped_parts};
 pub use references::{References, parts_of_text, references_in};
 pub use values::{Own, Values};

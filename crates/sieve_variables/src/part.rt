@@ -1,7 +1,7 @@
 //! The parts of strings (RFC 5229, section 3).
-ghost use Rattle.std.specs.Prelude.{◌≡◌, [], IfOk};
+ghost use Rattle.std.specs.Prelude.{◌≡◌, ◌≤◌, [], IfOk, IsOk, length};
 ghost use Rattle.sieve_variables.specs.Part.{literal, match_part, scoped_part, variable_part};
-ghost use Rattle.sieve_variables.specs.view.Part.{part_ref_as, plain_octets, variable_in};
+ghost use Rattle.sieve_variables.specs.view.Part.{literal_in, part_ref_as, plain_octets, variable_in};
 
 use crate::labelled::Labelled;
 use crate::variable::{Names, Scope, Variable, VariableRef};
@@ -29,7 +29,7 @@ pub struct Part {
     octets: Labelled<PartKind>,
 }
 
-/// A part takes two words. A script can have one for each four octets of its text.
+/// A part takes two words. A text can have two for each five octets, as `x${a}`.
 const _: () = prove!(size_of::<Part>() == 16);
 
 /// A part of a string that is looked at.
@@ -44,6 +44,29 @@ pub enum PartRef<'a> {
     Match(u8),
 }
 
+/// Octets that stand for themselves. Contracts see them.
+#[derive(Drop)]
+pub struct Literal {
+    octets: Labelled<()>,
+}
+
+impl Model for Literal {
+    ghost use Rattle.std.specs.Prelude.{ℕ, List};
+
+    ghost Value = { List ℕ };
+
+    ghost view = { λ l. l.octets.octets };
+}
+
+impl Literal {
+    /// The octets. Takes no memory.
+    pub fn as_slice(&self) -> &[u8]
+        ensures { result.now ≡ self.now }
+    {
+        self.octets.octets()
+    }
+}
+
 impl Model for Part {
     ghost use Rattle.sieve_variables.specs.Part.{Part};
     ghost use Rattle.sieve_variables.specs.view.Part.{part_of};
@@ -56,7 +79,8 @@ impl Model for Part {
 impl Part {
     /// Octets that stand for themselves. More than twelve take memory.
     pub fn literal(alloc: Global, octets: SmallOctets) -> Result<Part, AllocError>
-        ensures { IfOk result (λ part. part ≡ literal octets.items) }
+        ensures ok { IfOk result (λ part. part ≡ literal octets.items) }
+        ensures few { length octets.items ≤ 12 → IsOk result }
     {
         Ok(Part {
             octets: Labelled::kept(alloc, PartKind::Literal, octets)?,
@@ -115,6 +139,20 @@ impl Part {
             PartRef::Literal(octets) => octets,
             PartRef::Variable(_) => &[],
             PartRef::Match(_) => &[],
+        }
+    }
+
+    /// The octets, where the part stands for itself. Takes no memory.
+    pub fn into_literal(self) -> Option<Literal>
+        ensures { result ≡ literal_in self }
+    {
+        match self.octets.label() {
+            PartKind::Literal => Some(Literal {
+                octets: self.octets.with_label(()),
+            }),
+            PartKind::Local => None,
+            PartKind::Global => None,
+            PartKind::Match(_) => None,
         }
     }
 

@@ -1,5 +1,5 @@
 //! Strings as their parts in order (RFC 5229, section 3).
-ghost use Rattle.std.specs.Prelude.{◌≡◌, ◌∷◌, ◌++◌, [], map, IfOk, OnOk};
+ghost use Rattle.std.specs.Prelude.{◌≡◌, ◌∷◌, ◌++◌, [], map, IfOk, OnErr, OnOk};
 ghost use Rattle.sieve_variables.specs.Part.{scoped_part};
 ghost use Rattle.sieve_variables.specs.view.Parts.{one_part, parts_of};
 
@@ -23,7 +23,7 @@ enum Run {
     Several(Box<Vec<Part>>),
 }
 
-/// The parts of a string. One, as nearly all strings have, takes no memory of its own.
+/// The parts of a string. One, as nearly all strings have, lies in the value itself.
 #[derive(Drop)]
 pub struct Parts {
     run: Run,
@@ -96,19 +96,20 @@ impl Parts {
         }
     }
 
-    /// Adds a part. More than one take memory.
+    /// Adds a part. More than one take memory. An error, which is a lack of it, leaves none.
     pub(crate) fn push(&mut self, alloc: Global, part: Part) -> Result<(), AllocError>
-        ensures { OnOk result (self.new ≡ self.old ++ part ∷ []) }
+        ensures ok { OnOk result (self.new ≡ self.old ++ part ∷ []) }
+        ensures err { OnErr result (self.new ≡ []) }
     {
         let run = mem::replace(&mut self.run, Run::None);
-        self.run = longer(alloc, run, part)?;
+        self.run = with_part(alloc, run, part)?;
         Ok(())
     }
 }
 
 /// Parts and one more.
-fn longer(alloc: Global, run: Run, part: Part) -> Result<Run, AllocError>
-    ensures { IfOk result (λ longer. parts_of longer ≡ parts_of run ++ part ∷ []) }
+fn with_part(alloc: Global, run: Run, part: Part) -> Result<Run, AllocError>
+    ensures { IfOk result (λ more. parts_of more ≡ parts_of run ++ part ∷ []) }
 {
     match run {
         Run::None => Ok(Run::One(part)),

@@ -1,5 +1,5 @@
 //! References to variables in strings (RFC 5229, section 3), and strings as their parts.
-ghost use Rattle.std.specs.Prelude.{◌≡◌, ◌++◌, ◌+◌, ◌<◌, ◌≤◌, [], ◌∷◌, false, IfOk, OnOk, IfSome, MatchOption, length, map};
+ghost use Rattle.std.specs.Prelude.{◌≡◌, ◌++◌, ◌+◌, ◌<◌, ◌≤◌, [], ◌∷◌, false, IfOk, OnOk, IfSome, MatchOption, length};
 ghost use Rattle.std.specs.List.{list_all};
 ghost use Rattle.std.specs.Option.{option_map};
 ghost use Rattle.sieve_variables.specs.Part.{part_of_words};
@@ -7,7 +7,7 @@ ghost use Rattle.sieve_variables.specs.Reference.{is_legal, is_name, reference};
 ghost use Rattle.sieve_variables.specs.Scan as spec;
 ghost use Rattle.sieve_variables.specs.view.Part.{added, literal_part};
 
-use crate::name::{folded, index_of, is_identifier, is_name, is_number, is_shared};
+use crate::name::{index_of, is_identifier, is_name, is_number, is_shared};
 use crate::part::Part;
 use crate::parts::Parts;
 use crate::variable::Variable;

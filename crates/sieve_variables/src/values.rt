@@ -115,11 +115,11 @@ impl Values {
     pub fn variable(&self, variable: &Variable) -> &[u8]
         ensures { result.now ≡ spec.variable_value self.now variable.now }
     {
-        self.held(variable.as_ref())
+        self.variable_text(variable.as_ref())
     }
 
     /// What a variable that is looked at holds.
-    fn held(&self, variable: VariableRef<'_>) -> &[u8]
+    fn variable_text(&self, variable: VariableRef<'_>) -> &[u8]
         ensures { result.now ≡ spec.variable_value self.now (variable_ref_as variable.entry) }
     {
         match variable {
@@ -144,7 +144,7 @@ impl Values {
     {
         match part.as_ref() {
             PartRef::Literal(octets) => octets,
-            PartRef::Variable(variable) => self.held(variable),
+            PartRef::Variable(variable) => self.variable_text(variable),
             PartRef::Match(index) => self.matched_text(usize::from(index)),
         }
     }

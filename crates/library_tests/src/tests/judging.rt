@@ -3,8 +3,8 @@
 use super::{holds, same};
 use sieve_check::{CheckFault, Checked, Rule, check};
 use sieve_reading::{
-    Argument, Ask, Command, CommandKind, CommandReading, Leaf, MatchType, Part, Test, TestReading,
-    Tests, Text, ValueSource, kind_of, read_command, read_test,
+    Argument, Ask, Command, CommandKind, CommandReading, Leaf, MatchType, PartRef, Test,
+    TestReading, Tests, Text, ValueSource, kind_of, read_command, read_test,
 };
 use sieve_syntax::{ParsedScript, parse};
 use std::alloc::Global;
@@ -127,7 +127,10 @@ fn a_sound_script_has_its_tree(rt: HostRuntime) -> Result<(), Fail> {
 fn check_text(rt: &impl Abort, text: &Text, octets: &[u8], line: u64) {
     match text.string.as_slice() {
         [part] => {
-            same(rt, "a literal", part.plain_octets(), octets);
+            match part.as_ref() {
+                PartRef::Literal(literal) => same(rt, "a literal", literal, octets),
+                _ => panic!(rt; "another part"),
+            }
             holds(rt, "its line", text.line == line);
         }
         _ => panic!(rt; "another tree"),

@@ -7,7 +7,6 @@ use Rattle.smallvec.specs.SmallVec.{SmallVec}
 use Rattle.sieve_reading.specs.Reading.{Ask, compares, exists_ask, over_ask, under_ask, Settings, Leaf, keep_leaf, fileinto_leaf, redirect_leaf, set_leaf, flag_leaf, include_leaf}
 use Rattle.sieve_reading.specs.Reading as reading
 use Rattle.sieve_variables.specs.Part.{Part}
-use Rattle.sieve_variables.specs.view.Part.{plain_octets}
 use Rattle.sieve_effects.specs.declared.ops.Said.{Said}
 use Rattle.sieve_effects.specs.declared.ops.SettingsOp.{SettingsOp}
 use Rattle.sieve_effects.specs.declared.ops.SourceOp.{SourceOp}
@@ -47,7 +46,7 @@ command_op_as (command.Fileinto line mailbox settings) = fileinto_leaf mailbox (
 command_op_as (command.Redirect line address settings) = redirect_leaf address (settings_op_as settings)
 command_op_as (command.Set modifiers line variable value) = set_leaf variable modifiers value
 command_op_as (command.Flags change line variable flags) = flag_leaf change variable flags.value.items
-command_op_as (command.Include place once optional line name) = include_leaf place once optional (plain_octets name)
+command_op_as (command.Include place once optional line name) = include_leaf place once optional name
 
 -- the line of a command
 abbrev pub line_of : CommandOp → ℕ

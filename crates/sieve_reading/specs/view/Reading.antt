@@ -4,7 +4,6 @@ use Rattle.std.specs.Option.{option_map}
 use Rattle.sieve_reading.specs.Reading as reading
 use Rattle.sieve_reading.specs.view.Tree.{text_of}
 use Rattle.sieve_variables.specs.Part.{Part}
-use Rattle.sieve_variables.specs.view.Part.{plain_octets}
 use Rattle.sieve_reading.specs.declared.reading.Ask.{Ask}
 use Rattle.sieve_reading.specs.declared.reading.Ask.TheVariants.{Compares, Exists, Over, Under}
 use Rattle.sieve_reading.specs.declared.reading.CommandReading.{CommandReading}
@@ -58,7 +57,7 @@ leaf_as (Redirect address settings) = reading.redirect_leaf address (settings_as
 leaf_as Discard = reading.discard_leaf
 leaf_as (Set variable modifiers value) = reading.set_leaf variable modifiers value
 leaf_as (Flags change variable flags) = reading.flag_leaf change variable (texts_as flags.items)
-leaf_as (Include place once optional name) = reading.include_leaf place once optional (plain_octets name)
+leaf_as (Include place once optional name) = reading.include_leaf place once optional name
 
 abbrev pub command_reading_as : CommandReading → reading.CommandReading
 command_reading_as If = reading.reads_if

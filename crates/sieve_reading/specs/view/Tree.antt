@@ -11,19 +11,19 @@ use Rattle.sieve_syntax.specs.declared.tree.Text as texts
 use Rattle.sieve_syntax.specs.view.TreeOf as by
 
 abbrev pub text_of : texts.Text → Text
-text_of = by.text_of by.parts_of
+text_of = by.text_of by.as_parts
 
 abbrev pub argument_of : arguments.Argument → Argument
-argument_of = by.argument_of by.parts_of
+argument_of = by.argument_of by.as_parts
 
 abbrev pub tests_of : some_tests.Tests → Tests
-tests_of = by.tests_of by.parts_of
+tests_of = by.tests_of by.as_parts
 
 abbrev pub test_of : one_tests.Test → Test
-test_of = by.test_of by.parts_of
+test_of = by.test_of by.as_parts
 
 abbrev pub node_of : commands.Command → Node
-node_of = by.node_of by.parts_of
+node_of = by.node_of by.as_parts
 
 abbrev pub block_of : Option (Vec commands.Command Global) → Block
-block_of = by.block_of by.parts_of
+block_of = by.block_of by.as_parts

@@ -14,8 +14,8 @@ use Rattle.sieve_syntax.specs.declared.tree.Argument.TheVariants as argument_var
 use Rattle.sieve_syntax.specs.declared.tree.Tests.TheOpen as test_layers
 
 -- a string is seen as its parts
-abbrev pub parts_of : List Part → List Part
-parts_of parts = parts
+abbrev pub as_parts : List Part → List Part
+as_parts parts = parts
 
 abbrev pub text_of : {V : Type 0} → (List Part → V) → texts.Text → Text V
 text_of view t = record { string = view t.string; line = t.line }

@@ -10,7 +10,7 @@ use Rattle.sieve_variables.specs.declared.part.PartRef as part_refs
 use Rattle.sieve_variables.specs.declared.part.PartRef.TheVariants as part_ref
 use Rattle.sieve_variables.specs.view.Variable.{variable_ref_as}
 
--- the part of a kind and octets, of which a match variable has none
+-- the part of a kind and octets, which count for nothing where it is a match variable
 abbrev pub part_of : kinds.PartKind → List ℕ → Part
 part_of kind.Literal octets = literal octets
 part_of kind.Local name = local_part name
@@ -27,6 +27,12 @@ abbrev pub plain_octets : Part → List ℕ
 plain_octets (literal octets) = octets
 plain_octets (variable_part variable) = []
 plain_octets (match_part index) = []
+
+-- the octets of a part that stands for itself, where it does
+abbrev pub literal_in : Part → Option (List ℕ)
+literal_in (literal octets) = Some octets
+literal_in (variable_part variable) = None
+literal_in (match_part index) = None
 
 -- the variable whose value a part is
 abbrev pub variable_in : Part → Option Variable

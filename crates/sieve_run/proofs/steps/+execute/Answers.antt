@@ -99,7 +99,7 @@ act-returns-in_ok-copied-in-Include-clause-ending g t c =
     let d = delivery_as c.args.delivery.now in
     let i = c.in-Include in
     does_at c.include.result (state_of c.include.new.state) (act_of find c.args.depth d) (include_leaf i.place i.once i.optional c.in_ok-copied-in-Include.field-0) (command_op_as c.args.command.now) c.line-line.result (line_of c.args.command.now) (state_of c.args.state.now) c.line-line.ensures
-    (rw (c.in_ok-copied-in-Include.ensures, c.plain_octets.ensures) (ap command_op_as (sym i.is)))
+    (rw (c.in_ok-copied-in-Include.ensures, c.as_slice-in-Include.ensures) (ap command_op_as (sym i.is)))
     c.include.ensures.ending
 
 pub execute_inside-returns-clause-ending : goal.execute_inside-returns-clause-ending

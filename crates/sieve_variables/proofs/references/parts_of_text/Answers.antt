@@ -26,7 +26,7 @@ loop-plain-preserved c =
       within = omega arith;
       shorter = omega arith;
       parts =
-          parts_step (c.loop-plain.parts) (c.push_reference.new.parts) left plain (plain + 3 + length inside) inside c.split_at.result.0.now c.split_at-in-Some.result.0.now c.split_at-in-Some.result.1.now _ found count c.in_ok-push_reference-in-Some.ensures c.split_at.ensures.front c.split_at-in-Some.ensures.front c.split_at-in-Some.ensures.back c.loop-plain.invariant.parts;
+          parts_step c.loop-plain.parts c.push_reference.new.parts left plain (plain + 3 + length inside) inside c.split_at.result.0.now c.split_at-in-Some.result.0.now c.split_at-in-Some.result.1.now _ found count c.in_ok-push_reference-in-Some.ensures c.split_at.ensures.front c.split_at-in-Some.ensures.front c.split_at-in-Some.ensures.back c.loop-plain.invariant.parts;
     }
 
 pub returns : goal.returns

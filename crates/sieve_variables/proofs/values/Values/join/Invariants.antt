@@ -4,4 +4,4 @@ use Rattle.sieve_variables.proofs.values.Values.join.Given as goal
 
 -- the octets in the buffer, and then those that the parts that are left stand for, are the octets that all parts stand for
 abbrev pub invariant-loop-part : goal.invariant-loop-part
-invariant-loop-part l = l.buffer.items ++ text_value l.self ((drop l.part-index l.parts)) ≡ text_value l.self (l.parts)
+invariant-loop-part l = l.buffer.items ++ text_value l.self (drop l.part-index l.parts) ≡ text_value l.self l.parts

@@ -4,4 +4,4 @@ use Rattle.sieve_variables.proofs.values.Values.joined_len.Given as goal
 
 -- the octets counted so far and those that the parts that are left stand for are as many as those that all parts stand for
 abbrev pub invariant-loop-part : goal.invariant-loop-part
-invariant-loop-part l = l.len + length (text_value l.self ((drop l.part-index l.parts))) ≡ length (text_value l.self (l.parts))
+invariant-loop-part l = l.len + length (text_value l.self (drop l.part-index l.parts)) ≡ length (text_value l.self l.parts)
