@@ -92,7 +92,7 @@ fn tell_command(rt: &impl Print, command: &Command) -> io::Result<()> {
         &[
             Piece::Number(command.line),
             Piece::Raw(b" "),
-            Piece::Raw(&command.name),
+            Piece::Raw(command.name.as_slice()),
             Piece::Raw(b" "),
             Piece::Number(command.args.len() as u64),
             Piece::Raw(b" "),

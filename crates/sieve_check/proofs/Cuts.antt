@@ -68,11 +68,11 @@ one_cut cutting old new whole x is same made =
     ∙ sym (ap (parted_tests cutting) (ap seen.tests_of is ∙ views.one_seen seen.octets_of old))
 
 -- a list of tests that are cut is the list cut
-pub list_cut : (cutting : Cutting) (new : Vec one_tests.Test Global) (ts : Vec one_tests.Test Global) (xs : List one_tests.Test) (whole : test_variants.the_data) → whole ≡ test_variants.List ts → xs ≡ ts.items → map test_of new.items ≡ map (parted_test cutting) (map seen.test_of xs) → tests_of (test_variants.List new) ≡ parted_tests cutting (seen.tests_of whole)
+pub list_cut : (cutting : Cutting) (new : Box (Vec one_tests.Test Global) Global) (ts : Box (Vec one_tests.Test Global) Global) (xs : List one_tests.Test) (whole : test_variants.the_data) → whole ≡ test_variants.List ts → xs ≡ ts.value.items → map test_of new.value.items ≡ map (parted_test cutting) (map seen.test_of xs) → tests_of (test_variants.List new) ≡ parted_tests cutting (seen.tests_of whole)
 list_cut cutting new ts xs whole is same e =
     views.list_seen as_parts new
     ∙ ap (λ list. test_list (tests list)) (e ∙ ap (λ l. map (parted_test cutting) (map seen.test_of l)) same)
-    ∙ sym (ap (λ list. test_list list) (test_list_parted cutting (map seen.test_of ts.items)))
+    ∙ sym (ap (λ list. test_list list) (test_list_parted cutting (map seen.test_of ts.value.items)))
     ∙ sym (ap (parted_tests cutting) (ap seen.tests_of is ∙ views.list_seen seen.octets_of ts))
 
 -- the arguments of a command of that name, with their strings cut into parts
@@ -85,13 +85,13 @@ within_block cutting name args = record cutting { declared = declaring_command c
 
 -- a command whose parts are cut, and then its block, is the command cut
 pub command_cut : (cutting within : Cutting) (args : Vec arguments.Argument Global) (ts : test_variants.the_data) (cut : Vec commands.Command Global) (whole : commands.Command) (inner : Vec commands.Command Global) → let o = command_views.out-Command whole in let front = command_views.out-Command (command_views.roll-Command (record o { args = args; tests = ts })) in
-    map argument_of args.items ≡ parted_args cutting o.name.items (map seen.argument_of o.args.items) → tests_of ts ≡ parted_tests cutting (seen.tests_of o.tests) → front.block ≡ Some inner → within ≡ within_block cutting o.name.items (map seen.argument_of o.args.items) → map node_of cut.items ≡ items (parted_nodes within (syntax.nodes (map seen.node_of inner.items)))
+    map argument_of args.items ≡ parted_args cutting o.name (map seen.argument_of o.args.items) → tests_of ts ≡ parted_tests cutting (seen.tests_of o.tests) → front.block ≡ Some inner → within ≡ within_block cutting o.name (map seen.argument_of o.args.items) → map node_of cut.items ≡ items (parted_nodes within (syntax.nodes (map seen.node_of inner.items)))
     → node_of (command_views.roll-Command (record front { block = Some cut })) ≡ parted_node cutting (seen.node_of whole)
 command_cut cutting within args ts cut whole inner a t b w e =
     let o = command_views.out-Command whole in
     let rolled = command_views.out-roll-Command (record o { args = args; tests = ts }) in
-    let inside = within_block cutting o.name.items (map seen.argument_of o.args.items) in
-    let name = o.name.items in
+    let inside = within_block cutting o.name (map seen.argument_of o.args.items) in
+    let name = o.name in
     let made : nodes (map node_of cut.items) ≡ parted_nodes inside (syntax.nodes (map seen.node_of inner.items)) =
     ap nodes e ∙ nodes-items (parted_nodes within (syntax.nodes (map seen.node_of inner.items)))
     ∙ ap (λ c. parted_nodes c (syntax.nodes (map seen.node_of inner.items))) w in

@@ -38,35 +38,33 @@ Answer = Result (Unit {0}) CheckFault
 -- TESTS
 
 -- a test of a name that no test has breaks the rule of unknown commands first
-pub test_unknown : (t : one_tests.Test) (context : Context) (name : List ℕ) (line : ℕ) → None ≡ table.test_named name → name ≡ (one_tests.out-Test t).name.items → line ≡ (one_tests.out-Test t).line → IsFirst (breaches_in (test_head context t)) (faults.Breach line UnknownCommand)
+pub test_unknown : (t : one_tests.Test) (context : Context) (line : ℕ) → None ≡ table.test_named (one_tests.out-Test t).name → line ≡ (one_tests.out-Test t).line → IsFirst (breaches_in (test_head context t)) (faults.Breach line UnknownCommand)
 unfolding breaches_at
-test_unknown t context name line is n l =
+test_unknown t context line is l =
     let o = one_tests.out-Test t in
     let args = map argument_of o.args.items in
     let ts = tests_of o.tests in
-    let known : None ≡ table.test_named o.name.items = is ∙ ap table.test_named n in
-    let here : IsFirst (breaches_at (the_test context o.name.items o.line args ts)) (faults.Breach o.line UnknownCommand) = subst (λ k. IsFirst (breaches_by (test_breaks context k args ts) o.line all_rules) (faults.Breach o.line UnknownCommand)) known refl in
-    first_stops (the_test context o.name.items o.line args ts) (test_arguments context (table.test_named o.name.items) args ts) (faults.Breach line UnknownCommand)
-    (subst (λ x. IsFirst (breaches_at (the_test context o.name.items o.line args ts)) (faults.Breach x UnknownCommand)) (sym l) here)
+    let here : IsFirst (breaches_at (the_test context o.name o.line args ts)) (faults.Breach o.line UnknownCommand) = subst (λ k. IsFirst (breaches_by (test_breaks context k args ts) o.line all_rules) (faults.Breach o.line UnknownCommand)) is refl in
+    first_stops (the_test context o.name o.line args ts) (test_arguments context (table.test_named o.name) args ts) (faults.Breach line UnknownCommand)
+    (subst (λ x. IsFirst (breaches_at (the_test context o.name o.line args ts)) (faults.Breach x UnknownCommand)) (sym l) here)
 
 -- what is found in a test of a kind is the breaches of the test and its arguments
-known_by : (t : one_tests.Test) (context : Context) (kind : TestKind) (row : Row) (name : List ℕ) (line : ℕ) (xs : List arguments.Argument) → let o = one_tests.out-Test t in
-    Some kind ≡ table.test_named name → name ≡ o.name.items → line ≡ o.line → row ≡ test_row kind → xs ≡ o.args.items → row_found false context line row (map argument_of xs) (tests_of o.tests) false ≡ breaches_in (test_head context t)
+known_by : (t : one_tests.Test) (context : Context) (kind : TestKind) (row : Row) (line : ℕ) (xs : List arguments.Argument) → let o = one_tests.out-Test t in
+    Some kind ≡ table.test_named o.name → line ≡ o.line → row ≡ test_row kind → xs ≡ o.args.items → row_found false context line row (map argument_of xs) (tests_of o.tests) false ≡ breaches_in (test_head context t)
 unfolding breaches_at
-known_by t context kind row name line xs is n l same a =
+known_by t context kind row line xs is l same a =
     let o = one_tests.out-Test t in
     let args = map argument_of o.args.items in
     let ts = tests_of o.tests in
-    let known : Some kind ≡ table.test_named o.name.items = is ∙ ap table.test_named n in
     ap (λ x. row_found false context x row (map argument_of xs) ts false) l
     ∙ ap (λ x. row_found false context o.line x (map argument_of xs) ts false) same
     ∙ ap (λ x. row_found false context o.line (test_row kind) (map argument_of x) ts false) a
-    ∙ ap (λ k. breaches_by (test_breaks context k args ts) o.line all_rules ++ breaches_in (test_arguments context k args ts)) known
-    ∙ sym (cons_in (the_test context o.name.items o.line args ts) (test_arguments context (table.test_named o.name.items) args ts))
+    ∙ ap (λ k. breaches_by (test_breaks context k args ts) o.line all_rules ++ breaches_in (test_arguments context k args ts)) is
+    ∙ sym (cons_in (the_test context o.name o.line args ts) (test_arguments context (table.test_named o.name) args ts))
 
-pub test_known : (t : one_tests.Test) (context : Context) (kind : TestKind) (row : Row) (name : List ℕ) (line : ℕ) (xs : List arguments.Argument) (r : Answer) → let o = one_tests.out-Test t in
-    Some kind ≡ table.test_named name → name ≡ o.name.items → line ≡ o.line → row ≡ test_row kind → xs ≡ o.args.items → Finds (row_found false context line row (map argument_of xs) (tests_of o.tests) false) r → FindsIn (test_head context t) r
-test_known t context kind row name line xs r is n l same a found = subst (λ bs. Finds bs r) (known_by t context kind row name line xs is n l same a) found
+pub test_known : (t : one_tests.Test) (context : Context) (kind : TestKind) (row : Row) (line : ℕ) (xs : List arguments.Argument) (r : Answer) → let o = one_tests.out-Test t in
+    Some kind ≡ table.test_named o.name → line ≡ o.line → row ≡ test_row kind → xs ≡ o.args.items → Finds (row_found false context line row (map argument_of xs) (tests_of o.tests) false) r → FindsIn (test_head context t) r
+test_known t context kind row line xs r is l same a found = subst (λ bs. Finds bs r) (known_by t context kind row line xs is l same a) found
 
 test_at : (t : one_tests.Test) (context : Context) → test_elements context (test_of t) ≡ test_head context t ++ tests_elements context (tests_of (one_tests.out-Test t).tests)
 unfolding test_elements
@@ -139,34 +137,33 @@ module _ (context : Context) (kind : CommandKind) (c : commands.Command) where
       found
 
 -- a command of a name that no command has breaks the rule of unknown commands first
-pub command_unknown : (c : commands.Command) (context : Context) (name : List ℕ) (line : ℕ) → None ≡ table.command_named name → name ≡ (commands.out-Command c).name.items → line ≡ (commands.out-Command c).line → IsFirst (breaches_in (command_head context c)) (faults.Breach line UnknownCommand)
+pub command_unknown : (c : commands.Command) (context : Context) (line : ℕ) → None ≡ table.command_named (commands.out-Command c).name → line ≡ (commands.out-Command c).line → IsFirst (breaches_in (command_head context c)) (faults.Breach line UnknownCommand)
 unfolding breaches_at
-command_unknown c context name line is n l =
+command_unknown c context line is l =
     let o = commands.out-Command c in
     let args = map argument_of o.args.items in
     let ts = tests_of o.tests in
     let ending = block_of o.block in
-    let known : None ≡ table.command_named o.name.items = is ∙ ap table.command_named n in
-    let here : IsFirst (breaches_at (the_command context o.name.items o.line args ts ending)) (faults.Breach o.line UnknownCommand) = subst (λ k. IsFirst (breaches_by (command_breaks context k args ts ending) o.line all_rules) (faults.Breach o.line UnknownCommand)) known refl in
-    first_stops (the_command context o.name.items o.line args ts ending) (command_arguments context (table.command_named o.name.items) args ts ending) (faults.Breach line UnknownCommand)
-    (subst (λ x. IsFirst (breaches_at (the_command context o.name.items o.line args ts ending)) (faults.Breach x UnknownCommand)) (sym l) here)
+    let here : IsFirst (breaches_at (the_command context o.name o.line args ts ending)) (faults.Breach o.line UnknownCommand) = subst (λ k. IsFirst (breaches_by (command_breaks context k args ts ending) o.line all_rules) (faults.Breach o.line UnknownCommand)) is refl in
+    first_stops (the_command context o.name o.line args ts ending) (command_arguments context (table.command_named o.name) args ts ending) (faults.Breach line UnknownCommand)
+    (subst (λ x. IsFirst (breaches_at (the_command context o.name o.line args ts ending)) (faults.Breach x UnknownCommand)) (sym l) here)
 
-head_by : (c : commands.Command) (context : Context) (kind : CommandKind) (name : List ℕ) → Some kind ≡ table.command_named name → name ≡ (commands.out-Command c).name.items → kind_found context kind c ≡ breaches_in (command_head context c)
+head_by : (c : commands.Command) (context : Context) (kind : CommandKind) → Some kind ≡ table.command_named (commands.out-Command c).name → kind_found context kind c ≡ breaches_in (command_head context c)
 unfolding breaches_at
-head_by c context kind name is n =
+head_by c context kind is =
     let o = commands.out-Command c in
     let args = map argument_of o.args.items in
     let ts = tests_of o.tests in
     let ending = block_of o.block in
-    ap (λ k. breaches_by (command_breaks context k args ts ending) o.line all_rules ++ breaches_in (command_arguments context k args ts ending)) (is ∙ ap table.command_named n)
-    ∙ sym (cons_in (the_command context o.name.items o.line args ts ending) (command_arguments context (table.command_named o.name.items) args ts ending))
+    ap (λ k. breaches_by (command_breaks context k args ts ending) o.line all_rules ++ breaches_in (command_arguments context k args ts ending)) is
+    ∙ sym (cons_in (the_command context o.name o.line args ts ending) (command_arguments context (table.command_named o.name) args ts ending))
 
 -- what is found in a command of a kind is the breaches of the command and its arguments
-pub command_stops : (c : commands.Command) (context : Context) (kind : CommandKind) (name : List ℕ) (fault : CheckFault) → Some kind ≡ table.command_named name → name ≡ (commands.out-Command c).name.items → IsFirst (kind_found context kind c) fault → IsFirst (breaches_in (command_head context c)) fault
-command_stops c context kind name fault is n h = subst (λ bs. IsFirst bs fault) (head_by c context kind name is n) h
+pub command_stops : (c : commands.Command) (context : Context) (kind : CommandKind) (fault : CheckFault) → Some kind ≡ table.command_named (commands.out-Command c).name → IsFirst (kind_found context kind c) fault → IsFirst (breaches_in (command_head context c)) fault
+command_stops c context kind fault is h = subst (λ bs. IsFirst bs fault) (head_by c context kind is) h
 
-pub command_passes : (c : commands.Command) (context : Context) (kind : CommandKind) (name : List ℕ) → Some kind ≡ table.command_named name → name ≡ (commands.out-Command c).name.items → kind_found context kind c ≡ [] → breaches_in (command_head context c) ≡ []
-command_passes c context kind name is n none = sym (head_by c context kind name is n) ∙ none
+pub command_passes : (c : commands.Command) (context : Context) (kind : CommandKind) → Some kind ≡ table.command_named (commands.out-Command c).name → kind_found context kind c ≡ [] → breaches_in (command_head context c) ≡ []
+command_passes c context kind is none = sym (head_by c context kind is) ∙ none
 
 command_at : (c : commands.Command) (context : Context) → node_elements context (node_of c) ≡ command_front context c ++ block_elements (behind_front context c) (block_of (commands.out-Command c).block)
 unfolding node_elements
@@ -190,7 +187,7 @@ pub front_ends : (c : commands.Command) (context : Context) → breaches_in (com
 front_ends c context none fine = front_passes (command_head context c) (tests_elements context (tests_of (commands.out-Command c).tests)) none ∙ fine
 
 pub front_moves : (c : commands.Command) (spot next : Spot) (before after : Scope) (kind : CommandKind) (labels : List Label) (xs : List arguments.Argument) → let o = commands.out-Command c in
-    table.command_named o.name.items ≡ Some kind → labels ≡ row_labels (command_row kind) (map argument_of o.args.items) → xs ≡ o.args.items → after ≡ naming_arguments before labels (map argument_of xs)
+    table.command_named o.name ≡ Some kind → labels ≡ row_labels (command_row kind) (map argument_of o.args.items) → xs ≡ o.args.items → after ≡ naming_arguments before labels (map argument_of xs)
     → ((scope : Scope) → at_spot next (naming_arguments scope (row_labels (command_row kind) (map argument_of xs)) (map argument_of xs)) ≡ behind_kind (at_spot spot scope) (Some kind) (map argument_of xs))
     → at_spot next after ≡ behind_front (at_spot spot before) c
 front_moves c spot next before after kind labels xs is l a goes moves =

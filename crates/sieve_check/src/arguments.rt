@@ -19,7 +19,7 @@ use crate::role::{behind_first, first_role};
 use crate::usage::{has_bad_arguments, has_bad_tag, lacks_required};
 use crate::validator::CheckFault;
 use match_text::collation_named;
-use sieve_reading::{AsOctets, Label, row_labels};
+use sieve_reading::{AsOctets, Label, RowLabels, row_labels};
 use sieve_syntax::{Argument, Tests, Text};
 use sieve_table::{
     Capability, Role, Row, Rule, has_role, is_address_field, is_capability, is_envelope_part,
@@ -249,7 +249,7 @@ pub(crate) fn check_use(
     ensures labels { IfOk result (λ labels. labels.items ≡ row_labels (row_as row.now) (map argument_of args.now)) }
     ensures found { Finds (row_found stands_alone (context_as context.entry) line (row_as row.now) (map argument_of args.now) (tests_of tests.now) ends_by_block) result }
 {
-    let labels = row_labels::<AsOctets>(alloc, row, args)?;
+    let RowLabels { labels, filled } = row_labels::<AsOctets>(alloc, row, args)?;
     if lacks_required(context.spot.required, row, &labels) {
         let rule = Rule::NotRequired;
         return Err(CheckFault::Breach { line, rule });
@@ -262,7 +262,7 @@ pub(crate) fn check_use(
         let rule = Rule::BadTag;
         return Err(CheckFault::Breach { line, rule });
     }
-    if has_bad_arguments(row, args, &labels, tests, ends_by_block) {
+    if has_bad_arguments(filled, row, &labels, tests, ends_by_block) {
         let rule = Rule::BadArguments;
         return Err(CheckFault::Breach { line, rule });
     }

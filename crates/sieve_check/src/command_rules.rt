@@ -18,7 +18,7 @@ use crate::test_rules::check_tests;
 use crate::validator::CheckFault;
 use sieve_reading::Label;
 use sieve_syntax::Command;
-use sieve_table::{CommandKind, Rule, command_named};
+use sieve_table::{CommandKind, Rule};
 use std::alloc::Global;
 
 /// Whether a `require` of this kind stands where none may.
@@ -72,10 +72,10 @@ fn check_command_head(
     command: &Command,
 ) -> Result<(CommandKind, Vec<Label>), CheckFault>
     ensures found { FindsIn (command_head (context_as context.entry) command.now) result }
-    ensures kind { IfOk result (λ head. command_named (out-Command command.now).name.items ≡ Some head.0) }
+    ensures kind { IfOk result (λ head. command_named (out-Command command.now).name ≡ Some head.0) }
     ensures labels { IfOk result (λ head. head.1.items ≡ row_labels (command_row head.0) (map argument_of (out-Command command.now).args.items)) }
 {
-    match command_named(&command.name) {
+    match command.name.kind() {
         None => Err(CheckFault::Breach {
             line: command.line,
             rule: Rule::UnknownCommand,

@@ -11,7 +11,7 @@ ghost use Rattle.sieve_table.specs.Table.{command_row};
 
 use crate::scope::Scope;
 use sieve_syntax::{Argument, Command, Text};
-use sieve_table::{Capability, CommandKind, Role, command_named, is_expanded, is_name_of};
+use sieve_table::{Capability, CommandKind, Role, is_expanded, is_name_of};
 
 /// What is required, of what commands, tests, tags and arguments may need (RFC 5228, section 2.10.5).
 #[derive(Clone, Copy)]
@@ -212,7 +212,7 @@ pub(crate) fn required_in(commands: &[Command]) -> Required
 {
     let mut required = Required::nothing();
     for command in commands {
-        match command_named(&command.name) {
+        match command.name.kind() {
             Some(CommandKind::Require) => required = required.with_arguments(&command.args),
             _ => return required,
         }

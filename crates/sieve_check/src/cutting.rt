@@ -19,8 +19,8 @@ ghost use Rattle.sieve_variables.specs.Variable.{scoped, variable_named};
 use crate::context::{Required, required_in, takes_references};
 use crate::scope::declare_argument;
 use sieve_reading::{AsOctets, role_of, row_expected, shape_of};
-use sieve_syntax::{Argument, Command, ParsedScript, Test, Tests, Text, octets_in};
-use sieve_table::{CommandKind, Role, Row, command_named, names_variable, test_named};
+use sieve_syntax::{Argument, Command, CommandName, ParsedScript, Test, TestName, Tests, Text, octets_in};
+use sieve_table::{CommandKind, Role, Row, names_variable};
 use sieve_variables::{
     Names, Part, PartRef, Parts, Variable, parts_of_text, references_in, scoped_parts,
 };
@@ -177,12 +177,12 @@ fn cut_without_row(
 fn cut_test_arguments(
     alloc: Global,
     cutting: Cutting<'_>,
-    name: &[u8],
+    name: &TestName,
     args: &mut Vec<Argument>,
 ) -> Result<(), AllocError>
     ensures { OnOk result (map argument_of args.new.items ≡ spec.parted_labelled (cutting_as cutting.entry) (spec.test_labels (table.test_named name.now) (map seen.argument_of args.old.items)) (map seen.argument_of args.old.items)) }
 {
-    match test_named(name) {
+    match name.kind() {
         None => cut_without_row(alloc, cutting, args),
         Some(kind) => cut_by_row(alloc, cutting, &kind.row(), args, &mut Names::new(alloc)),
     }
@@ -256,7 +256,7 @@ fn cut_front(
     alloc: Global,
     required: Required,
     declared: &mut Names,
-    name: &[u8],
+    name: &CommandName,
     args: &mut Vec<Argument>,
     tests: &mut Tests,
 ) -> Result<(), AllocError>
@@ -269,7 +269,7 @@ fn cut_front(
         declared: &*declared,
     };
     let mut names = Names::new(alloc);
-    cut_command_arguments(alloc, cutting, command_named(name), args, &mut names)?;
+    cut_command_arguments(alloc, cutting, name.kind(), args, &mut names)?;
     *tests = cut_tests(alloc, cutting, mem::replace(tests, Tests::None))?;
     declared.add_all(alloc, &names)
 }

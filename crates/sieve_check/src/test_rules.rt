@@ -11,7 +11,7 @@ use crate::arguments::check_test_use;
 use crate::context::Context;
 use crate::validator::CheckFault;
 use sieve_syntax::{Test, Tests};
-use sieve_table::{Rule, test_named};
+use sieve_table::Rule;
 use std::alloc::Global;
 
 /// Checks a test apart from the tests in it.
@@ -20,7 +20,7 @@ fn check_test_head(alloc: Global, context: Context<'_>, test: &Test) -> Result<(
     ensures { FindsIn (test_head (context_as context.entry) test.now) result }
 {
     let line = test.line;
-    match test_named(&test.name) {
+    match test.name.kind() {
         None => Err(CheckFault::Breach {
             line,
             rule: Rule::UnknownCommand,

@@ -1,17 +1,15 @@
 //! Whether a command or a test is used as its row says (RFC 5228, sections 2.5, 2.6, 2.8 and 2.9).
-ghost use Rattle.std.specs.Prelude.{◌≡◌, map};
+ghost use Rattle.std.specs.Prelude.{◌≡◌};
 ghost use Rattle.std.specs.List.{list_any};
-ghost use Rattle.sieve_syntax.specs.view.Tree.{argument_of, tests_of};
-ghost use Rattle.sieve_reading.specs.Label.{row_is_filled};
-ghost use Rattle.sieve_reading.specs.Shape.{shapes_of};
+ghost use Rattle.sieve_syntax.specs.view.Tree.{tests_of};
 ghost use Rattle.sieve_reading.specs.Positional.{is_positional_label};
 ghost use Rattle.sieve_check.specs.Use as spec;
 ghost use Rattle.sieve_check.specs.view.Context.{required_as};
 ghost use Rattle.sieve_table.specs.view.Row.{row_as};
 
 use crate::context::Required;
-use sieve_reading::{AsOctets, Label, row_is_filled};
-use sieve_syntax::{Argument, Tests};
+use sieve_reading::Label;
+use sieve_syntax::Tests;
 use sieve_table::{Capability, Inner, Row, TagKind, same_kind};
 
 /// Whether a capability has to be required and isn't.
@@ -229,21 +227,18 @@ fn tests_fit(inner: Inner, tests: &Tests) -> bool
     }
 }
 
-/// Whether arguments of these labels, tests or the end aren't what is taken, a tag lacks its own argument, or none is there
-/// of a kind that is needed.
+/// Whether arguments of these labels, which fill the row or don't, tests or the end aren't what is taken, a tag lacks its own
+/// argument, or none is there of a kind that is needed.
 pub(crate) fn has_bad_arguments(
+    filled: bool,
     row: &Row,
-    args: &[Argument],
     labels: &[Label],
     tests: &Tests,
     ends_by_block: bool,
 ) -> bool
-    ensures { result ≡ spec.are_bad (row_is_filled (row_as row.now) (shapes_of row.now.tags.now (map argument_of args.now))) (row_as row.now) labels.now (tests_of tests.now) ends_by_block }
+    ensures { result ≡ spec.are_bad filled (row_as row.now) labels.now (tests_of tests.now) ends_by_block }
 {
-    if !row_is_filled::<AsOctets>(row, args)
-        || !tests_fit(row.tests, tests)
-        || row.has_block != ends_by_block
-    {
+    if !filled || !tests_fit(row.tests, tests) || row.has_block != ends_by_block {
         return true;
     }
     lacks_own(labels) || lacks_kind(row.one_of, labels)

@@ -118,20 +118,20 @@ pub all_one : (truth : Bool) (ts : test_variants.the_data) (b : Box one_tests.Te
 unfolding tests_before
 all_one truth ts b t behind is same = sym (ap (λ x. tests_before truth x behind) (seen_one as_parts ts b t is same))
 
-pub all_list : (truth : Bool) (ts : test_variants.the_data) (v : Vec one_tests.Test Global) (behind : Tail) → ts ≡ test_variants.List v → tests_before truth (test_list (tests (map test_of v.items))) behind ≡ tests_before truth (tests_of ts) behind
-all_list truth ts v behind is = sym (ap (λ x. tests_before truth x behind) (seen_list as_parts ts v v.items is refl))
+pub all_list : (truth : Bool) (ts : test_variants.the_data) (b : Box (Vec one_tests.Test Global) Global) (v : Vec one_tests.Test Global) (behind : Tail) → ts ≡ test_variants.List b → v ≡ b.value → tests_before truth (test_list (tests (map test_of v.items))) behind ≡ tests_before truth (tests_of ts) behind
+all_list truth ts b v behind is same = sym (ap (λ x. tests_before truth x behind) (seen_list as_parts ts b v.items is (ap (λ x. x.items) same)))
 
-pub first_empty : (ts : test_variants.the_data) (v : Vec one_tests.Test Global) (behind : Tail) → ts ≡ test_variants.List v → v.items ≡ [] → set_op false ∷ behind ≡ first_before (tests_of ts) behind
+pub first_empty : (ts : test_variants.the_data) (b : Box (Vec one_tests.Test Global) Global) (v : Vec one_tests.Test Global) (behind : Tail) → ts ≡ test_variants.List b → v ≡ b.value → v.items ≡ [] → set_op false ∷ behind ≡ first_before (tests_of ts) behind
 unfolding first_before
-first_empty ts v behind is none = sym (ap (λ x. first_before x behind) (seen_list as_parts ts v [] is (sym none)))
+first_empty ts b v behind is same none = sym (ap (λ x. first_before x behind) (seen_list as_parts ts b [] is (sym none ∙ ap (λ x. x.items) same)))
 
-pub first_listed : (ts : test_variants.the_data) (v : Vec one_tests.Test Global) (t : one_tests.Test) (rest : List one_tests.Test) (behind : Tail) → ts ≡ test_variants.List v → v.items ≡ t ∷ rest → test_before (test_of t) behind ≡ first_before (tests_of ts) behind
+pub first_listed : (ts : test_variants.the_data) (b : Box (Vec one_tests.Test Global) Global) (v : Vec one_tests.Test Global) (t : one_tests.Test) (rest : List one_tests.Test) (behind : Tail) → ts ≡ test_variants.List b → v ≡ b.value → v.items ≡ t ∷ rest → test_before (test_of t) behind ≡ first_before (tests_of ts) behind
 unfolding first_before
-first_listed ts v t rest behind is first = sym (ap (λ x. first_before x behind) (seen_list as_parts ts v (t ∷ rest) is (sym first)))
+first_listed ts b v t rest behind is same first = sym (ap (λ x. first_before x behind) (seen_list as_parts ts b (t ∷ rest) is (sym first ∙ ap (λ x. x.items) same)))
 
 -- what is read by a test's name and arguments is read of the test
-pub test_seen : (t : one_tests.Test) (name : List ℕ) → name ≡ t.name.items → test_reading_by (test_named name) (map argument_of t.args.items) ≡ test_reading (test_of t)
-test_seen t name is = ap (λ n. test_reading_by (test_named n) (map argument_of t.args.items)) is ∙ sym (ap test_reading (seen_test as_parts t))
+pub test_seen : (t : one_tests.Test) → test_reading_by (test_named t.name) (map argument_of t.args.items) ≡ test_reading (test_of t)
+test_seen t = sym (ap test_reading (seen_test as_parts t))
 
 pub test_put : (t : one_tests.Test) (r : Option TestReading) (behind : Tail) → r ≡ test_reading (test_of t) → reading_before r (tests_before false (tests_of t.tests)) (tests_before true (tests_of t.tests)) (first_before (tests_of t.tests)) behind ≡ test_before (test_of t) behind
 unfolding test_before
@@ -256,10 +256,8 @@ pub block_seen : (c : commands.Command) (behind : Tail) → block_before (block_
 block_seen c behind = sym (ap (λ n. block_at n behind) (seen_command as_parts c))
 
 -- what is read by a command's name and arguments is read of its node
-pub reading_seen : (c : commands.Command) (name : List ℕ) → let o = command_views.out-Command c in name ≡ o.name.items → command_reading_by (command_named name) (map argument_of o.args.items) ≡ command_reading (node_of c)
-reading_seen c name is =
-    let args = map argument_of (command_views.out-Command c).args.items in
-    ap (λ n. command_reading_by (command_named n) args) is ∙ sym (ap command_reading (seen_command as_parts c))
+pub reading_seen : (c : commands.Command) → let o = command_views.out-Command c in command_reading_by (command_named o.name) (map argument_of o.args.items) ≡ command_reading (node_of c)
+reading_seen c = sym (ap command_reading (seen_command as_parts c))
 
 abbrev pub block_on : List commands.Command → Tail → Tail
 block_on list = block_before (block (nodes (map node_of list)))

@@ -82,7 +82,7 @@ fn put_tests(alloc: Global, truth: bool, tests: Tests, tail: &mut Tail) -> Resul
     match tests {
         Tests::None => tail.put(constant(!truth)),
         Tests::One(test) => put_test(alloc, Box::into_inner(test), tail),
-        Tests::List(list) => put_list(alloc, truth, list, tail),
+        Tests::List(list) => put_list(alloc, truth, Box::into_inner(list), tail),
     }
 }
 
@@ -113,7 +113,7 @@ pub(crate) fn put_first(alloc: Global, tests: Tests, tail: &mut Tail) -> Result<
     match tests {
         Tests::None => tail.put(Op::False),
         Tests::One(test) => put_test(alloc, Box::into_inner(test), tail),
-        Tests::List(list) => match list.into_iter().next() {
+        Tests::List(list) => match Box::into_inner(list).into_iter().next() {
             None => tail.put(Op::False),
             Some(test) => put_test(alloc, test, tail),
         },

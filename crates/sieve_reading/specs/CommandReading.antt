@@ -111,9 +111,5 @@ command_reading_by (Some command.Include) args = option_map reads_act (include_b
 command_reading_by (Some command.Return) args = Some reads_return
 command_reading_by (Some command.Global) args = Some reads_nothing
 
--- the kind of a command
-abbrev pub kind_of : Node → Option CommandKind
-kind_of (node name line args ts ending) = command_named name
-
 abbrev pub command_reading : Node → Option CommandReading
 command_reading (node name line args ts ending) = command_reading_by (command_named name) args

@@ -6,7 +6,7 @@ ghost use Rattle.sieve_reading.specs.CommandReading as spec;
 ghost use Rattle.sieve_reading.specs.Given.{in_role, given_texts, given_variable, has_tag, text_in, texts_in, variable_in};
 ghost use Rattle.sieve_reading.specs.view.Labels.{labels_in};
 ghost use Rattle.sieve_reading.specs.view.Reading.{command_reading_as, settings_as};
-ghost use Rattle.sieve_reading.specs.view.Tree.{argument_of, node_of};
+ghost use Rattle.sieve_reading.specs.view.Tree.{argument_of};
 ghost use Rattle.sieve_table.specs.Role.{same_role};
 ghost use Rattle.sieve_table.specs.Table.{command_named};
 ghost use Rattle.sieve_table.specs.declared.row.Role.TheVariants as role;
@@ -15,8 +15,8 @@ use crate::given::{given_texts, given_variable, name_in, text_in, texts_in, vari
 use crate::labelled::{has_tag, into_argument, into_arguments};
 use crate::reading::{CommandReading, FlagChange, Leaf, Settings};
 use sieve_base::Place;
-use sieve_syntax::{Argument, Command};
-use sieve_table::{CommandKind, Role, Row, Tag, command_named};
+use sieve_syntax::{Argument, CommandName};
+use sieve_table::{CommandKind, Role, Row, Tag};
 use sieve_variables::{LetterCase, Modifiers};
 
 /// The first argument in a role, and what the command says beside it.
@@ -41,6 +41,15 @@ fn with_settings(
 fn keep_leaf(row: &Row, args: Vec<Argument>) -> Option<CommandReading>
     ensures { option_map command_reading_as result ≡ option_map reads_act (spec.keep_by (labels_in row.now args.items) (map argument_of args.items)) }
 {
+    // Most say nothing.
+    if args.is_empty() {
+        return Some(CommandReading::Act(Leaf::Keep {
+            settings: Settings {
+                flags: None,
+                copy: false,
+            },
+        }));
+    }
     let (_, settings) = with_settings(row, Role::Mailbox, args);
     let settings = settings?;
     Some(CommandReading::Act(Leaf::Keep { settings }))
@@ -174,19 +183,12 @@ fn command_reading_by(kind: CommandKind, args: Vec<Argument>) -> Option<CommandR
     }
 }
 
-/// Which command this is. A checked script has no other. Takes no memory.
-pub fn kind_of(command: &Command) -> Option<CommandKind>
-    ensures { result ≡ spec.kind_of (node_of command.now) }
-{
-    command_named(&command.name)
-}
-
 /// What a command of that name and with these arguments is, apart from its test and its block. Each command of a checked script is read
 /// as something. What is read has the strings of the arguments. Takes no memory.
-pub fn read_command(name: &[u8], args: Vec<Argument>) -> Option<CommandReading>
+pub fn read_command(name: &CommandName, args: Vec<Argument>) -> Option<CommandReading>
     ensures { option_map command_reading_as result ≡ spec.command_reading_by (command_named name.now) (map argument_of args.items) }
 {
-    match command_named(name) {
+    match name.kind() {
         Some(kind) => command_reading_by(kind, args),
         None => None,
     }

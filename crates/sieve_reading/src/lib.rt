@@ -12,16 +12,16 @@ mod role;
 mod shape;
 mod test_reading;
 
-pub use command_reading::{kind_of, read_command};
+pub use command_reading::read_command;
 pub use given::literal_in_parts;
 pub use label::{Expected, Label, Shape};
 pub use reading::{
     Ask, CommandReading, FlagChange, Leaf, MatchType, Settings, TestReading, ValueSource,
 };
 pub use role::role_of;
-pub use shape::{AsOctets, AsParts, StringView, row_expected, row_is_filled, row_labels, shape_of};
+pub use shape::{AsOctets, AsParts, RowLabels, StringView, row_expected, row_labels, shape_of};
 pub use sieve_base::Place;
-pub use sieve_syntax::{Argument, Command, Test, Tests, Text};
+pub use sieve_syntax::{Argument, Command, CommandName, Test, TestName, Tests, Text};
 pub use sieve_table::{CommandKind, TestKind};
 pub use sieve_variables::{
     LetterCase, Literal, Modifiers, Part, PartRef, Parts, Variable, VariableRef,

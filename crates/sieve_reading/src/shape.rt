@@ -69,23 +69,37 @@ pub fn shape_of<V: StringView>(tags: &[Tag], argument: &Argument) -> Shape
     }
 }
 
-/// What arguments are where these tags are taken.
+/// What the arguments of a row are.
+#[derive(Drop)]
+pub struct RowLabels {
+    /// Each by its label.
+    pub labels: Vec<Label>,
+    /// Whether the positional arguments are there and no others (RFC 5228, section 2.6.1).
+    pub filled: bool,
+}
+
+/// What arguments are where these tags are taken, and whether the positional ones are exactly those that are expected.
 fn labels_from<V: StringView>(
     alloc: Global,
     start: Expected<'_>,
     tags: &[Tag],
     args: &[Argument],
-) -> Result<Vec<Label>, AllocError>
-    ensures { IfOk result (λ labels. labels.items ≡ labels_from (expected_as start.entry) (shapes_of tags.now (map (argument_of V.seen) args.now))) }
+) -> Result<RowLabels, AllocError>
+    ensures labels { IfOk result (λ found. found.labels.items ≡ labels_from (expected_as start.entry) (shapes_of tags.now (map (argument_of V.seen) args.now))) }
+    ensures filled { IfOk result (λ found. found.filled ≡ fills (expected_as start.entry) (shapes_of tags.now (map (argument_of V.seen) args.now))) }
 {
     let mut labels = Vec::new(alloc);
+    let mut fit = true;
     let mut expected = start;
     for argument in args {
         let shape = shape_of::<V>(tags, argument);
-        labels.push(expected.label(shape))?;
+        let label = expected.label(shape);
+        fit = fit && !is_unfit(label);
+        labels.push(label)?;
         expected = expected.behind(shape);
     }
-    Ok(labels)
+    let filled = fit && expected.next_slot().is_none();
+    Ok(RowLabels { labels, filled })
 }
 
 /// Whether the positional arguments are exactly those that are expected.
@@ -108,28 +122,23 @@ fn fills<V: StringView>(start: Expected<'_>, tags: &[Tag], args: &[Argument]) ->
 pub fn row_expected<'a, V: StringView>(row: &Row, args: &[Argument]) -> Expected<'a>
     ensures { expected_as result ≡ expecting (slots_of (row_as row.now) (shapes_of row.now.tags.now (map (argument_of V.seen) args.now))) }
 {
-    let longer = Expected::new(row.front, row.slots);
-    if row.front.is_some() && fills::<V>(longer, row.tags, args) {
-        longer
-    } else {
-        Expected::new(None, row.slots)
+    if row.front.is_some() {
+        let longer = Expected::new(row.front, row.slots);
+        if fills::<V>(longer, row.tags, args) {
+            return longer;
+        }
     }
+    Expected::new(None, row.slots)
 }
 
-/// What a row's arguments are, each by its label (RFC 5228, section 2.6).
+/// What a row's arguments are (RFC 5228, section 2.6).
 pub fn row_labels<V: StringView>(
     alloc: Global,
     row: &Row,
     args: &[Argument],
-) -> Result<Vec<Label>, AllocError>
-    ensures { IfOk result (λ labels. labels.items ≡ row_labels (row_as row.now) (map (argument_of V.seen) args.now)) }
+) -> Result<RowLabels, AllocError>
+    ensures labels { IfOk result (λ found. found.labels.items ≡ row_labels (row_as row.now) (map (argument_of V.seen) args.now)) }
+    ensures filled { IfOk result (λ found. found.filled ≡ row_is_filled (row_as row.now) (shapes_of row.now.tags.now (map (argument_of V.seen) args.now))) }
 {
     labels_from::<V>(alloc, row_expected::<V>(row, args), row.tags, args)
-}
-
-/// Whether a row's positional arguments are there and no others (RFC 5228, section 2.6.1).
-pub fn row_is_filled<V: StringView>(row: &Row, args: &[Argument]) -> bool
-    ensures { result ≡ row_is_filled (row_as row.now) (shapes_of row.now.tags.now (map (argument_of V.seen) args.now)) }
-{
-    fills::<V>(row_expected::<V>(row, args), row.tags, args)
 }

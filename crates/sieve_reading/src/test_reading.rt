@@ -17,8 +17,8 @@ use crate::labelled::{argument_in, has_tag, into_argument, into_arguments};
 use crate::reading::{Ask, MatchType, TestReading, ValueSource};
 use match_text::Collation;
 use message_text::AddressPart;
-use sieve_syntax::Argument;
-use sieve_table::{Role, Row, Tag, TestKind, test_named};
+use sieve_syntax::{Argument, TestName};
+use sieve_table::{Role, Row, Tag, TestKind};
 
 /// From where a `header` test takes its values, by the argument that names fields.
 fn header_source(names: Option<Argument>) -> Option<ValueSource>
@@ -195,10 +195,10 @@ fn test_reading_by(kind: TestKind, args: Vec<Argument>) -> Option<TestReading>
 
 /// What a test of that name and with these arguments is, apart from the tests in it, by the labels of its arguments. Each test of a checked
 /// script is read as something. What is read has the strings of the arguments. Takes no memory.
-pub fn read_test(name: &[u8], args: Vec<Argument>) -> Option<TestReading>
+pub fn read_test(name: &TestName, args: Vec<Argument>) -> Option<TestReading>
     ensures { option_map test_reading_as result ≡ spec.test_reading_by (test_named name.now) (map argument_of args.items) }
 {
-    match test_named(name) {
+    match name.kind() {
         Some(kind) => test_reading_by(kind, args),
         None => None,
     }

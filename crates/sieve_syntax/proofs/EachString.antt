@@ -1,6 +1,5 @@
 -- Two views that give one tree agree at each string of it.
 use Rattle.std.proofs.Common.{◌≡◌, ℕ, List, [], ◌∷◌, Option, Some, None, map, ap, sym, ◌∙◌, subst}
-use Rattle.smallvec.specs.SmallVec.{SmallVec}
 use Rattle.std.specs.declared.alloc.Global.{Global}
 use Rattle.std.specs.declared.vec.Vec.{Vec}
 use Rattle.sieve_variables.specs.Part.{Part}
@@ -20,7 +19,7 @@ use Rattle.sieve_syntax.proofs.Views.{seen}
 rolled_tests : {V : Type 0} (view : List Part → V) (layer : some_tests.Tests-F some_tests.Tests one_tests.Test) → tests_of view (some_tests.roll-Tests layer) ≡ tests_step (some_tests.map-Tests some_tests.Tests one_tests.Test (Tests V) (Test V) (tests_of view) (test_of view) layer)
 rolled_tests {V} view layer = test_folds.fold-roll-Tests (Tests V) (Test V) tests_step (test_step view) layer
 
-rolled_test : {V : Type 0} (view : List Part → V) (layer : one_tests.Test-F some_tests.Tests one_tests.Test) → test_of view (one_tests.roll-Test layer) ≡ test layer.name.items layer.line (map (argument_of view) layer.args.items) (tests_of view layer.tests)
+rolled_test : {V : Type 0} (view : List Part → V) (layer : one_tests.Test-F some_tests.Tests one_tests.Test) → test_of view (one_tests.roll-Test layer) ≡ test layer.name layer.line (map (argument_of view) layer.args.items) (tests_of view layer.tests)
 rolled_test {V} view layer = test_folds.fold-roll-Test (Tests V) (Test V) tests_step (test_step view) layer
 
 module _ {V W : Type 0} (a b : List Part → V) (c : List Part → W) (Is : W → Type 0) (agree : (string : List Part) → a string ≡ b string → Is (c string)) where
@@ -79,15 +78,15 @@ module _ {V W : Type 0} (a b : List Part → V) (c : List Part → W) (Is : W �
       subst (InTests Is) (sym (rolled_tests c z)) (t.value.1 same)
   tests_layer (test_layers.List ts) e =
       let z = plain_tests (test_layers.List ts) in
-      let both : test_list (tests (map (test_of a) (map (λ t. t.0) ts.items))) ≡ test_list (tests (map (test_of b) (map (λ t. t.0) ts.items))) = sym (rolled_tests a z) ∙ e ∙ rolled_tests b z in
-      let same : tests (map (test_of a) (map (λ t. t.0) ts.items)) ≡ tests (map (test_of b) (map (λ t. t.0) ts.items)) = cc in
-      subst (InTests Is) (sym (rolled_tests c z)) (in_test_list ts.items same)
+      let both : test_list (tests (map (test_of a) (map (λ t. t.0) ts.value.items))) ≡ test_list (tests (map (test_of b) (map (λ t. t.0) ts.value.items))) = sym (rolled_tests a z) ∙ e ∙ rolled_tests b z in
+      let same : tests (map (test_of a) (map (λ t. t.0) ts.value.items)) ≡ tests (map (test_of b) (map (λ t. t.0) ts.value.items)) = cc in
+      subst (InTests Is) (sym (rolled_tests c z)) (in_test_list ts.value.items same)
 
   test_layer : (y : one_tests.Test-F KnownTests KnownTest) → AgreeTest (one_tests.roll-Test (plain_test y))
   unfolding InTest
   test_layer y e =
       let z = plain_test y in
-      let both : test y.name.items y.line (map (argument_of a) y.args.items) (tests_of a y.tests.0) ≡ test y.name.items y.line (map (argument_of b) y.args.items) (tests_of b y.tests.0) = sym (rolled_test a z) ∙ e ∙ rolled_test b z in
+      let both : test y.name y.line (map (argument_of a) y.args.items) (tests_of a y.tests.0) ≡ test y.name y.line (map (argument_of b) y.args.items) (tests_of b y.tests.0) = sym (rolled_test a z) ∙ e ∙ rolled_test b z in
       let args : map (argument_of a) y.args.items ≡ map (argument_of b) y.args.items = cc in
       let inner : tests_of a y.tests.0 ≡ tests_of b y.tests.0 = cc in
       subst (InTest Is) (sym (rolled_test c z)) (in_arguments y.args.items args, y.tests.1 inner)
@@ -115,16 +114,16 @@ module _ {V W : Type 0} (a b : List Part → V) (c : List Part → W) (Is : W �
   abbrev plain_command : commands.Command-F KnownCommand → commands.Command-F commands.Command
   plain_command = commands.map-Command KnownCommand commands.Command (λ e. e.0)
 
-  command_layer : (name : SmallVec ℕ) (line : ℕ) (args : Vec arguments.Argument Global) (ts : some_tests.Tests) (inner : Option (Vec KnownCommand Global)) → AgreeCommand (commands.roll-Command (plain_command (record { name = name; line = line; args = args; tests = ts; block = inner })))
+  command_layer : (name : List ℕ) (line : ℕ) (args : Vec arguments.Argument Global) (ts : some_tests.Tests) (inner : Option (Vec KnownCommand Global)) → AgreeCommand (commands.roll-Command (plain_command (record { name = name; line = line; args = args; tests = ts; block = inner })))
   unfolding InNode
   command_layer name line args ts None e =
-      let both : node name.items line (map (argument_of a) args.items) (tests_of a ts) no_block ≡ node name.items line (map (argument_of b) args.items) (tests_of b ts) no_block = sym (seen a name line args ts None) ∙ e ∙ seen b name line args ts None in
+      let both : node name line (map (argument_of a) args.items) (tests_of a ts) no_block ≡ node name line (map (argument_of b) args.items) (tests_of b ts) no_block = sym (seen a name line args ts None) ∙ e ∙ seen b name line args ts None in
       let same : map (argument_of a) args.items ≡ map (argument_of b) args.items = cc in
       let deeper : tests_of a ts ≡ tests_of b ts = cc in
       subst (InNode Is) (sym (seen c name line args ts None)) (in_arguments args.items same, in_tests ts deeper, tt)
   command_layer name line args ts (Some v) e =
       let z = plain_command (record { name = name; line = line; args = args; tests = ts; block = Some v }) in
-      let both : node name.items line (map (argument_of a) args.items) (tests_of a ts) (block (nodes (map (node_of a) (map (λ n. n.0) v.items)))) ≡ node name.items line (map (argument_of b) args.items) (tests_of b ts) (block (nodes (map (node_of b) (map (λ n. n.0) v.items)))) = sym (seen a name line args ts z.block) ∙ e ∙ seen b name line args ts z.block in
+      let both : node name line (map (argument_of a) args.items) (tests_of a ts) (block (nodes (map (node_of a) (map (λ n. n.0) v.items)))) ≡ node name line (map (argument_of b) args.items) (tests_of b ts) (block (nodes (map (node_of b) (map (λ n. n.0) v.items)))) = sym (seen a name line args ts z.block) ∙ e ∙ seen b name line args ts z.block in
       let same : map (argument_of a) args.items ≡ map (argument_of b) args.items = cc in
       let deeper : tests_of a ts ≡ tests_of b ts = cc in
       let inner : nodes (map (node_of a) (map (λ n. n.0) v.items)) ≡ nodes (map (node_of b) (map (λ n. n.0) v.items)) = cc in

@@ -1,6 +1,7 @@
 //! The syntax of Sieve (RFC 5228, sections 2 and 8): the tokens of a text, and the one tree that its tokens write.
 #![tactic(auto)]
 
+mod command_name;
 mod cursor;
 pub mod laws;
 mod line;
@@ -11,11 +12,14 @@ mod reader;
 mod scan;
 mod step;
 mod symbol;
+mod test_name;
 pub mod token;
 pub mod tree;
 mod value;
 mod white;
 
+pub use command_name::CommandName;
 pub use parser::{SyntaxFault, parse};
+pub use test_name::TestName;
 pub use token::{Token, TokenKind, tokens};
 pub use tree::{Argument, Command, ParsedScript, Test, Tests, Text, octets_in};

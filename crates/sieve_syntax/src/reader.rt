@@ -1,13 +1,16 @@
 //! What stands open while the tokens of a script are read, and what is read in it so far.
 
-ghost use Rattle.std.specs.Prelude.{◌≡◌};
+ghost use Rattle.std.specs.Prelude.{◌≡◌, IfOk};
 ghost use Rattle.sieve_syntax.specs.Machine.{node_with, test_with};
 ghost use Rattle.sieve_syntax.specs.view.Literals.{View};
 ghost use Rattle.sieve_syntax.specs.view.Reader.{head_value};
 ghost use Rattle.sieve_syntax.specs.view.TreeOf.{block_of, node_of, test_of, tests_of};
 
+use crate::command_name::CommandName;
+use crate::test_name::TestName;
 use crate::tree::{Argument, Command, Test, Tests, Text};
 use sieve_base::SmallOctets;
+use std::alloc::{AllocError, Global};
 
 /// A command or a test whose arguments are being read.
 #[derive(Drop)]
@@ -61,26 +64,31 @@ pub(crate) enum ParserState {
 }
 
 /// The command with this head, these tests and this block.
-pub(crate) fn command_with(head: Head, tests: Tests, block: Option<Vec<Command>>) -> Command
-    ensures { (view : View) → node_of view result ≡ node_with (head_value view head) (tests_of view tests) (block_of view block) }
+pub(crate) fn command_with(
+    alloc: Global,
+    head: Head,
+    tests: Tests,
+    block: Option<Vec<Command>>,
+) -> Result<Command, AllocError>
+    ensures { IfOk result (λ command. (view : View) → node_of view command ≡ node_with (head_value view head) (tests_of view tests) (block_of view block)) }
 {
-    Command {
-        name: head.name,
+    Ok(Command {
+        name: CommandName::new(alloc, head.name)?,
         line: head.line,
         args: head.args,
         tests,
         block,
-    }
+    })
 }
 
 /// The test with this head and these tests.
-pub(crate) fn finished_test(head: Head, tests: Tests) -> Test
-    ensures { (view : View) → test_of view result ≡ test_with (head_value view head) (tests_of view tests) }
+pub(crate) fn finished_test(alloc: Global, head: Head, tests: Tests) -> Result<Test, AllocError>
+    ensures { IfOk result (λ test. (view : View) → test_of view test ≡ test_with (head_value view head) (tests_of view tests)) }
 {
-    Test {
-        name: head.name,
+    Ok(Test {
+        name: TestName::new(alloc, head.name)?,
         line: head.line,
         args: head.args,
         tests,
-    }
+    })
 }

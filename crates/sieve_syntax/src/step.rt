@@ -1,6 +1,6 @@
 //! What each token does to what stands open (RFC 5228, section 8.2).
 
-ghost use Rattle.std.specs.Prelude.{◌≡◌, ◌∷◌, [], if◌then◌else◌, Some, map, length, nat_lt};
+ghost use Rattle.std.specs.Prelude.{◌≡◌, ◌∷◌, ◌++◌, [], if◌then◌else◌, IfErr, OnOk, Some, map, length, nat_lt};
 ghost use Rattle.sieve_base.specs.Limits.{block_room, test_depth};
 ghost use Rattle.sieve_syntax.specs.Machine;
 ghost use Rattle.sieve_syntax.specs.Machine.{after_command, after_listed, bare_head, close, close_block, for_list, for_one, step, with_argument};
@@ -12,7 +12,7 @@ ghost use Rattle.sieve_syntax.specs.declared.step.Stop.TheVariants.{NoMemory};
 
 use crate::reader::{Head, Level, Open, Outer, ParserState, command_with, finished_test};
 use crate::symbol::Symbol;
-use crate::tree::{Argument, Test, Tests, Text};
+use crate::tree::{Argument, Command, Test, Tests, Text};
 use sieve_base::SmallOctets;
 use sieve_base::limits::{MAX_OPEN_BLOCKS, MAX_TEST_DEPTH};
 use std::alloc::{AllocError, AllocFailed, Global};
@@ -52,7 +52,7 @@ fn between(alloc: Global, outer: &mut Outer, symbol: Symbol) -> Result<ParserSta
             outer.levels.clear();
             Ok(ParserState::Arguments(make_head(alloc, name, line)))
         }
-        Symbol::CloseBrace => close_block(outer),
+        Symbol::CloseBrace => close_block(alloc, outer),
         _ => Err(Stop::Fault),
     }
 }
@@ -70,9 +70,21 @@ fn make_head(alloc: Global, name: SmallOctets, line: u64) -> Head
     }
 }
 
+/// Adds a command behind those before it. Most blocks have one, and a vector that grows has room for four.
+fn add_command(done: &mut Vec<Command>, command: Command) -> Result<(), Stop>
+    ensures ok { OnOk result (done.new.items ≡ done.old.items ++ command ∷ []) }
+    ensures err { IfErr result (λ stop. stop ≡ NoMemory) }
+{
+    if done.is_empty() {
+        done.reserve_exact(1)?;
+    }
+    done.push(command)?;
+    Ok(())
+}
+
 /// The end of the innermost block.
 #[tactic(auto, unfolding(crate::specs::Machine::close_block))]
-fn close_block(outer: &mut Outer) -> Result<ParserState, Stop>
+fn close_block(alloc: Global, outer: &mut Outer) -> Result<ParserState, Stop>
     ensures { (view : View) → Advances view outer.new result (close_block (outer_value view outer.old).blocks (outer_value view outer.old).done) }
 {
     match outer.blocks.pop() {
@@ -80,7 +92,8 @@ fn close_block(outer: &mut Outer) -> Result<ParserState, Stop>
         Some(open) => {
             let Open { done, head, tests } = open;
             let block = mem::replace(&mut outer.done, done);
-            outer.done.push(command_with(head, tests, Some(block)))?;
+            let command = command_with(alloc, head, tests, Some(block))?;
+            add_command(&mut outer.done, command)?;
             Ok(ParserState::Between)
         }
     }
@@ -229,13 +242,15 @@ fn close(
     match outer.levels.pop() {
         None => close_command(alloc, outer, head, tests, symbol),
         Some(Level::One(owner)) => {
-            let test = Box::new(alloc, finished_test(head, tests))?;
+            let finished = finished_test(alloc, head, tests)?;
+            let test = Box::new(alloc, finished)?;
             close(alloc, outer, owner, Tests::One(test), symbol)
         }
         Some(Level::List(owner, before)) => {
             let mut before = before;
-            before.push(finished_test(head, tests))?;
-            close_in_list(outer, owner, before, symbol)
+            let finished = finished_test(alloc, head, tests)?;
+            before.push(finished)?;
+            close_in_list(alloc, outer, owner, before, symbol)
         }
     }
 }
@@ -243,6 +258,7 @@ fn close(
 /// Behind a test in a list of tests: a comma or the end of the list.
 #[tactic(auto, unfolding(crate::specs::Machine::after_listed))]
 fn close_in_list(
+    alloc: Global,
     outer: &mut Outer,
     owner: Head,
     before: Vec<Test>,
@@ -255,7 +271,10 @@ fn close_in_list(
             outer.levels.push(Level::List(owner, before))?;
             Ok(ParserState::BeforeTest)
         }
-        Symbol::CloseParenthesis => Ok(ParserState::AfterTests(owner, Tests::List(before))),
+        Symbol::CloseParenthesis => {
+            let tests = Tests::List(Box::new(alloc, before)?);
+            Ok(ParserState::AfterTests(owner, tests))
+        }
         _ => Err(Stop::Fault),
     }
 }
@@ -273,16 +292,15 @@ fn close_command(
 {
     match symbol {
         Symbol::Semicolon => {
-            outer.done.push(command_with(head, tests, None))?;
+            let command = command_with(alloc, head, tests, None)?;
+            add_command(&mut outer.done, command)?;
             Ok(ParserState::Between)
         }
         Symbol::OpenBrace => {
             if outer.blocks.len() >= MAX_OPEN_BLOCKS {
                 return Err(Stop::Fault);
             }
-            // Most blocks have one command, and a vector that grows has room for four.
-            let block = Vec::with_capacity(alloc, 1)?;
-            let done = mem::replace(&mut outer.done, block);
+            let done = mem::replace(&mut outer.done, Vec::new(alloc));
             outer.blocks.push(Open { done, head, tests })?;
             Ok(ParserState::Between)
         }

@@ -6,9 +6,12 @@ ghost use Rattle.sieve_syntax.specs.view.Literals.{IsLiteral, SeesLiterals, View
 ghost use Rattle.sieve_syntax.specs.view.Tree.{octets_of, text_of};
 ghost use Rattle.sieve_syntax.specs.view.TreeOf as by;
 
+use crate::command_name::CommandName;
+use crate::test_name::TestName;
 use sieve_base::SmallOctets;
 use sieve_variables::{Part, Parts};
 use std::alloc::{AllocError, Global};
+use std::mem::size_of;
 
 /// A whole script of a text: its commands in the order of the text.
 #[derive(Drop)]
@@ -19,8 +22,7 @@ pub struct ParsedScript {
 /// A command, with its arguments, its tests and its block (RFC 5228, section 2.9).
 #[derive(Drop)]
 pub struct Command {
-    /// The identifier, as it is written. Case doesn't matter to Sieve.
-    pub name: SmallOctets,
+    pub name: CommandName,
     /// The line of the identifier.
     pub line: u64,
     pub args: Vec<Argument>,
@@ -29,12 +31,14 @@ pub struct Command {
     pub block: Option<Vec<Command>>,
 }
 
+/// A command takes twelve words. A text can have one for each five octets, as `keep;`.
+const _: () = prove!(size_of::<Command>() == 96);
+
 /// A test, with its arguments and its own tests (RFC 5228, section 2.5).
 #[derive(Drop)]
 #[cycle(tests)]
 pub struct Test {
-    /// The identifier, as it is written. Case doesn't matter to Sieve.
-    pub name: SmallOctets,
+    pub name: TestName,
     /// The line of the identifier.
     pub line: u64,
     pub args: Vec<Argument>,
@@ -48,7 +52,7 @@ pub enum Tests {
     None,
     One(Box<Test>),
     /// The tests of a list in parentheses, one or more.
-    List(Vec<Test>),
+    List(Box<Vec<Test>>),
 }
 
 /// An argument (RFC 5228, section 2.6).

@@ -17,7 +17,7 @@ enum Word<L> {
 
 /// Octets with a label. Few of them, as most names and strings have, take no memory of their own. Contracts see both.
 #[derive(Drop)]
-pub(crate) struct Labelled<L> {
+pub struct Labelled<L> {
     word: Word<L>,
 }
 
@@ -43,12 +43,8 @@ impl<L: Copy> Labelled<L> {
         }
     }
 
-    /// Octets with a label. More than twelve take memory.
-    pub(crate) fn kept(
-        alloc: Global,
-        label: L,
-        octets: SmallOctets,
-    ) -> Result<Labelled<L>, AllocError>
+    /// Octets with a label. More than twelve take memory, and its want is the only refusal.
+    pub fn kept(alloc: Global, label: L, octets: SmallOctets) -> Result<Labelled<L>, AllocError>
         ensures ok { IfOk result (λ labelled. labelled ≡ record { label = label; octets = octets.items }) }
         ensures few { length octets.items ≤ 12 → IsOk result }
     {
@@ -67,7 +63,7 @@ impl<L: Copy> Labelled<L> {
     }
 
     /// The octets. Takes no memory.
-    pub(crate) fn octets(&self) -> &[u8]
+    pub fn octets(&self) -> &[u8]
         ensures { result.now ≡ self.now.octets }
     {
         match &self.word {
@@ -87,8 +83,8 @@ impl<L: Copy> Labelled<L> {
         Labelled { word }
     }
 
-    /// The label.
-    pub(crate) fn label(&self) -> L
+    /// The label. Takes no memory.
+    pub fn label(&self) -> L
         ensures { result ≡ self.now.label }
     {
         match &self.word {

@@ -15,6 +15,7 @@ mod values;
 mod variable;
 mod variables;
 
+pub use labelled::Labelled;
 pub use modifier::{LetterCase, Modifiers};
 pub use name::{folded, is_global_name, is_identifier};
 pub use part::{Literal, Part, PartRef};

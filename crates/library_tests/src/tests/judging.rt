@@ -3,8 +3,8 @@
 use super::{holds, same};
 use sieve_check::{CheckFault, Checked, Rule, check};
 use sieve_reading::{
-    Argument, Ask, Command, CommandKind, CommandReading, Leaf, MatchType, PartRef, Test,
-    TestReading, Tests, Text, ValueSource, kind_of, read_command, read_test,
+    Argument, Ask, Command, CommandKind, CommandName, CommandReading, Leaf, MatchType, PartRef, Test,
+    TestKind, TestReading, Tests, Text, ValueSource, read_command, read_test,
 };
 use sieve_syntax::{ParsedScript, parse};
 use std::alloc::Global;
@@ -15,11 +15,11 @@ use std::test::Fail;
 fn check_named(rt: &impl Abort, command: &Command, name: &[u8], line: u64, kind: CommandKind) {
     same(rt, "the name of a command", command.name.as_slice(), name);
     holds(rt, "its line", command.line == line);
-    holds(rt, "its kind", kind_of(command) == Some(kind));
+    holds(rt, "its kind", command.name.kind() == Some(kind));
 }
 
 /// Whether a command of that name and with these arguments reads as `keep` without flags.
-fn is_plain_keep(name: &[u8], args: Vec<Argument>) -> bool {
+fn is_plain_keep(name: &CommandName, args: Vec<Argument>) -> bool {
     match read_command(name, args) {
         Some(CommandReading::Act(Leaf::Keep { settings })) => {
             settings.flags.is_none() && !settings.copy
@@ -48,6 +48,8 @@ fn check_negation(rt: &impl Abort, negation: Test) {
         tests,
         ..
     } = negation;
+    same(rt, "the name of the test", name.as_slice(), b"NOT");
+    holds(rt, "its kind", name.kind() == Some(TestKind::Not));
     let negates = matches!(read_test(&name, args), Some(TestReading::Not));
     holds(rt, "the reading of not", negates);
     match tests {

@@ -29,10 +29,10 @@ argument_of view (argument_variants.Tag name line) = tag name.items line
 abbrev pub tests_step : {V : Type 0} → test_layers.Tests-F (Tests V) (Test V) → Tests V
 tests_step test_layers.None = no_tests
 tests_step (test_layers.One t) = one_test t.value
-tests_step (test_layers.List ts) = test_list (tests ts.items)
+tests_step (test_layers.List ts) = test_list (tests ts.value.items)
 
 abbrev pub test_step : {V : Type 0} → (List Part → V) → test_layers.Test-F (Tests V) (Test V) → Test V
-test_step view t = test t.name.items t.line (map (argument_of view) t.args.items) t.tests
+test_step view t = test t.name t.line (map (argument_of view) t.args.items) t.tests
 
 abbrev pub tests_of : {V : Type 0} → (List Part → V) → some_tests.Tests → Tests V
 tests_of {V} view = some_tests.fold-Tests (Tests V) (Test V) tests_step (test_step view)
@@ -46,7 +46,7 @@ block_step (Some v) = block (nodes v.items)
 
 -- a layer of commands, with the commands in its block already seen
 abbrev pub command_step : {V : Type 0} → (List Part → V) → commands.Command-F (Node V) → Node V
-command_step view c = node c.name.items c.line (map (argument_of view) c.args.items) (tests_of view c.tests) (block_step c.block)
+command_step view c = node c.name c.line (map (argument_of view) c.args.items) (tests_of view c.tests) (block_step c.block)
 
 abbrev pub node_of : {V : Type 0} → (List Part → V) → commands.Command → Node V
 node_of {V} view = commands.fold-Command (Node V) (command_step view)

@@ -96,7 +96,7 @@ fn print_head(
 /// A test, as `NAME@LINE ARGUMENTS TESTS`.
 #[cycle(print)]
 fn print_test(out: &mut String, alloc: Global, test: &Test) -> Result<(), AllocError> {
-    print_head(out, alloc, &test.name, test.line, &test.args)?;
+    print_head(out, alloc, test.name.as_slice(), test.line, &test.args)?;
     print_tests(out, alloc, &test.tests)
 }
 
@@ -123,7 +123,7 @@ fn print_tests(out: &mut String, alloc: Global, tests: &Tests) -> Result<(), All
 /// A command, as `NAME@LINE ARGUMENTS TESTS;` or with a block in braces.
 #[cycle(commands)]
 fn print_command(out: &mut String, alloc: Global, command: &Command) -> Result<(), AllocError> {
-    print_head(out, alloc, &command.name, command.line, &command.args)?;
+    print_head(out, alloc, command.name.as_slice(), command.line, &command.args)?;
     print_tests(out, alloc, &command.tests)?;
     match &command.block {
         None => out.push_str(";"),

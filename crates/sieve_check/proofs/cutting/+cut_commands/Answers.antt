@@ -13,6 +13,5 @@ cut_command-returns-in-Some-clause-cut t c =
     let args = map seen.argument_of (out-Command c.args.command.now).args.items in
     on_ok_weaker c.cut_commands.result
     (command_cut cutting (cutting_by c.args.required c.cut_front.new.declared) c.cut_front.new.args c.cut_front.new.tests c.cut_commands.new.commands c.args.command.now c.in-Some.commands
-    (front.args ∙ ap (λ name. parted_args cutting name args) c.deref.ensures) front.tests c.in-Some.is
-    (ap (cutting_by c.args.required) front.declared ∙ ap (λ name. within_block cutting name args) c.deref.ensures))
+    front.args front.tests c.in-Some.is (ap (cutting_by c.args.required) front.declared))
     c.cut_commands.ensures.cut

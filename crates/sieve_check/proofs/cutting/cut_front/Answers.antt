@@ -8,9 +8,9 @@ use Rattle.sieve_check.proofs.cutting.cut_front.Goals as goal
 
 pub returns-clause-declared : goal.returns-clause-declared
 returns-clause-declared c =
-    let declared = c.args.declared.now in let args = map seen.argument_of c.args.args.now.items in let kind = c.command_named.result in
+    let declared = c.args.declared.now in let args = map seen.argument_of c.args.args.now.items in let kind = c.kind.result in
     subst (λ names. OnOk c.add_all.result (c.add_all.new.self ≡ names))
     (ap (λ names. with_names names declared) (c.in_ok-cut_command_arguments.ensures.names ∙ ap (λ names. declaring_arguments names (command_labels kind args) args) c.new-names.ensures)
     ∙ declared_apart declared (command_labels kind args) args
-    ∙ ap (λ k. declaring_arguments declared (command_labels k args) args) c.command_named.ensures)
+    ∙ ap (λ k. declaring_arguments declared (command_labels k args) args) c.kind.ensures)
     c.add_all.ensures

@@ -6,5 +6,5 @@ use Rattle.sieve_check.proofs.test_rules.check_test_head.Goals as goal
 
 pub returns-in-Some : goal.returns-in-Some
 returns-in-Some c =
-    test_known c.args.test.now (context_as c.args.context) c.in-Some.kind (row_as c.row.result) c.deref.result.now _ c.deref-in-Some.result.now c.check_test_use.result
-    c.in-Some.ensures c.deref.ensures refl c.row.ensures c.deref-in-Some.ensures.value c.check_test_use.ensures
+    test_known c.args.test.now (context_as c.args.context) c.in-Some.kind (row_as c.row.result) _ c.deref.result.now c.check_test_use.result
+    c.in-Some.ensures refl c.row.ensures c.deref.ensures.value c.check_test_use.ensures

@@ -33,7 +33,7 @@ put_command-returns-in-Some-If-clause-value t c =
     alone c.without_branch.result c.put_branch.new.tail c.without_branch.ensures.branches c.without_branch.ensures.behind
     ∙ ap no_branch (c.in_ok-put_branch-in-Some-If.ensures ∙ (branch_along (first_before (tests_of o.tests)) (block_on commands.items) (block_before (block_of o.block)) b inside ∙ branch_seen c.args.command b))
     ∙ command_put (node_of c.args.command) (Some reading.reads_if) b
-    (ap (λ r. Some (command_reading_as r)) (sym c.in-Some-If.field-0-is) ∙ c.in-Some-If.ensures ∙ reading_seen c.args.command c.deref.result.now c.deref.ensures)
+    (ap (λ r. Some (command_reading_as r)) (sym c.in-Some-If.field-0-is) ∙ c.in-Some-If.ensures ∙ reading_seen c.args.command)
 
 pub put_command-returns-in-Some-Elsif-clause-within :
     goal.put_command-returns-in-Some-Elsif-clause-within
@@ -62,7 +62,7 @@ put_command-returns-in-Some-Elsif-clause-value t c =
     ap (λ tail. made true tail (last c.args.front.behind tail)) (c.in_ok-put_branch-in-Some-Elsif.ensures ∙ (branch_along (first_before (tests_of o.tests)) (block_on commands.items) (block_before (block_of o.block)) b inside ∙ branch_seen c.args.command b))
     ∙ ap (made true (branch_at n b)) (with_front c.args.front.behind c.args.tail.now (branch_at n b) c.requires (branch_at_ends n b))
     ∙ command_put n (Some reading.reads_elsif) b
-    (ap (λ r. Some (command_reading_as r)) (sym c.in-Some-Elsif.field-0-is) ∙ c.in-Some-Elsif.ensures ∙ reading_seen c.args.command c.deref.result.now c.deref.ensures)
+    (ap (λ r. Some (command_reading_as r)) (sym c.in-Some-Elsif.field-0-is) ∙ c.in-Some-Elsif.ensures ∙ reading_seen c.args.command)
 
 pub put_command-returns-in-Some-Else-clause-within :
     goal.put_command-returns-in-Some-Else-clause-within
@@ -89,7 +89,7 @@ put_command-returns-in-Some-Else-clause-value t c =
     let n = node_of c.args.command in
     last_branch n c.args.front.behind c.args.tail.now c.keep_last.new.self c.put_commands.new.tail c.requires c.keep_last.ensures (c.in_ok-put_commands-in-Some-Else.ensures ∙ block_put commands.items c.keep_last.new.self ∙ inside c.keep_last.new.self ∙ block_seen c.args.command c.keep_last.new.self)
     ∙ command_put n (Some reading.reads_else) (branches_as c.args.front c.args.tail.now)
-    (ap (λ r. Some (command_reading_as r)) (sym c.in-Some-Else.field-0-is) ∙ c.in-Some-Else.ensures ∙ reading_seen c.args.command c.deref.result.now c.deref.ensures)
+    (ap (λ r. Some (command_reading_as r)) (sym c.in-Some-Else.field-0-is) ∙ c.in-Some-Else.ensures ∙ reading_seen c.args.command)
 
 pub put_command-returns-in-Some-Act-clause-value :
     goal.put_command-returns-in-Some-Act-clause-value
@@ -99,7 +99,7 @@ put_command-returns-in-Some-Act-clause-value t c =
     fronts_along _ _ _ _
     (ap (λ op. no_branch (op ∷ b.behind_branches)) (c.in_ok-op-in-Some-Act.ensures ∙ ap (act_op leaf) (sym (line_seen c.args.command)))
     ∙ command_put (node_of c.args.command) (Some (reading.reads_act leaf)) b
-    (ap (λ r. Some (command_reading_as r)) (sym c.in-Some-Act.field-0-is) ∙ c.in-Some-Act.ensures ∙ reading_seen c.args.command c.deref.result.now c.deref.ensures))
+    (ap (λ r. Some (command_reading_as r)) (sym c.in-Some-Act.field-0-is) ∙ c.in-Some-Act.ensures ∙ reading_seen c.args.command))
     c.put_alone.ensures.value
 
 pub put_command-returns-in-Some-Stop-clause-value :
@@ -107,7 +107,7 @@ pub put_command-returns-in-Some-Stop-clause-value :
 put_command-returns-in-Some-Stop-clause-value t c =
     fronts_along _ _ _ _
     (command_put (node_of c.args.command) (Some reading.reads_stop) (branches_as c.args.front c.args.tail.now)
-    (ap (λ r. Some (command_reading_as r)) (sym c.in-Some-Stop.field-0-is) ∙ c.in-Some-Stop.ensures ∙ reading_seen c.args.command c.deref.result.now c.deref.ensures))
+    (ap (λ r. Some (command_reading_as r)) (sym c.in-Some-Stop.field-0-is) ∙ c.in-Some-Stop.ensures ∙ reading_seen c.args.command))
     c.put_alone-in-Some-Stop.ensures.value
 
 pub put_command-returns-in-Some-Return-clause-value :
@@ -115,7 +115,7 @@ pub put_command-returns-in-Some-Return-clause-value :
 put_command-returns-in-Some-Return-clause-value t c =
     fronts_along _ _ _ _
     (command_put (node_of c.args.command) (Some reading.reads_return) (branches_as c.args.front c.args.tail.now)
-    (ap (λ r. Some (command_reading_as r)) (sym c.in-Some-Return.field-0-is) ∙ c.in-Some-Return.ensures ∙ reading_seen c.args.command c.deref.result.now c.deref.ensures))
+    (ap (λ r. Some (command_reading_as r)) (sym c.in-Some-Return.field-0-is) ∙ c.in-Some-Return.ensures ∙ reading_seen c.args.command))
     c.put_alone-in-Some-Return.ensures.value
 
 pub put_command-returns-in-Some-Nothing-clause-value :
@@ -123,12 +123,12 @@ pub put_command-returns-in-Some-Nothing-clause-value :
 put_command-returns-in-Some-Nothing-clause-value t c =
     c.drop_branches.ensures.value
     ∙ command_put (node_of c.args.command) (Some reading.reads_nothing) (branches_as c.args.front c.args.tail.now)
-    (ap (λ r. Some (command_reading_as r)) (sym c.in-Some-Nothing.field-0-is) ∙ c.in-Some-Nothing.ensures ∙ reading_seen c.args.command c.deref.result.now c.deref.ensures)
+    (ap (λ r. Some (command_reading_as r)) (sym c.in-Some-Nothing.field-0-is) ∙ c.in-Some-Nothing.ensures ∙ reading_seen c.args.command)
 
 pub put_command-returns-clause-value : goal.put_command-returns-clause-value
 put_command-returns-clause-value t c =
     c.drop_branches-in-None-read_command.ensures.value
-    ∙ command_put (node_of c.args.command) None (branches_as c.args.front c.args.tail.now) (c.in-None-read_command.ensures ∙ reading_seen c.args.command c.deref.result.now c.deref.ensures)
+    ∙ command_put (node_of c.args.command) None (branches_as c.args.front c.args.tail.now) (c.in-None-read_command.ensures ∙ reading_seen c.args.command)
 
 pub put_commands-loop-command-init : goal.put_commands-loop-command-init
 put_commands-loop-command-init t c =

@@ -16,13 +16,15 @@ put_first-returns-in-One t c = on_ok_along _ _ _ _ (first_one c.args.tests c.in-
 pub put_first-returns-in-None-next : goal.put_first-returns-in-None-next
 put_first-returns-in-None-next t c =
     let gone = c.in-None-next.ensures.cases.0 in let long = c.into_iter.ensures.len in
-    let none : length c.in-List.list.items ≡ 0 = search rules in
-    on_ok_along _ _ _ _ (first_empty c.args.tests c.in-List.list c.args.tail.now c.in-List.is (no_items c.in-List.list.items none)) c.put-in-None-next.ensures
+    let list = c.into_inner-in-List.result in
+    let none : length list.items ≡ 0 = search rules in
+    on_ok_along _ _ _ _ (first_empty c.args.tests c.in-List.list list c.args.tail.now c.in-List.is c.into_inner-in-List.ensures (no_items list.items none)) c.put-in-None-next.ensures
 
 pub put_first-returns : goal.put_first-returns
 put_first-returns t c =
-    let first : c.in-List.list.items ≡ c.in-Some.test ∷ c.next.new.self.rest.items = search rules in
-    on_ok_along _ _ _ _ (first_listed c.args.tests c.in-List.list c.in-Some.test c.next.new.self.rest.items c.args.tail.now c.in-List.is first) c.put_test-in-Some.ensures
+    let list = c.into_inner-in-List.result in
+    let first : list.items ≡ c.in-Some.test ∷ c.next.new.self.rest.items = search rules in
+    on_ok_along _ _ _ _ (first_listed c.args.tests c.in-List.list list c.in-Some.test c.next.new.self.rest.items c.args.tail.now c.in-List.is c.into_inner-in-List.ensures first) c.put_test-in-Some.ensures
 
 pub put_tests-returns-in-None : goal.put_tests-returns-in-None
 put_tests-returns-in-None t c =
@@ -32,7 +34,7 @@ pub put_tests-returns-in-One : goal.put_tests-returns-in-One
 put_tests-returns-in-One t c = on_ok_along _ _ _ _ (all_one c.args.truth c.args.tests c.in-One.test c.into_inner.result c.args.tail.now c.in-One.is c.into_inner.ensures) c.put_test.ensures
 
 pub put_tests-returns-in-List : goal.put_tests-returns-in-List
-put_tests-returns-in-List t c = on_ok_along _ _ _ _ (all_list c.args.truth c.args.tests c.in-List.list c.args.tail.now c.in-List.is) c.put_list.ensures
+put_tests-returns-in-List t c = on_ok_along _ _ _ _ (all_list c.args.truth c.args.tests c.in-List.list c.into_inner-in-List.result c.args.tail.now c.in-List.is c.into_inner-in-List.ensures) c.put_list.ensures
 
 pub put_list-returns-then-is_empty : goal.put_list-returns-then-is_empty
 put_list-returns-then-is_empty t c =
@@ -73,33 +75,33 @@ put_list-returns t c =
 
 pub put_test-returns-in-Some-Always : goal.put_test-returns-in-Some-Always
 put_test-returns-in-Some-Always t c =
-    on_ok_along _ _ _ _ (test_put c.args.test (Some reading.reads_always) c.args.tail.now (ap (λ r. Some (test_reading_as r)) (sym c.in-Some-Always.field-0-is) ∙ c.in-Some-Always.ensures ∙ test_seen c.args.test c.deref.result.now c.deref.ensures)) c.put.ensures
+    on_ok_along _ _ _ _ (test_put c.args.test (Some reading.reads_always) c.args.tail.now (ap (λ r. Some (test_reading_as r)) (sym c.in-Some-Always.field-0-is) ∙ c.in-Some-Always.ensures ∙ test_seen c.args.test)) c.put.ensures
 
 pub put_test-returns-in-Some-Never : goal.put_test-returns-in-Some-Never
 put_test-returns-in-Some-Never t c =
-    on_ok_along _ _ _ _ (test_put c.args.test (Some reading.reads_never) c.args.tail.now (ap (λ r. Some (test_reading_as r)) (sym c.in-Some-Never.field-0-is) ∙ c.in-Some-Never.ensures ∙ test_seen c.args.test c.deref.result.now c.deref.ensures)) c.put-in-Some-Never.ensures
+    on_ok_along _ _ _ _ (test_put c.args.test (Some reading.reads_never) c.args.tail.now (ap (λ r. Some (test_reading_as r)) (sym c.in-Some-Never.field-0-is) ∙ c.in-Some-Never.ensures ∙ test_seen c.args.test)) c.put-in-Some-Never.ensures
 
 pub put_test-returns-in-Some-Asks : goal.put_test-returns-in-Some-Asks
 put_test-returns-in-Some-Asks t c =
     on_ok_along _ _ _ _
     (ap (λ op. op ∷ c.args.tail.now) c.in_ok-ask_op-in-Some-Asks.ensures
-    ∙ test_put c.args.test (Some (reading.reads_ask (ask_as c.in-Some-Asks.ask))) c.args.tail.now (ap (λ r. Some (test_reading_as r)) (sym c.in-Some-Asks.field-0-is) ∙ c.in-Some-Asks.ensures ∙ test_seen c.args.test c.deref.result.now c.deref.ensures))
+    ∙ test_put c.args.test (Some (reading.reads_ask (ask_as c.in-Some-Asks.ask))) c.args.tail.now (ap (λ r. Some (test_reading_as r)) (sym c.in-Some-Asks.field-0-is) ∙ c.in-Some-Asks.ensures ∙ test_seen c.args.test))
     c.put-in-Some-Asks.ensures
 
 pub put_test-returns-in-Some-AllOf : goal.put_test-returns-in-Some-AllOf
 put_test-returns-in-Some-AllOf t c =
-    on_ok_along _ _ _ _ (test_put c.args.test (Some reading.reads_all) c.args.tail.now (ap (λ r. Some (test_reading_as r)) (sym c.in-Some-AllOf.field-0-is) ∙ c.in-Some-AllOf.ensures ∙ test_seen c.args.test c.deref.result.now c.deref.ensures)) c.put_tests.ensures
+    on_ok_along _ _ _ _ (test_put c.args.test (Some reading.reads_all) c.args.tail.now (ap (λ r. Some (test_reading_as r)) (sym c.in-Some-AllOf.field-0-is) ∙ c.in-Some-AllOf.ensures ∙ test_seen c.args.test)) c.put_tests.ensures
 
 pub put_test-returns-in-Some-AnyOf : goal.put_test-returns-in-Some-AnyOf
 put_test-returns-in-Some-AnyOf t c =
-    on_ok_along _ _ _ _ (test_put c.args.test (Some reading.reads_any) c.args.tail.now (ap (λ r. Some (test_reading_as r)) (sym c.in-Some-AnyOf.field-0-is) ∙ c.in-Some-AnyOf.ensures ∙ test_seen c.args.test c.deref.result.now c.deref.ensures)) c.put_tests-in-Some-AnyOf.ensures
+    on_ok_along _ _ _ _ (test_put c.args.test (Some reading.reads_any) c.args.tail.now (ap (λ r. Some (test_reading_as r)) (sym c.in-Some-AnyOf.field-0-is) ∙ c.in-Some-AnyOf.ensures ∙ test_seen c.args.test)) c.put_tests-in-Some-AnyOf.ensures
 
 pub put_test-returns : goal.put_test-returns
 put_test-returns t c =
     on_ok_along _ _ _ _
     (ap (first_before (tests_of c.args.test.tests)) c.in_ok-put-in-Some-Not.ensures
-    ∙ test_put c.args.test (Some reading.reads_not) c.args.tail.now (ap (λ r. Some (test_reading_as r)) (sym c.in-Some-Not.field-0-is) ∙ c.in-Some-Not.ensures ∙ test_seen c.args.test c.deref.result.now c.deref.ensures))
+    ∙ test_put c.args.test (Some reading.reads_not) c.args.tail.now (ap (λ r. Some (test_reading_as r)) (sym c.in-Some-Not.field-0-is) ∙ c.in-Some-Not.ensures ∙ test_seen c.args.test))
     c.put_first.ensures
 
 pub put_test-returns-in-None : goal.put_test-returns-in-None
-put_test-returns-in-None t c = on_ok_along _ _ _ _ (test_put c.args.test _ c.args.tail.now (c.in-None.ensures ∙ test_seen c.args.test c.deref.result.now c.deref.ensures)) c.put-in-None.ensures
+put_test-returns-in-None t c = on_ok_along _ _ _ _ (test_put c.args.test _ c.args.tail.now (c.in-None.ensures ∙ test_seen c.args.test)) c.put-in-None.ensures

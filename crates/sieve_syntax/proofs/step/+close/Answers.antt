@@ -15,15 +15,15 @@ returns-in_ok-test-in-Some-One t c = λ view.
     subst (Advances view c.close.new.outer c.close.result)
     (sym (closes_one view block_room (outer_value view c.args.outer.now) c.args.outer.now.levels.items c.pop.new.self.items some.owner c.args.head c.args.tests (test_variants.One test) (symbol_as c.args.symbol)
     (some.ensures.items ∙ ap (λ level. c.pop.new.self.items ++ level ∷ []) some.field-0-is)
-    (one_seen view test ∙ ap (λ t. one_test (test_of view t)) c.in_ok-test-in-Some-One.ensures.ok ∙ ap one_test (c.finished_test.ensures view))))
+    (one_seen view test ∙ ap (λ t. one_test (test_of view t)) c.in_ok-test-in-Some-One.ensures.ok ∙ ap one_test (c.in_ok-finished-in-Some-One.ensures view))))
     (c.close.ensures view)
 
 pub returns-in_ok-push-in-Some-List : goal.returns-in_ok-push-in-Some-List
 returns-in_ok-push-in-Some-List t c = λ view.
     let some = c.in-Some-List in
     subst (Advances view c.close_in_list.new.outer c.close_in_list.result)
-    (sym (closes_listed view block_room (outer_value view c.args.outer.now) c.args.outer.now.levels.items c.pop.new.self.items some.owner c.args.head some.before c.push.new.self.items c.finished_test-in-Some-List.result c.args.tests (symbol_as c.args.symbol)
+    (sym (closes_listed view block_room (outer_value view c.args.outer.now) c.args.outer.now.levels.items c.pop.new.self.items some.owner c.args.head some.before c.push.new.self.items c.in_ok-finished-in-Some-List.finished c.args.tests (symbol_as c.args.symbol)
     (some.ensures.items ∙ ap (λ level. c.pop.new.self.items ++ level ∷ []) some.field-0-is)
     c.in_ok-push-in-Some-List.ensures.items
-    (c.finished_test-in-Some-List.ensures view)))
+    (c.in_ok-finished-in-Some-List.ensures view)))
     (c.close_in_list.ensures view)

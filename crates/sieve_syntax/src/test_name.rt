@@ -1,0 +1,53 @@
+//! The names of tests.
+ghost use Rattle.std.specs.Prelude.{◌≡◌, IfOk};
+ghost use Rattle.sieve_table.specs.Table.{test_named};
+
+use sieve_base::SmallOctets;
+use sieve_table::{TestKind, test_named};
+use sieve_variables::Labelled;
+use std::alloc::{AllocError, Global};
+use std::marker::Model;
+
+/// The identifier of a test as it is written, and the test that it names, which is looked up where the tree is made and
+/// nowhere else. Contracts see the octets.
+#[derive(Drop)]
+pub struct TestName {
+    word: Labelled<Option<TestKind>>,
+}
+
+impl Model for TestName {
+    ghost use Rattle.std.specs.Prelude.{◌≡◌, ℕ, List};
+    ghost use Rattle.sieve_table.specs.Table.{test_named};
+
+    ghost Value = { List ℕ };
+
+    ghost view = { λ n. n.word.octets };
+
+    ghost invariant = { λ n. n.word.label ≡ test_named n.word.octets };
+}
+
+impl TestName {
+    /// The name that is written so. More than twelve octets take memory; no test has a name so long.
+    pub(crate) fn new(alloc: Global, octets: SmallOctets) -> Result<TestName, AllocError>
+        ensures { IfOk result (λ name. name ≡ octets.items) }
+    {
+        let kind = test_named(&octets);
+        Ok(TestName {
+            word: Labelled::kept(alloc, kind, octets)?,
+        })
+    }
+
+    /// The octets. Case doesn't matter to Sieve (RFC 5228, section 2.1). Takes no memory.
+    pub fn as_slice(&self) -> &[u8]
+        ensures { result.now ≡ self.now }
+    {
+        self.word.octets()
+    }
+
+    /// The test that is named, or `None` where there is none of that name. Takes no memory.
+    pub fn kind(&self) -> Option<TestKind>
+        ensures { result ≡ test_named self.now }
+    {
+        self.word.label()
+    }
+}
