@@ -76,11 +76,11 @@ list_cut cutting new ts xs whole is same e =
     ∙ sym (ap (parted_tests cutting) (ap seen.tests_of is ∙ views.list_seen seen.octets_of ts))
 
 -- the arguments of a command of that name, with their strings cut into parts
-abbrev pub parted_args : Cutting → List ℕ → List syntax.Argument → List Argument
+abbrev parted_args : Cutting → List ℕ → List syntax.Argument → List Argument
 parted_args cutting name args = parted_labelled cutting (command_labels (command_named name) args) args
 
 -- by what the strings of a command's block are cut
-abbrev pub within_block : Cutting → List ℕ → List syntax.Argument → Cutting
+abbrev within_block : Cutting → List ℕ → List syntax.Argument → Cutting
 within_block cutting name args = record cutting { declared = declaring_command cutting.declared name args }
 
 -- a command whose parts are cut, and then its block, is the command cut

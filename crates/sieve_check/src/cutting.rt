@@ -19,7 +19,9 @@ ghost use Rattle.sieve_variables.specs.Variable.{scoped, variable_named};
 use crate::context::{Required, required_in, takes_references};
 use crate::scope::declare_argument;
 use sieve_reading::{AsOctets, role_of, row_expected, shape_of};
-use sieve_syntax::{Argument, Command, CommandName, ParsedScript, Test, TestName, Tests, Text, octets_in};
+use sieve_syntax::{
+    Argument, Command, CommandName, ParsedScript, Test, TestName, Tests, Text, octets_in,
+};
 use sieve_table::{CommandKind, Role, Row, names_variable};
 use sieve_variables::{
     Names, Part, PartRef, Parts, Variable, parts_of_text, references_in, scoped_parts,

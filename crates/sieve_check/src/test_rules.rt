@@ -1,5 +1,5 @@
 //! The breaches in tests.
-ghost use Rattle.std.specs.Prelude.{◌≡◌, map};
+ghost use Rattle.std.specs.Prelude.{map};
 ghost use Rattle.sieve_syntax.specs.Tree.{tests};
 ghost use Rattle.sieve_syntax.specs.view.Tree.{test_of, tests_of};
 ghost use Rattle.sieve_check.specs.Element.{test_elements, test_list_elements, tests_elements};

@@ -227,8 +227,8 @@ fn tests_fit(inner: Inner, tests: &Tests) -> bool
     }
 }
 
-/// Whether arguments of these labels, which fill the row or don't, tests or the end aren't what is taken, a tag lacks its own
-/// argument, or none is there of a kind that is needed.
+/// Whether arguments of these labels, tests or the end aren't what is taken, a tag lacks its own argument, or none is there
+/// of a kind that is needed. `filled` says whether the positional arguments are there and no others.
 pub(crate) fn has_bad_arguments(
     filled: bool,
     row: &Row,

@@ -70,7 +70,8 @@ fn make_head(alloc: Global, name: SmallOctets, line: u64) -> Head
     }
 }
 
-/// Adds a command behind those before it. Most blocks have one, and a vector that grows has room for four.
+/// Adds a command behind those before it. The first asks for room for one: most blocks have no more, and a vector that grows has
+/// room for four.
 fn add_command(done: &mut Vec<Command>, command: Command) -> Result<(), Stop>
     ensures ok { OnOk result (done.new.items ≡ done.old.items ++ command ∷ []) }
     ensures err { IfErr result (λ stop. stop ≡ NoMemory) }

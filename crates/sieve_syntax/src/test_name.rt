@@ -1,5 +1,5 @@
 //! The names of tests.
-ghost use Rattle.std.specs.Prelude.{◌≡◌, IfOk};
+ghost use Rattle.std.specs.Prelude.{◌≡◌, ◌≤◌, IfOk, IsOk, length};
 ghost use Rattle.sieve_table.specs.Table.{test_named};
 
 use sieve_base::SmallOctets;
@@ -8,8 +8,8 @@ use sieve_variables::Labelled;
 use std::alloc::{AllocError, Global};
 use std::marker::Model;
 
-/// The identifier of a test as it is written, and the test that it names, which is looked up where the tree is made and
-/// nowhere else. Contracts see the octets.
+/// The identifier of a test as it is written, and the test that it names, or that it names none. It is looked up
+/// where the tree is made and nowhere else. Contracts see the octets.
 #[derive(Drop)]
 pub struct TestName {
     word: Labelled<Option<TestKind>>,
@@ -29,7 +29,8 @@ impl Model for TestName {
 impl TestName {
     /// The name that is written so. More than twelve octets take memory; no test has a name so long.
     pub(crate) fn new(alloc: Global, octets: SmallOctets) -> Result<TestName, AllocError>
-        ensures { IfOk result (λ name. name ≡ octets.items) }
+        ensures ok { IfOk result (λ name. name ≡ octets.items) }
+        ensures few { length octets.items ≤ 12 → IsOk result }
     {
         let kind = test_named(&octets);
         Ok(TestName {

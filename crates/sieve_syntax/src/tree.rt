@@ -31,7 +31,7 @@ pub struct Command {
     pub block: Option<Vec<Command>>,
 }
 
-/// A command takes twelve words. A text can have one for each five octets, as `keep;`.
+/// A command takes twelve words: a text of `keep;` alone has one for each five octets.
 const _: () = prove!(size_of::<Command>() == 96);
 
 /// A test, with its arguments and its own tests (RFC 5228, section 2.5).

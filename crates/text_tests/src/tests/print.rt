@@ -123,7 +123,13 @@ fn print_tests(out: &mut String, alloc: Global, tests: &Tests) -> Result<(), All
 /// A command, as `NAME@LINE ARGUMENTS TESTS;` or with a block in braces.
 #[cycle(commands)]
 fn print_command(out: &mut String, alloc: Global, command: &Command) -> Result<(), AllocError> {
-    print_head(out, alloc, command.name.as_slice(), command.line, &command.args)?;
+    print_head(
+        out,
+        alloc,
+        command.name.as_slice(),
+        command.line,
+        &command.args,
+    )?;
     print_tests(out, alloc, &command.tests)?;
     match &command.block {
         None => out.push_str(";"),
