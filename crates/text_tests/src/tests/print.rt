@@ -111,7 +111,7 @@ fn print_tests(out: &mut String, alloc: Global, tests: &Tests) -> Result<(), All
         }
         Tests::List(list) => {
             out.push_str(" (")?;
-            for test in list {
+            for test in list.iter() {
                 print_test(out, alloc, test)?;
                 out.push_str(",")?;
             }
