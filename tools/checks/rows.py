@@ -63,7 +63,7 @@ def paragraphs(path):
     for paragraph in re.split(r"\n\n+", path.read_text(encoding="utf-8").strip("\n")):
         lines = [line for line in paragraph.split("\n") if not line.startswith("#")]
         if lines and lines[0].startswith("== "):
-            title, *lines = [lines[0][3:], *lines[1:]]
+            title, lines = lines[0][3:], lines[1:]
         if lines:
             yield title, lines
 
