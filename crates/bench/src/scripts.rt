@@ -59,7 +59,8 @@ impl Scripts {
         ensures ok { OnOk result (self.new ≡ with_script name script self.old) }
         ensures err { OnErr result (self.new ≡ self.old) }
     {
-        self.by_name.insert(name, script)?;
+        let replaced = self.by_name.insert(name, script)?;
+        drop(replaced);
         Ok(())
     }
 

@@ -2,8 +2,7 @@
 
 use crate::telling::{Host, mark, tell, tell_done, tell_octets, tell_refused};
 use sieve_base::{Octets, Piece};
-use sieve_variables::{Part, PartRef, Parts, Values, Variable, VariableRef, parts_of_text};
-use std::borrow::CowSlice;
+use sieve_variables::{Part, PartRef, Values, Variable, VariableRef, parts_of_text};
 use std::io;
 
 // A name of more octets than lie in a variable itself.
@@ -65,23 +64,14 @@ fn values_of(rt: &impl Host) -> io::Result<Values> {
 
 pub(crate) fn expand(rt: &impl Host) -> io::Result<()> {
     let values = values_of(rt)?;
-    let mut strings: Vec<Parts> = Vec::new(rt.alloc());
-    strings.push(parts_of_text(rt.alloc(), TEXT)?)?;
-    strings.push(parts_of_text(rt.alloc(), b"plain")?)?;
+    let string = parts_of_text(rt.alloc(), TEXT)?;
     mark(rt);
-    let answer = values.expanded(rt.alloc(), &strings);
+    let answer = values.expanded_string(rt.alloc(), string.as_slice());
     mark(rt);
     match answer {
-        Ok(found) => tell_values(rt, &found),
+        Ok(octets) => tell_octets(rt, octets.as_slice()),
         Err(_) => tell_refused(rt),
     }
-}
-
-fn tell_values(rt: &impl Print, found: &[CowSlice<'_, u8>]) -> io::Result<()> {
-    for value in found {
-        tell_octets(rt, value.as_slice())?;
-    }
-    Ok(())
 }
 
 /// Whether the variable can be set, and what it holds.

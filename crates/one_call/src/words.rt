@@ -10,7 +10,7 @@ const WORDS: &str = "is contains contains_in contains_in/short matches Captures 
     Message::new Message::new/bare Message::value Message::decoded decoded_value decoded_value/unknown addresses \
     Message Message::value/unfolded Message::decoded/plain Address \
     tokens parse parse/faulty check judge judge/faulty compile dump_text Checked Code write_quoted \
-    parts_of_text Values::set Values::expanded Values \
+    parts_of_text Values::set Values::expanded_string Values \
     Shelf::add run/tests run/variables run/flags run/includes run/error Shelf Outcome \
     put_script put_script/new keep_script put_message put_message/new keep_message rename_script \
     set_main set_envelope set_mailbox set_expected \
@@ -82,7 +82,7 @@ fn call_scripts(rt: &impl Host, word: &str) -> Option<io::Result<()>> {
         "write_quoted" => scripts::quote(rt),
         "parts_of_text" => values::cut(rt),
         "Values::set" => values::set(rt),
-        "Values::expanded" => values::expand(rt),
+        "Values::expanded_string" => values::expand(rt),
         "Values" => values::ask(rt),
         "Shelf::add" => runs::add(rt),
         "run/tests" => runs::run_texts(rt, runs::TESTS, runs::LIB),

@@ -149,6 +149,9 @@ fn cut_by_row(
     ensures cut { OnOk result (map argument_of args.new.items ≡ spec.parted_labelled (cutting_as cutting.entry) (row_labels (row_as row.now) (map seen.argument_of args.old.items)) (map seen.argument_of args.old.items)) }
     ensures names { OnOk result (names.new ≡ declaring_arguments names.old (row_labels (row_as row.now) (map seen.argument_of args.old.items)) (map seen.argument_of args.old.items)) }
 {
+    if args.is_empty() {
+        return Ok(());
+    }
     let mut expected = row_expected::<AsOctets>(row, args);
     for i in 0..args.len() {
         let argument = &mut args[i];

@@ -1,7 +1,7 @@
 -- What the dump writes of parts and strings.
-use Rattle.std.proofs.Common.{◌≡◌, ℕ, ◌-◌, ◌<◌, ◌≤◌, List, [], ◌∷◌, ◌++◌, length, get_or, take, drop, codes, refl, sym, ap, ◌∙◌, arith, append_assoc}
-use Rattle.std.specs.List.{flat_map}
-use Rattle.std.proofs.lemmas.List.{take_rest}
+use Rattle.std.proofs.Common.{◌≡◌, ℕ, ◌-◌, ◌<◌, ◌≤◌, List, [], ◌∷◌, ◌++◌, length, get_or, take, drop, codes, Some, refl, sym, ap, ◌∙◌, arith, append_assoc}
+use Rattle.std.specs.List.{flat_map, slice_get}
+use Rattle.std.proofs.lemmas.List.{append-nil, take_rest}
 use Rattle.sieve_variables.specs.Part.{Part}
 use Rattle.sieve_code.specs.Dump.{case_word, first_word, given_word, list_text, modifier_words, part_text, separated, string_text}
 use Rattle.sieve_variables.specs.declared.modifier.Modifiers.{Modifiers}
@@ -30,13 +30,6 @@ string_some [] part some is = absurd (omega (arith, some))
 string_some (p ∷ ps) part some is =
     ap (λ x. part_text x ++ flat_map marked_part ps) is ∙ ap (λ t. part_text p ++ t) (sym (parts_marked ps))
 
-pub strings_some : (strings : List (List Part)) (string : List Part) (parts : List Part) → 0 < length strings → parts ≡ string → string ≡ get_or strings 0 string → string_text parts ++ flat_map marked_string (drop 1 strings) ≡ separated (codes ", ") string_text strings
-strings_some [] string parts some same is = absurd (omega (arith, some))
-strings_some (s ∷ ss) string parts some same is =
-    ap (λ ps. string_text ps ++ flat_map marked_string ss) same
-    ∙ ap (λ x. string_text x ++ flat_map marked_string ss) is
-    ∙ ap (λ t. string_text s ++ t) (sym (strings_marked ss))
-
 -- all items of a list but the first
 abbrev pub others_of : {X : Type 0} → List X → List X
 others_of xs = take (length xs - 1) (drop 1 xs)
@@ -47,11 +40,18 @@ string_front front parts part some is =
     ∙ ap (λ ps. front ++ (part_text part ++ flat_map marked_part ps)) (take_rest parts 1)
     ∙ ap (λ t. front ++ t) (string_some parts part some is)
 
-pub strings_front : (front : List ℕ) (strings : List (List Part)) (string : List Part) (parts : List Part) → 0 < length strings → parts ≡ string → string ≡ get_or strings 0 string → (front ++ string_text parts) ++ flat_map marked_string (others_of strings) ≡ front ++ separated (codes ", ") string_text strings
-strings_front front strings string parts some same is =
-    append_assoc front (string_text parts) (flat_map marked_string (others_of strings))
-    ∙ ap (λ ss. front ++ (string_text parts ++ flat_map marked_string ss)) (take_rest strings 1)
-    ∙ ap (λ t. front ++ t) (strings_some strings string parts some same is)
+-- of no strings nothing is written, and of others the first without a mark, and the others behind their marks
+pub strings_none : (front : List ℕ) (strings : List (List Part)) → length strings ≤ 0 → front ≡ front ++ separated (codes ", ") string_text strings
+strings_none front [] none = sym (append-nil front)
+strings_none front (s ∷ ss) none = absurd (omega (arith, none))
+
+pub strings_front : (front : List ℕ) (strings : List (List Part)) (string : List Part) → slice_get strings 0 ≡ Some string → (front ++ string_text string) ++ flat_map marked_string (drop 1 strings) ≡ front ++ separated (codes ", ") string_text strings
+strings_front front [] string is = cc
+strings_front front (s ∷ ss) string is =
+    let same : s ≡ string = cc in
+    append_assoc front (string_text string) (flat_map marked_string ss)
+    ∙ ap (λ t. front ++ (string_text t ++ flat_map marked_string ss)) (sym same)
+    ∙ ap (λ t. front ++ (string_text s ++ t)) (sym (strings_marked ss))
 
 abbrev pub opened : List (List Part) → List ℕ
 opened strings = codes "[" ++ separated (codes ", ") string_text strings

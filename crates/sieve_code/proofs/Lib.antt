@@ -6,5 +6,6 @@ pub mod Law
 pub mod Suffixes
 pub mod Putting
 pub mod Placing
+pub mod Keeping
 pub mod Dumping
 pub mod Whole

@@ -2,5 +2,6 @@ pub mod Choice
 pub mod Compiles
 pub mod Dump
 pub mod Operation
+pub mod Pool
 pub mod Walk
 pub mod view

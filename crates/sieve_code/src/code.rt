@@ -1,22 +1,27 @@
 //! Compiled code.
-ghost use Rattle.std.specs.Prelude.{◌≡◌, ◌<◌, length, map, Some, slice_get};
+ghost use Rattle.std.specs.Prelude.{◌≡◌, ◌<◌, length, Some, slice_get};
 ghost use Rattle.sieve_base.specs.Writers.{Writes};
 ghost use Rattle.sieve_code.specs.Choice.{AllGoForward};
 ghost use Rattle.sieve_code.specs.Compiles.{IsCode};
 ghost use Rattle.sieve_code.specs.Dump.{line_at};
 ghost use Rattle.sieve_code.specs.view.Op.{op_as};
+ghost use Rattle.sieve_code.specs.view.Packed.{ops_in};
+ghost use Rattle.sieve_code.specs.view.Pools.{pool_as};
 
 use crate::dump::write_line;
 use crate::op::Op;
+use crate::packed::PackedOp;
+use crate::pools::Pools;
 use sieve_base::{Sink, WriteFault};
 
 /// The code of a checked script. It starts at the first operation and ends behind the last. Each jump goes forward, and at most
 /// to the end; and what it does is what the script does that it was compiled from.
 #[derive(Drop)]
 pub struct Code {
-    pub(crate) ops: Vec<Op>,
-    pub ghost forward: { AllGoForward (map op_as ops.items) },
-    pub ghost compiled: { ∥ IsCode (map op_as ops.items) ∥₁ },
+    pub(crate) ops: Vec<PackedOp>,
+    pub(crate) pools: Pools,
+    pub ghost forward: { AllGoForward (ops_in (pool_as pools) ops.items) },
+    pub ghost compiled: { ∥ IsCode (ops_in (pool_as pools) ops.items) ∥₁ },
 }
 
 impl Code {
@@ -30,11 +35,11 @@ impl Code {
     }
 
     /// The operation at a place. Takes no memory.
-    pub fn op(&self, i: usize) -> &Op
+    pub fn op(&self, i: usize) -> Op<'_>
         requires { i < length (ops_of self.now) }
-        ensures { slice_get (ops_of self.now) i ≡ Some (op_as result.now) }
+        ensures { slice_get (ops_of self.now) i ≡ Some (op_as result) }
     {
-        &self.ops[i]
+        self.pools.op(self.ops[i], self.ops.len())
     }
 
     /// Writes the line of the operation at a place: the place, `: `, the operation, LF. Takes no memory.
@@ -42,6 +47,6 @@ impl Code {
         requires { i < length (ops_of self.now) }
         ensures { Writes W.contents W.fault_count result writer.old writer.new (line_at (ops_of self.now) i) }
     {
-        write_line(i, self.op(i), writer)
+        write_line(i, &self.op(i), writer)
     }
 }

@@ -1,14 +1,15 @@
 //! The commands of a dump.
 ghost use Rattle.std.specs.Prelude.{◌≡◌, ◌++◌, codes};
+ghost use Rattle.std.specs.Option.{option_copied};
 ghost use Rattle.sieve_base.specs.Writers.{Writes};
 ghost use Rattle.sieve_code.specs.Dump as spec;
 ghost use Rattle.sieve_effects.specs.view.Ops.{command_op_as, settings_op_as};
 
 use crate::dump_strings::{name_of, scope_word, write_list, write_string};
 use sieve_base::{Piece, Place, Sink, WriteFault, write_out, write_pieces};
-use sieve_effects::{CommandOp, SettingsOp};
+use sieve_effects::{CommandOp, SettingsOp, Strings};
 use sieve_reading::FlagChange;
-use sieve_variables::{LetterCase, Modifiers, Part, Parts, Variable};
+use sieve_variables::{LetterCase, Modifiers, Part, Variable};
 
 /// Writes a command's word and then a string.
 #[tactic(auto, unfolding(crate::specs::Dump::worded_text))]
@@ -20,10 +21,10 @@ fn write_worded<W: Sink>(word: &[u8], string: &[Part], writer: &mut W) -> Result
 
 /// Writes the flags of what is stored: those that are named, or that these are the internal ones.
 #[tactic(auto, unfolding(crate::specs::Dump::stored_flags))]
-fn write_stored_flags<W: Sink>(settings: &SettingsOp, writer: &mut W) -> Result<(), WriteFault>
+fn write_stored_flags<W: Sink>(settings: &SettingsOp<'_>, writer: &mut W) -> Result<(), WriteFault>
     ensures { Writes W.contents W.fault_count result writer.old writer.new (spec.stored_flags (settings_op_as settings.now).flags) }
 {
-    match settings.flags() {
+    match &settings.flags {
         Some(flags) => write_list(b" flags ", flags, writer),
         None => write_out(b" internal", writer),
     }
@@ -38,15 +39,15 @@ fn given_word<'a>(is_given: bool, word: &'a [u8]) -> &'a [u8]
 
 /// Writes that an action is a copy, where it is one.
 #[tactic(auto, unfolding(crate::specs::Dump::copy_word))]
-fn write_copy<W: Sink>(settings: &SettingsOp, writer: &mut W) -> Result<(), WriteFault>
+fn write_copy<W: Sink>(settings: &SettingsOp<'_>, writer: &mut W) -> Result<(), WriteFault>
     ensures { Writes W.contents W.fault_count result writer.old writer.new (spec.copy_word (settings_op_as settings.now).copy) }
 {
-    write_out(given_word(settings.copy(), b" copy"), writer)
+    write_out(given_word(settings.copy, b" copy"), writer)
 }
 
 /// Writes what a command that stores says beside.
 #[tactic(auto, using(sieve_base::proofs::Writing::writing), unfolding(crate::specs::Dump::stored_text))]
-fn write_stored<W: Sink>(settings: &SettingsOp, writer: &mut W) -> Result<(), WriteFault>
+fn write_stored<W: Sink>(settings: &SettingsOp<'_>, writer: &mut W) -> Result<(), WriteFault>
     ensures { Writes W.contents W.fault_count result writer.old writer.new (spec.stored_text (settings_op_as settings.now)) }
 {
     write_stored_flags(settings, writer)?;
@@ -57,7 +58,7 @@ fn write_stored<W: Sink>(settings: &SettingsOp, writer: &mut W) -> Result<(), Wr
 #[tactic(auto, using(sieve_base::proofs::Writing::writing), unfolding(crate::specs::Dump::worded_settings))]
 fn write_worded_settings<W: Sink>(
     word: &[u8],
-    settings: &SettingsOp,
+    settings: &SettingsOp<'_>,
     writer: &mut W,
 ) -> Result<(), WriteFault>
     ensures { Writes W.contents W.fault_count result writer.old writer.new (spec.worded_settings word.now (settings_op_as settings.now)) }
@@ -70,7 +71,7 @@ fn write_worded_settings<W: Sink>(
 #[tactic(auto, using(sieve_base::proofs::Writing::writing))]
 fn write_redirect<W: Sink>(
     address: &[Part],
-    settings: &SettingsOp,
+    settings: &SettingsOp<'_>,
     writer: &mut W,
 ) -> Result<(), WriteFault>
     ensures { Writes W.contents W.fault_count result writer.old writer.new (spec.worded_text (codes "redirect ") address.now ++ spec.copy_word (settings_op_as settings.now).copy) }
@@ -83,7 +84,7 @@ fn write_redirect<W: Sink>(
 #[tactic(auto, using(sieve_base::proofs::Writing::writing))]
 fn write_fileinto<W: Sink>(
     mailbox: &[Part],
-    settings: &SettingsOp,
+    settings: &SettingsOp<'_>,
     writer: &mut W,
 ) -> Result<(), WriteFault>
     ensures { Writes W.contents W.fault_count result writer.old writer.new (spec.worded_text (codes "fileinto ") mailbox.now ++ spec.stored_text (settings_op_as settings.now)) }
@@ -193,10 +194,10 @@ fn change_word(change: FlagChange) -> &'static [u8]
 #[tactic(auto, unfolding(crate::specs::Dump::changing_words))]
 fn write_changing_words<W: Sink>(
     change: FlagChange,
-    variable: &Option<Variable>,
+    variable: Option<&Variable>,
     writer: &mut W,
 ) -> Result<(), WriteFault>
-    ensures { Writes W.contents W.fault_count result writer.old writer.new (spec.changing_words change variable.now) }
+    ensures { Writes W.contents W.fault_count result writer.old writer.new (spec.changing_words change (option_copied variable.entry)) }
 {
     let word = change_word(change);
     match variable {
@@ -221,11 +222,11 @@ fn write_changing_words<W: Sink>(
 #[tactic(auto, using(sieve_base::proofs::Writing::writing))]
 fn write_flags<W: Sink>(
     change: FlagChange,
-    variable: &Option<Variable>,
-    flags: &[Parts],
+    variable: Option<&Variable>,
+    flags: &Strings<'_>,
     writer: &mut W,
 ) -> Result<(), WriteFault>
-    ensures { Writes W.contents W.fault_count result writer.old writer.new (spec.changing_words change variable.now ++ spec.list_text flags.now) }
+    ensures { Writes W.contents W.fault_count result writer.old writer.new (spec.changing_words change (option_copied variable.entry) ++ spec.list_text flags.now) }
 {
     write_changing_words(change, variable, writer)?;
     write_list(b"", flags, writer)
@@ -257,39 +258,32 @@ fn write_include<W: Sink>(
 
 /// Writes what a command does.
 #[tactic(auto, unfolding(crate::specs::Dump::leaf_text))]
-pub(crate) fn write_command<W: Sink>(command: &CommandOp, writer: &mut W) -> Result<(), WriteFault>
+pub(crate) fn write_command<W: Sink>(
+    command: &CommandOp<'_>,
+    writer: &mut W,
+) -> Result<(), WriteFault>
     ensures { Writes W.contents W.fault_count result writer.old writer.new (spec.leaf_text (command_op_as command.now)) }
 {
     match command {
-        CommandOp::Keep { settings, .. } => write_worded_settings(b"keep", settings, writer),
-        CommandOp::Fileinto {
-            mailbox,
-            settings,
-            ..
-        } => write_fileinto(mailbox.as_slice(), settings, writer),
-        CommandOp::Redirect {
-            address,
-            settings,
-            ..
-        } => write_redirect(address.as_slice(), settings, writer),
+        CommandOp::Keep { settings } => write_worded_settings(b"keep", settings, writer),
+        CommandOp::Fileinto { mailbox, settings } => write_fileinto(mailbox, settings, writer),
+        CommandOp::Redirect { address, settings } => write_redirect(address, settings, writer),
+        CommandOp::Discard => write_out(b"discard", writer),
         CommandOp::Set {
             modifiers,
             variable,
             value,
-            ..
-        } => write_set(variable, *modifiers, value.as_slice(), writer),
+        } => write_set(variable, *modifiers, value, writer),
         CommandOp::Flags {
             change,
             variable,
             flags,
-            ..
-        } => write_flags(*change, variable, flags.as_slice(), writer),
+        } => write_flags(*change, *variable, flags, writer),
         CommandOp::Include {
             place,
             once,
             optional,
             name,
-            ..
-        } => write_include(*place, *once, *optional, name.as_slice(), writer),
+        } => write_include(*place, *once, *optional, name, writer),
     }
 }

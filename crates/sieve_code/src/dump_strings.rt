@@ -1,5 +1,5 @@
 //! The parts and strings of a dump.
-ghost use Rattle.std.specs.Prelude.{◌≡◌, ◌++◌, codes};
+ghost use Rattle.std.specs.Prelude.{◌≡◌, ◌++◌, codes, drop};
 ghost use Rattle.std.specs.List.{flat_map};
 ghost use Rattle.sieve_base.specs.Writers.{Writes};
 ghost use Rattle.sieve_code.specs.Dump.{further_list, list_text, name_of, part_text, scope_word, separated, string_text};
@@ -7,7 +7,8 @@ ghost use Rattle.sieve_variables.specs.view.Variable.{variable_ref_as};
 ghost use Rattle.sieve_code.specs.view.Marked.{marked_part, marked_string};
 
 use sieve_base::{Piece, Sink, WriteFault, write_out, write_pieces};
-use sieve_variables::{Part, PartRef, Parts, VariableRef};
+use sieve_effects::Strings;
+use sieve_variables::{Part, PartRef, VariableRef};
 
 /// The word that says whose a variable is.
 pub(crate) fn scope_word(variable: VariableRef<'_>) -> &'static [u8]
@@ -91,36 +92,37 @@ pub(crate) fn write_string<W: Sink>(
     }
 }
 
-/// Writes strings behind another.
-#[tactic(auto, using(sieve_base::proofs::Writing::writing_items), unfolding(crate::specs::view::Marked::marked_string))]
-fn write_marked_strings<W: Sink>(strings: &[Parts], writer: &mut W) -> Result<(), WriteFault>
-    ensures { Writes W.contents W.fault_count result writer.old writer.new (flat_map marked_string strings.now) }
+/// Writes the strings behind the first.
+fn write_marked_strings<W: Sink>(strings: &Strings<'_>, writer: &mut W) -> Result<(), WriteFault>
+    ensures { Writes W.contents W.fault_count result writer.old writer.new (flat_map marked_string (drop 1 strings.now)) }
 {
-    for string in strings {
-        write_string(b", ", string.as_slice(), writer)?;
+    for i in 1..strings.len() {
+        write_string(b", ", strings.get(i), writer)?;
     }
     Ok(())
 }
 
 /// Writes these octets and then strings with commas between them.
 #[tactic(auto, using(sieve_base::proofs::Writing::writing))]
-fn write_strings<W: Sink>(front: &[u8], strings: &[Parts], writer: &mut W) -> Result<(), WriteFault>
+fn write_strings<W: Sink>(
+    front: &[u8],
+    strings: &Strings<'_>,
+    writer: &mut W,
+) -> Result<(), WriteFault>
     ensures { Writes W.contents W.fault_count result writer.old writer.new (front.now ++ separated (codes ", ") string_text strings.now) }
 {
-    match strings {
-        [] => write_out(front, writer),
-        [string, others @ ..] => {
-            write_string(front, string.as_slice(), writer)?;
-            write_marked_strings(others, writer)
-        }
+    if strings.len() == 0 {
+        return write_out(front, writer);
     }
+    write_string(front, strings.get(0), writer)?;
+    write_marked_strings(strings, writer)
 }
 
 /// Writes these octets and then strings in brackets.
 #[tactic(auto, using(sieve_base::proofs::Writing::writing))]
 pub(crate) fn write_list<W: Sink>(
     front: &[u8],
-    strings: &[Parts],
+    strings: &Strings<'_>,
     writer: &mut W,
 ) -> Result<(), WriteFault>
     ensures { Writes W.contents W.fault_count result writer.old writer.new (front.now ++ list_text strings.now) }
@@ -133,7 +135,7 @@ pub(crate) fn write_list<W: Sink>(
 /// Writes strings in brackets behind a space.
 #[tactic(auto, unfolding(crate::specs::Dump::further_list))]
 pub(crate) fn write_further_list<W: Sink>(
-    strings: &[Parts],
+    strings: &Strings<'_>,
     writer: &mut W,
 ) -> Result<(), WriteFault>
     ensures { Writes W.contents W.fault_count result writer.old writer.new (further_list strings.now) }

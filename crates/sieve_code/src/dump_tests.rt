@@ -2,15 +2,14 @@
 ghost use Rattle.std.specs.Prelude.{◌≡◌, ◌++◌, codes, decimal};
 ghost use Rattle.sieve_base.specs.Writers.{Writes};
 ghost use Rattle.sieve_code.specs.Dump.{address_part_word, address_words, ask_text, collation_word, comparing_words, further_list, internal_list, match_word, source_text};
-ghost use Rattle.sieve_effects.specs.view.Ops.{given_strings, source_op_as, test_op_as};
+ghost use Rattle.sieve_effects.specs.view.Ops.{source_op_as, test_op_as};
 
 use crate::dump_strings::{write_further_list, write_list};
 use match_text::Collation;
 use message_text::AddressPart;
 use sieve_base::{Piece, Sink, WriteFault, write_out, write_pieces};
-use sieve_effects::{SourceOp, TestOp};
+use sieve_effects::{SourceOp, Strings, TestOp};
 use sieve_reading::MatchType;
-use sieve_variables::{Parts, Strings};
 
 /// The word of a match type.
 fn match_word(match_type: MatchType) -> &'static [u8]
@@ -87,13 +86,13 @@ fn write_address_words<W: Sink>(
 /// Writes the variables whose flags a test looks at, or that these are the internal ones.
 #[tactic(auto, unfolding(crate::specs::Dump::internal_list))]
 fn write_internal_list<W: Sink>(
-    variables: &Option<Box<Strings>>,
+    variables: &Option<Strings<'_>>,
     writer: &mut W,
 ) -> Result<(), WriteFault>
-    ensures { Writes W.contents W.fault_count result writer.old writer.new (internal_list (given_strings variables.now)) }
+    ensures { Writes W.contents W.fault_count result writer.old writer.new (internal_list variables.now) }
 {
     match variables {
-        Some(variables) => write_further_list(variables.as_slice(), writer),
+        Some(variables) => write_further_list(variables, writer),
         None => write_out(b" internal", writer),
     }
 }
@@ -104,7 +103,7 @@ fn write_values<W: Sink>(
     test: &[u8],
     match_type: MatchType,
     collation: Collation,
-    values: &[Parts],
+    values: &Strings<'_>,
     writer: &mut W,
 ) -> Result<(), WriteFault>
     ensures { Writes W.contents W.fault_count result writer.old writer.new (comparing_words test.now match_type collation ++ further_list values.now) }
@@ -120,7 +119,7 @@ fn write_address<W: Sink>(
     match_type: MatchType,
     collation: Collation,
     part: AddressPart,
-    names: &[Parts],
+    names: &Strings<'_>,
     writer: &mut W,
 ) -> Result<(), WriteFault>
     ensures { Writes W.contents W.fault_count result writer.old writer.new (address_words test.now match_type collation part ++ further_list names.now) }
@@ -134,10 +133,10 @@ fn write_address<W: Sink>(
 fn write_hasflag<W: Sink>(
     match_type: MatchType,
     collation: Collation,
-    variables: &Option<Box<Strings>>,
+    variables: &Option<Strings<'_>>,
     writer: &mut W,
 ) -> Result<(), WriteFault>
-    ensures { Writes W.contents W.fault_count result writer.old writer.new (comparing_words (codes "hasflag") match_type collation ++ internal_list (given_strings variables.now)) }
+    ensures { Writes W.contents W.fault_count result writer.old writer.new (comparing_words (codes "hasflag") match_type collation ++ internal_list variables.now) }
 {
     write_comparing(b"hasflag", match_type, collation, writer)?;
     write_internal_list(variables, writer)
@@ -146,7 +145,7 @@ fn write_hasflag<W: Sink>(
 /// Writes how a test compares, and its values.
 #[tactic(auto, unfolding(crate::specs::Dump::source_text))]
 fn write_source<W: Sink>(
-    source: &SourceOp,
+    source: &SourceOp<'_>,
     match_type: MatchType,
     collation: Collation,
     writer: &mut W,
@@ -168,17 +167,10 @@ fn write_source<W: Sink>(
             )
         }
         SourceOp::Envelope { part, names } => {
-            write_address(
-                b"envelope",
-                match_type,
-                collation,
-                *part,
-                names.as_slice(),
-                writer,
-            )
+            write_address(b"envelope", match_type, collation, *part, names, writer)
         }
         SourceOp::String { texts } => {
-            write_values(b"string", match_type, collation, texts.as_slice(), writer)
+            write_values(b"string", match_type, collation, texts, writer)
         }
         SourceOp::Flags { variables } => write_hasflag(match_type, collation, variables, writer),
     }
@@ -187,10 +179,10 @@ fn write_source<W: Sink>(
 /// Writes a test that compares values with keys.
 #[tactic(auto, using(sieve_base::proofs::Writing::writing))]
 fn write_compares<W: Sink>(
-    source: &SourceOp,
+    source: &SourceOp<'_>,
     match_type: MatchType,
     collation: Collation,
-    keys: &[Parts],
+    keys: &Strings<'_>,
     writer: &mut W,
 ) -> Result<(), WriteFault>
     ensures { Writes W.contents W.fault_count result writer.old writer.new (source_text (source_op_as source.now) match_type collation ++ further_list keys.now) }
@@ -212,7 +204,7 @@ pub(crate) fn write_number<W: Sink>(
 
 /// Writes what a test asks.
 #[tactic(auto, unfolding(crate::specs::Dump::ask_text))]
-pub(crate) fn write_test<W: Sink>(test: &TestOp, writer: &mut W) -> Result<(), WriteFault>
+pub(crate) fn write_test<W: Sink>(test: &TestOp<'_>, writer: &mut W) -> Result<(), WriteFault>
     ensures { Writes W.contents W.fault_count result writer.old writer.new (ask_text (test_op_as test.now)) }
 {
     match test {

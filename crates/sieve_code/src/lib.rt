@@ -11,9 +11,12 @@ mod dump_strings;
 mod dump_tests;
 pub mod laws;
 mod op;
-mod strings;
+mod packed;
+mod packing;
+mod pools;
 mod tail;
 mod test_code;
+mod unpacking;
 
 pub use code::Code;
 pub use compiler::compile;

@@ -1,9 +1,14 @@
 //! Code that is made from its end.
-ghost use Rattle.std.specs.Prelude.{◌≡◌, [], ◌∷◌, ◌-◌, length, map, drop, OnOk};
-ghost use Rattle.sieve_code.specs.view.Op.{op_as};
+ghost use Rattle.std.specs.Prelude.{◌≡◌, [], ◌∷◌, ◌-◌, length, map, drop, true, OnOk};
+ghost use Rattle.sieve_reading.specs.view.Reading.{ask_as, leaf_as};
+ghost use Rattle.sieve_code.specs.Operation.{act_op, test_op};
+ghost use Rattle.sieve_code.specs.view.Packed.{is_plain, op_in, plain_as};
+ghost use Rattle.sieve_code.specs.view.Pools.{pool_as};
 ghost use Rattle.sieve_code.specs.view.Branches.{last};
 
-use crate::op::Op;
+use crate::packed::PackedOp;
+use crate::pools::Pools;
+use sieve_reading::{Ask, Leaf};
 use std::alloc::{AllocError, Global};
 use std::collections::VecDeque;
 use std::marker::Model;
@@ -12,17 +17,22 @@ use std::marker::Model;
 /// the target to the end, so that what is put in front of it changes nothing in it. Contracts see the list of operations.
 #[derive(Drop)]
 pub(crate) struct Tail {
-    ops: VecDeque<Op>,
+    ops: VecDeque<PackedOp>,
+    pools: Pools,
 }
 
 impl Model for Tail {
-    ghost use Rattle.std.specs.Prelude.{List, map};
+    ghost use Rattle.std.specs.Prelude.{◌≡◌, List, map};
     ghost use Rattle.sieve_code.specs.Operation.{Operation};
-    ghost use Rattle.sieve_code.specs.view.Op.{op_as};
+    ghost use Rattle.sieve_code.specs.Pool.{Keeps};
+    ghost use Rattle.sieve_code.specs.view.Packed.{op_in};
+    ghost use Rattle.sieve_code.specs.view.Pools.{pool_as};
 
     ghost Value = { List Operation };
 
-    ghost view = { λ tail. map op_as tail.ops.items };
+    ghost view = { λ tail. map (op_in (pool_as tail.pools)) tail.ops.items };
+
+    ghost invariant = { λ tail. Keeps (pool_as tail.pools) (λ p. map (op_in p) tail.ops.items) (map (op_in (pool_as tail.pools)) tail.ops.items) };
 }
 
 impl Tail {
@@ -32,6 +42,7 @@ impl Tail {
     {
         Tail {
             ops: VecDeque::new(alloc),
+            pools: Pools::new(alloc),
         }
     }
 
@@ -42,12 +53,45 @@ impl Tail {
         self.ops.len()
     }
 
-    /// Puts an operation in front.
-    pub(crate) fn put(&mut self, op: Op) -> Result<(), AllocError>
-        ensures { OnOk result (self.new ≡ op_as op ∷ self.old) }
+    /// Puts an operation in front that neither asks nor acts.
+    pub(crate) fn put(&mut self, op: PackedOp) -> Result<(), AllocError>
+        requires { is_plain op ≡ true }
+        ensures { OnOk result (self.new ≡ plain_as op ∷ self.old) }
     {
         self.ops.push_front(op)?;
         Ok(())
+    }
+
+    /// Puts the operation of a test that asks in front. An error, which is want of memory, leaves no operations.
+    pub(crate) fn put_ask(&mut self, ask: Ask) -> Result<(), AllocError>
+        ensures { OnOk result (self.new ≡ test_op (ask_as ask) ∷ self.old) }
+    {
+        match self.pools.pack_ask(ask) {
+            Ok(op) => {
+                self.ops.push_front(op)?;
+                Ok(())
+            }
+            Err(error) => {
+                self.ops.clear();
+                Err(error)
+            }
+        }
+    }
+
+    /// Puts the operation of a command of a line in front. An error, which is want of memory, leaves no operations.
+    pub(crate) fn put_act(&mut self, leaf: Leaf, line: u64) -> Result<(), AllocError>
+        ensures { OnOk result (self.new ≡ act_op (leaf_as leaf) line ∷ self.old) }
+    {
+        match self.pools.pack_act(leaf, line) {
+            Ok(op) => {
+                self.ops.push_front(op)?;
+                Ok(())
+            }
+            Err(error) => {
+                self.ops.clear();
+                Err(error)
+            }
+        }
     }
 
     /// Keeps so many operations from the end.
@@ -63,13 +107,17 @@ impl Tail {
     fn drop_first(&mut self)
         ensures { self.new ≡ drop 1 self.old }
     {
-        drop(self.ops.pop_front());
+        let _op = self.ops.pop_front();
     }
 
-    /// The operations in order.
-    pub(crate) fn into_ops(self) -> Vec<Op>
-        ensures { map op_as result.items ≡ self }
+    /// The operations in order, and their pools, with room for no more.
+    pub(crate) fn into_parts(self) -> (Vec<PackedOp>, Pools)
+        ensures { map (op_in (pool_as result.1)) result.0.items ≡ self }
     {
-        self.ops.into_vec()
+        let mut ops = self.ops.into_vec();
+        let mut pools = self.pools;
+        ops.shrink_to_fit();
+        pools.shrink_to_fit();
+        (ops, pools)
     }
 }

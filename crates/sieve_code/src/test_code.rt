@@ -1,41 +1,38 @@
 //! The operations of tests (RFC 5228, section 5).
-ghost use Rattle.std.specs.Prelude.{◌≡◌, ◌∷◌, if◌then◌else◌, map, IfOk, OnOk};
+ghost use Rattle.std.specs.Prelude.{◌≡◌, ◌∷◌, if◌then◌else◌, map, true, OnOk};
 ghost use Rattle.sieve_reading.specs.Tree.{test_list, tests};
 ghost use Rattle.sieve_reading.specs.view.Tree.{test_of, tests_of};
 ghost use Rattle.sieve_code.specs.Choice.{first_before, test_before, tests_before};
-ghost use Rattle.sieve_code.specs.Operation.{jump_if_op, set_op, test_op};
-ghost use Rattle.sieve_reading.specs.view.Reading.{ask_as};
-ghost use Rattle.sieve_code.specs.view.Op.{op_as};
+ghost use Rattle.sieve_code.specs.Operation.{jump_if_op, set_op};
+ghost use Rattle.sieve_code.specs.view.Packed.{is_plain, plain_as};
 
-use crate::op::Op;
-use crate::strings::test_op;
+use crate::packed::PackedOp;
 use crate::tail::Tail;
-use sieve_reading::{Ask, Test, TestReading, Tests, read_test};
+use sieve_reading::{Test, TestReading, Tests, read_test};
 use std::alloc::{AllocError, Global};
 
 /// The operation that sets the register.
-fn constant(truth: bool) -> Op
-    ensures { op_as result ≡ set_op truth }
-{
-    if truth { Op::True } else { Op::False }
-}
-
-/// The operation that jumps where the register has that truth.
-fn jump_if(truth: bool, target: usize) -> Op
-    ensures { op_as result ≡ jump_if_op truth target }
+fn constant(truth: bool) -> PackedOp
+    ensures op { plain_as result ≡ set_op truth }
+    ensures plain { is_plain result ≡ true }
 {
     if truth {
-        Op::JumpIfTrue(target)
+        PackedOp::True
     } else {
-        Op::JumpIfFalse(target)
+        PackedOp::False
     }
 }
 
-/// The operation of a test that asks.
-fn ask_op(alloc: Global, ask: Ask) -> Result<Op, AllocError>
-    ensures { IfOk result (λ op. op_as op ≡ test_op (ask_as ask)) }
+/// The operation that jumps where the register has that truth.
+fn jump_if(truth: bool, target: usize) -> PackedOp
+    ensures op { plain_as result ≡ jump_if_op truth target }
+    ensures plain { is_plain result ≡ true }
 {
-    Ok(Op::Test(Box::new(alloc, test_op(alloc, ask)?)?))
+    if truth {
+        PackedOp::JumpIfTrue(target)
+    } else {
+        PackedOp::JumpIfFalse(target)
+    }
 }
 
 /// Puts a jump in front of a tail where other tests follow there.
@@ -61,14 +58,14 @@ fn put_test(alloc: Global, test: Test, tail: &mut Tail) -> Result<(), AllocError
         ..
     } = test;
     match read_test(&name, args) {
-        Some(TestReading::Always) => tail.put(Op::True),
-        Some(TestReading::Never) => tail.put(Op::False),
-        None => tail.put(Op::False),
-        Some(TestReading::Asks(ask)) => tail.put(ask_op(alloc, ask)?),
+        Some(TestReading::Always) => tail.put(PackedOp::True),
+        Some(TestReading::Never) => tail.put(PackedOp::False),
+        None => tail.put(PackedOp::False),
+        Some(TestReading::Asks(ask)) => tail.put_ask(ask),
         Some(TestReading::AllOf) => put_tests(alloc, false, tests, tail),
         Some(TestReading::AnyOf) => put_tests(alloc, true, tests, tail),
         Some(TestReading::Not) => {
-            tail.put(Op::Not)?;
+            tail.put(PackedOp::Not)?;
             put_first(alloc, tests, tail)
         }
     }
@@ -111,10 +108,10 @@ pub(crate) fn put_first(alloc: Global, tests: Tests, tail: &mut Tail) -> Result<
     ensures { OnOk result (tail.new ≡ first_before (tests_of tests) tail.old) }
 {
     match tests {
-        Tests::None => tail.put(Op::False),
+        Tests::None => tail.put(PackedOp::False),
         Tests::One(test) => put_test(alloc, Box::into_inner(test), tail),
         Tests::List(list) => match Box::into_inner(list).into_iter().next() {
-            None => tail.put(Op::False),
+            None => tail.put(PackedOp::False),
             Some(test) => put_test(alloc, test, tail),
         },
     }

@@ -1,6 +1,6 @@
 pub mod Copying
 pub mod Holding
-mod KeptNames
+pub mod Joining
 pub mod Known
 mod Named
 mod NamesInTurn

@@ -1,6 +1,7 @@
 pub mod Act
 pub mod Delivery
 pub mod ErrorKind
+pub mod Joined
 pub mod Matching
 pub mod State
 pub mod view

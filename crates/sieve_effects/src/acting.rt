@@ -62,14 +62,14 @@ fn end_with(
 fn store(
     delivery: &Delivery<'_>,
     mailbox: Octets,
-    settings: &SettingsOp,
+    settings: &SettingsOp<'_>,
     line: u64,
     state: &mut State,
 ) -> Result<Flow, AllocError>
     ensures { IfOk result (λ flow. ending_by flow (state_of state.new) ≡ spec.performs (delivery_as delivery.now) line (spec.store_deed (state_of state.old) mailbox (settings_op_as settings.now)) (state_of state.old)) }
 {
-    let copy = settings.copy();
-    match settings.flags() {
+    let copy = settings.copy;
+    match &settings.flags {
         Some(texts) => {
             let flags = flags_named(delivery, &*state, texts)?;
             let action = Action::Store { mailbox, flags };
@@ -86,7 +86,7 @@ fn store(
 /// section 5). One action too many is an error of the script (RFC 5228, section 2.10.4). Fails where memory is refused.
 pub fn keep(
     delivery: &Delivery<'_>,
-    settings: &SettingsOp,
+    settings: &SettingsOp<'_>,
     line: u64,
     state: &mut State,
 ) -> Result<Flow, AllocError>
@@ -149,7 +149,7 @@ fn mailbox_named(
 pub fn file_into(
     delivery: &Delivery<'_>,
     mailbox: &[Part],
-    settings: &SettingsOp,
+    settings: &SettingsOp<'_>,
     line: u64,
     state: &mut State,
 ) -> Result<Flow, AllocError>
@@ -205,7 +205,7 @@ fn address_named(
 pub fn redirect(
     delivery: &Delivery<'_>,
     address: &[Part],
-    settings: &SettingsOp,
+    settings: &SettingsOp<'_>,
     line: u64,
     state: &mut State,
 ) -> Result<Flow, AllocError>
@@ -214,7 +214,7 @@ pub fn redirect(
     match address_named(delivery, &state.values, address)? {
         Some(address) => {
             let action = Action::Redirect { address };
-            let copy = settings.copy();
+            let copy = settings.copy;
             perform(delivery, Deed { action, copy }, line, state)
         }
         None => fail(delivery, line, ErrorKind::BadAddress),

@@ -19,9 +19,9 @@ use crate::ops::{SourceOp, TestOp};
 use crate::path_values::find_in_paths;
 use crate::state::State;
 use crate::string_values::find_in_strings;
+use crate::strings::Strings;
 use match_text::{Collation, flag_keys_of_texts};
 use sieve_reading::MatchType;
-use sieve_variables::Parts;
 use std::alloc::AllocError;
 
 /// What the first value of a source gives that matches some key.
@@ -29,7 +29,7 @@ fn find_in_source(
     delivery: &Delivery<'_>,
     fields: &mut FieldReads<'_>,
     state: &State,
-    source: &SourceOp,
+    source: &SourceOp<'_>,
     comparison: &Comparison<'_>,
 ) -> Result<Option<MatchValues>, AllocError>
     requires { fields.old ≡ (delivery_as delivery.now).message }
@@ -44,11 +44,9 @@ fn find_in_source(
             find_in_named(delivery, fields, state, Some(*part), names, comparison)
         }
         SourceOp::Envelope { part, names } => {
-            find_in_paths(delivery, state, *part, names.as_slice(), comparison)
+            find_in_paths(delivery, state, *part, names, comparison)
         }
-        SourceOp::String { texts } => {
-            find_in_strings(delivery, state, texts.as_slice(), comparison)
-        }
+        SourceOp::String { texts } => { find_in_strings(delivery, state, texts, comparison) }
         SourceOp::Flags { variables } => find_in_held(delivery, state, variables, comparison),
     }
 }
@@ -58,7 +56,7 @@ fn find_keyed(
     delivery: &Delivery<'_>,
     fields: &mut FieldReads<'_>,
     state: &State,
-    source: &SourceOp,
+    source: &SourceOp<'_>,
     match_type: MatchType,
     collation: Collation,
     keys: Keys<'_>,
@@ -76,7 +74,7 @@ fn find_keyed(
 }
 
 /// Whether the keys of a test are cut at spaces (RFC 5232, section 4).
-fn cuts_keys(source: &SourceOp) -> bool
+fn cuts_keys(source: &SourceOp<'_>) -> bool
     ensures { result ≡ cuts_keys (source_op_as source.now) }
 {
     match source {
@@ -89,8 +87,13 @@ fn cuts_keys(source: &SourceOp) -> bool
 }
 
 /// Whether each of these strings is borrowed where it is expanded.
-fn are_borrowed(strings: &[Parts]) -> bool {
-    strings.iter().all(|parts| parts.as_slice().len() == 1)
+fn are_borrowed(strings: &Strings<'_>) -> bool {
+    for i in 0..strings.len() {
+        if strings.get(i).len() != 1 {
+            return false;
+        }
+    }
+    true
 }
 
 /// What the first value of a source gives that matches one of these keys. Keys that have to be made are made first, since each value is
@@ -99,10 +102,10 @@ fn find_whole(
     delivery: &Delivery<'_>,
     fields: &mut FieldReads<'_>,
     state: &State,
-    source: &SourceOp,
+    source: &SourceOp<'_>,
     match_type: MatchType,
     collation: Collation,
-    keys: &[Parts],
+    keys: &Strings<'_>,
 ) -> Result<Option<MatchValues>, AllocError>
     requires { fields.old ≡ (delivery_as delivery.now).message }
     ensures message { fields.new ≡ fields.old }
@@ -116,7 +119,7 @@ fn find_whole(
             delivery, fields, state, source, match_type, collation, whole,
         );
     }
-    let texts = values.expanded(delivery.alloc, keys)?;
+    let texts = keys.expanded(delivery.alloc, values)?;
     let whole = Keys::Texts(&texts);
     find_keyed(
         delivery, fields, state, source, match_type, collation, whole,
@@ -128,10 +131,10 @@ fn find_match(
     delivery: &Delivery<'_>,
     fields: &mut FieldReads<'_>,
     state: &State,
-    source: &SourceOp,
+    source: &SourceOp<'_>,
     match_type: MatchType,
     collation: Collation,
-    keys: &[Parts],
+    keys: &Strings<'_>,
 ) -> Result<Option<MatchValues>, AllocError>
     requires { fields.old ≡ (delivery_as delivery.now).message }
     ensures message { fields.new ≡ fields.old }
@@ -140,7 +143,7 @@ fn find_match(
     if !cuts_keys(source) {
         return find_whole(delivery, fields, state, source, match_type, collation, keys);
     }
-    let texts = state.values.expanded(delivery.alloc, keys)?;
+    let texts = keys.expanded(delivery.alloc, &state.values)?;
     let cut = flag_keys_of_texts(delivery.alloc, &texts)?;
     let keys = Keys::Texts(&cut);
     find_keyed(delivery, fields, state, source, match_type, collation, keys)
@@ -152,10 +155,10 @@ fn find_match(
 fn compare(
     delivery: &Delivery<'_>,
     fields: &mut FieldReads<'_>,
-    source: &SourceOp,
+    source: &SourceOp<'_>,
     match_type: MatchType,
     collation: Collation,
-    keys: &[Parts],
+    keys: &Strings<'_>,
     state: &mut State,
 ) -> Result<bool, AllocError>
     requires { fields.old ≡ (delivery_as delivery.now).message }
@@ -171,7 +174,11 @@ fn compare(
 
 /// Whether all named fields are there (RFC 5228, section 5.5).
 #[tactic(auto, unfolding(crate::specs::Matching::truth_of))]
-fn exists(delivery: &Delivery<'_>, state: &State, names: &FieldNames) -> Result<bool, AllocError>
+fn exists(
+    delivery: &Delivery<'_>,
+    state: &State,
+    names: &FieldNames<'_>,
+) -> Result<bool, AllocError>
     ensures { IfOk result (λ truth. truth ≡ truth_of (delivery_as delivery.now) (state_of state.now) (exists_ask names.now)) }
 {
     has_fields(delivery.alloc, delivery.message, &state.values, names)
@@ -197,7 +204,7 @@ fn is_under(delivery: &Delivery<'_>, limit: u64) -> bool
 #[tactic(auto, unfolding(crate::specs::Matching::truth_of, crate::specs::Matching::values_behind))]
 pub fn holds(
     delivery: &Delivery<'_>,
-    test: &TestOp,
+    test: &TestOp<'_>,
     fields: &mut FieldReads<'_>,
     state: &mut State,
 ) -> Result<bool, AllocError>

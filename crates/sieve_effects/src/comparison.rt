@@ -10,12 +10,13 @@ ghost use Rattle.sieve_effects.specs.view.State.{state_of};
 ghost use Rattle.sieve_variables.specs.Value.{text_value};
 
 use crate::state::State;
+use crate::strings::Strings;
 use match_text::{
     AsciiCasemap, Captures, Collation, Comparator, Octet, contains, contains_in, is, matches,
 };
 use sieve_base::Octets;
 use sieve_reading::MatchType;
-use sieve_variables::{Parts, Values};
+use sieve_variables::Values;
 use std::alloc::{AllocError, Global};
 use std::borrow::CowSlice;
 use std::marker::Model;
@@ -109,7 +110,7 @@ pub(crate) enum Keys<'a> {
     /// Strings, each of which is expanded when its turn comes.
     Strings {
         values: &'a Values,
-        strings: &'a [Parts],
+        strings: &'a Strings<'a>,
     },
     /// Texts.
     Texts(&'a [CowSlice<'a, u8>]),
@@ -174,14 +175,14 @@ impl Comparison<'_> {
         &self,
         alloc: Global,
         values: &Values,
-        strings: &[Parts],
+        strings: &Strings<'_>,
         value: &[u8],
     ) -> Result<Option<MatchValues>, AllocError>
         ensures { IfOk result (λ found. found ≡ first_match self.now.match_type (fold_of self.now.collation) (pairs_with (map (text_value values.now) strings.now) value.now)) }
     {
         let mut buffer = Vec::new(alloc);
-        for parts in strings {
-            let key = values.expanded_in(parts.as_slice(), &mut buffer)?;
+        for i in 0..strings.len() {
+            let key = strings.text_in(i, values, &mut buffer)?;
             if let Some(found) = self.match_of(alloc, value, key)? {
                 return Ok(Some(found));
             }

@@ -31,7 +31,7 @@ pub(crate) fn has_fields(
     alloc: Global,
     message: &Message,
     values: &Values,
-    names: &FieldNames,
+    names: &FieldNames<'_>,
 ) -> Result<bool, AllocError>
     ensures { IfOk result (λ has. has ≡ list_all (has_field (fields_of message.now)) (map (text_value values.now) names.now)) }
 {
@@ -188,7 +188,7 @@ fn find_by_names(
     fields: &mut FieldReads<'_>,
     part: Option<AddressPart>,
     values: &Values,
-    names: &FieldNames,
+    names: &FieldNames<'_>,
     comparison: &Comparison<'_>,
 ) -> Result<Option<MatchValues>, AllocError>
     ensures message { fields.new ≡ fields.old }
@@ -210,7 +210,7 @@ pub(crate) fn find_in_named(
     fields: &mut FieldReads<'_>,
     state: &State,
     part: Option<AddressPart>,
-    names: &FieldNames,
+    names: &FieldNames<'_>,
     comparison: &Comparison<'_>,
 ) -> Result<Option<MatchValues>, AllocError>
     requires { fields.old ≡ (delivery_as delivery.now).message }

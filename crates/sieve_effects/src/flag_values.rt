@@ -1,6 +1,5 @@
 //! What a test finds in flags (RFC 5232, section 4).
 ghost use Rattle.std.specs.Prelude.{◌≡◌, IfOk, Some};
-ghost use Rattle.sieve_effects.specs.view.Ops.{given_strings};
 ghost use Rattle.std.specs.List.{list_any};
 ghost use Rattle.match_text.specs.Comparator.{fold_of};
 ghost use Rattle.match_text.specs.Flags.{flag_list, has_key};
@@ -14,9 +13,9 @@ ghost use Rattle.sieve_base.specs.view.Texts.{octets_of_each};
 use crate::comparison::{Comparison, Keys, MatchValues, plain_match};
 use crate::delivery::Delivery;
 use crate::state::State;
+use crate::strings::Strings;
 use match_text::{Collation, FlagList, flags_of};
 use sieve_reading::MatchType;
-use sieve_variables::{Parts, Strings};
 use std::alloc::{AllocError, Global};
 use std::borrow::CowSlice;
 
@@ -97,12 +96,12 @@ fn find_in_texts(
 fn find_in_variables(
     delivery: &Delivery<'_>,
     state: &State,
-    variables: &[Parts],
+    variables: &Strings<'_>,
     comparison: &Comparison<'_>,
 ) -> Result<Option<MatchValues>, AllocError>
     ensures { IfOk result (λ found. found ≡ first_some (found_with comparison.now) (values_of (delivery_as delivery.now) (state_of state.now) (flag_values (Some variables.now)))) }
 {
-    let held = state.values.expanded(delivery.alloc, variables)?;
+    let held = variables.expanded(delivery.alloc, &state.values)?;
     find_in_texts(delivery.alloc, &held, comparison)
 }
 
@@ -110,13 +109,13 @@ fn find_in_variables(
 pub(crate) fn find_in_held(
     delivery: &Delivery<'_>,
     state: &State,
-    variables: &Option<Box<Strings>>,
+    variables: &Option<Strings<'_>>,
     comparison: &Comparison<'_>,
 ) -> Result<Option<MatchValues>, AllocError>
-    ensures { IfOk result (λ found. found ≡ first_some (found_with comparison.now) (values_of (delivery_as delivery.now) (state_of state.now) (flag_values (given_strings variables.now)))) }
+    ensures { IfOk result (λ found. found ≡ first_some (found_with comparison.now) (values_of (delivery_as delivery.now) (state_of state.now) (flag_values variables.now))) }
 {
     match variables {
-        Some(variables) => { find_in_variables(delivery, state, variables.as_slice(), comparison) }
+        Some(variables) => find_in_variables(delivery, state, variables, comparison),
         None => find_in_flags(delivery.alloc, state.actions.flags(), comparison),
     }
 }

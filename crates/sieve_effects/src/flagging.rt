@@ -1,6 +1,7 @@
 //! What commands do with flags (RFC 5232, sections 3 and 5).
 ghost use Rattle.std.specs.Prelude.{◌≡◌, IfOk, OnOk, Some, None, map};
 ghost use Rattle.match_text.specs.Flags.{flag_list, flag_union, flags_of_texts, flags_without};
+ghost use Rattle.std.specs.Option.{option_copied};
 ghost use Rattle.sieve_effects.specs.Act.{changed_flags, changes, flags_named, held_flags};
 ghost use Rattle.sieve_effects.specs.view.Delivery.{delivery_as};
 ghost use Rattle.sieve_effects.specs.view.Flow.{ending_by};
@@ -12,23 +13,24 @@ use crate::actions::Actions;
 use crate::delivery::Delivery;
 use crate::flow::Flow;
 use crate::state::State;
+use crate::strings::Strings;
 use match_text::laws::texts_are_changed_in_turn;
 use match_text::{FlagList, flag_text, flags_of, flags_of_texts, union, without};
 use sieve_base::Octets;
 use sieve_base::limits::MAX_VALUE;
 use sieve_reading::FlagChange;
-use sieve_variables::{Parts, Values, Variable};
+use sieve_variables::{Values, Variable};
 use std::alloc::{AllocError, Global};
 
 /// The flags that strings name (RFC 5232, section 2).
 pub(crate) fn flags_named(
     delivery: &Delivery<'_>,
     state: &State,
-    texts: &[Parts],
+    texts: &Strings<'_>,
 ) -> Result<FlagList, AllocError>
     ensures { IfOk result (λ list. list ≡ flags_named (state_of state.now) texts.now) }
 {
-    let texts = state.values.expanded(delivery.alloc, texts)?;
+    let texts = texts.expanded(delivery.alloc, &state.values)?;
     flags_of_texts(delivery.alloc, &texts)
 }
 
@@ -89,7 +91,7 @@ fn change_variable(
     delivery: &Delivery<'_>,
     change: FlagChange,
     variable: &Variable,
-    texts: &[Parts],
+    texts: &Strings<'_>,
     line: u64,
     state: &mut State,
 ) -> Result<Flow, AllocError>
@@ -109,15 +111,15 @@ fn change_variable(
 fn add_named(
     alloc: Global,
     values: &Values,
-    texts: &[Parts],
+    texts: &Strings<'_>,
     actions: &mut Actions,
 ) -> Result<(), AllocError>
     ensures { OnOk result (actions.new ≡ record actions.old { flags = flag_union actions.old.flags (flags_of_texts (map (text_value values.now) texts.now)) }) }
 {
     texts_are_changed_in_turn();
     let mut buffer = Vec::new(alloc);
-    for parts in texts {
-        let text = values.expanded_in(parts.as_slice(), &mut buffer)?;
+    for i in 0..texts.len() {
+        let text = texts.text_in(i, values, &mut buffer)?;
         actions.add_text(alloc, text)?;
     }
     Ok(())
@@ -127,15 +129,15 @@ fn add_named(
 fn remove_named(
     alloc: Global,
     values: &Values,
-    texts: &[Parts],
+    texts: &Strings<'_>,
     actions: &mut Actions,
 ) -> Result<(), AllocError>
     ensures { OnOk result (actions.new ≡ record actions.old { flags = flags_without actions.old.flags (flags_of_texts (map (text_value values.now) texts.now)) }) }
 {
     texts_are_changed_in_turn();
     let mut buffer = Vec::new(alloc);
-    for parts in texts {
-        let text = values.expanded_in(parts.as_slice(), &mut buffer)?;
+    for i in 0..texts.len() {
+        let text = texts.text_in(i, values, &mut buffer)?;
         actions.remove_text(text);
     }
     Ok(())
@@ -145,7 +147,7 @@ fn remove_named(
 fn change_internal(
     delivery: &Delivery<'_>,
     change: FlagChange,
-    texts: &[Parts],
+    texts: &Strings<'_>,
     line: u64,
     state: &mut State,
 ) -> Result<Flow, AllocError>
@@ -172,12 +174,12 @@ fn change_internal(
 pub fn change(
     delivery: &Delivery<'_>,
     change: FlagChange,
-    variable: &Option<Variable>,
-    texts: &[Parts],
+    variable: Option<&Variable>,
+    texts: &Strings<'_>,
     line: u64,
     state: &mut State,
 ) -> Result<Flow, AllocError>
-    ensures { IfOk result (λ flow. ending_by flow (state_of state.new) ≡ changes (delivery_as delivery.now) line change variable.now texts.now (state_of state.old)) }
+    ensures { IfOk result (λ flow. ending_by flow (state_of state.new) ≡ changes (delivery_as delivery.now) line change (option_copied variable.entry) texts.now (state_of state.old)) }
 {
     match variable {
         Some(variable) => change_variable(delivery, change, variable, texts, line, state),

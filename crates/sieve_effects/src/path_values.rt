@@ -14,8 +14,9 @@ use crate::delivery::Delivery;
 use crate::envelope::Envelope;
 use crate::field_values::find_in_part;
 use crate::state::State;
+use crate::strings::Strings;
 use message_text::{AddressPart, addresses};
-use sieve_variables::{Parts, Values};
+use sieve_variables::Values;
 use std::alloc::{AllocError, Global};
 
 /// The address of the envelope's part of that name.
@@ -91,14 +92,14 @@ fn find_by_path_names(
     envelope: &Envelope,
     part: AddressPart,
     values: &Values,
-    names: &[Parts],
+    names: &Strings<'_>,
     comparison: &Comparison<'_>,
 ) -> Result<Option<MatchValues>, AllocError>
     ensures { IfOk result (λ found. found ≡ first_some (path_name_found (found_with comparison.now) part envelope.now) (map (text_value values.now) names.now)) }
 {
     let mut buffer = Vec::new(alloc);
-    for parts in names {
-        let name = values.expanded_in(parts.as_slice(), &mut buffer)?;
+    for i in 0..names.len() {
+        let name = names.text_in(i, values, &mut buffer)?;
         if let Some(found) = find_by_path_name(alloc, envelope, part, name, comparison)? {
             return Ok(Some(found));
         }
@@ -111,7 +112,7 @@ pub(crate) fn find_in_paths(
     delivery: &Delivery<'_>,
     state: &State,
     part: AddressPart,
-    names: &[Parts],
+    names: &Strings<'_>,
     comparison: &Comparison<'_>,
 ) -> Result<Option<MatchValues>, AllocError>
     ensures { IfOk result (λ found. found ≡ first_some (found_with comparison.now) (values_of (delivery_as delivery.now) (state_of state.now) (envelope_values part names.now))) }

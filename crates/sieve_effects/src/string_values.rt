@@ -10,21 +10,22 @@ ghost use Rattle.sieve_variables.specs.Value.{text_value};
 use crate::comparison::{Comparison, MatchValues};
 use crate::delivery::Delivery;
 use crate::state::State;
-use sieve_variables::{Parts, Values};
+use crate::strings::Strings;
+use sieve_variables::Values;
 use std::alloc::{AllocError, Global};
 
 /// What the first string gives that matches some key.
 fn find_in_texts(
     alloc: Global,
     values: &Values,
-    texts: &[Parts],
+    texts: &Strings<'_>,
     comparison: &Comparison<'_>,
 ) -> Result<Option<MatchValues>, AllocError>
     ensures { IfOk result (λ found. found ≡ first_some (found_with comparison.now) (map (text_value values.now) texts.now)) }
 {
     let mut buffer = Vec::new(alloc);
-    for parts in texts {
-        let text = values.expanded_in(parts.as_slice(), &mut buffer)?;
+    for i in 0..texts.len() {
+        let text = texts.text_in(i, values, &mut buffer)?;
         if let Some(found) = comparison.first_match(alloc, text)? {
             return Ok(Some(found));
         }
@@ -36,7 +37,7 @@ fn find_in_texts(
 pub(crate) fn find_in_strings(
     delivery: &Delivery<'_>,
     state: &State,
-    texts: &[Parts],
+    texts: &Strings<'_>,
     comparison: &Comparison<'_>,
 ) -> Result<Option<MatchValues>, AllocError>
     ensures { IfOk result (λ found. found ≡ first_some (found_with comparison.now) (values_of (delivery_as delivery.now) (state_of state.now) (string_values texts.now))) }

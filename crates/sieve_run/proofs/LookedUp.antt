@@ -1,10 +1,15 @@
 -- Names that were looked up, as the entries of a map.
-use Rattle.std.proofs.Common.{◌≡◌, Bool, true, false, ◌||◌, List, [], ◌∷◌, ◌++◌, is_some, Some, cond, if◌then◌else◌, refl, sym, ap, ◌∙◌}
+use Rattle.std.proofs.Common.{◌≡◌, Bool, true, false, ◌||◌, List, [], ◌∷◌, ◌++◌, is_some, Some, cond, if◌then◌else◌, refl, sym, ap, ◌∙◌, rules}
 use Rattle.std.specs.Map.{lookup}
 use Rattle.indexmap.specs.IndexMap as ordered
 use Rattle.sieve_base.specs.Name.{name_eq}
 use Rattle.sieve_run.specs.Run.{is_read, with_read}
 use Rattle.sieve_base.specs.declared.name.ScriptName.{ScriptName}
+use Rattle.sieve_base.specs.contracts.name.ScriptNamePartialEq.TheImpl as equality
+
+-- names are compared by the test of their type, which is that of the definition
+pub names_alike : (a b : ScriptName) → equality.eq-value.it a b ≡ name_eq a b
+names_alike a b = search rules
 
 -- a name is found where it was looked up
 pub lookup_read : (is : ScriptName → Bool) (name : ScriptName) (reads : List (ScriptName × Bool)) → ((other : ScriptName) → is other ≡ name_eq name other) → is_some (lookup is reads) ≡ is_read name reads

@@ -22,10 +22,9 @@ use Rattle.sieve_effects.specs.view.Flow.{ending_by}
 use Rattle.sieve_run.specs.view.Step.{step_after, Acts, Follows, StepsTo, doing, doing_after}
 
 -- a call that does what a command does at a line does what a command equal to it does at a line equal to that
-pub does_at : {E : Type 0} (called : Result Flow E) (new : RunState) (act : Acts) (leaf other : Leaf) (line place : ℕ) (old : RunState) → line ≡ place → leaf ≡ other
-    → IfOk called (λ flow. ending_by flow new ≡ act leaf line old) → IfOk called (λ flow. ending_by flow new ≡ act other place old)
-does_at called new act leaf other line place old there same does =
-    subst (λ n. IfOk called (λ flow. ending_by flow new ≡ act other n old)) there (subst (λ l. IfOk called (λ flow. ending_by flow new ≡ act l line old)) same does)
+pub does_at : {E : Type 0} (called : Result Flow E) (new : RunState) (act : Acts) (leaf other : Leaf) (line : ℕ) (old : RunState) → leaf ≡ other
+    → IfOk called (λ flow. ending_by flow new ≡ act leaf line old) → IfOk called (λ flow. ending_by flow new ≡ act other line old)
+does_at called new act leaf other line old same does = subst (λ l. IfOk called (λ flow. ending_by flow new ≡ act l line old)) same does
 
 left_over : {n turn : ℕ} → n ≤ turn → n - turn ≡ 0
 left_over all = omega arith

@@ -8,7 +8,7 @@ ghost use Rattle.sieve_run.specs.Run.{act_of, included};
 ghost use Rattle.sieve_effects.specs.Delivery.{inside};
 ghost use Rattle.sieve_effects.specs.view.Delivery.{delivery_as};
 ghost use Rattle.sieve_effects.specs.view.Flow.{ending_by};
-ghost use Rattle.sieve_effects.specs.view.Ops.{command_op_as, line_of};
+ghost use Rattle.sieve_effects.specs.view.Ops.{command_op_as};
 ghost use Rattle.sieve_run.specs.view.Step.{step_after, Follows, StepsTo, doing};
 ghost use Rattle.sieve_run.specs.view.Include.{enters, looks_up};
 ghost use Rattle.sieve_effects.specs.view.State.{state_of};
@@ -23,8 +23,8 @@ use sieve_base::limits::MAX_INCLUDES;
 use sieve_base::{Octets, ScriptName};
 use sieve_code::{Code, Op};
 use sieve_effects::{
-    CommandOp, Delivery, ErrorKind, FieldReads, Flow, SettingsOp, State, change, discard, fail,
-    file_into, holds, keep, redirect, set,
+    CommandOp, Delivery, ErrorKind, FieldReads, Flow, State, change, discard, fail, file_into,
+    holds, keep, redirect, set,
 };
 use std::alloc::AllocError;
 
@@ -64,7 +64,7 @@ pub(crate) fn execute<L: Library>(
             lib,
             depth,
             delivery,
-            code.op(place),
+            &code.op(place),
             place + 1,
             register,
             &mut *fields,
@@ -90,7 +90,7 @@ fn carry_out<L: Library>(
     lib: &L,
     depth: usize,
     delivery: &Delivery<'_>,
-    op: &Op,
+    op: &Op<'_>,
     behind: usize,
     register: bool,
     fields: &mut FieldReads<'_>,
@@ -112,16 +112,8 @@ fn carry_out<L: Library>(
         Op::Jump(target) => Ok(proceed(register, *target)),
         Op::JumpIfFalse(target) => Ok(proceed(register, chosen(register, behind, *target))),
         Op::JumpIfTrue(target) => Ok(proceed(register, chosen(register, *target, behind))),
-        Op::Keep { line } => {
-            let flow = keep(delivery, &SettingsOp { said: None }, *line, state);
-            acted(flow, behind, register)
-        }
-        Op::Discard { line } => {
-            let flow = discard(delivery, *line, state);
-            acted(flow, behind, register)
-        }
-        Op::Command(command) => {
-            let flow = act(lib, depth, delivery, command, fields, state);
+        Op::Command { command, line } => {
+            let flow = act(lib, depth, delivery, command, *line, fields, state);
             acted(flow, behind, register)
         }
         Op::Stop => Ok(Step::Ended(Flow::Stopped)),
@@ -135,56 +127,43 @@ fn act<L: Library>(
     lib: &L,
     depth: usize,
     delivery: &Delivery<'_>,
-    command: &CommandOp,
+    command: &CommandOp<'_>,
+    line: u64,
     fields: &mut FieldReads<'_>,
     state: &mut State,
 ) -> Result<Flow, AllocError>
     requires { fields.old ≡ (delivery_as delivery.now).message }
     ensures message { fields.new ≡ fields.old }
-    ensures ending { IfOk result (λ flow. ending_by flow (state_of state.new) ≡ act_of (library_of (L.texts lib.now)) depth (delivery_as delivery.now) (command_op_as command.now) (line_of command.now) (state_of state.old)) }
+    ensures ending { IfOk result (λ flow. ending_by flow (state_of state.new) ≡ act_of (library_of (L.texts lib.now)) depth (delivery_as delivery.now) (command_op_as command.now) line (state_of state.old)) }
 {
-    let line = command.line();
     match command {
-        CommandOp::Keep { settings, .. } => keep(delivery, settings, line, state),
-        CommandOp::Fileinto {
-            mailbox,
-            settings,
-            ..
-        } => file_into(delivery, mailbox.as_slice(), settings, line, state),
-        CommandOp::Redirect {
-            address,
-            settings,
-            ..
-        } => redirect(delivery, address.as_slice(), settings, line, state),
+        CommandOp::Keep { settings } => keep(delivery, settings, line, state),
+        CommandOp::Fileinto { mailbox, settings } => {
+            file_into(delivery, mailbox, settings, line, state)
+        }
+        CommandOp::Redirect { address, settings } => {
+            redirect(delivery, address, settings, line, state)
+        }
+        CommandOp::Discard => discard(delivery, line, state),
         CommandOp::Set {
             modifiers,
             variable,
             value,
-            ..
-        } => set(
-            delivery,
-            variable,
-            *modifiers,
-            value.as_slice(),
-            line,
-            state,
-        ),
+        } => set(delivery, variable, *modifiers, value, line, state),
         CommandOp::Flags {
             change: how,
             variable,
             flags,
-            ..
-        } => change(delivery, *how, variable, flags.as_slice(), line, state),
+        } => change(delivery, *how, *variable, flags, line, state),
         CommandOp::Include {
             place,
             once,
             optional,
             name,
-            ..
         } => {
             let name = ScriptName {
                 place: *place,
-                name: Octets::copied(delivery.alloc, name.as_slice())?,
+                name: Octets::copied(delivery.alloc, name)?,
             };
             include(
                 lib, depth, delivery, &name, *once, *optional, line, fields, state,

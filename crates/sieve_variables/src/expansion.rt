@@ -1,11 +1,9 @@
 //! What strings stand for while a script runs (RFC 5229, section 3).
-ghost use Rattle.std.specs.Prelude.{◌≡◌, [], length, map, IfOk, IsOk, IsOkAnd, OnOk};
+ghost use Rattle.std.specs.Prelude.{◌≡◌, [], length, IfOk, IsOk, IsOkAnd, OnOk};
 ghost use Rattle.std.specs.Cow.{IsBorrowedSlice, cow_slice_items};
 ghost use Rattle.sieve_variables.specs.Value.{text_value};
-ghost use Rattle.sieve_base.specs.view.Texts.{octets_of_each};
 
 use crate::part::Part;
-use crate::parts::Parts;
 use crate::values::Values;
 use std::alloc::{AllocError, Global};
 use std::borrow::CowSlice;
@@ -78,20 +76,5 @@ impl Values {
         }
         self.join(parts, buffer)?;
         Ok(buffer.as_slice())
-    }
-
-    /// The octets that each string stands for.
-    pub fn expanded<'a>(
-        &'a self,
-        alloc: Global,
-        strings: &'a [Parts],
-    ) -> Result<Vec<CowSlice<'a, u8>>, AllocError>
-        ensures { IfOk result (λ values. octets_of_each values.items ≡ map (text_value self.now) strings.now) }
-    {
-        let mut values = Vec::new(alloc);
-        for parts in strings {
-            values.push(self.expanded_string(alloc, parts.as_slice())?)?;
-        }
-        Ok(values)
     }
 }

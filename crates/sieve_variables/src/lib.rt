@@ -19,7 +19,7 @@ pub use labelled::Labelled;
 pub use modifier::{LetterCase, Modifiers};
 pub use name::{folded, is_global_name, is_identifier};
 pub use part::{Literal, Part, PartRef};
-pub use parts::{Parts, Strings, scoped_parts};
+pub use parts::{Parts, scoped_parts};
 pub use references::{References, parts_of_text, references_in};
 pub use values::{Own, Values};
 pub use variable::{Names, Variable, VariableRef};

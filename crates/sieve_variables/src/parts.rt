@@ -5,9 +5,7 @@ ghost use Rattle.sieve_variables.specs.view.Parts.{one_part, parts_of};
 
 use crate::part::Part;
 use crate::variable::Names;
-use smallvec::SmallVec;
 use std::alloc::{AllocError, Global};
-use std::default::MadeWith;
 use std::marker::Model;
 use std::mem::size_of;
 use std::{mem, slice};
@@ -32,9 +30,6 @@ pub struct Parts {
 /// A string takes three words where it has one part or none.
 const _: () = prove!(size_of::<Parts>() == 24);
 
-/// Strings, each as its parts. One, as most lists have, lies in the value itself.
-pub type Strings = SmallVec<Parts, 1>;
-
 impl Model for Parts {
     ghost use Rattle.std.specs.Prelude.{List};
     ghost use Rattle.sieve_variables.specs.Part.{Part};
@@ -43,17 +38,6 @@ impl Model for Parts {
     ghost Value = { List Part };
 
     ghost view = { λ p. parts_of p.run };
-}
-
-/// No parts, which a list of strings holds where it has room for a string.
-impl MadeWith<Global> for Parts {
-    ghost use Rattle.std.specs.Prelude.{◌≡◌, []};
-
-    ghost is_made_with = { λ parts. parts ≡ [] };
-
-    fn made_with(_: Global) -> Parts {
-        Parts::none()
-    }
 }
 
 impl Parts {
@@ -93,6 +77,24 @@ impl Parts {
             Run::None => None,
             Run::One(part) => Some(part),
             Run::Several(parts) => one_of(Box::into_inner(parts)),
+        }
+    }
+
+    /// Moves the parts behind others. Takes memory where these have too little room.
+    pub fn append_to(self, parts: &mut Vec<Part>) -> Result<(), AllocError>
+        ensures { OnOk result (parts.new.items ≡ parts.old.items ++ self) }
+    {
+        let run = self.run;
+        match run {
+            Run::None => Ok(()),
+            Run::One(part) => {
+                parts.push(part)?;
+                Ok(())
+            }
+            Run::Several(more) => {
+                let mut more = Box::into_inner(more);
+                parts.append(&mut more)
+            }
         }
     }
 

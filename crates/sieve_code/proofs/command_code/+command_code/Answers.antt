@@ -97,10 +97,10 @@ put_command-returns-in-Some-Act-clause-value t c =
     let b = branches_as c.args.front c.args.tail.now in
     let leaf = leaf_as c.in-Some-Act.leaf in
     fronts_along _ _ _ _
-    (ap (λ op. no_branch (op ∷ b.behind_branches)) (c.in_ok-op-in-Some-Act.ensures ∙ ap (act_op leaf) (sym (line_seen c.args.command)))
+    (ap (λ line. no_branch (act_op leaf line ∷ b.behind_branches)) (sym (line_seen c.args.command))
     ∙ command_put (node_of c.args.command) (Some (reading.reads_act leaf)) b
     (ap (λ r. Some (command_reading_as r)) (sym c.in-Some-Act.field-0-is) ∙ c.in-Some-Act.ensures ∙ reading_seen c.args.command))
-    c.put_alone.ensures.value
+    c.put_act.ensures.value
 
 pub put_command-returns-in-Some-Stop-clause-value :
     goal.put_command-returns-in-Some-Stop-clause-value
@@ -108,7 +108,7 @@ put_command-returns-in-Some-Stop-clause-value t c =
     fronts_along _ _ _ _
     (command_put (node_of c.args.command) (Some reading.reads_stop) (branches_as c.args.front c.args.tail.now)
     (ap (λ r. Some (command_reading_as r)) (sym c.in-Some-Stop.field-0-is) ∙ c.in-Some-Stop.ensures ∙ reading_seen c.args.command))
-    c.put_alone-in-Some-Stop.ensures.value
+    c.put_alone.ensures.value
 
 pub put_command-returns-in-Some-Return-clause-value :
     goal.put_command-returns-in-Some-Return-clause-value

@@ -28,7 +28,7 @@ put_first-returns t c =
 
 pub put_tests-returns-in-None : goal.put_tests-returns-in-None
 put_tests-returns-in-None t c =
-    on_ok_along _ _ _ _ (ap (λ op. op ∷ c.args.tail.now) c.constant.ensures ∙ all_none c.args.truth c.args.tests c.args.tail.now c.in-None.is) c.put.ensures
+    on_ok_along _ _ _ _ (ap (λ op. op ∷ c.args.tail.now) c.constant.ensures.op ∙ all_none c.args.truth c.args.tests c.args.tail.now c.in-None.is) c.put.ensures
 
 pub put_tests-returns-in-One : goal.put_tests-returns-in-One
 put_tests-returns-in-One t c = on_ok_along _ _ _ _ (all_one c.args.truth c.args.tests c.in-One.test c.into_inner.result c.args.tail.now c.in-One.is c.into_inner.ensures) c.put_test.ensures
@@ -39,7 +39,7 @@ put_tests-returns-in-List t c = on_ok_along _ _ _ _ (all_list c.args.truth c.arg
 pub put_list-returns-then-is_empty : goal.put_list-returns-then-is_empty
 put_list-returns-then-is_empty t c =
     let none : length c.args.list.items ≤ 0 = search rules in
-    on_ok_along _ _ _ _ (ap (λ op. op ∷ c.args.tail.now) c.constant.ensures ∙ list_empty c.args.truth c.args.list.items c.args.tail.now none) c.put.ensures
+    on_ok_along _ _ _ _ (ap (λ op. op ∷ c.args.tail.now) c.constant.ensures.op ∙ list_empty c.args.truth c.args.list.items c.args.tail.now none) c.put.ensures
 
 pub put_list-loop-test-init : goal.put_list-loop-test-init
 put_list-loop-test-init t c =
@@ -84,9 +84,8 @@ put_test-returns-in-Some-Never t c =
 pub put_test-returns-in-Some-Asks : goal.put_test-returns-in-Some-Asks
 put_test-returns-in-Some-Asks t c =
     on_ok_along _ _ _ _
-    (ap (λ op. op ∷ c.args.tail.now) c.in_ok-ask_op-in-Some-Asks.ensures
-    ∙ test_put c.args.test (Some (reading.reads_ask (ask_as c.in-Some-Asks.ask))) c.args.tail.now (ap (λ r. Some (test_reading_as r)) (sym c.in-Some-Asks.field-0-is) ∙ c.in-Some-Asks.ensures ∙ test_seen c.args.test))
-    c.put-in-Some-Asks.ensures
+    (test_put c.args.test (Some (reading.reads_ask (ask_as c.in-Some-Asks.ask))) c.args.tail.now (ap (λ r. Some (test_reading_as r)) (sym c.in-Some-Asks.field-0-is) ∙ c.in-Some-Asks.ensures ∙ test_seen c.args.test))
+    c.put_ask.ensures
 
 pub put_test-returns-in-Some-AllOf : goal.put_test-returns-in-Some-AllOf
 put_test-returns-in-Some-AllOf t c =

@@ -7,9 +7,6 @@ use Rattle.sieve_effects.specs.declared.flow.Flow.{Flow}
 use Rattle.sieve_effects.specs.view.Delivery.{delivery_as}
 use Rattle.sieve_effects.specs.view.Flow.{ending_by}
 use Rattle.sieve_effects.specs.view.Ops.{settings_op_as}
-use Rattle.sieve_variables.specs.Part.{Part}
-use Rattle.std.specs.Option.{option_map}
-use denote.Ref.{Bor}
 use Rattle.sieve_effects.specs.view.State.{state_of}
 use Rattle.sieve_effects.proofs.Known.{ended_so}
 use Rattle.sieve_effects.proofs.acting.store.Goals as goal
@@ -17,12 +14,11 @@ use Rattle.sieve_effects.proofs.acting.store.Goals as goal
 pub returns-in_ok-has_room-in-None : goal.returns-in_ok-has_room-in-None
 returns-in_ok-has_room-in-None c =
     let e = c.in_ok-has_room-in-None.ensures in let old = state_of c.args.state.now in let d = delivery_as c.args.delivery.now in
-    let deed : Deed = record { action = Store c.args.mailbox old.flags; copy = c.copy-copy.result } in
+    let deed : Deed = record { action = Store c.args.mailbox old.flags; copy = c.args.settings.now.copy } in
     let said = settings_op_as c.args.settings.now in
-    let none : None ≡ said.flags = ap (option_map (λ (flags : Bor (List (List Part))). flags.now)) (sym c.in-None.is) ∙ c.flags.ensures in
+    let none : None ≡ said.flags = sym c.in-None.is in
     subst (λ (e : Ending). IfOk c.end_with.result (λ (flow : Flow). ending_by flow (state_of c.end_with.new.state) ≡ e))
     (ended_so d c.args.line deed old _ c.in_ok-has_room-in-None.has_room e.kept e.value
     (ap (λ (l : List (List ℕ)). record old { actions = c.store.new.self.actions; flags = l }) e.flags)
-    ∙ ap (λ o. performs d c.args.line (store_deed old c.args.mailbox (record { flags = o; copy = c.copy-copy.result })) old) none
-    ∙ ap (λ b. performs d c.args.line (store_deed old c.args.mailbox (record { flags = said.flags; copy = b })) old) c.copy-copy.ensures)
+    ∙ ap (λ o. performs d c.args.line (store_deed old c.args.mailbox (record { flags = o; copy = c.args.settings.now.copy })) old) none)
     (c.end_with.ensures _ deed refl refl)

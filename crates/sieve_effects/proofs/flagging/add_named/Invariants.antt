@@ -4,7 +4,7 @@ use Rattle.sieve_variables.specs.Value.{text_value}
 use Rattle.sieve_effects.proofs.flagging.add_named.Given as goal
 
 -- the internal flags with those of the strings that are left are the flags at the start with those of all strings, and the actions stay
-abbrev pub invariant-loop-parts : goal.invariant-loop-parts
-invariant-loop-parts l =
-    record l.actions { flags = flag_union l.actions.flags (flags_of_texts (map (text_value l.values) (drop l.parts-index l.texts))) }
+abbrev pub invariant-loop-i : goal.invariant-loop-i
+invariant-loop-i l =
+    record l.actions { flags = flag_union l.actions.flags (flags_of_texts (drop l.i (map (text_value l.values) l.texts))) }
     ≡ record l.initial.actions { flags = flag_union l.initial.actions.flags (flags_of_texts (map (text_value l.values) l.texts)) }

@@ -5,7 +5,7 @@ use Rattle.sieve_variables.specs.Value.{text_value}
 use Rattle.sieve_effects.proofs.path_values.find_by_path_names.Given as goal
 
 -- what the names that are left give is what all names give
-abbrev pub invariant-loop-parts : goal.invariant-loop-parts
-invariant-loop-parts l =
+abbrev pub invariant-loop-i : goal.invariant-loop-i
+invariant-loop-i l =
     let find = path_name_found (found_with l.comparison) l.part l.envelope in
-    first_some find (map (text_value l.values) (drop l.parts-index l.names)) ≡ first_some find (map (text_value l.values) l.names)
+    first_some find (drop l.i (map (text_value l.values) l.names)) ≡ first_some find (map (text_value l.values) l.names)

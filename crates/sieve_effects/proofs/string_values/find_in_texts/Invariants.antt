@@ -5,7 +5,7 @@ use Rattle.sieve_variables.specs.Value.{text_value}
 use Rattle.sieve_effects.proofs.string_values.find_in_texts.Given as goal
 
 -- what the strings that are left give is what all give
-abbrev pub invariant-loop-parts : goal.invariant-loop-parts
-invariant-loop-parts l =
+abbrev pub invariant-loop-i : goal.invariant-loop-i
+invariant-loop-i l =
     let find = found_with l.comparison in
-    first_some find (map (text_value l.values) (drop l.parts-index l.texts)) ≡ first_some find (map (text_value l.values) l.texts)
+    first_some find (drop l.i (map (text_value l.values) l.texts)) ≡ first_some find (map (text_value l.values) l.texts)

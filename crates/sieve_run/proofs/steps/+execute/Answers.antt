@@ -1,13 +1,13 @@
 use Rattle.std.proofs.Common.{◌≡◌, ◌&&◌, ◌∙◌, ◌<◌, ◌≤◌, ◌+◌, ◌-◌, true, false, IfOk, List, length, map, nat_lt, sym, ap, subst, arith, Bor}
+use Rattle.std.specs.Option.{option_copied}
 use Rattle.std.proofs.lemmas.Bool.Decides.{nat_tests}
 use Rattle.std.proofs.lemmas.Result.{IfOk-weaker}
-use Rattle.sieve_code.specs.Operation.{act_op, test_op}
 use Rattle.sieve_code.specs.Walk.{code_walk, walk_from}
 use Rattle.sieve_code.specs.view.Code.{ops_of}
 use Rattle.sieve_code.specs.view.Op.{op_as}
-use Rattle.sieve_effects.specs.view.Ops.{command_op_as, line_of, settings_op_as, test_op_as}
+use Rattle.sieve_effects.specs.view.Ops.{command_op_as, settings_op_as, test_op_as}
 use Rattle.sieve_base.specs.Limits.{include_limit}
-use Rattle.sieve_reading.specs.Reading.{discard_leaf, fileinto_leaf, flag_leaf, include_leaf, keep_leaf, plain_settings, redirect_leaf, set_leaf}
+use Rattle.sieve_reading.specs.Reading.{discard_leaf, fileinto_leaf, flag_leaf, include_leaf, keep_leaf, redirect_leaf, set_leaf}
 use Rattle.sieve_run.specs.Library.{Lookup, found_at, library_of}
 use Rattle.sieve_run.specs.Run.{act_of, included, is_script}
 use Rattle.sieve_effects.specs.declared.flow.Flow.{Flow}
@@ -31,33 +31,19 @@ pub carry_out-returns-in-Test-clause-step : goal.carry_out-returns-in-Test-claus
 carry_out-returns-in-Test-clause-step g t c =
     let find : ScriptName → Lookup = library_of (g.L.Library.texts c.args.lib.now) in
     let d = delivery_as c.args.delivery.now in
-    let test = c.deref.result.now in
-    asks_follow (act_of find c.args.depth d) d (test_op_as test) _ _ _ _ _ _ _ (ap op_as c.in-Test.is ∙ ap (λ test. test_op (test_op_as test)) (sym c.deref.ensures)) c.holds-truth.ensures.truth c.holds-truth.ensures.behind c.tested.ensures
-
-pub carry_out-returns-in-Keep-clause-step : goal.carry_out-returns-in-Keep-clause-step
-carry_out-returns-in-Keep-clause-step g t c =
-    let find : ScriptName → Lookup = library_of (g.L.Library.texts c.args.lib.now) in
-    let d = delivery_as c.args.delivery.now in
-    acts_follow (act_of find c.args.depth d) d (keep_leaf plain_settings) c.in-Keep.line _ _ _ _ _ _ _ (ap op_as c.in-Keep.is) c.keep-flow.ensures c.acted.ensures
-
-pub carry_out-returns-in-Discard-clause-step : goal.carry_out-returns-in-Discard-clause-step
-carry_out-returns-in-Discard-clause-step g t c =
-    let find : ScriptName → Lookup = library_of (g.L.Library.texts c.args.lib.now) in
-    let d = delivery_as c.args.delivery.now in
-    acts_follow (act_of find c.args.depth d) d discard_leaf c.in-Discard.line _ _ _ _ _ _ _ (ap op_as c.in-Discard.is) c.discard-flow.ensures c.acted-in-Discard.ensures
+    asks_follow (act_of find c.args.depth d) d (test_op_as c.in-Test.test) _ _ _ _ _ _ _ (ap op_as c.in-Test.is) c.holds-truth.ensures.truth c.holds-truth.ensures.behind c.tested.ensures
 
 pub carry_out-returns-in-Command-clause-step : goal.carry_out-returns-in-Command-clause-step
 carry_out-returns-in-Command-clause-step g t c =
     let find : ScriptName → Lookup = library_of (g.L.Library.texts c.args.lib.now) in
     let d = delivery_as c.args.delivery.now in
-    let command = c.deref-in-Command.result.now in
-    acts_follow (act_of find c.args.depth d) d (command_op_as command) (line_of command) _ _ _ _ _ _ _ (ap op_as c.in-Command.is ∙ ap (λ command. act_op (command_op_as command) (line_of command)) (sym c.deref-in-Command.ensures)) c.act-flow.ensures.ending c.acted-in-Command.ensures
+    acts_follow (act_of find c.args.depth d) d (command_op_as c.in-Command.command) c.in-Command.line _ _ _ _ _ _ _ (ap op_as c.in-Command.is) c.act-flow.ensures.ending c.acted.ensures
 
 pub act-returns-in-Keep-clause-ending : goal.act-returns-in-Keep-clause-ending
 act-returns-in-Keep-clause-ending g t c =
     let find : ScriptName → Lookup = library_of (g.L.Library.texts c.args.lib.now) in
     let d = delivery_as c.args.delivery.now in
-    does_at c.keep.result (state_of c.keep.new.state) (act_of find c.args.depth d) (keep_leaf (settings_op_as c.in-Keep.settings)) (command_op_as c.args.command.now) c.line-line.result (line_of c.args.command.now) (state_of c.args.state.now) c.line-line.ensures
+    does_at c.keep.result (state_of c.keep.new.state) (act_of find c.args.depth d) (keep_leaf (settings_op_as c.in-Keep.settings)) (command_op_as c.args.command.now) c.args.line (state_of c.args.state.now)
     (ap command_op_as (sym c.in-Keep.is))
     c.keep.ensures
 
@@ -65,32 +51,40 @@ pub act-returns-in-Fileinto-clause-ending : goal.act-returns-in-Fileinto-clause-
 act-returns-in-Fileinto-clause-ending g t c =
     let find : ScriptName → Lookup = library_of (g.L.Library.texts c.args.lib.now) in
     let d = delivery_as c.args.delivery.now in
-    does_at c.file_into.result (state_of c.file_into.new.state) (act_of find c.args.depth d) (fileinto_leaf c.as_slice.result.now (settings_op_as c.in-Fileinto.settings)) (command_op_as c.args.command.now) c.line-line.result (line_of c.args.command.now) (state_of c.args.state.now) c.line-line.ensures
-    (rw c.as_slice.ensures (ap command_op_as (sym c.in-Fileinto.is)))
+    does_at c.file_into.result (state_of c.file_into.new.state) (act_of find c.args.depth d) (fileinto_leaf c.in-Fileinto.mailbox.now (settings_op_as c.in-Fileinto.settings)) (command_op_as c.args.command.now) c.args.line (state_of c.args.state.now)
+    (ap command_op_as (sym c.in-Fileinto.is))
     c.file_into.ensures
 
 pub act-returns-in-Redirect-clause-ending : goal.act-returns-in-Redirect-clause-ending
 act-returns-in-Redirect-clause-ending g t c =
     let find : ScriptName → Lookup = library_of (g.L.Library.texts c.args.lib.now) in
     let d = delivery_as c.args.delivery.now in
-    does_at c.redirect.result (state_of c.redirect.new.state) (act_of find c.args.depth d) (redirect_leaf c.as_slice-in-Redirect.result.now (settings_op_as c.in-Redirect.settings)) (command_op_as c.args.command.now) c.line-line.result (line_of c.args.command.now) (state_of c.args.state.now) c.line-line.ensures
-    (rw c.as_slice-in-Redirect.ensures (ap command_op_as (sym c.in-Redirect.is)))
+    does_at c.redirect.result (state_of c.redirect.new.state) (act_of find c.args.depth d) (redirect_leaf c.in-Redirect.address.now (settings_op_as c.in-Redirect.settings)) (command_op_as c.args.command.now) c.args.line (state_of c.args.state.now)
+    (ap command_op_as (sym c.in-Redirect.is))
     c.redirect.ensures
+
+pub act-returns-in-Discard-clause-ending : goal.act-returns-in-Discard-clause-ending
+act-returns-in-Discard-clause-ending g t c =
+    let find : ScriptName → Lookup = library_of (g.L.Library.texts c.args.lib.now) in
+    let d = delivery_as c.args.delivery.now in
+    does_at c.discard.result (state_of c.discard.new.state) (act_of find c.args.depth d) discard_leaf (command_op_as c.args.command.now) c.args.line (state_of c.args.state.now)
+    (ap command_op_as (sym c.in-Discard.is))
+    c.discard.ensures
 
 pub act-returns-in-Set-clause-ending : goal.act-returns-in-Set-clause-ending
 act-returns-in-Set-clause-ending g t c =
     let find : ScriptName → Lookup = library_of (g.L.Library.texts c.args.lib.now) in
     let d = delivery_as c.args.delivery.now in
-    does_at c.set.result (state_of c.set.new.state) (act_of find c.args.depth d) (set_leaf c.in-Set.variable c.in-Set.modifiers c.as_slice-in-Set.result.now) (command_op_as c.args.command.now) c.line-line.result (line_of c.args.command.now) (state_of c.args.state.now) c.line-line.ensures
-    (rw c.as_slice-in-Set.ensures (ap command_op_as (sym c.in-Set.is)))
+    does_at c.set.result (state_of c.set.new.state) (act_of find c.args.depth d) (set_leaf c.in-Set.variable.now c.in-Set.modifiers c.in-Set.value.now) (command_op_as c.args.command.now) c.args.line (state_of c.args.state.now)
+    (ap command_op_as (sym c.in-Set.is))
     c.set.ensures
 
 pub act-returns-in-Flags-clause-ending : goal.act-returns-in-Flags-clause-ending
 act-returns-in-Flags-clause-ending g t c =
     let find : ScriptName → Lookup = library_of (g.L.Library.texts c.args.lib.now) in
     let d = delivery_as c.args.delivery.now in
-    does_at c.change.result (state_of c.change.new.state) (act_of find c.args.depth d) (flag_leaf c.in-Flags.how c.in-Flags.variable c.as_slice-in-Flags.result.now) (command_op_as c.args.command.now) c.line-line.result (line_of c.args.command.now) (state_of c.args.state.now) c.line-line.ensures
-    (rw (c.as_slice-in-Flags.ensures, c.deref.ensures) (ap command_op_as (sym c.in-Flags.is)))
+    does_at c.change.result (state_of c.change.new.state) (act_of find c.args.depth d) (flag_leaf c.in-Flags.how (option_copied c.in-Flags.variable) c.in-Flags.flags) (command_op_as c.args.command.now) c.args.line (state_of c.args.state.now)
+    (ap command_op_as (sym c.in-Flags.is))
     c.change.ensures
 
 pub act-returns-in_ok-copied-in-Include-clause-ending : goal.act-returns-in_ok-copied-in-Include-clause-ending
@@ -98,8 +92,8 @@ act-returns-in_ok-copied-in-Include-clause-ending g t c =
     let find : ScriptName → Lookup = library_of (g.L.Library.texts c.args.lib.now) in
     let d = delivery_as c.args.delivery.now in
     let i = c.in-Include in
-    does_at c.include.result (state_of c.include.new.state) (act_of find c.args.depth d) (include_leaf i.place i.once i.optional c.in_ok-copied-in-Include.field-0) (command_op_as c.args.command.now) c.line-line.result (line_of c.args.command.now) (state_of c.args.state.now) c.line-line.ensures
-    (rw (c.in_ok-copied-in-Include.ensures, c.as_slice-in-Include.ensures) (ap command_op_as (sym i.is)))
+    does_at c.include.result (state_of c.include.new.state) (act_of find c.args.depth d) (include_leaf i.place i.once i.optional c.in_ok-copied-in-Include.field-0) (command_op_as c.args.command.now) c.args.line (state_of c.args.state.now)
+    (rw c.in_ok-copied-in-Include.ensures (ap command_op_as (sym i.is)))
     c.include.ensures.ending
 
 pub execute_inside-returns-clause-ending : goal.execute_inside-returns-clause-ending
@@ -137,7 +131,7 @@ execute-returns-in-Ended-clause-ending g t c =
     let act = act_of (library_of (g.L.Library.texts c.args.lib.now)) c.args.depth d in
     let ops = ops_of c.args.code.now in
     sym c.loop-turn.invariant.1
-    ∙ turns act d ops c.loop-turn._turn c.loop-turn.place c.loop-turn.register (op_as c.op.result.now) (state_of c.loop-turn.state) c.in_ok-next.field-0 (state_of c.carry_out.new.state) (subst (λ n. c.loop-turn._turn < n) c.len-turn-end.ensures c.loop-turn-test.true) c.op.ensures c.in_ok-next.ensures.step
+    ∙ turns act d ops c.loop-turn._turn c.loop-turn.place c.loop-turn.register (op_as c.op.result) (state_of c.loop-turn.state) c.in_ok-next.field-0 (state_of c.carry_out.new.state) (subst (λ n. c.loop-turn._turn < n) c.len-turn-end.ensures c.loop-turn-test.true) c.op.ensures c.in_ok-next.ensures.step
     ∙ ap (λ step. doing_after act d (walk_from ops (length ops - (c.loop-turn._turn + 1))) step (state_of c.carry_out.new.state)) c.in-Ended.is
 
 pub execute-loop-turn-preserved : goal.execute-loop-turn-preserved
@@ -146,7 +140,7 @@ execute-loop-turn-preserved g t c =
     let act = act_of (library_of (g.L.Library.texts c.args.lib.now)) c.args.depth d in
     let ops = ops_of c.args.code.now in (
       c.carry_out.ensures.message ∙ c.loop-turn.invariant.0,
-      sym (turns act d ops c.loop-turn._turn c.loop-turn.place c.loop-turn.register (op_as c.op.result.now) (state_of c.loop-turn.state) c.in_ok-next.field-0 (state_of c.carry_out.new.state) (subst (λ n. c.loop-turn._turn < n) c.len-turn-end.ensures c.loop-turn-test.true) c.op.ensures c.in_ok-next.ensures.step
+      sym (turns act d ops c.loop-turn._turn c.loop-turn.place c.loop-turn.register (op_as c.op.result) (state_of c.loop-turn.state) c.in_ok-next.field-0 (state_of c.carry_out.new.state) (subst (λ n. c.loop-turn._turn < n) c.len-turn-end.ensures c.loop-turn-test.true) c.op.ensures c.in_ok-next.ensures.step
           ∙ ap (λ step. doing_after act d (walk_from ops (length ops - (c.loop-turn._turn + 1))) step (state_of c.carry_out.new.state)) c.in-Next.is)
           ∙ c.loop-turn.invariant.1,
     )

@@ -1,0 +1,180 @@
+-- What is kept in pools stays where it is.
+use Rattle.std.proofs.Common.{◌≡◌, ℕ, ◌<◌, ◌==◌, arith, Bool, true, false, if◌then◌else◌, List, [], ◌∷◌, ◌++◌, length, map, drop, get_or, Some, None, refl, sym, ap, ◌∙◌, subst}
+use Rattle.std.specs.Option.{option_map}
+use Rattle.std.proofs.lemmas.Bool.{eqb-true}
+use Rattle.std.specs.List.{slice_get}
+use Rattle.std.proofs.Math.Seq.{get_or-append_seam}
+use Rattle.std.proofs.lemmas.List.{append-nil, append_assoc, drop-map}
+use Rattle.sieve_effects.specs.Joined.{Lists, list_in, lists_plus, lists_with, no_lists}
+use Rattle.sieve_variables.specs.Part.{Part}
+use Rattle.sieve_code.specs.declared.pools.Target.{Target}
+use Rattle.sieve_code.specs.Pool.{Grows, Keeps, Kept, Pool, given_list, given_variable, no_pool, nowhere, plus}
+use Rattle.sieve_code.specs.Operation.{Operation}
+use Rattle.sieve_code.specs.view.Packed.{is_plain, op_in, plain_as}
+use Rattle.sieve_code.specs.declared.packed.PackedOp.{PackedOp}
+use Rattle.sieve_code.specs.declared.packed.PackedOp.TheVariants as packed
+
+lists_none : (lists : Lists) → lists_plus lists no_lists ≡ lists
+lists_none lists =
+    ap (λ (s : List (List Part)). record { strings = s; ends = lists.ends ++ [] }) (append-nil lists.strings)
+    ∙ ap (λ (e : List ℕ). record { strings = lists.strings; ends = e }) (append-nil lists.ends)
+
+-- with nothing more behind it a pool is what it is
+pub plus_none : (p : Pool) → plus p no_pool ≡ p
+plus_none p =
+    ap (λ (s : List (List Part)). record (plus p no_pool) { strings = s }) (append-nil p.strings)
+    ∙ ap (λ (l : Lists). record (plus p no_pool) { strings = p.strings; lists = l }) (lists_none p.lists)
+    ∙ ap (λ (n : Lists). record (plus p no_pool) { strings = p.strings; lists = p.lists; names = n }) (lists_none p.names)
+    ∙ ap (λ (t : List Target). record (plus p no_pool) { strings = p.strings; lists = p.lists; names = p.names; targets = t }) (append-nil p.targets)
+    ∙ ap (λ (s : List (List ℕ)). record p { scripts = s }) (append-nil p.scripts)
+
+pub grows_self : (p : Pool) → Grows p p
+grows_self p = λ more. (more, refl)
+
+pub grows_on : (p q r : Pool) → Grows p q → Grows q r → Grows p r
+grows_on p q r first second = λ more. let two = second more in let one = first two.0 in (one.0, two.1 ∙ one.1)
+
+-- what is found is found when the pool has grown
+pub keeps_on : {X : Type 0} (p q : Pool) (find : Pool → X) (x : X) → Grows p q → Keeps p find x → Keeps q find x
+keeps_on p q find x grows keeps = λ more. let r = grows more in ap find r.1 ∙ keeps r.0
+
+-- what stands in no pool is found in each
+pub kept_still : {X : Type 0} (p : Pool) (x : X) → Kept p p (λ q. x) x
+kept_still p x = record { grows = grows_self p; keeps = λ more. refl }
+
+-- what is made of two things that are found
+pub kept_two : {X Y Z : Type 0} (g : X → Y → Z) (p q r : Pool) (f : Pool → X) (h : Pool → Y) (x : X) (y : Y) → Kept p q f x → Kept q r h y → Kept p r (λ s. g (f s) (h s)) (g x y)
+kept_two g p q r f h x y first second = record {
+  grows = grows_on p q r first.grows second.grows;
+  keeps = λ more. ap (λ a. g a (h (plus r more))) (keeps_on q r f x second.grows first.keeps more) ∙ ap (g x) (second.keeps more);
+}
+
+-- WHAT IS ADDED
+
+no_plain : false ≡ true → ⊥
+no_plain e = cc
+
+slice_get-seam : {X : Type 0} (xs : List X) (x : X) (ys : List X) → slice_get (xs ++ x ∷ ys) (length xs) ≡ Some x
+slice_get-seam [] x ys = refl
+slice_get-seam (y ∷ xs) x ys = slice_get-seam xs x ys
+
+module _ (p q : Pool) (place : ℕ) where
+  pub string_kept : (string : List Part) → place ≡ length p.strings → q ≡ record p { strings = p.strings ++ string ∷ [] } → Kept p q (λ r. get_or r.strings place []) string
+  string_kept string at is = subst (λ (q : Pool). Kept p q (λ r. get_or r.strings place []) string) (sym is) (record {
+    grows = λ more. (record more { strings = string ∷ more.strings }, ap (λ (s : List (List Part)). record (plus p more) { strings = s }) (append_assoc p.strings (string ∷ []) more.strings));
+    keeps = λ more. ap (λ l. get_or l place []) (append_assoc p.strings (string ∷ []) more.strings) ∙ ap (λ n. get_or (p.strings ++ string ∷ more.strings) n []) at ∙ get_or-append_seam p.strings string more.strings [];
+  })
+
+  pub script_kept : (name : List ℕ) → place ≡ length p.scripts → q ≡ record p { scripts = p.scripts ++ name ∷ [] } → Kept p q (λ r. get_or r.scripts place []) name
+  script_kept name at is = subst (λ (q : Pool). Kept p q (λ r. get_or r.scripts place []) name) (sym is) (record {
+    grows = λ more. (record more { scripts = name ∷ more.scripts }, ap (λ (s : List (List ℕ)). record (plus p more) { scripts = s }) (append_assoc p.scripts (name ∷ []) more.scripts));
+    keeps = λ more. ap (λ l. get_or l place []) (append_assoc p.scripts (name ∷ []) more.scripts) ∙ ap (λ n. get_or (p.scripts ++ name ∷ more.scripts) n []) at ∙ get_or-append_seam p.scripts name more.scripts [];
+  })
+
+  pub target_kept : (target : Target) → place ≡ length p.targets → q ≡ record p { targets = p.targets ++ target ∷ [] } → Kept p q (λ r. slice_get r.targets place) (Some target)
+  target_kept target at is = subst (λ (q : Pool). Kept p q (λ r. slice_get r.targets place) (Some target)) (sym is) (record {
+    grows = λ more. (record more { targets = target ∷ more.targets }, ap (λ (s : List Target). record (plus p more) { targets = s }) (append_assoc p.targets (target ∷ []) more.targets));
+    keeps = λ more. ap (λ (l : List Target). slice_get l place) (append_assoc p.targets (target ∷ []) more.targets) ∙ ap (slice_get (p.targets ++ target ∷ more.targets)) at ∙ slice_get-seam p.targets target more.targets;
+  })
+
+lists_more : (lists more : Lists) (texts : List (List Part)) → lists_plus (lists_with lists texts) more ≡ lists_plus lists (record { strings = texts ++ more.strings; ends = length (lists.strings ++ texts) ∷ more.ends })
+lists_more lists more texts =
+    ap (λ (s : List (List Part)). record { strings = s; ends = (lists.ends ++ length (lists.strings ++ texts) ∷ []) ++ more.ends }) (append_assoc lists.strings texts more.strings)
+    ∙ ap (λ (e : List ℕ). record { strings = lists.strings ++ (texts ++ more.strings); ends = e }) (append_assoc lists.ends (length (lists.strings ++ texts) ∷ []) more.ends)
+
+module _ (p q : Pool) (place : ℕ) (texts : List (List Part)) where
+  pub list_kept : place ≡ length p.lists.ends → q ≡ record p { lists = lists_with p.lists texts } → ((more : Lists) → list_in (lists_plus (lists_with p.lists texts) more) (length p.lists.ends) ≡ texts) → Kept p q (λ r. list_in r.lists place) texts
+  list_kept at is there = subst (λ (q : Pool). Kept p q (λ r. list_in r.lists place) texts) (sym is) (record {
+    grows = λ more. (record more { lists = record { strings = texts ++ more.lists.strings; ends = length (p.lists.strings ++ texts) ∷ more.lists.ends } }, ap (λ (l : Lists). record (plus p more) { lists = l }) (lists_more p.lists more.lists texts));
+    keeps = λ more. ap (list_in (lists_plus (lists_with p.lists texts) more.lists)) at ∙ there more.lists;
+  })
+
+  pub names_kept : place ≡ length p.names.ends → q ≡ record p { names = lists_with p.names texts } → ((more : Lists) → list_in (lists_plus (lists_with p.names texts) more) (length p.names.ends) ≡ texts) → Kept p q (λ r. list_in r.names place) texts
+  names_kept at is there = subst (λ (q : Pool). Kept p q (λ r. list_in r.names place) texts) (sym is) (record {
+    grows = λ more. (record more { names = record { strings = texts ++ more.names.strings; ends = length (p.names.strings ++ texts) ∷ more.names.ends } }, ap (λ (l : Lists). record (plus p more) { names = l }) (lists_more p.names more.names texts));
+    keeps = λ more. ap (list_in (lists_plus (lists_with p.names texts) more.names)) at ∙ there more.names;
+  })
+
+-- WHAT MAY BE LEFT OUT
+
+somewhere : (place : ℕ) → place < nowhere → (place == nowhere) ≡ false
+somewhere place below = by_test (place == nowhere) refl
+  where
+    by_test : (b : Bool) → (place == nowhere) ≡ b → (place == nowhere) ≡ false
+    by_test true is = let same : place ≡ nowhere = eqb-true place nowhere is in absurd (omega (arith, below, same))
+    by_test false is = is
+
+pub given_kept : (p q : Pool) (place : ℕ) (texts : List (List Part)) → place < nowhere → Kept p q (λ r. list_in r.lists place) texts → Kept p q (λ r. given_list r place) (Some texts)
+given_kept p q place texts below kept = record {
+  grows = kept.grows;
+  keeps = λ more. ap (λ b. if b then None else Some (list_in (plus q more).lists place)) (somewhere place below) ∙ ap Some (kept.keeps more);
+}
+
+pub variable_kept : (p q : Pool) (place : ℕ) (target : Target) → place < nowhere → Kept p q (λ r. slice_get r.targets place) (Some target) → Kept p q (λ r. given_variable r place) (Some target.variable)
+variable_kept p q place target below kept = record {
+  grows = kept.grows;
+  keeps = λ more. ap (λ b. if b then None else option_map (λ (t : Target). t.variable) (slice_get (plus q more).targets place)) (somewhere place below) ∙ ap (option_map (λ (t : Target). t.variable)) (kept.keeps more);
+}
+
+-- OPERATIONS
+
+-- what operations are in a pool, they are in all with more behind it
+abbrev pub Stays : Pool → List PackedOp → Type 0
+Stays pool ops = Keeps pool (λ p. map (op_in p) ops) (map (op_in pool) ops)
+
+-- an operation that neither asks nor acts is the same in each pool
+pub plain_in : (pool : Pool) (op : PackedOp) → is_plain op ≡ true → op_in pool op ≡ plain_as op
+plain_in pool packed.True plain = refl
+plain_in pool packed.False plain = refl
+plain_in pool packed.Not plain = refl
+plain_in pool (packed.Jump left) plain = refl
+plain_in pool (packed.JumpIfFalse left) plain = refl
+plain_in pool (packed.JumpIfTrue left) plain = refl
+plain_in pool packed.Stop plain = refl
+plain_in pool packed.Return plain = refl
+plain_in pool (packed.Exists names) plain = absurd (no_plain plain)
+plain_in pool (packed.Over limit) plain = absurd (no_plain plain)
+plain_in pool (packed.Under limit) plain = absurd (no_plain plain)
+plain_in pool (packed.Header match_type collation names keys) plain = absurd (no_plain plain)
+plain_in pool (packed.Address part match_type collation names keys) plain = absurd (no_plain plain)
+plain_in pool (packed.Envelope part match_type collation names keys) plain = absurd (no_plain plain)
+plain_in pool (packed.String match_type collation texts keys) plain = absurd (no_plain plain)
+plain_in pool (packed.HasFlag match_type collation variables keys) plain = absurd (no_plain plain)
+plain_in pool (packed.Keep copy line flags) plain = absurd (no_plain plain)
+plain_in pool (packed.Fileinto copy line mailbox flags) plain = absurd (no_plain plain)
+plain_in pool (packed.Redirect copy line address flags) plain = absurd (no_plain plain)
+plain_in pool (packed.Discard line) plain = absurd (no_plain plain)
+plain_in pool (packed.Set line target value) plain = absurd (no_plain plain)
+plain_in pool (packed.Flags change line variable flags) plain = absurd (no_plain plain)
+plain_in pool (packed.Include place once optional line name) plain = absurd (no_plain plain)
+
+module _ (pool : Pool) (ops ops' : List PackedOp) (stays : Stays pool ops) where
+  pub stays_same : ops' ≡ ops → Stays pool ops'
+  stays_same is = subst (λ (o : List PackedOp). Stays pool o) (sym is) stays
+
+  pub stays_plain : (op : PackedOp) → is_plain op ≡ true → ops' ≡ op ∷ ops → Stays pool ops'
+  stays_plain op plain is = subst (λ (o : List PackedOp). Stays pool o) (sym is) (λ more. ap (λ o. o ∷ map (op_in (plus pool more)) ops) (plain_in (plus pool more) op plain ∙ sym (plain_in pool op plain)) ∙ ap (λ o. op_in pool op ∷ o) (stays more))
+
+  pub stays_dropped : (n : ℕ) → ops' ≡ drop n ops → Stays pool ops'
+  stays_dropped n is = subst (λ (o : List PackedOp). Stays pool o) (sym is) (λ more. sym (drop-map (op_in (plus pool more)) n ops) ∙ ap (drop n) (stays more) ∙ drop-map (op_in pool) n ops)
+
+-- operations in a pool that has grown
+module _ (p q : Pool) (ops : List PackedOp) (grows : Grows p q) (stays : Stays p ops) where
+  pub ops_grown : map (op_in q) ops ≡ map (op_in p) ops
+  ops_grown = let r = grows no_pool in ap (λ x. map (op_in x) ops) (sym (plus_none q) ∙ r.1) ∙ stays r.0
+
+  pub stays_grown : Stays q ops
+  stays_grown = λ more. let r = grows more in ap (λ x. map (op_in x) ops) r.1 ∙ stays r.0 ∙ sym ops_grown
+
+module _ (p q : Pool) (ops ops' : List PackedOp) (op : PackedOp) (o : Operation) (kept : Kept p q (λ r. op_in r op) o) (stays : Stays p ops) (is : ops' ≡ op ∷ ops) where
+  -- with an operation in front of them whose places are kept, operations are it and then what they were
+  pub ops_more : map (op_in q) ops' ≡ o ∷ map (op_in p) ops
+  ops_more =
+      ap (map (op_in q)) is
+      ∙ ap (λ x. op_in x op ∷ map (op_in q) ops) (sym (plus_none q)) ∙ ap (λ x. x ∷ map (op_in q) ops) (kept.keeps no_pool)
+      ∙ ap (λ l. o ∷ l) (ops_grown p q ops kept.grows stays)
+
+  pub stays_more : Stays q ops'
+  stays_more = subst (λ (l : List PackedOp). Stays q l) (sym is) (λ more.
+      ap (λ x. x ∷ map (op_in (plus q more)) ops) (kept.keeps more ∙ sym (kept.keeps no_pool) ∙ ap (λ x. op_in x op) (plus_none q))
+      ∙ ap (λ l. op_in q op ∷ l) (stays_grown p q ops kept.grows stays more))

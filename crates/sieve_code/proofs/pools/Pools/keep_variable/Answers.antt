@@ -1,0 +1,10 @@
+use Rattle.sieve_code.specs.view.Pools.{pool_as}
+use Rattle.sieve_code.proofs.Keeping.{kept_still, variable_kept}
+use Rattle.sieve_code.proofs.pools.Pools.keep_variable.Goals as goal
+
+pub returns-in-None : goal.returns-in-None
+returns-in-None c = rw c.in-None.is (kept_still (pool_as c.args.self.now) _)
+
+pub returns-in_ok-place-in-Some : goal.returns-in_ok-place-in-Some
+returns-in_ok-place-in-Some c =
+    rw c.in-Some.is (variable_kept (pool_as c.args.self.now) _ c.in_ok-place-in-Some.place (record { variable = c.in-Some.variable; modifiers = c.unmodified-modifiers.result }) c.in_ok-place-in-Some.ensures.given c.in_ok-place-in-Some.ensures.target)
