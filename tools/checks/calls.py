@@ -178,7 +178,7 @@ CALLS = {
     "dump_text": Told(CODE + lines("Clean")),
     "parts_of_text": Told(lines('"to be put beside "', "local a_name_of_more_octets_than_sixteen", '", "', "global b", "match 1")),
     "Values::set": Told(lines("ok"), each(b"its value"), [each(b"")]),
-    "Values::expanded": Told(each(b"to be put beside its value, ", b"plain")),
+    "Values::expanded_string": Told(each(b"to be put beside its value, ")),
     "Shelf::add": Told(lines("ok"), lines("4 operations"), [lines("invalid")]),
     "run/tests": run_of(r'store "\xc3\xa9, at ten"', 'read personal "main"'),
     "run/variables": run_of(r'store "again/FIRST OF ALL\\*/14"', 'redirect "again@b.example"', 'read personal "main"'),

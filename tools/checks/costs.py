@@ -148,10 +148,13 @@ def of_memory(room):
         yield bounded(room, title, [b"message m 0\n", *commands * count])
     yield bounded(room, "messages as large as nearly all memory", [put(b"message m%d" % number, b"x" * 8_500_000) for number in range(3)])
     for title, script, count in [
-        ("rules", b"".join(b'if header :contains "subject" "word%d" { discard; }\n' % number for number in range(1_800)), 54),
+        ("rules", b"".join(b'if header :contains "subject" "word%d" { discard; }\n' % number for number in range(1_800)), 80),
         ("keep", b"keep;\n" * 16_000, 70),
-        ("set", b'require "variables";\n' + b'set "a" "b";\n' * 7_000, 38),
-        ("hasflag", b'require "imap4flags";\n' + b'if hasflag "a" {}\n' * 5_000, 35),
+        ("set", b'require "variables";\n' + b'set "a" "b";\n' * 7_000, 46),
+        ("set of two parts", b'require "variables";\n' + b'set"a""x${b}";' * 4_000, 66),
+        ("hasflag", b'require "imap4flags";\n' + b'if hasflag "a" {}\n' * 5_000, 55),
+        ("addflag", b'require "imap4flags";\n' + b'addflag"a";' * 6_000, 66),
+        ("exists", b'if exists"a"{}' * 4_500, 64),
     ]:
         yield bounded(room, f"{count} scripts of {title}", [put(b"script personal s%d" % number, script) for number in range(count)])
 
