@@ -165,9 +165,9 @@ const MAX_SHORT_KEY: usize = 64;
 pub(crate) fn folded<C: Comparator>(alloc: Global, octets: &[u8]) -> Result<Vec<u8>, AllocError>
     ensures { IfOk result (λ copy. copy.items ≡ map C.folded octets.now) }
 {
-    let mut copy = Vec::with_capacity(alloc, octets.len())?;
-    for octet in octets {
-        copy.push(C::fold(*octet))?;
+    let mut copy = Vec::from_slice(alloc, octets)?;
+    for octet in copy.iter_mut() {
+        *octet = C::fold(*octet);
     }
     Ok(copy)
 }

@@ -1,6 +1,6 @@
-use Rattle.std.proofs.Common.{◌≡◌, map, take}
+use Rattle.std.proofs.Common.{◌≡◌, ◌++◌, drop, map, take}
 use Rattle.match_text.proofs.comparators.folded.Given as goal
 
--- the copy is the folds of the octets so far
+-- the octets so far are folded, and those that are left as they were
 abbrev pub invariant-loop-octet : goal.invariant-loop-octet
-invariant-loop-octet g l = l.copy.items ≡ map g.C.Comparator.folded (take l.octet-index l.octets)
+invariant-loop-octet g l = l.octet-items ≡ map g.C.Comparator.folded (take l.octet-index l.initial.octet-items) ++ drop l.octet-index l.initial.octet-items
