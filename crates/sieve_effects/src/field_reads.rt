@@ -1,24 +1,23 @@
 //! What a run has read of the fields of a message.
-ghost use Rattle.std.specs.Prelude.{◌≡◌, ◌<◌, length, slice_get, IfOk, Some};
+ghost use Rattle.std.specs.Prelude.{◌≡◌, ◌<◌, length, slice_get, IfOk, IfSome, OnOk, Some};
 ghost use Rattle.std.specs.Cow.{cow_slice_items};
 ghost use Rattle.message_text.specs.Fields.{decoded_values_of, fields_of};
-ghost use Rattle.sieve_effects.specs.view.FieldReads.{address_lists_of};
+ghost use Rattle.sieve_effects.specs.view.FieldReads.{HasNoMore, address_lists_of};
 
-use indexmap::IndexMap;
 use message_text::{Address, Message, addresses};
 use std::alloc::{AllocError, Global};
 use std::borrow::CowSlice;
 use std::marker::Model;
 
-/// What a run has made of the fields of a message, so that none of its tests makes it again. Contracts see the message's octets. It grows
-/// with the fields that tests look at.
+/// What a run has made of the fields of a message, so that none of its tests makes it again. Contracts see the message's octets. It has a
+/// place for each field up to the last that a test has looked at.
 #[derive(Drop)]
 pub struct FieldReads<'a> {
     message: &'a Message,
-    // The addresses in the values of fields, each by the field's number.
-    listed: IndexMap<usize, Vec<Address>>,
-    // Values with their encoded words replaced, each by the field's number.
-    decoded: IndexMap<usize, CowSlice<'a, u8>>,
+    // The addresses in the values of fields, each list at its field's place.
+    listed: Vec<Option<Vec<Address>>>,
+    // Values with their encoded words replaced, each at its field's place.
+    decoded: Vec<Option<CowSlice<'a, u8>>>,
 }
 
 impl<'a> Model for FieldReads<'a> {
@@ -29,18 +28,33 @@ impl<'a> Model for FieldReads<'a> {
 
     ghost view = { λ f. f.message.now };
 
-    ghost invariant = { λ f. AreListed f.message.now f.listed.entries × AreDecoded f.message.now f.decoded.entries };
+    ghost invariant = { λ f. AreListed f.message.now f.listed.items × AreDecoded f.message.now f.decoded.items };
 }
 
-// In a part of the message that is no longer, it is seen again sooner than kept that it begins no word.
-const SHORT_VALUE: usize = 64;
-
-/// Whether a value is kept: one that was made, and a part of the message that is long, or in which words may begin that stand for nothing.
-fn is_kept(value: &CowSlice<'_, u8>) -> bool {
-    match value {
-        CowSlice::Owned(_) => true,
-        CowSlice::Borrowed(octets) => octets.len() > SHORT_VALUE || octets.contains(&b'?'),
+/// Takes what lies at a place, if anything does.
+fn take<T>(places: &mut Vec<Option<T>>, place: usize) -> Option<T>
+    ensures was { IfSome result (λ thing. slice_get places.old.items place ≡ Some (Some thing)) }
+    ensures no_more { HasNoMore places.old.items places.new.items }
+{
+    if place < places.len() {
+        places[place].take()
+    } else {
+        None
     }
+}
+
+/// Puts empty places behind others until there is that one.
+fn reach<T: Drop>(places: &mut Vec<Option<T>>, place: usize) -> Result<(), AllocError>
+    ensures there { OnOk result (place < length places.new.items) }
+    ensures no_more { HasNoMore places.old.items places.new.items }
+{
+    if places.len() <= place {
+        places.reserve((place - places.len()).saturating_add(1))?;
+    }
+    while places.len() <= place {
+        places.push(None)?;
+    }
+    Ok(())
 }
 
 impl<'a> FieldReads<'a> {
@@ -50,8 +64,8 @@ impl<'a> FieldReads<'a> {
     {
         FieldReads {
             message,
-            listed: IndexMap::new(alloc),
-            decoded: IndexMap::new(alloc),
+            listed: Vec::new(alloc),
+            decoded: Vec::new(alloc),
         }
     }
 
@@ -73,7 +87,7 @@ impl<'a> FieldReads<'a> {
         ensures message { self.new ≡ self.old }
         ensures listed { IfOk result (λ listed. slice_get (address_lists_of self.old) i ≡ Some listed.items) }
     {
-        if let Some(listed) = self.listed.swap_remove(&i) {
+        if let Some(listed) = take(&mut self.listed, i) {
             return Ok(listed);
         }
         let value = self.message.value(alloc, i)?;
@@ -89,7 +103,8 @@ impl<'a> FieldReads<'a> {
         requires { slice_get (address_lists_of self.old) i ≡ Some listed.items }
         ensures { self.new ≡ self.old }
     {
-        self.listed.insert(i, listed)?;
+        reach(&mut self.listed, i)?;
+        self.listed[i] = Some(listed);
         Ok(())
     }
 
@@ -104,13 +119,13 @@ impl<'a> FieldReads<'a> {
         ensures message { self.new ≡ self.old }
         ensures decoded { IfOk result (λ value. slice_get (decoded_values_of self.old) i ≡ Some (cow_slice_items value)) }
     {
-        match self.decoded.swap_remove(&i) {
-            Some(value) => Ok(value),
-            None => self.message.decoded(alloc, i),
+        if let Some(value) = take(&mut self.decoded, i) {
+            return Ok(value);
         }
+        self.message.decoded(alloc, i)
     }
 
-    /// Keeps the value of field `i` with its encoded words replaced, but for a short one that is part of the message and begins no word.
+    /// Keeps the value of field `i` with its encoded words replaced.
     pub(crate) fn keep_decoded(
         &mut self,
         i: usize,
@@ -119,9 +134,8 @@ impl<'a> FieldReads<'a> {
         requires { slice_get (decoded_values_of self.old) i ≡ Some (cow_slice_items value) }
         ensures { self.new ≡ self.old }
     {
-        if is_kept(&value) {
-            self.decoded.insert(i, value)?;
-        }
+        reach(&mut self.decoded, i)?;
+        self.decoded[i] = Some(value);
         Ok(())
     }
 }

@@ -1,7 +1,6 @@
--- What is kept of the fields of a message, each by its number.
-use Rattle.std.specs.Prelude.{◌≡◌, ℕ, List, map, nat_eq, slice_get, IfSome, Some}
+-- What is kept of the fields of a message.
+use Rattle.std.specs.Prelude.{◌≡◌, ℕ, List, map, slice_get, Option, Some}
 use Rattle.std.specs.Cow.{cow_slice_items}
-use Rattle.std.specs.Map.{lookup}
 use Rattle.std.specs.declared.alloc.Global.{Global}
 use Rattle.std.specs.declared.borrow.CowSlice.{CowSlice}
 use Rattle.std.specs.declared.vec.Vec.{Vec}
@@ -12,10 +11,14 @@ use Rattle.message_text.specs.Fields.{decoded_values_of, values_of}
 abbrev pub address_lists_of : List ℕ → List (List AddrSpec)
 address_lists_of message = map addresses_of (values_of message)
 
--- each list is that of its field
-abbrev pub AreListed : List ℕ → List (ℕ × Vec AddrSpec Global) → Type 0
-AreListed message lists = (i : ℕ) → IfSome (lookup (nat_eq i) lists) (λ listed. slice_get (address_lists_of message) i ≡ Some listed.items)
+-- each list is that of the field at its place
+abbrev pub AreListed : List ℕ → List (Option (Vec AddrSpec Global)) → Type 0
+AreListed message lists = (i : ℕ) (listed : Vec AddrSpec Global) → slice_get lists i ≡ Some (Some listed) → slice_get (address_lists_of message) i ≡ Some listed.items
 
--- each value is that of its field, with its encoded words replaced
-abbrev pub AreDecoded : List ℕ → List (ℕ × CowSlice ℕ Global) → Type 0
-AreDecoded message values = (i : ℕ) → IfSome (lookup (nat_eq i) values) (λ value. slice_get (decoded_values_of message) i ≡ Some (cow_slice_items value))
+-- each value is that of the field at its place, with its encoded words replaced
+abbrev pub AreDecoded : List ℕ → List (Option (CowSlice ℕ Global)) → Type 0
+AreDecoded message values = (i : ℕ) (value : CowSlice ℕ Global) → slice_get values i ≡ Some (Some value) → slice_get (decoded_values_of message) i ≡ Some (cow_slice_items value)
+
+-- whatever lies at one of these places, lay there before
+abbrev pub HasNoMore : {X : Type 0} → (before places : List (Option X)) → Type 0
+HasNoMore {X = X} before places = (i : ℕ) (x : X) → slice_get places i ≡ Some (Some x) → slice_get before i ≡ Some (Some x)
