@@ -10,9 +10,9 @@ use Rattle.sieve_variables.specs.Part.{Part}
 use Rattle.sieve_code.specs.declared.pools.Target.{Target}
 use Rattle.sieve_code.specs.Pool.{Grows, Keeps, Kept, Pool, given_list, given_variable, no_pool, nowhere, plus}
 use Rattle.sieve_code.specs.Operation.{Operation}
-use Rattle.sieve_code.specs.view.Packed.{is_plain, op_in, plain_as}
-use Rattle.sieve_code.specs.declared.packed.PackedOp.{PackedOp}
-use Rattle.sieve_code.specs.declared.packed.PackedOp.TheVariants as packed
+use Rattle.sieve_code.specs.view.Op.{is_plain, op_in, plain_as}
+use Rattle.sieve_code.specs.declared.op.Op.{Op}
+use Rattle.sieve_code.specs.declared.op.Op.TheVariants as op
 
 lists_none : (lists : Lists) → lists_plus lists no_lists ≡ lists
 lists_none lists =
@@ -119,54 +119,50 @@ variable_kept p q place target below kept = record {
 -- OPERATIONS
 
 -- what operations are in a pool, they are in all with more behind it
-abbrev pub Stays : Pool → List PackedOp → Type 0
+abbrev pub Stays : Pool → List Op → Type 0
 Stays pool ops = Keeps pool (λ p. map (op_in p) ops) (map (op_in pool) ops)
 
 -- an operation that neither asks nor acts is the same in each pool
-pub plain_in : (pool : Pool) (op : PackedOp) → is_plain op ≡ true → op_in pool op ≡ plain_as op
-plain_in pool packed.True plain = refl
-plain_in pool packed.False plain = refl
-plain_in pool packed.Not plain = refl
-plain_in pool (packed.Jump left) plain = refl
-plain_in pool (packed.JumpIfFalse left) plain = refl
-plain_in pool (packed.JumpIfTrue left) plain = refl
-plain_in pool packed.Stop plain = refl
-plain_in pool packed.Return plain = refl
-plain_in pool (packed.Exists names) plain = absurd (no_plain plain)
-plain_in pool (packed.Over limit) plain = absurd (no_plain plain)
-plain_in pool (packed.Under limit) plain = absurd (no_plain plain)
-plain_in pool (packed.Header match_type collation names keys) plain = absurd (no_plain plain)
-plain_in pool (packed.Address part match_type collation names keys) plain = absurd (no_plain plain)
-plain_in pool (packed.Envelope part match_type collation names keys) plain = absurd (no_plain plain)
-plain_in pool (packed.String match_type collation texts keys) plain = absurd (no_plain plain)
-plain_in pool (packed.HasFlag match_type collation variables keys) plain = absurd (no_plain plain)
-plain_in pool (packed.Keep copy line flags) plain = absurd (no_plain plain)
-plain_in pool (packed.Fileinto copy line mailbox flags) plain = absurd (no_plain plain)
-plain_in pool (packed.Redirect copy line address flags) plain = absurd (no_plain plain)
-plain_in pool (packed.Discard line) plain = absurd (no_plain plain)
-plain_in pool (packed.Set line target value) plain = absurd (no_plain plain)
-plain_in pool (packed.Flags change line variable flags) plain = absurd (no_plain plain)
-plain_in pool (packed.Include place once optional line name) plain = absurd (no_plain plain)
+pub plain_in : (pool : Pool) (o : Op) → is_plain o ≡ true → op_in pool o ≡ plain_as o
+plain_in pool op.True plain = refl
+plain_in pool op.False plain = refl
+plain_in pool op.Not plain = refl
+plain_in pool (op.Jump left) plain = refl
+plain_in pool (op.JumpIfFalse left) plain = refl
+plain_in pool (op.JumpIfTrue left) plain = refl
+plain_in pool op.Stop plain = refl
+plain_in pool op.Return plain = refl
+plain_in pool (op.Compares source match_type collation values keys) plain = absurd (no_plain plain)
+plain_in pool (op.Exists names) plain = absurd (no_plain plain)
+plain_in pool (op.Over limit) plain = absurd (no_plain plain)
+plain_in pool (op.Under limit) plain = absurd (no_plain plain)
+plain_in pool (op.Keep copy line flags) plain = absurd (no_plain plain)
+plain_in pool (op.Fileinto copy line mailbox flags) plain = absurd (no_plain plain)
+plain_in pool (op.Redirect copy line address flags) plain = absurd (no_plain plain)
+plain_in pool (op.Discard line) plain = absurd (no_plain plain)
+plain_in pool (op.Set line target value) plain = absurd (no_plain plain)
+plain_in pool (op.Flags change line variable flags) plain = absurd (no_plain plain)
+plain_in pool (op.Include place once optional line name) plain = absurd (no_plain plain)
 
-module _ (pool : Pool) (ops ops' : List PackedOp) (stays : Stays pool ops) where
+module _ (pool : Pool) (ops ops' : List Op) (stays : Stays pool ops) where
   pub stays_same : ops' ≡ ops → Stays pool ops'
-  stays_same is = subst (λ (o : List PackedOp). Stays pool o) (sym is) stays
+  stays_same is = subst (λ (o : List Op). Stays pool o) (sym is) stays
 
-  pub stays_plain : (op : PackedOp) → is_plain op ≡ true → ops' ≡ op ∷ ops → Stays pool ops'
-  stays_plain op plain is = subst (λ (o : List PackedOp). Stays pool o) (sym is) (λ more. ap (λ o. o ∷ map (op_in (plus pool more)) ops) (plain_in (plus pool more) op plain ∙ sym (plain_in pool op plain)) ∙ ap (λ o. op_in pool op ∷ o) (stays more))
+  pub stays_plain : (op : Op) → is_plain op ≡ true → ops' ≡ op ∷ ops → Stays pool ops'
+  stays_plain op plain is = subst (λ (o : List Op). Stays pool o) (sym is) (λ more. ap (λ o. o ∷ map (op_in (plus pool more)) ops) (plain_in (plus pool more) op plain ∙ sym (plain_in pool op plain)) ∙ ap (λ o. op_in pool op ∷ o) (stays more))
 
   pub stays_dropped : (n : ℕ) → ops' ≡ drop n ops → Stays pool ops'
-  stays_dropped n is = subst (λ (o : List PackedOp). Stays pool o) (sym is) (λ more. sym (drop-map (op_in (plus pool more)) n ops) ∙ ap (drop n) (stays more) ∙ drop-map (op_in pool) n ops)
+  stays_dropped n is = subst (λ (o : List Op). Stays pool o) (sym is) (λ more. sym (drop-map (op_in (plus pool more)) n ops) ∙ ap (drop n) (stays more) ∙ drop-map (op_in pool) n ops)
 
 -- operations in a pool that has grown
-module _ (p q : Pool) (ops : List PackedOp) (grows : Grows p q) (stays : Stays p ops) where
+module _ (p q : Pool) (ops : List Op) (grows : Grows p q) (stays : Stays p ops) where
   pub ops_grown : map (op_in q) ops ≡ map (op_in p) ops
   ops_grown = let r = grows no_pool in ap (λ x. map (op_in x) ops) (sym (plus_none q) ∙ r.1) ∙ stays r.0
 
   pub stays_grown : Stays q ops
   stays_grown = λ more. let r = grows more in ap (λ x. map (op_in x) ops) r.1 ∙ stays r.0 ∙ sym ops_grown
 
-module _ (p q : Pool) (ops ops' : List PackedOp) (op : PackedOp) (o : Operation) (kept : Kept p q (λ r. op_in r op) o) (stays : Stays p ops) (is : ops' ≡ op ∷ ops) where
+module _ (p q : Pool) (ops ops' : List Op) (op : Op) (o : Operation) (kept : Kept p q (λ r. op_in r op) o) (stays : Stays p ops) (is : ops' ≡ op ∷ ops) where
   -- with an operation in front of them whose places are kept, operations are it and then what they were
   pub ops_more : map (op_in q) ops' ≡ o ∷ map (op_in p) ops
   ops_more =
@@ -175,6 +171,6 @@ module _ (p q : Pool) (ops ops' : List PackedOp) (op : PackedOp) (o : Operation)
       ∙ ap (λ l. o ∷ l) (ops_grown p q ops kept.grows stays)
 
   pub stays_more : Stays q ops'
-  stays_more = subst (λ (l : List PackedOp). Stays q l) (sym is) (λ more.
+  stays_more = subst (λ (l : List Op). Stays q l) (sym is) (λ more.
       ap (λ x. x ∷ map (op_in (plus q more)) ops) (kept.keeps more ∙ sym (kept.keeps no_pool) ∙ ap (λ x. op_in x op) (plus_none q))
       ∙ ap (λ l. op_in q op ∷ l) (stays_grown p q ops kept.grows stays more))

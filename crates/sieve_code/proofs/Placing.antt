@@ -5,15 +5,15 @@ use Rattle.sieve_reading.specs.Tree.{Node}
 use Rattle.sieve_code.specs.Choice.{Tail, code_of, placed, tail_of}
 use Rattle.sieve_code.specs.Operation.{targeting}
 use Rattle.sieve_code.specs.Pool.{Pool}
-use Rattle.sieve_code.specs.declared.packed.PackedOp.{PackedOp}
-use Rattle.sieve_code.specs.view.Packed.{op_in, ops_in, placed_in}
+use Rattle.sieve_code.specs.declared.op.Op.{Op}
+use Rattle.sieve_code.specs.view.Op.{op_in, ops_in, placed_in}
 
-places_seen : (count : ℕ) (pool : Pool) (ops : List PackedOp) → map (placed_in count pool) ops ≡ map (targeting (λ left. count - left)) (map (op_in pool) ops)
+places_seen : (count : ℕ) (pool : Pool) (ops : List Op) → map (placed_in count pool) ops ≡ map (targeting (λ left. count - left)) (map (op_in pool) ops)
 places_seen count pool [] = refl
 places_seen count pool (op ∷ ops) = ap (λ xs. placed_in count pool op ∷ xs) (places_seen count pool ops)
 
 -- what the compiler makes of a tree's tail is the tree's code
-pub code_made : (tree : List Node) (pool : Pool) (ops : List PackedOp) (tail : Tail) → map (op_in pool) ops ≡ tail → tail ≡ tail_of tree → ops_in pool ops ≡ code_of tree
+pub code_made : (tree : List Node) (pool : Pool) (ops : List Op) (tail : Tail) → map (op_in pool) ops ≡ tail → tail ≡ tail_of tree → ops_in pool ops ≡ code_of tree
 unfolding placed
 code_made tree pool ops tail seen all =
     places_seen (length ops) pool ops

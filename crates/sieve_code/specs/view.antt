@@ -3,5 +3,4 @@ pub mod Branches
 pub mod Code
 pub mod Marked
 pub mod Op
-pub mod Packed
 pub mod Pools

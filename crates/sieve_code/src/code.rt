@@ -1,31 +1,35 @@
 //! Compiled code.
-ghost use Rattle.std.specs.Prelude.{◌≡◌, ◌<◌, length, Some, slice_get};
+ghost use Rattle.std.specs.Prelude.{◌≡◌, ◌<◌, [], length, Some, slice_get, slice_index_or};
+ghost use Rattle.std.specs.Option.{option_copied};
 ghost use Rattle.sieve_base.specs.Writers.{Writes};
+ghost use Rattle.sieve_effects.specs.Joined.{list_in};
+ghost use Rattle.sieve_effects.specs.view.Ops.{settings_op_as, source_op_as};
 ghost use Rattle.sieve_code.specs.Choice.{AllGoForward};
 ghost use Rattle.sieve_code.specs.Compiles.{IsCode};
 ghost use Rattle.sieve_code.specs.Dump.{line_at};
-ghost use Rattle.sieve_code.specs.view.Op.{op_as};
-ghost use Rattle.sieve_code.specs.view.Packed.{ops_in};
+ghost use Rattle.sieve_code.specs.Pool.{given_list, given_variable};
+ghost use Rattle.sieve_code.specs.view.Op.{ops_in, source_in};
 ghost use Rattle.sieve_code.specs.view.Pools.{pool_as};
 
 use crate::dump::write_line;
-use crate::op::Op;
-use crate::packed::PackedOp;
-use crate::pools::Pools;
+use crate::op::{NOWHERE, Op, SourceKind};
+use crate::pools::{Pools, Target};
 use sieve_base::{Sink, WriteFault};
+use sieve_effects::{FieldNames, SettingsOp, SourceOp, Strings};
+use sieve_variables::{Part, Variable};
 
 /// The code of a checked script. It starts at the first operation and ends behind the last. Each jump goes forward, and at most
 /// to the end; and what it does is what the script does that it was compiled from.
 #[derive(Drop)]
 pub struct Code {
-    pub(crate) ops: Vec<PackedOp>,
+    pub(crate) ops: Vec<Op>,
     pub(crate) pools: Pools,
     pub ghost forward: { AllGoForward (ops_in (pool_as pools) ops.items) },
     pub ghost compiled: { ∥ IsCode (ops_in (pool_as pools) ops.items) ∥₁ },
 }
 
 impl Code {
-    ghost use Rattle.sieve_code.specs.view.Code.{ops_of};
+    ghost use Rattle.sieve_code.specs.view.Code.{jump_place_of, op_of, ops_of, pool_of};
 
     /// How many operations there are. Takes no memory.
     pub fn len(&self) -> usize
@@ -35,11 +39,116 @@ impl Code {
     }
 
     /// The operation at a place. Takes no memory.
-    pub fn op(&self, i: usize) -> Op<'_>
+    pub fn op(&self, i: usize) -> Op
         requires { i < length (ops_of self.now) }
-        ensures { slice_get (ops_of self.now) i ≡ Some (op_as result) }
+        ensures { slice_get (ops_of self.now) i ≡ Some (op_of self.now result) }
     {
-        self.pools.op(self.ops[i], self.ops.len())
+        self.ops[i]
+    }
+
+    /// The place where so many operations are left, to which a jump goes that says this number. Takes no memory.
+    pub fn jump_place(&self, left: usize) -> usize
+        ensures { result ≡ jump_place_of self.now left }
+    {
+        self.len().saturating_sub(left)
+    }
+
+    /// The parts of the string at a place. Takes no memory.
+    pub fn string(&self, place: u32) -> &[Part]
+        ensures { result.now ≡ slice_index_or (pool_of self.now).strings place [] }
+    {
+        self.pools.strings.get(place as usize)
+    }
+
+    /// The list at a place. Takes no memory.
+    pub fn list(&self, place: u32) -> Strings<'_>
+        ensures { result ≡ list_in (pool_of self.now).lists place }
+    {
+        self.pools.lists.list(place as usize)
+    }
+
+    /// The list at a place, where one is given. Takes no memory.
+    fn given(&self, place: u32) -> Option<Strings<'_>>
+        ensures { result ≡ given_list (pool_of self.now) place }
+    {
+        if place == NOWHERE {
+            None
+        } else {
+            Some(self.list(place))
+        }
+    }
+
+    /// The names of fields at a place. Takes no memory.
+    pub fn names(&self, place: u32) -> FieldNames<'_>
+        ensures { result ≡ list_in (pool_of self.now).names place }
+    {
+        self.pools.names.list(place as usize)
+    }
+
+    /// What a test takes values from, where its list lies at a place. Takes no memory.
+    pub fn source(&self, kind: SourceKind, place: u32) -> SourceOp<'_>
+        ensures { source_op_as result ≡ source_in (pool_of self.now) kind place }
+    {
+        match kind {
+            SourceKind::Header => SourceOp::Header {
+                names: self.names(place),
+            },
+            SourceKind::Address(part) => SourceOp::Address {
+                part,
+                names: self.names(place),
+            },
+            SourceKind::Envelope(part) => SourceOp::Envelope {
+                part,
+                names: self.list(place),
+            },
+            SourceKind::String => SourceOp::String {
+                texts: self.list(place),
+            },
+            SourceKind::Flags => SourceOp::Flags {
+                variables: self.given(place),
+            },
+        }
+    }
+
+    /// What a command says beside its mailbox or its address, with the flags at a place, if any are given. Takes no memory.
+    pub fn settings(&self, flags: u32, copy: bool) -> SettingsOp<'_>
+        ensures { settings_op_as result ≡ record { flags = given_list (pool_of self.now) flags; copy = copy } }
+    {
+        SettingsOp {
+            flags: self.given(flags),
+            copy,
+        }
+    }
+
+    /// What a `set` changes, by the place that it says; nothing where none lies there, and no operation of this code says such a place. Takes
+    /// no memory.
+    pub fn target(&self, place: u32) -> Option<&Target>
+        ensures { option_copied result ≡ slice_get (pool_of self.now).targets place }
+    {
+        self.pools.targets.get(place as usize)
+    }
+
+    /// The variable at a place, if one is given. Takes no memory.
+    pub fn variable(&self, place: u32) -> Option<&Variable>
+        ensures { option_copied result ≡ given_variable (pool_of self.now) place }
+    {
+        if place == NOWHERE {
+            return None;
+        }
+        match self.target(place) {
+            Some(target) => Some(&target.variable),
+            None => None,
+        }
+    }
+
+    /// The name of the script at a place. Takes no memory.
+    pub fn script(&self, place: u32) -> &[u8]
+        ensures { result.now ≡ slice_index_or (pool_of self.now).scripts place [] }
+    {
+        match self.pools.scripts.get(place as usize) {
+            Some(name) => name.as_slice(),
+            None => b"",
+        }
     }
 
     /// Writes the line of the operation at a place: the place, `: `, the operation, LF. Takes no memory.
@@ -47,6 +156,6 @@ impl Code {
         requires { i < length (ops_of self.now) }
         ensures { Writes W.contents W.fault_count result writer.old writer.new (line_at (ops_of self.now) i) }
     {
-        write_line(i, &self.op(i), writer)
+        write_line(i, self, self.op(i), writer)
     }
 }

@@ -6,9 +6,9 @@ ghost use Rattle.sieve_reading.specs.view.Tree.{node_of, tests_of};
 ghost use Rattle.sieve_code.specs.Choice.{block_before, branch_before, first_before, no_branch, node_before, nodes_before, past_branches};
 ghost use Rattle.sieve_code.specs.view.Branches.{branches_as, last};
 ghost use Rattle.sieve_code.specs.Operation.{act_op};
-ghost use Rattle.sieve_code.specs.view.Packed.{is_plain, plain_as};
+ghost use Rattle.sieve_code.specs.view.Op.{is_plain, plain_as};
 
-use crate::packed::PackedOp;
+use crate::op::Op;
 use crate::tail::Tail;
 use crate::test_code::put_first;
 use sieve_reading::{Command, CommandReading, Leaf, Tests, read_command};
@@ -44,7 +44,7 @@ fn drop_branches(front: TailFront, tail: &mut Tail) -> TailFront
 }
 
 /// Puts an operation in front of a tail, in the place of the branches there, which no `if` opens.
-fn put_alone(op: PackedOp, front: TailFront, tail: &mut Tail) -> Result<TailFront, AllocError>
+fn put_alone(op: Op, front: TailFront, tail: &mut Tail) -> Result<TailFront, AllocError>
     requires { is_plain op ≡ true }
     ensures within { IfOk result (λ new. new.behind ≤ length tail.new) }
     ensures value { IfOk result (λ new. branches_as new tail.new ≡ no_branch (plain_as op ∷ last front.behind tail.old)) }
@@ -76,7 +76,7 @@ fn put_past(front: TailFront, tail: &mut Tail) -> Result<(), AllocError>
     ensures { OnOk result (tail.new ≡ past_branches (branches_as front tail.old)) }
 {
     if front.has_branch {
-        tail.put(PackedOp::Jump(front.behind))
+        tail.put(Op::Jump(front.behind))
     } else {
         Ok(())
     }
@@ -145,8 +145,8 @@ fn put_command(
             })
         }
         Some(CommandReading::Act(leaf)) => { put_act(leaf, line, front, tail) }
-        Some(CommandReading::Stop) => put_alone(PackedOp::Stop, front, tail),
-        Some(CommandReading::Return) => put_alone(PackedOp::Return, front, tail),
+        Some(CommandReading::Stop) => put_alone(Op::Stop, front, tail),
+        Some(CommandReading::Return) => put_alone(Op::Return, front, tail),
         Some(CommandReading::Nothing) => Ok(drop_branches(front, tail)),
         None => Ok(drop_branches(front, tail)),
     }
@@ -167,6 +167,6 @@ fn put_branch(
     let next = tail.len();
     put_past(front, tail)?;
     put_commands(alloc, commands, tail)?;
-    tail.put(PackedOp::JumpIfFalse(next))?;
+    tail.put(Op::JumpIfFalse(next))?;
     put_first(alloc, tests, tail)
 }

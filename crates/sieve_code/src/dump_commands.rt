@@ -3,11 +3,11 @@ ghost use Rattle.std.specs.Prelude.{◌≡◌, ◌++◌, codes};
 ghost use Rattle.std.specs.Option.{option_copied};
 ghost use Rattle.sieve_base.specs.Writers.{Writes};
 ghost use Rattle.sieve_code.specs.Dump as spec;
-ghost use Rattle.sieve_effects.specs.view.Ops.{command_op_as, settings_op_as};
+ghost use Rattle.sieve_effects.specs.view.Ops.{settings_op_as};
 
-use crate::dump_strings::{name_of, scope_word, write_list, write_string};
+use crate::dump_strings::{name_of, scope_word, write_list, write_number, write_string};
 use sieve_base::{Piece, Place, Sink, WriteFault, write_out, write_pieces};
-use sieve_effects::{CommandOp, SettingsOp, Strings};
+use sieve_effects::{SettingsOp, Strings};
 use sieve_reading::FlagChange;
 use sieve_variables::{LetterCase, Modifiers, Part, Variable};
 
@@ -56,7 +56,7 @@ fn write_stored<W: Sink>(settings: &SettingsOp<'_>, writer: &mut W) -> Result<()
 
 /// Writes a command's word and then what it says beside.
 #[tactic(auto, using(sieve_base::proofs::Writing::writing), unfolding(crate::specs::Dump::worded_settings))]
-fn write_worded_settings<W: Sink>(
+pub(crate) fn write_worded_settings<W: Sink>(
     word: &[u8],
     settings: &SettingsOp<'_>,
     writer: &mut W,
@@ -69,7 +69,7 @@ fn write_worded_settings<W: Sink>(
 
 /// Writes a `redirect`.
 #[tactic(auto, using(sieve_base::proofs::Writing::writing))]
-fn write_redirect<W: Sink>(
+pub(crate) fn write_redirect<W: Sink>(
     address: &[Part],
     settings: &SettingsOp<'_>,
     writer: &mut W,
@@ -82,7 +82,7 @@ fn write_redirect<W: Sink>(
 
 /// Writes a `fileinto`.
 #[tactic(auto, using(sieve_base::proofs::Writing::writing))]
-fn write_fileinto<W: Sink>(
+pub(crate) fn write_fileinto<W: Sink>(
     mailbox: &[Part],
     settings: &SettingsOp<'_>,
     writer: &mut W,
@@ -167,7 +167,7 @@ fn write_set_words<W: Sink>(
 
 /// Writes a `set`.
 #[tactic(auto, using(sieve_base::proofs::Writing::writing), unfolding(crate::specs::Dump::worded_text))]
-fn write_set<W: Sink>(
+pub(crate) fn write_set<W: Sink>(
     variable: &Variable,
     modifiers: Modifiers,
     value: &[Part],
@@ -220,7 +220,7 @@ fn write_changing_words<W: Sink>(
 
 /// Writes a command that changes flags.
 #[tactic(auto, using(sieve_base::proofs::Writing::writing))]
-fn write_flags<W: Sink>(
+pub(crate) fn write_flags<W: Sink>(
     change: FlagChange,
     variable: Option<&Variable>,
     flags: &Strings<'_>,
@@ -234,7 +234,7 @@ fn write_flags<W: Sink>(
 
 /// Writes what is included.
 #[tactic(auto, unfolding(crate::specs::Dump::include_words))]
-fn write_include<W: Sink>(
+pub(crate) fn write_include<W: Sink>(
     place: Place,
     once: bool,
     optional: bool,
@@ -256,34 +256,9 @@ fn write_include<W: Sink>(
     )
 }
 
-/// Writes what a command does.
-#[tactic(auto, unfolding(crate::specs::Dump::leaf_text))]
-pub(crate) fn write_command<W: Sink>(
-    command: &CommandOp<'_>,
-    writer: &mut W,
-) -> Result<(), WriteFault>
-    ensures { Writes W.contents W.fault_count result writer.old writer.new (spec.leaf_text (command_op_as command.now)) }
+/// Writes the line that a command stands in.
+pub(crate) fn write_line_number<W: Sink>(line: u32, writer: &mut W) -> Result<(), WriteFault>
+    ensures { Writes W.contents W.fault_count result writer.old writer.new (spec.at_line line) }
 {
-    match command {
-        CommandOp::Keep { settings } => write_worded_settings(b"keep", settings, writer),
-        CommandOp::Fileinto { mailbox, settings } => write_fileinto(mailbox, settings, writer),
-        CommandOp::Redirect { address, settings } => write_redirect(address, settings, writer),
-        CommandOp::Discard => write_out(b"discard", writer),
-        CommandOp::Set {
-            modifiers,
-            variable,
-            value,
-        } => write_set(variable, *modifiers, value, writer),
-        CommandOp::Flags {
-            change,
-            variable,
-            flags,
-        } => write_flags(*change, *variable, flags, writer),
-        CommandOp::Include {
-            place,
-            once,
-            optional,
-            name,
-        } => write_include(*place, *once, *optional, name, writer),
-    }
+    write_number(b" @", u64::from(line), writer)
 }

@@ -1,5 +1,5 @@
-//! The parts and strings of a dump.
-ghost use Rattle.std.specs.Prelude.{◌≡◌, ◌++◌, codes, drop};
+//! The parts, strings and numbers of a dump.
+ghost use Rattle.std.specs.Prelude.{◌≡◌, ◌++◌, codes, decimal, drop};
 ghost use Rattle.std.specs.List.{flat_map};
 ghost use Rattle.sieve_base.specs.Writers.{Writes};
 ghost use Rattle.sieve_code.specs.Dump.{further_list, list_text, name_of, part_text, scope_word, separated, string_text};
@@ -141,4 +141,15 @@ pub(crate) fn write_further_list<W: Sink>(
     ensures { Writes W.contents W.fault_count result writer.old writer.new (further_list strings.now) }
 {
     write_list(b" ", strings, writer)
+}
+
+/// Writes a word and a number.
+pub(crate) fn write_number<W: Sink>(
+    word: &[u8],
+    number: u64,
+    writer: &mut W,
+) -> Result<(), WriteFault>
+    ensures { Writes W.contents W.fault_count result writer.old writer.new (word.now ++ decimal number) }
+{
+    write_pieces(&[Piece::Raw(word), Piece::Number(number)], writer)
 }

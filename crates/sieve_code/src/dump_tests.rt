@@ -1,14 +1,14 @@
 //! The tests of a dump.
-ghost use Rattle.std.specs.Prelude.{◌≡◌, ◌++◌, codes, decimal};
+ghost use Rattle.std.specs.Prelude.{◌≡◌, ◌++◌, codes};
 ghost use Rattle.sieve_base.specs.Writers.{Writes};
-ghost use Rattle.sieve_code.specs.Dump.{address_part_word, address_words, ask_text, collation_word, comparing_words, further_list, internal_list, match_word, source_text};
-ghost use Rattle.sieve_effects.specs.view.Ops.{source_op_as, test_op_as};
+ghost use Rattle.sieve_code.specs.Dump.{address_part_word, address_words, collation_word, comparing_words, further_list, internal_list, match_word, source_text};
+ghost use Rattle.sieve_effects.specs.view.Ops.{source_op_as};
 
-use crate::dump_strings::{write_further_list, write_list};
+use crate::dump_strings::write_further_list;
 use match_text::Collation;
 use message_text::AddressPart;
 use sieve_base::{Piece, Sink, WriteFault, write_out, write_pieces};
-use sieve_effects::{SourceOp, Strings, TestOp};
+use sieve_effects::{SourceOp, Strings};
 use sieve_reading::MatchType;
 
 /// The word of a match type.
@@ -178,7 +178,7 @@ fn write_source<W: Sink>(
 
 /// Writes a test that compares values with keys.
 #[tactic(auto, using(sieve_base::proofs::Writing::writing))]
-fn write_compares<W: Sink>(
+pub(crate) fn write_compares<W: Sink>(
     source: &SourceOp<'_>,
     match_type: MatchType,
     collation: Collation,
@@ -189,33 +189,4 @@ fn write_compares<W: Sink>(
 {
     write_source(source, match_type, collation, writer)?;
     write_further_list(keys, writer)
-}
-
-/// Writes a word and a number.
-pub(crate) fn write_number<W: Sink>(
-    word: &[u8],
-    number: u64,
-    writer: &mut W,
-) -> Result<(), WriteFault>
-    ensures { Writes W.contents W.fault_count result writer.old writer.new (word.now ++ decimal number) }
-{
-    write_pieces(&[Piece::Raw(word), Piece::Number(number)], writer)
-}
-
-/// Writes what a test asks.
-#[tactic(auto, unfolding(crate::specs::Dump::ask_text))]
-pub(crate) fn write_test<W: Sink>(test: &TestOp<'_>, writer: &mut W) -> Result<(), WriteFault>
-    ensures { Writes W.contents W.fault_count result writer.old writer.new (ask_text (test_op_as test.now)) }
-{
-    match test {
-        TestOp::Compares {
-            match_type,
-            collation,
-            source,
-            keys,
-        } => write_compares(source, *match_type, *collation, keys, writer),
-        TestOp::Exists { names } => write_list(b"exists ", names.strings(), writer),
-        TestOp::Over { limit } => write_number(b"size over ", *limit, writer),
-        TestOp::Under { limit } => write_number(b"size under ", *limit, writer),
-    }
 }

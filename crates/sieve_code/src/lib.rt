@@ -11,14 +11,13 @@ mod dump_strings;
 mod dump_tests;
 pub mod laws;
 mod op;
-mod packed;
 mod packing;
 mod pools;
 mod tail;
 mod test_code;
-mod unpacking;
 
 pub use code::Code;
 pub use compiler::compile;
-pub use op::Op;
+pub use op::{Op, SourceKind};
+pub use pools::Target;
 pub use sieve_base::{Counted, Faults, Place, Sink, Source, WriteFault, write_out, write_quoted};

@@ -1,32 +1,147 @@
 //! The operations of code.
-use sieve_effects::{CommandOp, TestOp};
+use match_text::Collation;
+use message_text::AddressPart;
+use sieve_base::Place;
+use sieve_reading::{FlagChange, MatchType};
+use std::mem::size_of;
 
-/// An operation. Code has one truth register, which tests set.
-#[derive(Drop)]
-pub enum Op<'a> {
+/// The place of what isn't given.
+pub(crate) const NOWHERE: u32 = u32::MAX;
+
+/// Where a test takes values from, whose list lies at a place.
+#[derive(Clone, Copy)]
+pub enum SourceKind {
+    /// From the fields of some names (RFC 5228, section 5.7).
+    Header,
+    /// From a part of the addresses in the fields of some names (RFC 5228, section 5.1).
+    Address(AddressPart),
+    /// From a part of the envelope's addresses (RFC 5228, section 5.4).
+    Envelope(AddressPart),
+    /// Strings themselves (RFC 5229, section 5).
+    String,
+    /// Flags that variables hold, or the internal ones where no list is given (RFC 5232, section 4).
+    Flags,
+}
+
+/// An operation. Code has one truth register, which tests set. Where an operation has strings, a variable or the name of a script, it says
+/// their places, and the [`Code`](crate::Code) that it is one of has what lies there; it also knows the place of what isn't given, and to
+/// which place a jump goes.
+#[derive(Clone, Copy)]
+pub enum Op {
     /// Sets the register to true.
     True,
     /// Sets it to false.
     False,
     /// Inverts it.
     Not,
-    /// Sets it to what a test asks of the delivery (RFC 5228, section 5).
-    Test(TestOp<'a>),
-    /// Goes on at that place, or ends there where it is behind the last operation.
+    /// Sets it to whether some value matches some key (RFC 5228, section 2.7).
+    Compares {
+        /// Where the values are from.
+        source: SourceKind,
+        /// How a value is compared with a key.
+        match_type: MatchType,
+        /// Which octets are equal.
+        collation: Collation,
+        /// The place of the source's list.
+        values: u32,
+        /// The place of the keys.
+        keys: u32,
+    },
+    /// Sets it to whether all named fields are there (RFC 5228, section 5.5).
+    Exists {
+        /// The place of the names.
+        names: u32,
+    },
+    /// Sets it to whether the message has more octets (RFC 5228, section 5.9).
+    Over {
+        /// The number of octets.
+        limit: u64,
+    },
+    /// Sets it to whether the message has fewer octets (RFC 5228, section 5.9).
+    Under {
+        /// The number of octets.
+        limit: u64,
+    },
+    /// Goes on so many operations in front of the end.
     Jump(usize),
     /// Goes on there where the register is false, and else behind this operation.
     JumpIfFalse(usize),
     /// Goes on there where the register is true, and else behind this operation.
     JumpIfTrue(usize),
-    /// Does what a command does that acts (RFC 5228, section 4).
-    Command {
-        /// What the command does.
-        command: CommandOp<'a>,
+    /// Stores into the mailbox of the delivery (RFC 5228, section 4.3).
+    Keep {
+        /// Whether the implicit keep stays as it is (RFC 3894, section 3).
+        copy: bool,
         /// The command's line.
-        line: u64,
+        line: u32,
+        /// The place of the flags, if any are given (RFC 5232, section 5).
+        flags: u32,
+    },
+    /// Stores into a mailbox (RFC 5228, section 4.1).
+    Fileinto {
+        /// Whether the implicit keep stays as it is (RFC 3894, section 3).
+        copy: bool,
+        /// The command's line.
+        line: u32,
+        /// The place of the mailbox's name.
+        mailbox: u32,
+        /// The place of the flags, if any are given (RFC 5232, section 5).
+        flags: u32,
+    },
+    /// Sends the message on (RFC 5228, section 4.2).
+    Redirect {
+        /// Whether the implicit keep stays as it is (RFC 3894, section 3).
+        copy: bool,
+        /// The command's line.
+        line: u32,
+        /// The place of the address.
+        address: u32,
+        /// The place of the flags, if any are given (RFC 5232, section 5).
+        flags: u32,
+    },
+    /// Discards the message (RFC 5228, section 4.4).
+    Discard {
+        /// The command's line.
+        line: u32,
+    },
+    /// Gives a variable a value (RFC 5229, section 4).
+    Set {
+        /// The command's line.
+        line: u32,
+        /// The place of the variable, and of what is done to the value.
+        target: u32,
+        /// The place of the value.
+        value: u32,
+    },
+    /// Changes flags (RFC 5232, section 3).
+    Flags {
+        /// How it changes them.
+        change: FlagChange,
+        /// The command's line.
+        line: u32,
+        /// The place of the variable that holds them; where none is given, they are the internal ones.
+        variable: u32,
+        /// The place of the flags that are named.
+        flags: u32,
+    },
+    /// Runs another script (RFC 6609, section 3.2).
+    Include {
+        /// Where the script is kept.
+        place: Place,
+        /// Whether the script runs only where it hasn't run yet.
+        once: bool,
+        /// Whether the script may be missing.
+        optional: bool,
+        /// The command's line.
+        line: u32,
+        /// The place of the script's name.
+        name: u32,
     },
     /// Ends the run (RFC 5228, section 3.3).
     Stop,
     /// Ends its script (RFC 6609, section 3.3).
     Return,
 }
+
+/// An operation takes two words. Code can have about one for each three octets of its text, so their size is much of what is kept.
+const _: () = prove!(size_of::<Op>() == 16);

@@ -1,17 +1,15 @@
 //! The operations of tests that ask and of commands that act, with what they say in pools.
 ghost use Rattle.std.specs.Prelude.{◌≡◌, IfOk};
-ghost use Rattle.std.specs.Option.{option_map};
-ghost use Rattle.sieve_reading.specs.Reading.{address_values, compares, envelope_values, exists_ask, fileinto_leaf, flag_leaf, flag_values, header_values, include_leaf, keep_leaf, redirect_leaf, set_leaf, string_values};
+ghost use Rattle.sieve_reading.specs.Reading.{compares, exists_ask, fileinto_leaf, flag_leaf, include_leaf, keep_leaf, redirect_leaf, set_leaf};
 ghost use Rattle.sieve_reading.specs.view.Reading.{ask_as, leaf_as, settings_as, source_as, texts_as};
 ghost use Rattle.sieve_code.specs.Operation.{act_op, test_op};
 ghost use Rattle.sieve_code.specs.Pool.{Kept};
-ghost use Rattle.sieve_code.specs.view.Packed.{op_in};
+ghost use Rattle.sieve_code.specs.view.Op.{op_in, source_in};
 ghost use Rattle.sieve_code.specs.view.Pools.{pool_as};
 
-use crate::packed::PackedOp;
+use crate::op::{Op, SourceKind};
 use crate::pools::{Pools, Target};
 use match_text::Collation;
-use message_text::AddressPart;
 use sieve_base::Place;
 use sieve_reading::{Ask, FlagChange, Leaf, MatchType, Settings, Text, ValueSource};
 use sieve_variables::{Literal, Modifiers, Parts, Variable};
@@ -29,115 +27,39 @@ fn kept_line(line: u64) -> Result<u32, AllocError>
 
 impl Pools {
     /// The operation of an `exists`.
-    fn pack_exists(&mut self, names: Vec<Text>) -> Result<PackedOp, AllocError>
+    fn pack_exists(&mut self, names: Vec<Text>) -> Result<Op, AllocError>
         ensures { IfOk result (λ op. Kept (pool_as self.old) (pool_as self.new) (λ p. op_in p op) (test_op (exists_ask (texts_as names.items)))) }
     {
         let names = self.keep_names(names)?;
-        Ok(PackedOp::Exists { names })
+        Ok(Op::Exists { names })
     }
 
-    /// The operation of a `header`.
-    fn pack_header(
-        &mut self,
-        match_type: MatchType,
-        collation: Collation,
-        names: Vec<Text>,
-        keys: Vec<Text>,
-    ) -> Result<PackedOp, AllocError>
-        ensures { IfOk result (λ op. Kept (pool_as self.old) (pool_as self.new) (λ p. op_in p op) (test_op (compares (header_values (texts_as names.items)) match_type collation (texts_as keys.items)))) }
+    /// Keeps where a test takes values from. Answers its kind, and the place of its list.
+    fn keep_source(&mut self, source: ValueSource) -> Result<(SourceKind, u32), AllocError>
+        ensures { IfOk result (λ kept. Kept (pool_as self.old) (pool_as self.new) (λ p. source_in p kept.0 kept.1) (source_as source)) }
     {
-        let names = self.keep_names(names)?;
-        let keys = self.keep_list(keys)?;
-        Ok(PackedOp::Header {
-            match_type,
-            collation,
-            names,
-            keys,
-        })
-    }
-
-    /// The operation of an `address`.
-    fn pack_address(
-        &mut self,
-        part: AddressPart,
-        match_type: MatchType,
-        collation: Collation,
-        names: Vec<Text>,
-        keys: Vec<Text>,
-    ) -> Result<PackedOp, AllocError>
-        ensures { IfOk result (λ op. Kept (pool_as self.old) (pool_as self.new) (λ p. op_in p op) (test_op (compares (address_values part (texts_as names.items)) match_type collation (texts_as keys.items)))) }
-    {
-        let names = self.keep_names(names)?;
-        let keys = self.keep_list(keys)?;
-        Ok(PackedOp::Address {
-            part,
-            match_type,
-            collation,
-            names,
-            keys,
-        })
-    }
-
-    /// The operation of an `envelope`.
-    fn pack_envelope(
-        &mut self,
-        part: AddressPart,
-        match_type: MatchType,
-        collation: Collation,
-        names: Vec<Text>,
-        keys: Vec<Text>,
-    ) -> Result<PackedOp, AllocError>
-        ensures { IfOk result (λ op. Kept (pool_as self.old) (pool_as self.new) (λ p. op_in p op) (test_op (compares (envelope_values part (texts_as names.items)) match_type collation (texts_as keys.items)))) }
-    {
-        let names = self.keep_list(names)?;
-        let keys = self.keep_list(keys)?;
-        Ok(PackedOp::Envelope {
-            part,
-            match_type,
-            collation,
-            names,
-            keys,
-        })
-    }
-
-    /// The operation of a `string`.
-    fn pack_string(
-        &mut self,
-        match_type: MatchType,
-        collation: Collation,
-        texts: Vec<Text>,
-        keys: Vec<Text>,
-    ) -> Result<PackedOp, AllocError>
-        ensures { IfOk result (λ op. Kept (pool_as self.old) (pool_as self.new) (λ p. op_in p op) (test_op (compares (string_values (texts_as texts.items)) match_type collation (texts_as keys.items)))) }
-    {
-        let texts = self.keep_list(texts)?;
-        let keys = self.keep_list(keys)?;
-        Ok(PackedOp::String {
-            match_type,
-            collation,
-            texts,
-            keys,
-        })
-    }
-
-    /// The operation of a `hasflag`.
-    fn pack_hasflag(
-        &mut self,
-        match_type: MatchType,
-        collation: Collation,
-        variables: Option<Vec<Text>>,
-        keys: Vec<Text>,
-    ) -> Result<PackedOp, AllocError>
-        ensures { IfOk result (λ op. Kept (pool_as self.old) (pool_as self.new) (λ p. op_in p op) (test_op (compares (flag_values (option_map (λ given. texts_as given.items) variables)) match_type collation (texts_as keys.items)))) }
-    {
-        let variables = self.keep_given(variables)?;
-        let keys = self.keep_list(keys)?;
-        Ok(PackedOp::HasFlag {
-            match_type,
-            collation,
-            variables,
-            keys,
-        })
+        match source {
+            ValueSource::Header { names } => {
+                let place = self.keep_names(names)?;
+                Ok((SourceKind::Header, place))
+            }
+            ValueSource::Address { part, names } => {
+                let place = self.keep_names(names)?;
+                Ok((SourceKind::Address(part), place))
+            }
+            ValueSource::Envelope { part, names } => {
+                let place = self.keep_list(names)?;
+                Ok((SourceKind::Envelope(part), place))
+            }
+            ValueSource::String { texts } => {
+                let place = self.keep_list(texts)?;
+                Ok((SourceKind::String, place))
+            }
+            ValueSource::Flags { variables } => {
+                let place = self.keep_given(variables)?;
+                Ok((SourceKind::Flags, place))
+            }
+        }
     }
 
     /// The operation of a test that compares values with keys.
@@ -147,26 +69,22 @@ impl Pools {
         match_type: MatchType,
         collation: Collation,
         keys: Vec<Text>,
-    ) -> Result<PackedOp, AllocError>
+    ) -> Result<Op, AllocError>
         ensures { IfOk result (λ op. Kept (pool_as self.old) (pool_as self.new) (λ p. op_in p op) (test_op (compares (source_as source) match_type collation (texts_as keys.items)))) }
     {
-        match source {
-            ValueSource::Header { names } => self.pack_header(match_type, collation, names, keys),
-            ValueSource::Address { part, names } => {
-                self.pack_address(part, match_type, collation, names, keys)
-            }
-            ValueSource::Envelope { part, names } => {
-                self.pack_envelope(part, match_type, collation, names, keys)
-            }
-            ValueSource::String { texts } => self.pack_string(match_type, collation, texts, keys),
-            ValueSource::Flags { variables } => {
-                self.pack_hasflag(match_type, collation, variables, keys)
-            }
-        }
+        let (source, values) = self.keep_source(source)?;
+        let keys = self.keep_list(keys)?;
+        Ok(Op::Compares {
+            source,
+            match_type,
+            collation,
+            values,
+            keys,
+        })
     }
 
     /// The operation of a test that asks.
-    pub(crate) fn pack_ask(&mut self, ask: Ask) -> Result<PackedOp, AllocError>
+    pub(crate) fn pack_ask(&mut self, ask: Ask) -> Result<Op, AllocError>
         ensures { IfOk result (λ op. Kept (pool_as self.old) (pool_as self.new) (λ p. op_in p op) (test_op (ask_as ask))) }
     {
         match ask {
@@ -177,18 +95,18 @@ impl Pools {
                 keys,
             } => self.pack_compares(source, match_type, collation, keys),
             Ask::Exists { names } => self.pack_exists(names),
-            Ask::Over { limit } => Ok(PackedOp::Over { limit }),
-            Ask::Under { limit } => Ok(PackedOp::Under { limit }),
+            Ask::Over { limit } => Ok(Op::Over { limit }),
+            Ask::Under { limit } => Ok(Op::Under { limit }),
         }
     }
 
     /// The operation of a `keep`.
-    fn pack_keep(&mut self, settings: Settings, line: u32) -> Result<PackedOp, AllocError>
+    fn pack_keep(&mut self, settings: Settings, line: u32) -> Result<Op, AllocError>
         ensures { IfOk result (λ op. Kept (pool_as self.old) (pool_as self.new) (λ p. op_in p op) (act_op (keep_leaf (settings_as settings)) line)) }
     {
         let copy = settings.copy;
         let flags = self.keep_given(settings.flags)?;
-        Ok(PackedOp::Keep { copy, line, flags })
+        Ok(Op::Keep { copy, line, flags })
     }
 
     /// The operation of a `fileinto`.
@@ -197,13 +115,13 @@ impl Pools {
         mailbox: Parts,
         settings: Settings,
         line: u32,
-    ) -> Result<PackedOp, AllocError>
+    ) -> Result<Op, AllocError>
         ensures { IfOk result (λ op. Kept (pool_as self.old) (pool_as self.new) (λ p. op_in p op) (act_op (fileinto_leaf mailbox (settings_as settings)) line)) }
     {
         let copy = settings.copy;
         let mailbox = self.keep_string(mailbox)?;
         let flags = self.keep_given(settings.flags)?;
-        Ok(PackedOp::Fileinto {
+        Ok(Op::Fileinto {
             copy,
             line,
             mailbox,
@@ -217,13 +135,13 @@ impl Pools {
         address: Parts,
         settings: Settings,
         line: u32,
-    ) -> Result<PackedOp, AllocError>
+    ) -> Result<Op, AllocError>
         ensures { IfOk result (λ op. Kept (pool_as self.old) (pool_as self.new) (λ p. op_in p op) (act_op (redirect_leaf address (settings_as settings)) line)) }
     {
         let copy = settings.copy;
         let address = self.keep_string(address)?;
         let flags = self.keep_given(settings.flags)?;
-        Ok(PackedOp::Redirect {
+        Ok(Op::Redirect {
             copy,
             line,
             address,
@@ -238,7 +156,7 @@ impl Pools {
         modifiers: Modifiers,
         value: Parts,
         line: u32,
-    ) -> Result<PackedOp, AllocError>
+    ) -> Result<Op, AllocError>
         ensures { IfOk result (λ op. Kept (pool_as self.old) (pool_as self.new) (λ p. op_in p op) (act_op (set_leaf variable modifiers value) line)) }
     {
         let target = self.keep_target(Target {
@@ -246,7 +164,7 @@ impl Pools {
             modifiers,
         })?;
         let value = self.keep_string(value)?;
-        Ok(PackedOp::Set {
+        Ok(Op::Set {
             line,
             target,
             value,
@@ -260,12 +178,12 @@ impl Pools {
         variable: Option<Variable>,
         flags: Vec<Text>,
         line: u32,
-    ) -> Result<PackedOp, AllocError>
+    ) -> Result<Op, AllocError>
         ensures { IfOk result (λ op. Kept (pool_as self.old) (pool_as self.new) (λ p. op_in p op) (act_op (flag_leaf change variable (texts_as flags.items)) line)) }
     {
         let variable = self.keep_variable(variable)?;
         let flags = self.keep_list(flags)?;
-        Ok(PackedOp::Flags {
+        Ok(Op::Flags {
             change,
             line,
             variable,
@@ -281,11 +199,11 @@ impl Pools {
         optional: bool,
         name: Literal,
         line: u32,
-    ) -> Result<PackedOp, AllocError>
+    ) -> Result<Op, AllocError>
         ensures { IfOk result (λ op. Kept (pool_as self.old) (pool_as self.new) (λ p. op_in p op) (act_op (include_leaf place once optional name) line)) }
     {
         let name = self.keep_script(name)?;
-        Ok(PackedOp::Include {
+        Ok(Op::Include {
             place,
             once,
             optional,
@@ -295,14 +213,14 @@ impl Pools {
     }
 
     /// The operation of a command that acts, with its line as it is kept.
-    fn pack_leaf(&mut self, leaf: Leaf, line: u32) -> Result<PackedOp, AllocError>
+    fn pack_leaf(&mut self, leaf: Leaf, line: u32) -> Result<Op, AllocError>
         ensures { IfOk result (λ op. Kept (pool_as self.old) (pool_as self.new) (λ p. op_in p op) (act_op (leaf_as leaf) line)) }
     {
         match leaf {
             Leaf::Keep { settings } => self.pack_keep(settings, line),
             Leaf::Fileinto { mailbox, settings } => self.pack_fileinto(mailbox, settings, line),
             Leaf::Redirect { address, settings } => self.pack_redirect(address, settings, line),
-            Leaf::Discard => Ok(PackedOp::Discard { line }),
+            Leaf::Discard => Ok(Op::Discard { line }),
             Leaf::Set {
                 variable,
                 modifiers,
@@ -323,7 +241,7 @@ impl Pools {
     }
 
     /// The operation of a command of a line that acts.
-    pub(crate) fn pack_act(&mut self, leaf: Leaf, line: u64) -> Result<PackedOp, AllocError>
+    pub(crate) fn pack_act(&mut self, leaf: Leaf, line: u64) -> Result<Op, AllocError>
         ensures { IfOk result (λ op. Kept (pool_as self.old) (pool_as self.new) (λ p. op_in p op) (act_op (leaf_as leaf) line)) }
     {
         let line = kept_line(line)?;

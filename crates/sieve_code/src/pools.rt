@@ -1,34 +1,35 @@
 //! What operations of code say by its place: strings, variables and names of scripts.
 ghost use Rattle.std.specs.Prelude.{◌≡◌, ◌<◌, [], IfOk, None, Some, slice_index_or};
 ghost use Rattle.std.specs.List.{slice_get};
-ghost use Rattle.std.specs.Option.{option_copied, option_map};
+ghost use Rattle.std.specs.Option.{option_map};
 ghost use Rattle.sieve_reading.specs.view.Reading.{texts_as};
 ghost use Rattle.sieve_effects.specs.Joined.{list_in};
-ghost use Rattle.sieve_effects.specs.view.Ops.{settings_op_as};
 ghost use Rattle.sieve_code.specs.Pool.{Kept, given_list, given_variable, no_pool};
 ghost use Rattle.sieve_code.specs.view.Pools.{pool_as};
 
-use crate::packed::NOWHERE;
-use sieve_effects::{FieldNames, JoinedStrings, NameLists, SettingsOp, StringLists, Strings};
+use crate::op::NOWHERE;
+use sieve_effects::{JoinedStrings, NameLists, StringLists};
 use sieve_reading::Text;
-use sieve_variables::{Literal, Modifiers, Part, Parts, Variable};
+use sieve_variables::{Literal, Modifiers, Parts, Variable};
 use std::alloc::{AllocError, Global};
 
-/// The variable that a command changes, and what is done to its value.
+/// What a command changes.
 #[derive(Drop)]
-pub(crate) struct Target {
-    pub(crate) variable: Variable,
-    pub(crate) modifiers: Modifiers,
+pub struct Target {
+    /// The variable.
+    pub variable: Variable,
+    /// What is done to its value (RFC 5229, section 4.1).
+    pub modifiers: Modifiers,
 }
 
 /// What operations of code say by its place.
 #[derive(Drop)]
 pub(crate) struct Pools {
-    strings: JoinedStrings,
-    lists: StringLists,
-    names: NameLists,
-    targets: Vec<Target>,
-    scripts: Vec<Literal>,
+    pub(crate) strings: JoinedStrings,
+    pub(crate) lists: StringLists,
+    pub(crate) names: NameLists,
+    pub(crate) targets: Vec<Target>,
+    pub(crate) scripts: Vec<Literal>,
 }
 
 /// The number of items as the place of the next. 4,294,967,295 and more are answered as want of memory.
@@ -152,77 +153,5 @@ impl Pools {
         let place = place_of(self.scripts.len())?;
         self.scripts.push(name)?;
         Ok(place)
-    }
-
-    /// The parts of the string at a place.
-    pub(crate) fn string(&self, place: u32) -> &[Part]
-        ensures { result.now ≡ slice_index_or (pool_as self.now).strings place [] }
-    {
-        self.strings.get(place as usize)
-    }
-
-    /// The list at a place.
-    pub(crate) fn list(&self, place: u32) -> Strings<'_>
-        ensures { result ≡ list_in (pool_as self.now).lists place }
-    {
-        self.lists.list(place as usize)
-    }
-
-    /// The names of fields at a place.
-    pub(crate) fn names(&self, place: u32) -> FieldNames<'_>
-        ensures { result ≡ list_in (pool_as self.now).names place }
-    {
-        self.names.list(place as usize)
-    }
-
-    /// The list at a place, where it is given.
-    pub(crate) fn given(&self, place: u32) -> Option<Strings<'_>>
-        ensures { result ≡ given_list (pool_as self.now) place }
-    {
-        if place == NOWHERE {
-            None
-        } else {
-            Some(self.list(place))
-        }
-    }
-
-    /// What a command says beside, with the flags at a place.
-    pub(crate) fn settings(&self, flags: u32, copy: bool) -> SettingsOp<'_>
-        ensures { settings_op_as result ≡ record { flags = given_list (pool_as self.now) flags; copy = copy } }
-    {
-        SettingsOp {
-            flags: self.given(flags),
-            copy,
-        }
-    }
-
-    /// The target at a place.
-    pub(crate) fn target(&self, place: u32) -> Option<&Target>
-        ensures { option_copied result ≡ slice_get (pool_as self.now).targets place }
-    {
-        self.targets.get(place as usize)
-    }
-
-    /// The variable of the target at a place, where it is given.
-    pub(crate) fn variable(&self, place: u32) -> Option<&Variable>
-        ensures { option_copied result ≡ given_variable (pool_as self.now) place }
-    {
-        if place == NOWHERE {
-            return None;
-        }
-        match self.target(place) {
-            Some(target) => Some(&target.variable),
-            None => None,
-        }
-    }
-
-    /// The name of the script at a place.
-    pub(crate) fn script(&self, place: u32) -> &[u8]
-        ensures { result.now ≡ slice_index_or (pool_as self.now).scripts place [] }
-    {
-        match self.scripts.get(place as usize) {
-            Some(name) => name.as_slice(),
-            None => b"",
-        }
     }
 }

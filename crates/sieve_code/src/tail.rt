@@ -2,11 +2,11 @@
 ghost use Rattle.std.specs.Prelude.{◌≡◌, [], ◌∷◌, ◌-◌, length, map, drop, true, OnOk};
 ghost use Rattle.sieve_reading.specs.view.Reading.{ask_as, leaf_as};
 ghost use Rattle.sieve_code.specs.Operation.{act_op, test_op};
-ghost use Rattle.sieve_code.specs.view.Packed.{is_plain, op_in, plain_as};
+ghost use Rattle.sieve_code.specs.view.Op.{is_plain, op_in, plain_as};
 ghost use Rattle.sieve_code.specs.view.Pools.{pool_as};
 ghost use Rattle.sieve_code.specs.view.Branches.{last};
 
-use crate::packed::PackedOp;
+use crate::op::Op;
 use crate::pools::Pools;
 use sieve_reading::{Ask, Leaf};
 use std::alloc::{AllocError, Global};
@@ -17,7 +17,7 @@ use std::marker::Model;
 /// the target to the end, so that what is put in front of it changes nothing in it. Contracts see the list of operations.
 #[derive(Drop)]
 pub(crate) struct Tail {
-    ops: VecDeque<PackedOp>,
+    ops: VecDeque<Op>,
     pools: Pools,
 }
 
@@ -25,7 +25,7 @@ impl Model for Tail {
     ghost use Rattle.std.specs.Prelude.{◌≡◌, List, map};
     ghost use Rattle.sieve_code.specs.Operation.{Operation};
     ghost use Rattle.sieve_code.specs.Pool.{Keeps};
-    ghost use Rattle.sieve_code.specs.view.Packed.{op_in};
+    ghost use Rattle.sieve_code.specs.view.Op.{op_in};
     ghost use Rattle.sieve_code.specs.view.Pools.{pool_as};
 
     ghost Value = { List Operation };
@@ -54,7 +54,7 @@ impl Tail {
     }
 
     /// Puts an operation in front that neither asks nor acts.
-    pub(crate) fn put(&mut self, op: PackedOp) -> Result<(), AllocError>
+    pub(crate) fn put(&mut self, op: Op) -> Result<(), AllocError>
         requires { is_plain op ≡ true }
         ensures { OnOk result (self.new ≡ plain_as op ∷ self.old) }
     {
@@ -111,7 +111,7 @@ impl Tail {
     }
 
     /// The operations in order, and their pools, with room for no more.
-    pub(crate) fn into_parts(self) -> (Vec<PackedOp>, Pools)
+    pub(crate) fn into_parts(self) -> (Vec<Op>, Pools)
         ensures { map (op_in (pool_as result.1)) result.0.items ≡ self }
     {
         let mut ops = self.ops.into_vec();

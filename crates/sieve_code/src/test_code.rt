@@ -4,34 +4,30 @@ ghost use Rattle.sieve_reading.specs.Tree.{test_list, tests};
 ghost use Rattle.sieve_reading.specs.view.Tree.{test_of, tests_of};
 ghost use Rattle.sieve_code.specs.Choice.{first_before, test_before, tests_before};
 ghost use Rattle.sieve_code.specs.Operation.{jump_if_op, set_op};
-ghost use Rattle.sieve_code.specs.view.Packed.{is_plain, plain_as};
+ghost use Rattle.sieve_code.specs.view.Op.{is_plain, plain_as};
 
-use crate::packed::PackedOp;
+use crate::op::Op;
 use crate::tail::Tail;
 use sieve_reading::{Test, TestReading, Tests, read_test};
 use std::alloc::{AllocError, Global};
 
 /// The operation that sets the register.
-fn constant(truth: bool) -> PackedOp
+fn constant(truth: bool) -> Op
     ensures op { plain_as result ≡ set_op truth }
     ensures plain { is_plain result ≡ true }
 {
-    if truth {
-        PackedOp::True
-    } else {
-        PackedOp::False
-    }
+    if truth { Op::True } else { Op::False }
 }
 
 /// The operation that jumps where the register has that truth.
-fn jump_if(truth: bool, target: usize) -> PackedOp
+fn jump_if(truth: bool, target: usize) -> Op
     ensures op { plain_as result ≡ jump_if_op truth target }
     ensures plain { is_plain result ≡ true }
 {
     if truth {
-        PackedOp::JumpIfTrue(target)
+        Op::JumpIfTrue(target)
     } else {
-        PackedOp::JumpIfFalse(target)
+        Op::JumpIfFalse(target)
     }
 }
 
@@ -58,14 +54,14 @@ fn put_test(alloc: Global, test: Test, tail: &mut Tail) -> Result<(), AllocError
         ..
     } = test;
     match read_test(&name, args) {
-        Some(TestReading::Always) => tail.put(PackedOp::True),
-        Some(TestReading::Never) => tail.put(PackedOp::False),
-        None => tail.put(PackedOp::False),
+        Some(TestReading::Always) => tail.put(Op::True),
+        Some(TestReading::Never) => tail.put(Op::False),
+        None => tail.put(Op::False),
         Some(TestReading::Asks(ask)) => tail.put_ask(ask),
         Some(TestReading::AllOf) => put_tests(alloc, false, tests, tail),
         Some(TestReading::AnyOf) => put_tests(alloc, true, tests, tail),
         Some(TestReading::Not) => {
-            tail.put(PackedOp::Not)?;
+            tail.put(Op::Not)?;
             put_first(alloc, tests, tail)
         }
     }
@@ -108,10 +104,10 @@ pub(crate) fn put_first(alloc: Global, tests: Tests, tail: &mut Tail) -> Result<
     ensures { OnOk result (tail.new ≡ first_before (tests_of tests) tail.old) }
 {
     match tests {
-        Tests::None => tail.put(PackedOp::False),
+        Tests::None => tail.put(Op::False),
         Tests::One(test) => put_test(alloc, Box::into_inner(test), tail),
         Tests::List(list) => match Box::into_inner(list).into_iter().next() {
-            None => tail.put(PackedOp::False),
+            None => tail.put(Op::False),
             Some(test) => put_test(alloc, test, tail),
         },
     }

@@ -5,7 +5,7 @@ ghost use Rattle.match_text.specs.Comparator.{fold_of};
 ghost use Rattle.sieve_effects.specs.Matching.{behind_test, first_match, first_some, match_found, pairs_with, truth_of, values_of};
 ghost use Rattle.sieve_effects.specs.view.Delivery.{delivery_as};
 ghost use Rattle.sieve_effects.specs.view.FieldTests.{cuts_keys, found_with, key_texts};
-ghost use Rattle.sieve_effects.specs.view.Ops.{source_op_as, test_op_as};
+ghost use Rattle.sieve_effects.specs.view.Ops.{source_op_as};
 ghost use Rattle.sieve_effects.specs.view.State.{state_of};
 ghost use Rattle.sieve_variables.specs.Value.{text_value};
 
@@ -15,7 +15,7 @@ use crate::field_names::FieldNames;
 use crate::field_reads::FieldReads;
 use crate::field_values::{find_in_named, has_fields};
 use crate::flag_values::find_in_held;
-use crate::ops::{SourceOp, TestOp};
+use crate::ops::SourceOp;
 use crate::path_values::find_in_paths;
 use crate::state::State;
 use crate::string_values::find_in_strings;
@@ -149,16 +149,17 @@ fn find_match(
     find_keyed(delivery, fields, state, source, match_type, collation, keys)
 }
 
-/// Whether some value of a source matches some key. Under `:matches` the first that does sets the match variables (RFC 5229, section
-/// 3.2).
+/// Whether some value of a source matches some key (RFC 5228, sections 5.1, 5.4 and 5.7; RFC 5229, section 5; RFC 5232, section 4). Under
+/// `:matches` the first that does sets the match variables (RFC 5229, section 3.2). All strings stand for what they do when the test begins.
+/// What is made of the message's fields is kept. Fails where memory is refused.
 #[tactic(auto, unfolding(crate::specs::Matching::truth_of, crate::specs::Matching::values_behind))]
-fn compare(
+pub fn compare(
     delivery: &Delivery<'_>,
-    fields: &mut FieldReads<'_>,
     source: &SourceOp<'_>,
     match_type: MatchType,
     collation: Collation,
     keys: &Strings<'_>,
+    fields: &mut FieldReads<'_>,
     state: &mut State,
 ) -> Result<bool, AllocError>
     requires { fields.old ≡ (delivery_as delivery.now).message }
@@ -172,12 +173,12 @@ fn compare(
     Ok(keep_found(match_type, found, state))
 }
 
-/// Whether all named fields are there (RFC 5228, section 5.5).
+/// Whether all named fields are there (RFC 5228, section 5.5). Fails where memory is refused.
 #[tactic(auto, unfolding(crate::specs::Matching::truth_of))]
-fn exists(
+pub fn exists(
     delivery: &Delivery<'_>,
-    state: &State,
     names: &FieldNames<'_>,
+    state: &State,
 ) -> Result<bool, AllocError>
     ensures { IfOk result (λ truth. truth ≡ truth_of (delivery_as delivery.now) (state_of state.now) (exists_ask names.now)) }
 {
@@ -185,51 +186,15 @@ fn exists(
 }
 
 /// Whether the message has more octets than the limit (RFC 5228, section 5.9).
-fn is_over(delivery: &Delivery<'_>, limit: u64) -> bool
+pub fn is_over(delivery: &Delivery<'_>, limit: u64) -> bool
     ensures { result ≡ nat_lt limit (length (delivery_as delivery.now).message) }
 {
     delivery.message.size() as u64 > limit
 }
 
 /// Whether the message has fewer octets than the limit (RFC 5228, section 5.9).
-fn is_under(delivery: &Delivery<'_>, limit: u64) -> bool
+pub fn is_under(delivery: &Delivery<'_>, limit: u64) -> bool
     ensures { result ≡ nat_lt (length (delivery_as delivery.now).message) limit }
 {
     (delivery.message.size() as u64) < limit
-}
-
-/// Whether what a test asks is so (RFC 5228, section 5; RFC 5229, section 5; RFC 5232, section 4). A test that compares under `:matches`
-/// sets the match variables where some pair matches (RFC 5229, section 3.2). All strings of a test stand for what they do when it begins.
-/// What is made of the message's fields is kept. Fails where memory is refused.
-#[tactic(auto, unfolding(crate::specs::Matching::truth_of, crate::specs::Matching::values_behind))]
-pub fn holds(
-    delivery: &Delivery<'_>,
-    test: &TestOp<'_>,
-    fields: &mut FieldReads<'_>,
-    state: &mut State,
-) -> Result<bool, AllocError>
-    requires { fields.old ≡ (delivery_as delivery.now).message }
-    ensures message { fields.new ≡ fields.old }
-    ensures truth { IfOk result (λ truth. truth ≡ truth_of (delivery_as delivery.now) (state_of state.old) (test_op_as test.now)) }
-    ensures behind { IfOk result (λ truth. state_of state.new ≡ behind_test (delivery_as delivery.now) (test_op_as test.now) (state_of state.old)) }
-{
-    match test {
-        TestOp::Compares {
-            match_type,
-            collation,
-            source,
-            keys,
-        } => compare(
-            delivery,
-            fields,
-            source,
-            *match_type,
-            *collation,
-            keys,
-            state,
-        ),
-        TestOp::Exists { names } => exists(delivery, &*state, names),
-        TestOp::Over { limit } => Ok(is_over(delivery, *limit)),
-        TestOp::Under { limit } => Ok(is_under(delivery, *limit)),
-    }
 }

@@ -1,14 +1,15 @@
 -- What single operations do of what is left to do.
-use Rattle.std.proofs.Common.{◌≡◌, ℕ, ◌+◌, ◌<◌, ◌≤◌, ◌-◌, zero, suc, Bool, true, false, Option, Some, None, Result, IfOk, List, length, refl, ap, sym, ◌∙◌, arith, subst}
+use Rattle.std.proofs.Common.{◌≡◌, ℕ, ◌+◌, ◌<◌, ◌≤◌, ◌-◌, zero, suc, Bool, true, false, Option, Some, None, Result, Ok, Err, IfOk, List, length, refl, ap, sym, ◌∙◌, arith, subst}
 use Rattle.std.proofs.lemmas.Option.{slice_get_past}
 use Rattle.std.proofs.lemmas.Result.{IfOk-at_ok, IfOk-weaker}
 use Rattle.std.specs.Prelude.{slice_get}
-use Rattle.sieve_reading.specs.Reading.{Ask, Leaf}
+use Rattle.sieve_reading.specs.Reading.{Ask, Leaf, exists_ask}
+use Rattle.sieve_variables.specs.Part.{Part}
 use Rattle.sieve_code.specs.Operation.{Operation, test_op, act_op, stop_op, return_op}
 use Rattle.sieve_code.specs.Walk as walk
 use Rattle.sieve_code.specs.Walk.{Walk, at_limit, code_walk, walk_from}
 use Rattle.sieve_effects.specs.Delivery.{Delivery}
-use Rattle.sieve_effects.specs.Matching.{behind_test, truth_of}
+use Rattle.sieve_effects.specs.Matching.{behind_test, truth_of, values_behind}
 use Rattle.sieve_run.specs.Perform.{perform}
 use Rattle.sieve_effects.specs.Act.{goes_on}
 use Rattle.sieve_run.specs.Run.{and_then, chosen}
@@ -20,11 +21,6 @@ use Rattle.sieve_run.specs.declared.steps.Step.{Step}
 use Rattle.sieve_run.specs.declared.steps.Step.TheVariants.{Next, Ended}
 use Rattle.sieve_effects.specs.view.Flow.{ending_by}
 use Rattle.sieve_run.specs.view.Step.{step_after, Acts, Follows, StepsTo, doing, doing_after}
-
--- a call that does what a command does at a line does what a command equal to it does at a line equal to that
-pub does_at : {E : Type 0} (called : Result Flow E) (new : RunState) (act : Acts) (leaf other : Leaf) (line : ℕ) (old : RunState) → leaf ≡ other
-    → IfOk called (λ flow. ending_by flow new ≡ act leaf line old) → IfOk called (λ flow. ending_by flow new ≡ act other line old)
-does_at called new act leaf other line old same does = subst (λ l. IfOk called (λ flow. ending_by flow new ≡ act l line old)) same does
 
 left_over : {n turn : ℕ} → n ≤ turn → n - turn ≡ 0
 left_over all = omega arith
@@ -78,6 +74,22 @@ module _ (act : Acts) (delivery : Delivery) where
       (subst (λ r. StepsTo act delivery (test_op ask) behind register old r new) (sym f.2)
       (asks_steps ask f.0 behind register old new (IfOk-at_ok (λ t. t ≡ truth_of delivery old ask) f.1 truth) (IfOk-at_ok (λ _. new ≡ behind_test delivery ask old) f.1 moves))))
       follows
+
+  -- a test that sets no match variables leaves the state
+  still : {E : Type 0} (called : Result Bool E) (old new : RunState) → old ≡ new → IfOk called (λ _. old ≡ new)
+  still (Ok truth) old new same = same
+  still (Err error) old new same = tt
+
+  pub exists_follow : {E : Type 0} (names : List (List Part)) (op : Operation) (called : Result Bool E) (step : Result Step E) (behind : ℕ) (register : Bool) (s : RunState) → op ≡ test_op (exists_ask names)
+      → IfOk called (λ truth. truth ≡ truth_of delivery s (exists_ask names)) → IfOk step (Follows called (λ truth. Next behind truth))
+      → IfOk step (λ taken. StepsTo act delivery op behind register s taken s)
+  unfolding values_behind
+  exists_follow names op called step behind register s is truth follows = asks_follow (exists_ask names) op called step behind register s s is truth (still called s s refl) follows
+
+  pub size_steps : (ask : Ask) (op : Operation) (truth : Bool) (step : Step) (behind : ℕ) (register : Bool) (s : RunState) → op ≡ test_op ask → truth ≡ truth_of delivery s ask → s ≡ behind_test delivery ask s → step ≡ Next behind truth → StepsTo act delivery op behind register s step s
+  size_steps ask op truth step behind register s is says stays to =
+      subst (λ o. StepsTo act delivery o behind register s step s) (sym is)
+      (subst (λ r. StepsTo act delivery (test_op ask) behind register s r s) (sym to) (asks_steps ask truth behind register s s says stays))
 
   pub acts_follow : {E : Type 0} (leaf : Leaf) (line : ℕ) (op : Operation) (called : Result Flow E) (step : Result Step E) (behind : ℕ) (register : Bool) (old new : RunState) → op ≡ act_op leaf line
       → IfOk called (λ flow. ending_by flow new ≡ act leaf line old) → IfOk step (Follows called (λ flow. step_after flow behind register))

@@ -1,14 +1,12 @@
 //! Carries out the operations of code.
 ghost use Rattle.std.specs.Prelude.{◌≡◌, if◌then◌else◌, length, IfOk};
 ghost use Rattle.sieve_code.specs.Walk.{code_walk};
-ghost use Rattle.sieve_code.specs.view.Code.{ops_of};
-ghost use Rattle.sieve_code.specs.view.Op.{op_as};
+ghost use Rattle.sieve_code.specs.view.Code.{op_of, ops_of};
 ghost use Rattle.sieve_run.specs.Library.{library_of};
 ghost use Rattle.sieve_run.specs.Run.{act_of, included};
 ghost use Rattle.sieve_effects.specs.Delivery.{inside};
 ghost use Rattle.sieve_effects.specs.view.Delivery.{delivery_as};
 ghost use Rattle.sieve_effects.specs.view.Flow.{ending_by};
-ghost use Rattle.sieve_effects.specs.view.Ops.{command_op_as};
 ghost use Rattle.sieve_run.specs.view.Step.{step_after, Follows, StepsTo, doing};
 ghost use Rattle.sieve_run.specs.view.Include.{enters, looks_up};
 ghost use Rattle.sieve_effects.specs.view.State.{state_of};
@@ -23,8 +21,8 @@ use sieve_base::limits::MAX_INCLUDES;
 use sieve_base::{Octets, ScriptName};
 use sieve_code::{Code, Op};
 use sieve_effects::{
-    CommandOp, Delivery, ErrorKind, FieldReads, Flow, State, change, discard, fail, file_into,
-    holds, keep, redirect, set,
+    Delivery, ErrorKind, FieldReads, Flow, State, change, compare, discard, exists, fail,
+    file_into, is_over, is_under, keep, redirect, set,
 };
 use std::alloc::AllocError;
 
@@ -64,7 +62,8 @@ pub(crate) fn execute<L: Library>(
             lib,
             depth,
             delivery,
-            &code.op(place),
+            code,
+            code.op(place),
             place + 1,
             register,
             &mut *fields,
@@ -83,14 +82,15 @@ pub(crate) fn execute<L: Library>(
     Ok(Flow::GoesOn)
 }
 
-/// Carries out an operation, where this is the place behind it.
+/// Carries out an operation of code, where this is the place behind it.
 #[cycle(execute)]
 #[tactic(auto, using(crate::proofs::Stepping::stop_steps, crate::proofs::Stepping::return_steps))]
 fn carry_out<L: Library>(
     lib: &L,
     depth: usize,
     delivery: &Delivery<'_>,
-    op: &Op<'_>,
+    code: &Code,
+    op: Op,
     behind: usize,
     register: bool,
     fields: &mut FieldReads<'_>,
@@ -99,76 +99,127 @@ fn carry_out<L: Library>(
     requires { fields.old ≡ (delivery_as delivery.now).message }
     ensures message { fields.new ≡ fields.old }
     ensures step { IfOk result (λ step.
-        StepsTo (act_of (library_of (L.texts lib.now)) depth (delivery_as delivery.now)) (delivery_as delivery.now) (op_as op.now) behind register (state_of state.old) step (state_of state.new)) }
+        StepsTo (act_of (library_of (L.texts lib.now)) depth (delivery_as delivery.now)) (delivery_as delivery.now) (op_of code.now op) behind register (state_of state.old) step (state_of state.new)) }
 {
     match op {
         Op::True => Ok(proceed(true, behind)),
         Op::False => Ok(proceed(false, behind)),
         Op::Not => Ok(proceed(!register, behind)),
-        Op::Test(test) => {
-            let truth = holds(delivery, test, fields, state);
+        Op::Compares {
+            source,
+            match_type,
+            collation,
+            values,
+            keys,
+        } => {
+            let source = code.source(source, values);
+            let keys = code.list(keys);
+            let truth = compare(
+                delivery, &source, match_type, collation, &keys, fields, state,
+            );
             tested(truth, behind)
         }
-        Op::Jump(target) => Ok(proceed(register, *target)),
-        Op::JumpIfFalse(target) => Ok(proceed(register, chosen(register, behind, *target))),
-        Op::JumpIfTrue(target) => Ok(proceed(register, chosen(register, *target, behind))),
-        Op::Command { command, line } => {
-            let flow = act(lib, depth, delivery, command, *line, fields, state);
+        Op::Exists { names } => {
+            let truth = exists(delivery, &code.names(names), &*state);
+            tested(truth, behind)
+        }
+        Op::Over { limit } => Ok(proceed(is_over(delivery, limit), behind)),
+        Op::Under { limit } => Ok(proceed(is_under(delivery, limit), behind)),
+        Op::Jump(left) => Ok(proceed(register, code.jump_place(left))),
+        Op::JumpIfFalse(left) => {
+            Ok(proceed(register, chosen(register, behind, code.jump_place(left))))
+        }
+        Op::JumpIfTrue(left) => {
+            Ok(proceed(register, chosen(register, code.jump_place(left), behind)))
+        }
+        Op::Keep { copy, line, flags } => {
+            let settings = code.settings(flags, copy);
+            let flow = keep(delivery, &settings, line as u64, state);
+            acted(flow, behind, register)
+        }
+        Op::Fileinto {
+            copy,
+            line,
+            mailbox,
+            flags,
+        } => {
+            let mailbox = code.string(mailbox);
+            let settings = code.settings(flags, copy);
+            let flow = file_into(delivery, mailbox, &settings, line as u64, state);
+            acted(flow, behind, register)
+        }
+        Op::Redirect {
+            copy,
+            line,
+            address,
+            flags,
+        } => {
+            let address = code.string(address);
+            let settings = code.settings(flags, copy);
+            let flow = redirect(delivery, address, &settings, line as u64, state);
+            acted(flow, behind, register)
+        }
+        Op::Discard { line } => {
+            let flow = discard(delivery, line as u64, state);
+            acted(flow, behind, register)
+        }
+        Op::Set {
+            line,
+            target,
+            value,
+        } => match code.target(target) {
+            Some(target) => {
+                let value = code.string(value);
+                let flow = set(
+                    delivery,
+                    &target.variable,
+                    target.modifiers,
+                    value,
+                    line as u64,
+                    state,
+                );
+                acted(flow, behind, register)
+            }
+            // No code has such an operation.
+            None => Ok(proceed(false, behind)),
+        },
+        Op::Flags {
+            change: how,
+            line,
+            variable,
+            flags,
+        } => {
+            let variable = code.variable(variable);
+            let flags = code.list(flags);
+            let flow = change(delivery, how, variable, &flags, line as u64, state);
+            acted(flow, behind, register)
+        }
+        Op::Include {
+            place,
+            once,
+            optional,
+            line,
+            name,
+        } => {
+            let name = ScriptName {
+                place,
+                name: Octets::copied(delivery.alloc, code.script(name))?,
+            };
+            let flow = include(
+                lib,
+                depth,
+                delivery,
+                &name,
+                once,
+                optional,
+                line as u64,
+                fields,
+                state,
+            );
             acted(flow, behind, register)
         }
         Op::Stop => Ok(Step::Ended(Flow::Stopped)),
         Op::Return => Ok(Step::Ended(Flow::Returned)),
-    }
-}
-
-/// Does what a command does that acts.
-#[cycle(execute)]
-fn act<L: Library>(
-    lib: &L,
-    depth: usize,
-    delivery: &Delivery<'_>,
-    command: &CommandOp<'_>,
-    line: u64,
-    fields: &mut FieldReads<'_>,
-    state: &mut State,
-) -> Result<Flow, AllocError>
-    requires { fields.old ≡ (delivery_as delivery.now).message }
-    ensures message { fields.new ≡ fields.old }
-    ensures ending { IfOk result (λ flow. ending_by flow (state_of state.new) ≡ act_of (library_of (L.texts lib.now)) depth (delivery_as delivery.now) (command_op_as command.now) line (state_of state.old)) }
-{
-    match command {
-        CommandOp::Keep { settings } => keep(delivery, settings, line, state),
-        CommandOp::Fileinto { mailbox, settings } => {
-            file_into(delivery, mailbox, settings, line, state)
-        }
-        CommandOp::Redirect { address, settings } => {
-            redirect(delivery, address, settings, line, state)
-        }
-        CommandOp::Discard => discard(delivery, line, state),
-        CommandOp::Set {
-            modifiers,
-            variable,
-            value,
-        } => set(delivery, variable, *modifiers, value, line, state),
-        CommandOp::Flags {
-            change: how,
-            variable,
-            flags,
-        } => change(delivery, *how, *variable, flags, line, state),
-        CommandOp::Include {
-            place,
-            once,
-            optional,
-            name,
-        } => {
-            let name = ScriptName {
-                place: *place,
-                name: Octets::copied(delivery.alloc, name)?,
-            };
-            include(
-                lib, depth, delivery, &name, *once, *optional, line, fields, state,
-            )
-        }
     }
 }
 

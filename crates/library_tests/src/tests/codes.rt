@@ -46,6 +46,30 @@ fn a_sound_text_is_compiled(rt: HostRuntime) -> Result<(), Fail> {
     check_sound(&rt, judged, b"0: stop\n1: keep internal @2\n")
 }
 
+#[test]
+fn code_has_what_its_operations_say(rt: HostRuntime) -> Result<(), Fail> {
+    let judged = judge(
+        rt.alloc(),
+        b"require [\"variables\", \"imap4flags\", \"include\", \"copy\", \"fileinto\"];
+if header \"a\" [\"b\", \"c\"] { set :lower \"d\" \"e\"; }
+addflag \"f\" \"g\";
+fileinto :copy :flags \"h\" \"i\";
+include :global :once \"j\";
+if hasflag :contains \"k\" \"l\" { redirect \"m@n.example\"; }",
+    )?;
+    let lines: &[u8] = b"0: header is casemap [\"a\"] [\"b\", \"c\"]
+1: jump-if-false 3
+2: set local(d) lower \"e\" @2
+3: addflag local(f) [\"g\"] @3
+4: fileinto \"i\" flags [\"h\"] copy @4
+5: include global once \"j\" @5
+6: hasflag contains casemap [\"k\"] [\"l\"]
+7: jump-if-false 9
+8: redirect \"m@n.example\" @6
+";
+    check_sound(&rt, judged, lines)
+}
+
 /// Compares the fault of a text on line 1.
 fn check_faulty(rt: &impl Abort, judged: &Judged, word: &[u8]) {
     match judged {

@@ -1,18 +1,71 @@
--- The program's operations.
-use Rattle.std.specs.Prelude.{true, false}
-use Rattle.sieve_effects.specs.view.Ops.{command_op_as, test_op_as}
-use Rattle.sieve_code.specs.Operation.{Operation, set_op, invert_op, test_op, jump_op, jump_if_op, act_op, stop_op, return_op}
+-- The operations that code keeps.
+use Rattle.sieve_variables.specs.Part.{Part}
+use Rattle.std.specs.Prelude.{ℕ, ◌-◌, Bool, true, false, List, [], map, length, Option, Some, None, slice_index_or}
+use Rattle.std.specs.List.{slice_get}
+use Rattle.sieve_effects.specs.Joined.{list_in}
+use Rattle.sieve_reading.specs.Reading.{ValueSource, compares, exists_ask, over_ask, under_ask, header_values, address_values, envelope_values, string_values, flag_values, keep_leaf, fileinto_leaf, redirect_leaf, discard_leaf, set_leaf, flag_leaf, include_leaf}
+use Rattle.sieve_code.specs.Operation.{Operation, set_op, invert_op, test_op, jump_op, jump_if_op, act_op, stop_op, return_op, targeting}
+use Rattle.sieve_code.specs.Pool.{Pool, no_pool, given_list, given_variable}
+use Rattle.sieve_code.specs.declared.pools.Target.{Target}
+use Rattle.sieve_code.specs.declared.op.SourceKind.{SourceKind}
+use Rattle.sieve_code.specs.declared.op.SourceKind.TheVariants as source
 use Rattle.sieve_code.specs.declared.op.Op.{Op}
-use Rattle.sieve_code.specs.declared.op.Op.TheVariants.{True, False, Not, Test, Jump, JumpIfFalse, JumpIfTrue, Command, Stop, Return}
+use Rattle.sieve_code.specs.declared.op.Op.TheVariants as op
 
-abbrev pub op_as : Op → Operation
-op_as True = set_op true
-op_as False = set_op false
-op_as Not = invert_op
-op_as (Test test) = test_op (test_op_as test)
-op_as (Jump target) = jump_op target
-op_as (JumpIfFalse target) = jump_if_op false target
-op_as (JumpIfTrue target) = jump_if_op true target
-op_as (Command command line) = act_op (command_op_as command) line
-op_as Stop = stop_op
-op_as Return = return_op
+-- where a test takes values from
+abbrev pub source_in : Pool → SourceKind → ℕ → ValueSource
+source_in pool source.Header place = header_values (list_in pool.names place)
+source_in pool (source.Address part) place = address_values part (list_in pool.names place)
+source_in pool (source.Envelope part) place = envelope_values part (list_in pool.lists place)
+source_in pool source.String place = string_values (list_in pool.lists place)
+source_in pool source.Flags place = flag_values (given_list pool place)
+
+-- a `set` of the target that lies at its place; false where none lies there, and code always has one
+abbrev pub set_in : Option Target → ℕ → List Part → Operation
+set_in None line value = set_op false
+set_in (Some target) line value = act_op (set_leaf target.variable target.modifiers value) line
+
+-- an operation, whose jumps count from the end
+abbrev pub op_in : Pool → Op → Operation
+op_in pool op.True = set_op true
+op_in pool op.False = set_op false
+op_in pool op.Not = invert_op
+op_in pool (op.Compares source match_type collation values keys) = test_op (compares (source_in pool source values) match_type collation (list_in pool.lists keys))
+op_in pool (op.Exists names) = test_op (exists_ask (list_in pool.names names))
+op_in pool (op.Over limit) = test_op (over_ask limit)
+op_in pool (op.Under limit) = test_op (under_ask limit)
+op_in pool (op.Jump left) = jump_op left
+op_in pool (op.JumpIfFalse left) = jump_if_op false left
+op_in pool (op.JumpIfTrue left) = jump_if_op true left
+op_in pool (op.Keep copy line flags) = act_op (keep_leaf (record { flags = given_list pool flags; copy = copy })) line
+op_in pool (op.Fileinto copy line mailbox flags) = act_op (fileinto_leaf (slice_index_or pool.strings mailbox []) (record { flags = given_list pool flags; copy = copy })) line
+op_in pool (op.Redirect copy line address flags) = act_op (redirect_leaf (slice_index_or pool.strings address []) (record { flags = given_list pool flags; copy = copy })) line
+op_in pool (op.Discard line) = act_op discard_leaf line
+op_in pool (op.Set line target value) = set_in (slice_get pool.targets target) line (slice_index_or pool.strings value [])
+op_in pool (op.Flags change line variable flags) = act_op (flag_leaf change (given_variable pool variable) (list_in pool.lists flags)) line
+op_in pool (op.Include place once optional line name) = act_op (include_leaf place once optional (slice_index_or pool.scripts name [])) line
+op_in pool op.Stop = stop_op
+op_in pool op.Return = return_op
+
+-- an operation, with its jump's target as a place in code of that many operations
+abbrev pub placed_in : ℕ → Pool → Op → Operation
+placed_in count pool op = targeting (λ left. count - left) (op_in pool op)
+
+-- whether an operation neither asks nor acts, and what it is then
+abbrev pub is_plain : Op → Bool
+is_plain op.True = true
+is_plain op.False = true
+is_plain op.Not = true
+is_plain (op.Jump left) = true
+is_plain (op.JumpIfFalse left) = true
+is_plain (op.JumpIfTrue left) = true
+is_plain op.Stop = true
+is_plain op.Return = true
+is_plain other = false
+
+abbrev pub plain_as : Op → Operation
+plain_as op = op_in no_pool op
+
+-- the operations of code
+abbrev pub ops_in : Pool → List Op → List Operation
+ops_in pool ops = map (placed_in (length ops) pool) ops

@@ -1,13 +1,17 @@
-use Rattle.std.proofs.Common.{◌≡◌, ◌&&◌, ◌∙◌, ◌<◌, ◌≤◌, ◌+◌, ◌-◌, true, false, IfOk, List, length, map, nat_lt, sym, ap, subst, arith, Bor}
+use Rattle.std.proofs.Common.{◌≡◌, ◌&&◌, ◌∙◌, ◌<◌, ◌≤◌, ◌+◌, ◌-◌, true, false, IfOk, List, length, map, nat_lt, refl, sym, ap, subst, arith, Bor, Option, [], slice_index_or}
 use Rattle.std.specs.Option.{option_copied}
 use Rattle.std.proofs.lemmas.Bool.Decides.{nat_tests}
 use Rattle.std.proofs.lemmas.Result.{IfOk-weaker}
 use Rattle.sieve_code.specs.Walk.{code_walk, walk_from}
-use Rattle.sieve_code.specs.view.Code.{ops_of}
-use Rattle.sieve_code.specs.view.Op.{op_as}
-use Rattle.sieve_effects.specs.view.Ops.{command_op_as, settings_op_as, test_op_as}
+use Rattle.sieve_code.specs.Operation.{act_op, targeting, test_op}
+use Rattle.sieve_code.specs.declared.pools.Target.{Target}
+use Rattle.sieve_code.specs.view.Op.{set_in}
+use Rattle.sieve_code.specs.Pool.{given_list}
+use Rattle.sieve_code.specs.view.Code.{jump_place_of, op_of, ops_of, pool_of}
+use Rattle.sieve_effects.specs.Joined.{list_in}
+use Rattle.sieve_effects.specs.view.Ops.{settings_op_as, source_op_as}
 use Rattle.sieve_base.specs.Limits.{include_limit}
-use Rattle.sieve_reading.specs.Reading.{discard_leaf, fileinto_leaf, flag_leaf, include_leaf, keep_leaf, redirect_leaf, set_leaf}
+use Rattle.sieve_reading.specs.Reading.{compares, exists_ask, over_ask, under_ask, discard_leaf, fileinto_leaf, flag_leaf, include_leaf, keep_leaf, redirect_leaf, set_leaf}
 use Rattle.sieve_run.specs.Library.{Lookup, found_at, library_of}
 use Rattle.sieve_run.specs.Run.{act_of, included, is_script}
 use Rattle.sieve_effects.specs.declared.flow.Flow.{Flow}
@@ -15,6 +19,7 @@ use Rattle.sieve_effects.specs.declared.flow.Flow.TheVariants.{Failed}
 use Rattle.sieve_base.specs.declared.name.ScriptName.{ScriptName}
 use Rattle.sieve_effects.specs.declared.error.ErrorKind.TheVariants.{IncludeCount, IncludeDepth, RecursiveInclude}
 use Rattle.sieve_effects.specs.Delivery.{Delivery}
+use Rattle.sieve_effects.specs.Matching.{truth_of, values_behind}
 use Rattle.sieve_effects.specs.view.Delivery.{delivery_as}
 use Rattle.sieve_effects.specs.view.Flow.{ending_by}
 use Rattle.sieve_run.specs.view.Found.{FoundAs}
@@ -23,78 +28,119 @@ use Rattle.sieve_effects.specs.view.State.{state_of}
 use Rattle.sieve_run.specs.view.Step.{doing, doing_after}
 use Rattle.sieve_variables.specs.Value.{with_own}
 use Rattle.sieve_run.proofs.Includes.{enters_by, fails_deep, fails_many, fails_running, looks_included, looks_present, not_entered, not_once, skips_included}
-use Rattle.sieve_run.proofs.Stepping.{acts_follow, asks_follow, does_at, past_end, runs_out, turns}
+use Rattle.sieve_run.proofs.Stepping.{acts_follow, asks_follow, exists_follow, past_end, runs_out, size_steps, turns}
 use Rattle.sieve_run.proofs.steps.+execute.Goals as goal
 use Rattle.sieve_run.proofs.steps.+execute.Goals.{include-else-once-via-then-once+else-is_script, include-else-once-via-else-once}
 
-pub carry_out-returns-in-Test-clause-step : goal.carry_out-returns-in-Test-clause-step
-carry_out-returns-in-Test-clause-step g t c =
+pub carry_out-returns-in-Compares-clause-step : goal.carry_out-returns-in-Compares-clause-step
+carry_out-returns-in-Compares-clause-step g t c =
     let find : ScriptName → Lookup = library_of (g.L.Library.texts c.args.lib.now) in
     let d = delivery_as c.args.delivery.now in
-    asks_follow (act_of find c.args.depth d) d (test_op_as c.in-Test.test) _ _ _ _ _ _ _ (ap op_as c.in-Test.is) c.holds-truth.ensures.truth c.holds-truth.ensures.behind c.tested.ensures
+    let pool = pool_of c.args.code.now in
+    let i = c.in-Compares in
+    let source = c.source-source.result in
+    asks_follow (act_of find c.args.depth d) d (compares (source_op_as source) i.match_type i.collation c.list-keys.result) _ _ _ _ _ _ _
+    (ap (op_of c.args.code.now) i.is
+    ∙ ap (λ v. test_op (compares v i.match_type i.collation (list_in pool.lists i.keys))) (sym c.source-source.ensures)
+    ∙ ap (λ k. test_op (compares (source_op_as source) i.match_type i.collation k)) (sym c.list-keys.ensures))
+    c.compare-truth.ensures.truth c.compare-truth.ensures.behind c.tested.ensures
 
-pub carry_out-returns-in-Command-clause-step : goal.carry_out-returns-in-Command-clause-step
-carry_out-returns-in-Command-clause-step g t c =
+pub carry_out-returns-in-Exists-clause-step : goal.carry_out-returns-in-Exists-clause-step
+carry_out-returns-in-Exists-clause-step g t c =
     let find : ScriptName → Lookup = library_of (g.L.Library.texts c.args.lib.now) in
     let d = delivery_as c.args.delivery.now in
-    acts_follow (act_of find c.args.depth d) d (command_op_as c.in-Command.command) c.in-Command.line _ _ _ _ _ _ _ (ap op_as c.in-Command.is) c.act-flow.ensures.ending c.acted.ensures
+    exists_follow (act_of find c.args.depth d) d c.names.result _ _ _ _ _ _ (ap (op_of c.args.code.now) c.in-Exists.is ∙ ap (λ n. test_op (exists_ask n)) (sym c.names.ensures)) c.exists-truth.ensures c.tested-in-Exists.ensures
 
-pub act-returns-in-Keep-clause-ending : goal.act-returns-in-Keep-clause-ending
-act-returns-in-Keep-clause-ending g t c =
+pub carry_out-returns-in-Over-clause-step : goal.carry_out-returns-in-Over-clause-step
+unfolding truth_of values_behind
+carry_out-returns-in-Over-clause-step g t c =
     let find : ScriptName → Lookup = library_of (g.L.Library.texts c.args.lib.now) in
     let d = delivery_as c.args.delivery.now in
-    does_at c.keep.result (state_of c.keep.new.state) (act_of find c.args.depth d) (keep_leaf (settings_op_as c.in-Keep.settings)) (command_op_as c.args.command.now) c.args.line (state_of c.args.state.now)
-    (ap command_op_as (sym c.in-Keep.is))
-    c.keep.ensures
+    size_steps (act_of find c.args.depth d) d (over_ask c.in-Over.limit) _ c.is_over.result _ _ _ (state_of c.args.state.now) (ap (op_of c.args.code.now) c.in-Over.is) c.is_over.ensures refl c.proceed-in-Over.ensures
 
-pub act-returns-in-Fileinto-clause-ending : goal.act-returns-in-Fileinto-clause-ending
-act-returns-in-Fileinto-clause-ending g t c =
+pub carry_out-returns-in-Under-clause-step : goal.carry_out-returns-in-Under-clause-step
+unfolding truth_of values_behind
+carry_out-returns-in-Under-clause-step g t c =
     let find : ScriptName → Lookup = library_of (g.L.Library.texts c.args.lib.now) in
     let d = delivery_as c.args.delivery.now in
-    does_at c.file_into.result (state_of c.file_into.new.state) (act_of find c.args.depth d) (fileinto_leaf c.in-Fileinto.mailbox.now (settings_op_as c.in-Fileinto.settings)) (command_op_as c.args.command.now) c.args.line (state_of c.args.state.now)
-    (ap command_op_as (sym c.in-Fileinto.is))
-    c.file_into.ensures
+    size_steps (act_of find c.args.depth d) d (under_ask c.in-Under.limit) _ c.is_under.result _ _ _ (state_of c.args.state.now) (ap (op_of c.args.code.now) c.in-Under.is) c.is_under.ensures refl c.proceed-in-Under.ensures
 
-pub act-returns-in-Redirect-clause-ending : goal.act-returns-in-Redirect-clause-ending
-act-returns-in-Redirect-clause-ending g t c =
+pub carry_out-returns-in-Keep-clause-step : goal.carry_out-returns-in-Keep-clause-step
+carry_out-returns-in-Keep-clause-step g t c =
     let find : ScriptName → Lookup = library_of (g.L.Library.texts c.args.lib.now) in
     let d = delivery_as c.args.delivery.now in
-    does_at c.redirect.result (state_of c.redirect.new.state) (act_of find c.args.depth d) (redirect_leaf c.in-Redirect.address.now (settings_op_as c.in-Redirect.settings)) (command_op_as c.args.command.now) c.args.line (state_of c.args.state.now)
-    (ap command_op_as (sym c.in-Redirect.is))
-    c.redirect.ensures
+    let settings = c.settings-settings in
+    acts_follow (act_of find c.args.depth d) d (keep_leaf (settings_op_as settings.result)) c.in-Keep.line _ _ _ _ _ _ _
+    (ap (op_of c.args.code.now) c.in-Keep.is ∙ ap (λ s. act_op (keep_leaf s) c.in-Keep.line) (sym settings.ensures))
+    c.keep-flow.ensures c.acted.ensures
 
-pub act-returns-in-Discard-clause-ending : goal.act-returns-in-Discard-clause-ending
-act-returns-in-Discard-clause-ending g t c =
+pub carry_out-returns-in-Fileinto-clause-step : goal.carry_out-returns-in-Fileinto-clause-step
+carry_out-returns-in-Fileinto-clause-step g t c =
     let find : ScriptName → Lookup = library_of (g.L.Library.texts c.args.lib.now) in
     let d = delivery_as c.args.delivery.now in
-    does_at c.discard.result (state_of c.discard.new.state) (act_of find c.args.depth d) discard_leaf (command_op_as c.args.command.now) c.args.line (state_of c.args.state.now)
-    (ap command_op_as (sym c.in-Discard.is))
-    c.discard.ensures
+    let mailbox = c.string-mailbox in
+    let settings = c.settings-settings-in-Fileinto in
+    let i = c.in-Fileinto in
+    acts_follow (act_of find c.args.depth d) d (fileinto_leaf mailbox.result.now (settings_op_as settings.result)) i.line _ _ _ _ _ _ _
+    (ap (op_of c.args.code.now) i.is
+    ∙ ap (λ m. act_op (fileinto_leaf m (record { flags = given_list (pool_of c.args.code.now) i.flags; copy = i.copy })) i.line) (sym mailbox.ensures)
+    ∙ ap (λ s. act_op (fileinto_leaf mailbox.result.now s) i.line) (sym settings.ensures))
+    c.file_into-flow.ensures c.acted-in-Fileinto.ensures
 
-pub act-returns-in-Set-clause-ending : goal.act-returns-in-Set-clause-ending
-act-returns-in-Set-clause-ending g t c =
+pub carry_out-returns-in-Redirect-clause-step : goal.carry_out-returns-in-Redirect-clause-step
+carry_out-returns-in-Redirect-clause-step g t c =
     let find : ScriptName → Lookup = library_of (g.L.Library.texts c.args.lib.now) in
     let d = delivery_as c.args.delivery.now in
-    does_at c.set.result (state_of c.set.new.state) (act_of find c.args.depth d) (set_leaf c.in-Set.variable.now c.in-Set.modifiers c.in-Set.value.now) (command_op_as c.args.command.now) c.args.line (state_of c.args.state.now)
-    (ap command_op_as (sym c.in-Set.is))
-    c.set.ensures
+    let address = c.string-address in
+    let settings = c.settings-settings-in-Redirect in
+    let i = c.in-Redirect in
+    acts_follow (act_of find c.args.depth d) d (redirect_leaf address.result.now (settings_op_as settings.result)) i.line _ _ _ _ _ _ _
+    (ap (op_of c.args.code.now) i.is
+    ∙ ap (λ a. act_op (redirect_leaf a (record { flags = given_list (pool_of c.args.code.now) i.flags; copy = i.copy })) i.line) (sym address.ensures)
+    ∙ ap (λ s. act_op (redirect_leaf address.result.now s) i.line) (sym settings.ensures))
+    c.redirect-flow.ensures c.acted-in-Redirect.ensures
 
-pub act-returns-in-Flags-clause-ending : goal.act-returns-in-Flags-clause-ending
-act-returns-in-Flags-clause-ending g t c =
+pub carry_out-returns-in-Discard-clause-step : goal.carry_out-returns-in-Discard-clause-step
+carry_out-returns-in-Discard-clause-step g t c =
     let find : ScriptName → Lookup = library_of (g.L.Library.texts c.args.lib.now) in
     let d = delivery_as c.args.delivery.now in
-    does_at c.change.result (state_of c.change.new.state) (act_of find c.args.depth d) (flag_leaf c.in-Flags.how (option_copied c.in-Flags.variable) c.in-Flags.flags) (command_op_as c.args.command.now) c.args.line (state_of c.args.state.now)
-    (ap command_op_as (sym c.in-Flags.is))
-    c.change.ensures
+    acts_follow (act_of find c.args.depth d) d discard_leaf c.in-Discard.line _ _ _ _ _ _ _ (ap (op_of c.args.code.now) c.in-Discard.is) c.discard-flow.ensures c.acted-in-Discard.ensures
 
-pub act-returns-in_ok-copied-in-Include-clause-ending : goal.act-returns-in_ok-copied-in-Include-clause-ending
-act-returns-in_ok-copied-in-Include-clause-ending g t c =
+pub carry_out-returns-in-Some-clause-step : goal.carry_out-returns-in-Some-clause-step
+carry_out-returns-in-Some-clause-step g t c =
+    let find : ScriptName → Lookup = library_of (g.L.Library.texts c.args.lib.now) in
+    let d = delivery_as c.args.delivery.now in
+    let value = c.string-value in
+    let i = c.in-Set in
+    let target = c.in-Some.target in
+    acts_follow (act_of find c.args.depth d) d (set_leaf target.now.variable target.now.modifiers value.result.now) i.line _ _ _ _ _ _ _
+    (ap (op_of c.args.code.now) i.is
+    ∙ ap (λ (t : Option Target). targeting (jump_place_of c.args.code.now) (set_in t i.line (slice_index_or (pool_of c.args.code.now).strings i.value []))) (sym c.target.ensures ∙ ap option_copied c.in-Some.is)
+    ∙ ap (λ v. act_op (set_leaf target.now.variable target.now.modifiers v) i.line) (sym value.ensures))
+    c.set-flow.ensures c.acted-in-Some.ensures
+
+pub carry_out-returns-in-Flags-clause-step : goal.carry_out-returns-in-Flags-clause-step
+carry_out-returns-in-Flags-clause-step g t c =
+    let find : ScriptName → Lookup = library_of (g.L.Library.texts c.args.lib.now) in
+    let d = delivery_as c.args.delivery.now in
+    let variable = c.variable-variable in
+    let flags = c.list-flags in
+    let i = c.in-Flags in
+    acts_follow (act_of find c.args.depth d) d (flag_leaf i.how (option_copied variable.result) flags.result) i.line _ _ _ _ _ _ _
+    (ap (op_of c.args.code.now) i.is
+    ∙ ap (λ v. act_op (flag_leaf i.how v (list_in (pool_of c.args.code.now).lists i.flags)) i.line) (sym variable.ensures)
+    ∙ ap (λ f. act_op (flag_leaf i.how (option_copied variable.result) f) i.line) (sym flags.ensures))
+    c.change-flow.ensures c.acted-in-Flags.ensures
+
+pub carry_out-returns-in_ok-copied-in-Include-clause-step : goal.carry_out-returns-in_ok-copied-in-Include-clause-step
+carry_out-returns-in_ok-copied-in-Include-clause-step g t c =
     let find : ScriptName → Lookup = library_of (g.L.Library.texts c.args.lib.now) in
     let d = delivery_as c.args.delivery.now in
     let i = c.in-Include in
-    does_at c.include.result (state_of c.include.new.state) (act_of find c.args.depth d) (include_leaf i.place i.once i.optional c.in_ok-copied-in-Include.field-0) (command_op_as c.args.command.now) c.args.line (state_of c.args.state.now)
-    (rw c.in_ok-copied-in-Include.ensures (ap command_op_as (sym i.is)))
-    c.include.ensures.ending
+    let name = c.in_ok-copied-in-Include in
+    acts_follow (act_of find c.args.depth d) d (include_leaf i.place i.once i.optional name.field-0) i.line _ _ _ _ _ _ _
+    (ap (op_of c.args.code.now) i.is ∙ ap (λ n. act_op (include_leaf i.place i.once i.optional n) i.line) (sym (name.ensures ∙ c.script.ensures)))
+    c.include-flow.ensures.ending c.acted-in-Include.ensures
 
 pub execute_inside-returns-clause-ending : goal.execute_inside-returns-clause-ending
 execute_inside-returns-clause-ending g t c =
@@ -131,7 +177,7 @@ execute-returns-in-Ended-clause-ending g t c =
     let act = act_of (library_of (g.L.Library.texts c.args.lib.now)) c.args.depth d in
     let ops = ops_of c.args.code.now in
     sym c.loop-turn.invariant.1
-    ∙ turns act d ops c.loop-turn._turn c.loop-turn.place c.loop-turn.register (op_as c.op.result) (state_of c.loop-turn.state) c.in_ok-next.field-0 (state_of c.carry_out.new.state) (subst (λ n. c.loop-turn._turn < n) c.len-turn-end.ensures c.loop-turn-test.true) c.op.ensures c.in_ok-next.ensures.step
+    ∙ turns act d ops c.loop-turn._turn c.loop-turn.place c.loop-turn.register (op_of c.args.code.now c.op.result) (state_of c.loop-turn.state) c.in_ok-next.field-0 (state_of c.carry_out.new.state) (subst (λ n. c.loop-turn._turn < n) c.len-turn-end.ensures c.loop-turn-test.true) c.op.ensures c.in_ok-next.ensures.step
     ∙ ap (λ step. doing_after act d (walk_from ops (length ops - (c.loop-turn._turn + 1))) step (state_of c.carry_out.new.state)) c.in-Ended.is
 
 pub execute-loop-turn-preserved : goal.execute-loop-turn-preserved
@@ -140,7 +186,7 @@ execute-loop-turn-preserved g t c =
     let act = act_of (library_of (g.L.Library.texts c.args.lib.now)) c.args.depth d in
     let ops = ops_of c.args.code.now in (
       c.carry_out.ensures.message ∙ c.loop-turn.invariant.0,
-      sym (turns act d ops c.loop-turn._turn c.loop-turn.place c.loop-turn.register (op_as c.op.result) (state_of c.loop-turn.state) c.in_ok-next.field-0 (state_of c.carry_out.new.state) (subst (λ n. c.loop-turn._turn < n) c.len-turn-end.ensures c.loop-turn-test.true) c.op.ensures c.in_ok-next.ensures.step
+      sym (turns act d ops c.loop-turn._turn c.loop-turn.place c.loop-turn.register (op_of c.args.code.now c.op.result) (state_of c.loop-turn.state) c.in_ok-next.field-0 (state_of c.carry_out.new.state) (subst (λ n. c.loop-turn._turn < n) c.len-turn-end.ensures c.loop-turn-test.true) c.op.ensures c.in_ok-next.ensures.step
           ∙ ap (λ step. doing_after act d (walk_from ops (length ops - (c.loop-turn._turn + 1))) step (state_of c.carry_out.new.state)) c.in-Next.is)
           ∙ c.loop-turn.invariant.1,
     )

@@ -1,6 +1,6 @@
 use Rattle.std.proofs.Common.{[], slice_index_or, Some}
 use Rattle.std.specs.List.{slice_get}
-use Rattle.sieve_code.specs.view.Packed.{set_in}
+use Rattle.sieve_code.specs.view.Op.{set_in}
 use Rattle.sieve_code.specs.Pool.{Pool}
 use Rattle.sieve_code.proofs.Keeping.{kept_two}
 use Rattle.sieve_code.proofs.pools.Pools.pack_set.Goals as goal
