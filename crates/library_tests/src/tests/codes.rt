@@ -63,7 +63,7 @@ if hasflag :contains \"k\" \"l\" { redirect \"m@n.example\"; }",
 3: addflag local(f) [\"g\"] @3
 4: fileinto \"i\" flags [\"h\"] copy @4
 5: include global once \"j\" @5
-6: hasflag contains casemap [\"k\"] [\"l\"]
+6: hasflag contains casemap [local(k)] [\"l\"]
 7: jump-if-false 9
 8: redirect \"m@n.example\" @6
 ";
