@@ -147,6 +147,10 @@ def of_memory(room):
     ]:
         yield bounded(room, title, [b"message m 0\n", *commands * count])
     yield bounded(room, "messages as large as nearly all memory", [put(b"message m%d" % number, b"x" * 8_500_000) for number in range(3)])
+    # A run has a place of five words for each field up to the last that it looks at, and a message six words for each.
+    mail = b"a:\n" * 240_000 + b"z: v\n\n"
+    told = ['main personal "main"', 'envelope "" "" mailbox "INBOX"', 'script personal "main" ok', 'message "m0"', "  discard", '  read personal "main"']
+    yield limited(room, "a field behind many", judged(b'if header "z" "v" { discard; }', [mail]), lines(*["ok"] * 3, *told, "total 1 messages 0 errors"))
     for title, script, count in [
         ("rules", b"".join(b'if header :contains "subject" "word%d" { discard; }\n' % number for number in range(1_800)), 80),
         ("keep", b"keep;\n" * 16_000, 70),
@@ -159,11 +163,16 @@ def of_memory(room):
         yield bounded(room, f"{count} scripts of {title}", [put(b"script personal s%d" % number, script) for number in range(count)])
 
 
+def limited(room, title, session, replies):
+    """A session with little memory."""
+    path = room / f"{len(list(room.iterdir()))}.session"
+    path.write_bytes(session)
+    return Run(f"memory for {title}", room, f"ulimit -v {KILOBYTES}; sievebench session < {path.name}", replies)
+
+
 def bounded(room, title, commands):
     """A session with little memory of which no command is refused."""
-    path = room / f"{len(list(room.iterdir()))}.session"
-    path.write_bytes(b"".join(commands))
-    return Run(f"memory for {title}", room, f"ulimit -v {KILOBYTES}; sievebench session < {path.name}", lines("ok") * len(commands))
+    return limited(room, title, b"".join(commands), lines("ok") * len(commands))
 
 
 def of_sessions(room):
