@@ -1,5 +1,5 @@
 //! Carries out the operations of code.
-ghost use Rattle.std.specs.Prelude.{◌≡◌, if◌then◌else◌, length, IfOk};
+ghost use Rattle.std.specs.Prelude.{◌≡◌, Bool, if◌then◌else◌, length, true, IfOk};
 ghost use Rattle.sieve_code.specs.Walk.{code_walk};
 ghost use Rattle.sieve_code.specs.view.Code.{op_of, ops_of};
 ghost use Rattle.sieve_run.specs.Library.{library_of};
@@ -7,7 +7,7 @@ ghost use Rattle.sieve_run.specs.Run.{act_of, included};
 ghost use Rattle.sieve_effects.specs.Delivery.{inside};
 ghost use Rattle.sieve_effects.specs.view.Delivery.{delivery_as};
 ghost use Rattle.sieve_effects.specs.view.Flow.{ending_by};
-ghost use Rattle.sieve_run.specs.view.Step.{step_after, Follows, StepsTo, doing};
+ghost use Rattle.sieve_run.specs.view.Step.{step_after, Acts, Follows, StepsTo, acts, asks, doing};
 ghost use Rattle.sieve_run.specs.view.Include.{enters, looks_up};
 ghost use Rattle.sieve_effects.specs.view.State.{state_of};
 ghost use Rattle.sieve_run.specs.declared.steps.Step.TheVariants.{Next};
@@ -105,6 +105,46 @@ fn carry_out<L: Library>(
         Op::True => Ok(proceed(true, behind)),
         Op::False => Ok(proceed(false, behind)),
         Op::Not => Ok(proceed(!register, behind)),
+        Op::Compares { .. } | Op::Exists { .. } | Op::Over { .. } | Op::Under { .. } => {
+            ask(delivery, code, op, behind, fields, state)
+        }
+        Op::Jump(left) => Ok(proceed(register, code.jump_place(left))),
+        Op::JumpIfFalse(left) => {
+            Ok(proceed(register, chosen(register, behind, code.jump_place(left))))
+        }
+        Op::JumpIfTrue(left) => {
+            Ok(proceed(register, chosen(register, code.jump_place(left), behind)))
+        }
+        Op::Keep { .. }
+        | Op::Fileinto { .. }
+        | Op::Redirect { .. }
+        | Op::Discard { .. }
+        | Op::Set { .. }
+        | Op::Flags { .. }
+        | Op::Include { .. } => act(
+            lib, depth, delivery, code, op, behind, register, fields, state,
+        ),
+        Op::Stop => Ok(Step::Ended(Flow::Stopped)),
+        Op::Return => Ok(Step::Ended(Flow::Returned)),
+    }
+}
+
+/// Asks what a test asks of the delivery, where this is the place behind its operation.
+fn ask(
+    delivery: &Delivery<'_>,
+    code: &Code,
+    op: Op,
+    behind: usize,
+    fields: &mut FieldReads<'_>,
+    state: &mut State,
+) -> Result<Step, AllocError>
+    requires message { fields.old ≡ (delivery_as delivery.now).message }
+    requires asks { asks op ≡ true }
+    ensures message { fields.new ≡ fields.old }
+    ensures step { (act : Acts) (register : Bool) → IfOk result (λ step.
+        StepsTo act (delivery_as delivery.now) (op_of code.now op) behind register (state_of state.old) step (state_of state.new)) }
+{
+    match op {
         Op::Compares {
             source,
             match_type,
@@ -125,13 +165,31 @@ fn carry_out<L: Library>(
         }
         Op::Over { limit } => Ok(proceed(is_over(delivery, limit), behind)),
         Op::Under { limit } => Ok(proceed(is_under(delivery, limit), behind)),
-        Op::Jump(left) => Ok(proceed(register, code.jump_place(left))),
-        Op::JumpIfFalse(left) => {
-            Ok(proceed(register, chosen(register, behind, code.jump_place(left))))
-        }
-        Op::JumpIfTrue(left) => {
-            Ok(proceed(register, chosen(register, code.jump_place(left), behind)))
-        }
+        // No other operation asks.
+        _ => Ok(proceed(false, behind)),
+    }
+}
+
+/// Does what a command does that acts, where this is the place behind its operation.
+#[cycle(execute)]
+fn act<L: Library>(
+    lib: &L,
+    depth: usize,
+    delivery: &Delivery<'_>,
+    code: &Code,
+    op: Op,
+    behind: usize,
+    register: bool,
+    fields: &mut FieldReads<'_>,
+    state: &mut State,
+) -> Result<Step, AllocError>
+    requires message { fields.old ≡ (delivery_as delivery.now).message }
+    requires acts { acts op ≡ true }
+    ensures message { fields.new ≡ fields.old }
+    ensures step { IfOk result (λ step.
+        StepsTo (act_of (library_of (L.texts lib.now)) depth (delivery_as delivery.now)) (delivery_as delivery.now) (op_of code.now op) behind register (state_of state.old) step (state_of state.new)) }
+{
+    match op {
         Op::Keep { copy, line, flags } => {
             let settings = code.settings(flags, copy);
             let flow = keep(delivery, &settings, line as u64, state);
@@ -218,8 +276,8 @@ fn carry_out<L: Library>(
             );
             acted(flow, behind, register)
         }
-        Op::Stop => Ok(Step::Ended(Flow::Stopped)),
-        Op::Return => Ok(Step::Ended(Flow::Returned)),
+        // No other operation acts.
+        _ => Ok(proceed(register, behind)),
     }
 }
 

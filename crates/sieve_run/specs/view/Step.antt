@@ -1,7 +1,9 @@
 -- What is left to do after an operation.
-use Rattle.std.specs.Prelude.{◌≡◌, ◌+◌, ℕ, Bool, Some, Result, Ok}
+use Rattle.std.specs.Prelude.{◌≡◌, ◌+◌, ℕ, Bool, true, false, Some, Result, Ok}
 use Rattle.sieve_reading.specs.Reading.{Leaf}
 use Rattle.sieve_code.specs.Operation.{Operation}
+use Rattle.sieve_code.specs.declared.op.Op.{Op}
+use Rattle.sieve_code.specs.declared.op.Op.TheVariants as op
 use Rattle.sieve_code.specs.Walk as walk
 use Rattle.sieve_code.specs.Walk.{Walk}
 use Rattle.sieve_effects.specs.Delivery.{Delivery}
@@ -22,6 +24,25 @@ Acts = Leaf → ℕ → RunState → Ending
 -- what a walk does to a delivery
 abbrev pub doing : Acts → Delivery → Walk → RunState → Ending
 doing act delivery w state = perform (answer_of delivery) act w state
+
+-- whether an operation asks something of the delivery
+abbrev pub asks : Op → Bool
+asks (op.Compares source match_type collation values keys) = true
+asks (op.Exists names) = true
+asks (op.Over limit) = true
+asks (op.Under limit) = true
+asks other = false
+
+-- whether an operation does what a command does that acts
+abbrev pub acts : Op → Bool
+acts (op.Keep copy line flags) = true
+acts (op.Fileinto copy line mailbox flags) = true
+acts (op.Redirect copy line address flags) = true
+acts (op.Discard line) = true
+acts (op.Set line target value) = true
+acts (op.Flags change line variable flags) = true
+acts (op.Include place once optional line name) = true
+acts other = false
 
 -- after a step, where `go` is the walk from a place with a truth in the register
 abbrev pub doing_after : Acts → Delivery → (go : ℕ → Bool → Walk) → Step → RunState → Ending

@@ -1,17 +1,17 @@
-use Rattle.std.proofs.Common.{◌≡◌, ◌&&◌, ◌∙◌, ◌<◌, ◌≤◌, ◌+◌, ◌-◌, true, false, IfOk, List, length, map, nat_lt, refl, sym, ap, subst, arith, Bor, Option, [], slice_index_or}
+use Rattle.std.proofs.Common.{◌≡◌, ◌&&◌, ◌∙◌, ◌<◌, ◌≤◌, ◌+◌, ◌-◌, true, false, IfOk, List, length, map, nat_lt, sym, ap, subst, arith, Bor, Option, [], slice_index_or}
 use Rattle.std.specs.Option.{option_copied}
 use Rattle.std.proofs.lemmas.Bool.Decides.{nat_tests}
 use Rattle.std.proofs.lemmas.Result.{IfOk-weaker}
 use Rattle.sieve_code.specs.Walk.{code_walk, walk_from}
-use Rattle.sieve_code.specs.Operation.{act_op, targeting, test_op}
+use Rattle.sieve_code.specs.Operation.{act_op, targeting}
 use Rattle.sieve_code.specs.declared.pools.Target.{Target}
 use Rattle.sieve_code.specs.view.Op.{set_in}
 use Rattle.sieve_code.specs.Pool.{given_list}
 use Rattle.sieve_code.specs.view.Code.{jump_place_of, op_of, ops_of, pool_of}
 use Rattle.sieve_effects.specs.Joined.{list_in}
-use Rattle.sieve_effects.specs.view.Ops.{settings_op_as, source_op_as}
+use Rattle.sieve_effects.specs.view.Ops.{settings_op_as}
 use Rattle.sieve_base.specs.Limits.{include_limit}
-use Rattle.sieve_reading.specs.Reading.{compares, exists_ask, over_ask, under_ask, discard_leaf, fileinto_leaf, flag_leaf, include_leaf, keep_leaf, redirect_leaf, set_leaf}
+use Rattle.sieve_reading.specs.Reading.{discard_leaf, fileinto_leaf, flag_leaf, include_leaf, keep_leaf, redirect_leaf, set_leaf}
 use Rattle.sieve_run.specs.Library.{Lookup, found_at, library_of}
 use Rattle.sieve_run.specs.Run.{act_of, included, is_script}
 use Rattle.sieve_effects.specs.declared.flow.Flow.{Flow}
@@ -19,7 +19,6 @@ use Rattle.sieve_effects.specs.declared.flow.Flow.TheVariants.{Failed}
 use Rattle.sieve_base.specs.declared.name.ScriptName.{ScriptName}
 use Rattle.sieve_effects.specs.declared.error.ErrorKind.TheVariants.{IncludeCount, IncludeDepth, RecursiveInclude}
 use Rattle.sieve_effects.specs.Delivery.{Delivery}
-use Rattle.sieve_effects.specs.Matching.{truth_of, values_behind}
 use Rattle.sieve_effects.specs.view.Delivery.{delivery_as}
 use Rattle.sieve_effects.specs.view.Flow.{ending_by}
 use Rattle.sieve_run.specs.view.Found.{FoundAs}
@@ -28,45 +27,12 @@ use Rattle.sieve_effects.specs.view.State.{state_of}
 use Rattle.sieve_run.specs.view.Step.{doing, doing_after}
 use Rattle.sieve_variables.specs.Value.{with_own}
 use Rattle.sieve_run.proofs.Includes.{enters_by, fails_deep, fails_many, fails_running, looks_included, looks_present, not_entered, not_once, skips_included}
-use Rattle.sieve_run.proofs.Stepping.{acts_follow, asks_follow, exists_follow, past_end, runs_out, size_steps, turns}
+use Rattle.sieve_run.proofs.Stepping.{acts_follow, past_end, runs_out, turns}
 use Rattle.sieve_run.proofs.steps.+execute.Goals as goal
 use Rattle.sieve_run.proofs.steps.+execute.Goals.{include-else-once-via-then-once+else-is_script, include-else-once-via-else-once}
 
-pub carry_out-returns-in-Compares-clause-step : goal.carry_out-returns-in-Compares-clause-step
-carry_out-returns-in-Compares-clause-step g t c =
-    let find : ScriptName → Lookup = library_of (g.L.Library.texts c.args.lib.now) in
-    let d = delivery_as c.args.delivery.now in
-    let pool = pool_of c.args.code.now in
-    let i = c.in-Compares in
-    let source = c.source-source.result in
-    asks_follow (act_of find c.args.depth d) d (compares (source_op_as source) i.match_type i.collation c.list-keys.result) _ _ _ _ _ _ _
-    (ap (op_of c.args.code.now) i.is
-    ∙ ap (λ v. test_op (compares v i.match_type i.collation (list_in pool.lists i.keys))) (sym c.source-source.ensures)
-    ∙ ap (λ k. test_op (compares (source_op_as source) i.match_type i.collation k)) (sym c.list-keys.ensures))
-    c.compare-truth.ensures.truth c.compare-truth.ensures.behind c.tested.ensures
-
-pub carry_out-returns-in-Exists-clause-step : goal.carry_out-returns-in-Exists-clause-step
-carry_out-returns-in-Exists-clause-step g t c =
-    let find : ScriptName → Lookup = library_of (g.L.Library.texts c.args.lib.now) in
-    let d = delivery_as c.args.delivery.now in
-    exists_follow (act_of find c.args.depth d) d c.names.result _ _ _ _ _ _ (ap (op_of c.args.code.now) c.in-Exists.is ∙ ap (λ n. test_op (exists_ask n)) (sym c.names.ensures)) c.exists-truth.ensures c.tested-in-Exists.ensures
-
-pub carry_out-returns-in-Over-clause-step : goal.carry_out-returns-in-Over-clause-step
-unfolding truth_of values_behind
-carry_out-returns-in-Over-clause-step g t c =
-    let find : ScriptName → Lookup = library_of (g.L.Library.texts c.args.lib.now) in
-    let d = delivery_as c.args.delivery.now in
-    size_steps (act_of find c.args.depth d) d (over_ask c.in-Over.limit) _ c.is_over.result _ _ _ (state_of c.args.state.now) (ap (op_of c.args.code.now) c.in-Over.is) c.is_over.ensures refl c.proceed-in-Over.ensures
-
-pub carry_out-returns-in-Under-clause-step : goal.carry_out-returns-in-Under-clause-step
-unfolding truth_of values_behind
-carry_out-returns-in-Under-clause-step g t c =
-    let find : ScriptName → Lookup = library_of (g.L.Library.texts c.args.lib.now) in
-    let d = delivery_as c.args.delivery.now in
-    size_steps (act_of find c.args.depth d) d (under_ask c.in-Under.limit) _ c.is_under.result _ _ _ (state_of c.args.state.now) (ap (op_of c.args.code.now) c.in-Under.is) c.is_under.ensures refl c.proceed-in-Under.ensures
-
-pub carry_out-returns-in-Keep-clause-step : goal.carry_out-returns-in-Keep-clause-step
-carry_out-returns-in-Keep-clause-step g t c =
+pub act-returns-in-Keep-clause-step : goal.act-returns-in-Keep-clause-step
+act-returns-in-Keep-clause-step g t c =
     let find : ScriptName → Lookup = library_of (g.L.Library.texts c.args.lib.now) in
     let d = delivery_as c.args.delivery.now in
     let settings = c.settings-settings in
@@ -74,8 +40,8 @@ carry_out-returns-in-Keep-clause-step g t c =
     (ap (op_of c.args.code.now) c.in-Keep.is ∙ ap (λ s. act_op (keep_leaf s) c.in-Keep.line) (sym settings.ensures))
     c.keep-flow.ensures c.acted.ensures
 
-pub carry_out-returns-in-Fileinto-clause-step : goal.carry_out-returns-in-Fileinto-clause-step
-carry_out-returns-in-Fileinto-clause-step g t c =
+pub act-returns-in-Fileinto-clause-step : goal.act-returns-in-Fileinto-clause-step
+act-returns-in-Fileinto-clause-step g t c =
     let find : ScriptName → Lookup = library_of (g.L.Library.texts c.args.lib.now) in
     let d = delivery_as c.args.delivery.now in
     let mailbox = c.string-mailbox in
@@ -87,8 +53,8 @@ carry_out-returns-in-Fileinto-clause-step g t c =
     ∙ ap (λ s. act_op (fileinto_leaf mailbox.result.now s) i.line) (sym settings.ensures))
     c.file_into-flow.ensures c.acted-in-Fileinto.ensures
 
-pub carry_out-returns-in-Redirect-clause-step : goal.carry_out-returns-in-Redirect-clause-step
-carry_out-returns-in-Redirect-clause-step g t c =
+pub act-returns-in-Redirect-clause-step : goal.act-returns-in-Redirect-clause-step
+act-returns-in-Redirect-clause-step g t c =
     let find : ScriptName → Lookup = library_of (g.L.Library.texts c.args.lib.now) in
     let d = delivery_as c.args.delivery.now in
     let address = c.string-address in
@@ -100,14 +66,14 @@ carry_out-returns-in-Redirect-clause-step g t c =
     ∙ ap (λ s. act_op (redirect_leaf address.result.now s) i.line) (sym settings.ensures))
     c.redirect-flow.ensures c.acted-in-Redirect.ensures
 
-pub carry_out-returns-in-Discard-clause-step : goal.carry_out-returns-in-Discard-clause-step
-carry_out-returns-in-Discard-clause-step g t c =
+pub act-returns-in-Discard-clause-step : goal.act-returns-in-Discard-clause-step
+act-returns-in-Discard-clause-step g t c =
     let find : ScriptName → Lookup = library_of (g.L.Library.texts c.args.lib.now) in
     let d = delivery_as c.args.delivery.now in
     acts_follow (act_of find c.args.depth d) d discard_leaf c.in-Discard.line _ _ _ _ _ _ _ (ap (op_of c.args.code.now) c.in-Discard.is) c.discard-flow.ensures c.acted-in-Discard.ensures
 
-pub carry_out-returns-in-Some-clause-step : goal.carry_out-returns-in-Some-clause-step
-carry_out-returns-in-Some-clause-step g t c =
+pub act-returns-in-Some-clause-step : goal.act-returns-in-Some-clause-step
+act-returns-in-Some-clause-step g t c =
     let find : ScriptName → Lookup = library_of (g.L.Library.texts c.args.lib.now) in
     let d = delivery_as c.args.delivery.now in
     let value = c.string-value in
@@ -119,8 +85,8 @@ carry_out-returns-in-Some-clause-step g t c =
     ∙ ap (λ v. act_op (set_leaf target.now.variable target.now.modifiers v) i.line) (sym value.ensures))
     c.set-flow.ensures c.acted-in-Some.ensures
 
-pub carry_out-returns-in-Flags-clause-step : goal.carry_out-returns-in-Flags-clause-step
-carry_out-returns-in-Flags-clause-step g t c =
+pub act-returns-in-Flags-clause-step : goal.act-returns-in-Flags-clause-step
+act-returns-in-Flags-clause-step g t c =
     let find : ScriptName → Lookup = library_of (g.L.Library.texts c.args.lib.now) in
     let d = delivery_as c.args.delivery.now in
     let variable = c.variable-variable in
@@ -132,8 +98,8 @@ carry_out-returns-in-Flags-clause-step g t c =
     ∙ ap (λ f. act_op (flag_leaf i.how (option_copied variable.result) f) i.line) (sym flags.ensures))
     c.change-flow.ensures c.acted-in-Flags.ensures
 
-pub carry_out-returns-in_ok-copied-in-Include-clause-step : goal.carry_out-returns-in_ok-copied-in-Include-clause-step
-carry_out-returns-in_ok-copied-in-Include-clause-step g t c =
+pub act-returns-in_ok-copied-in-Include-clause-step : goal.act-returns-in_ok-copied-in-Include-clause-step
+act-returns-in_ok-copied-in-Include-clause-step g t c =
     let find : ScriptName → Lookup = library_of (g.L.Library.texts c.args.lib.now) in
     let d = delivery_as c.args.delivery.now in
     let i = c.in-Include in

@@ -18,19 +18,22 @@ invariant-execute-loop-turn g l =
 
 -- how deep scripts may still be included, and within one depth the way from a script's code to the script that it includes
 abbrev pub decreases-execute : goal.decreases-execute
-decreases-execute g l = 6 * l.depth + 3
+decreases-execute g l = 7 * l.depth + 4
 
 abbrev pub decreases-carry_out : goal.decreases-carry_out
-decreases-carry_out g l = 6 * l.depth + 2
+decreases-carry_out g l = 7 * l.depth + 3
+
+abbrev pub decreases-act : goal.decreases-act
+decreases-act g l = 7 * l.depth + 2
 
 abbrev pub decreases-include : goal.decreases-include
-decreases-include g l = 6 * l.depth + 1
+decreases-include g l = 7 * l.depth + 1
 
 abbrev pub decreases-look_up : goal.decreases-look_up
-decreases-look_up g l = 6 * l.depth + 6
+decreases-look_up g l = 7 * l.depth + 7
 
 abbrev pub decreases-enter : goal.decreases-enter
-decreases-enter g l = 6 * l.depth + 5
+decreases-enter g l = 7 * l.depth + 6
 
 abbrev pub decreases-execute_inside : goal.decreases-execute_inside
-decreases-execute_inside g l = 6 * l.depth + 4
+decreases-execute_inside g l = 7 * l.depth + 5
