@@ -16,7 +16,7 @@ use Rattle.sieve_reading.specs.Reading.{Ask, ValueSource, address_values, envelo
 use Rattle.sieve_reading.specs.TestReading.{address_source, compares_by, compares_from, envelope_source, exists_by, flag_source, header_source, size_by, size_from, string_source, test_reading_by}
 use Rattle.sieve_reading.specs.Given.{address_part_of, collation_by, given_texts, given_variable, has_tag, in_role, is_tagged, literal_in, match_type_of, number_in, text_in, texts_in, variable_in}
 use Rattle.sieve_reading.specs.Shape.{row_labels, shape_of}
-use Rattle.sieve_table.specs.view.Number.{all_tags}
+use Rattle.sieve_table.specs.Table.{all_tags}
 use Rattle.sieve_table.specs.Role.{same_role}
 use Rattle.sieve_table.specs.Table.{same_tag, naming_slot, tag_row, test_row, same_kind}
 use Rattle.sieve_variables.specs.Part.{Part}

@@ -4,7 +4,8 @@ use Rattle.sieve_syntax.specs.Tree as syntax
 use Rattle.sieve_syntax.specs.Symbol.{identifier, number_symbol, string_symbol}
 use Rattle.sieve_check.specs.Bare.{bare_node}
 use Rattle.sieve_check.specs.Breach.{breaches_at, breaches_in, breaches_of}
-use Rattle.sieve_check.specs.Context.{behind, nothing_required, takes_references}
+use Rattle.sieve_check.specs.Context.{behind, takes_references}
+use Rattle.sieve_table.specs.Required.{nothing_required}
 use Rattle.sieve_check.specs.Element.{Element, the_command, the_number, the_test, the_text, block_elements, elements_of, node_elements, nodes_elements, test_elements, tests_elements}
 use Rattle.sieve_check.specs.Naming.{declares, nodes_mentions, set_by, sets}
 use Rattle.sieve_check.specs.Order.{written_by}

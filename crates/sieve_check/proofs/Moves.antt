@@ -1,11 +1,13 @@
 -- The context behind a command of a kind.
 use Rattle.std.proofs.Common.{◌≡◌, Bool, ◌&&◌, List, Some, ap, ◌∙◌}
 use Rattle.sieve_syntax.specs.Tree.{Argument}
-use Rattle.sieve_check.specs.Context.{Context, Required, allows_else, behind_kind, is_require, required_behind}
+use Rattle.sieve_check.specs.Context.{Context, allows_else, behind_kind, is_require, required_behind}
+use Rattle.sieve_table.specs.Required.{Required}
 use Rattle.sieve_check.specs.Scope.{Scope, naming_arguments}
 use Rattle.sieve_reading.specs.Shape.{row_labels}
-use Rattle.sieve_check.specs.view.Context.{at_spot, required_as}
-use Rattle.sieve_check.specs.declared.context.Required as requireds
+use Rattle.sieve_check.specs.view.Context.{at_spot}
+use Rattle.sieve_table.specs.view.Required.{required_as}
+use Rattle.sieve_table.specs.declared.required.Required as requireds
 use Rattle.sieve_check.specs.declared.context.Spot.{Spot}
 use Rattle.sieve_table.specs.Table.{command_row}
 use Rattle.sieve_table.specs.declared.table.CommandKind.{CommandKind}

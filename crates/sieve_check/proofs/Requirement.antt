@@ -6,7 +6,8 @@ use Rattle.std.specs.List.{All, list_any, prefix_len, take_while}
 use Rattle.std.specs.Prelude.{if◌then◌else◌}
 use Rattle.sieve_syntax.specs.Tree.{Text, Argument, strings, number, tag, Test, test, Tests, no_tests, one_test, test_list, TestList, end_tests, more_tests, Block, no_block, block, Node, node, Nodes, end_nodes, more_nodes, nodes}
 use Rattle.sieve_check.specs.Breach.{breaches_in, breaches_of, command_breaks}
-use Rattle.sieve_check.specs.Context.{Context, Required, behind, behind_block, behind_kind, inside, required_from, requires_kind, requiring_arguments, script_start, takes_references}
+use Rattle.sieve_check.specs.Context.{Context, behind, behind_block, behind_kind, inside, required_from, requires_kind, requiring_arguments, script_start, takes_references}
+use Rattle.sieve_table.specs.Required.{Required}
 use Rattle.sieve_check.specs.Element.{Element, argument_elements, block_elements, command_arguments, elements_of, judged_labels, labelled_elements, node_elements, nodes_elements, test_arguments, test_elements, test_list_elements, tests_elements, text_elements, the_command, the_number, the_test, the_text}
 use Rattle.sieve_check.specs.Parted.{cutting_at_start}
 use Rattle.sieve_check.specs.Requirement.{IsJudgedUnder, IsTextJudgedUnder, JudgesBehindRequires, is_require_command, leading_requires}

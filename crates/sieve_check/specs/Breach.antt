@@ -7,15 +7,17 @@ use Rattle.sieve_table.specs.Address.{is_address_field, is_envelope_part}
 use Rattle.sieve_variables.specs.Name.{is_global_name, is_identifier}
 use Rattle.sieve_variables.specs.Scan.{has_reference, has_namespace, has_foreign_namespace, has_far_index}
 use Rattle.sieve_table.specs.Capability.{is_capability}
-use Rattle.sieve_check.specs.Context.{Context, Required, takes_references, is_require, continues_if}
+use Rattle.sieve_check.specs.Context.{Context, takes_references, is_require, continues_if}
 use Rattle.sieve_check.specs.Element.{Element, the_command, the_test, the_text, the_number, elements_of}
 use Rattle.match_text.specs.Comparator.{collation_named}
+use Rattle.sieve_table.specs.Required.{Required, is_required}
 use Rattle.sieve_table.specs.Role.{has_role, names_variable}
 use Rattle.sieve_table.specs.Rule.{all_rules}
 use Rattle.sieve_check.specs.Scope.{Scope, is_assigned, is_new_local}
 use Rattle.sieve_reading.specs.Shape.{row_labels, shapes_of}
 use Rattle.sieve_table.specs.Table.{Row, command_named, test_named, command_row, test_row}
 use Rattle.sieve_check.specs.Use.{has_bad_tag, has_bad_arguments, has_block, lacks_required}
+use Rattle.sieve_table.specs.declared.capability.Capability.TheVariants.{Include}
 use Rattle.sieve_table.specs.declared.row.Role.{Role}
 use Rattle.sieve_table.specs.declared.row.Role.TheVariants.{Capabilities, ComparatorName, AddressFields, EnvelopeParts, NameToSet, NamesToDeclare}
 use Rattle.sieve_table.specs.declared.rule.Rule.{Rule}
@@ -67,11 +69,11 @@ is_no_declaration role octets = has_role NamesToDeclare role && not (is_identifi
 -- a reference in a namespace that there isn't; that of the variables that scripts share is there where scripts can be included
 -- (RFC 6609, section 3.4.2)
 abbrev pub has_unknown_namespace : Required → List ℕ → Bool
-has_unknown_namespace required octets = if required.include then has_foreign_namespace octets else has_namespace octets
+has_unknown_namespace required octets = if is_required required Include then has_foreign_namespace octets else has_namespace octets
 
 -- a variable in a namespace that there isn't: one that is named (RFC 5229, section 4), or one that is referred to (section 3)
 abbrev pub names_namespace : Required → Option Role → List ℕ → Bool
-names_namespace required role octets = (names_variable role && (is_global_name octets && not required.include)) || (takes_references required role && has_unknown_namespace required octets)
+names_namespace required role octets = (names_variable role && (is_global_name octets && not (is_required required Include))) || (takes_references required role && has_unknown_namespace required octets)
 
 -- the name of one local variable too many (RFC 5229, section 6)
 abbrev pub is_past_locals : List ℕ → Scope → Bool

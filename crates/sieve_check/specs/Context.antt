@@ -4,52 +4,17 @@ use Rattle.sieve_syntax.specs.Tree.{Node, node, Nodes, end_nodes, more_nodes, Bl
 use Rattle.sieve_table.specs.Role.{is_expanded}
 use Rattle.sieve_check.specs.Scope.{Scope, naming_arguments, no_names}
 use Rattle.sieve_reading.specs.Shape.{row_labels}
-use Rattle.sieve_table.specs.Capability.{is_name_of}
-use Rattle.sieve_table.specs.Table.{command_named, command_row}
-use Rattle.sieve_table.specs.declared.capability.Capability.{Capability}
-use Rattle.sieve_table.specs.declared.capability.Capability.TheVariants as capability
+use Rattle.sieve_table.specs.Required.{Required, is_required, nothing_required, requiring}
+use Rattle.sieve_table.specs.Table.{command_named, command_row, same_command}
+use Rattle.sieve_table.specs.declared.capability.Capability.TheVariants.{Variables}
 use Rattle.sieve_table.specs.declared.row.Role.{Role}
 use Rattle.sieve_table.specs.declared.table.CommandKind.{CommandKind}
-use Rattle.sieve_table.specs.declared.table.CommandKind.TheVariants.{Require, If, Elsif, Else, Keep, Fileinto, Redirect, Discard, Stop, Set, SetFlag, AddFlag, RemoveFlag, Include, Return, Global}
-
--- what is required, of what commands, tests, tags and arguments may need (RFC 5228, section 2.10.5)
-pub record Required : Type 0 where
-  pub fileinto : Bool
-  pub envelope : Bool
-  pub variables : Bool
-  pub imap4flags : Bool
-  pub include : Bool
-  pub copy : Bool
-
-abbrev pub nothing_required : Required
-nothing_required = record { fileinto = false; envelope = false; variables = false; imap4flags = false; include = false; copy = false }
-
--- the two comparators need not be required (RFC 5228, section 2.7.3)
-abbrev pub is_required : Required → Capability → Bool
-is_required required capability.Fileinto = required.fileinto
-is_required required capability.Envelope = required.envelope
-is_required required capability.Variables = required.variables
-is_required required capability.Imap4flags = required.imap4flags
-is_required required capability.Include = required.include
-is_required required capability.Copy = required.copy
-is_required required capability.OctetComparator = true
-is_required required capability.CasemapComparator = true
+use Rattle.sieve_table.specs.declared.table.CommandKind.TheVariants.{Require, If, Elsif, Else}
 
 -- whether references in a string stand for values, by its role, if it has one (RFC 5229, section 3)
 abbrev pub takes_references : Required → Option Role → Bool
 takes_references required None = false
-takes_references required (Some role) = is_expanded role && required.variables
-
--- what is required with what a string of a `require` names (RFC 5228, section 3.2)
-abbrev pub requiring : Required → List ℕ → Required
-requiring required name = record {
-  fileinto = required.fileinto || is_name_of name capability.Fileinto;
-  envelope = required.envelope || is_name_of name capability.Envelope;
-  variables = required.variables || is_name_of name capability.Variables;
-  imap4flags = required.imap4flags || is_name_of name capability.Imap4flags;
-  include = required.include || is_name_of name capability.Include;
-  copy = required.copy || is_name_of name capability.Copy;
-}
+takes_references required (Some role) = is_expanded role && is_required required Variables
 
 -- what is required with what strings name, and the strings of arguments
 abbrev pub requiring_texts : Required → List Text → Required
@@ -81,60 +46,15 @@ abbrev pub script_start : Context
 script_start = record { leads = true; follows_if = false; required = nothing_required; scope = no_names }
 
 abbrev pub is_require : CommandKind → Bool
-is_require Require = true
-is_require If = false
-is_require Elsif = false
-is_require Else = false
-is_require Keep = false
-is_require Fileinto = false
-is_require Redirect = false
-is_require Discard = false
-is_require Stop = false
-is_require Set = false
-is_require SetFlag = false
-is_require AddFlag = false
-is_require RemoveFlag = false
-is_require Include = false
-is_require Return = false
-is_require Global = false
+is_require kind = same_command kind Require
 
 -- an elsif or else may follow if and elsif
 abbrev pub allows_else : CommandKind → Bool
-allows_else Require = false
-allows_else If = true
-allows_else Elsif = true
-allows_else Else = false
-allows_else Keep = false
-allows_else Fileinto = false
-allows_else Redirect = false
-allows_else Discard = false
-allows_else Stop = false
-allows_else Set = false
-allows_else SetFlag = false
-allows_else AddFlag = false
-allows_else RemoveFlag = false
-allows_else Include = false
-allows_else Return = false
-allows_else Global = false
+allows_else kind = same_command kind If || same_command kind Elsif
 
 -- elsif and else go on with what an if began
 abbrev pub continues_if : CommandKind → Bool
-continues_if Require = false
-continues_if If = false
-continues_if Elsif = true
-continues_if Else = true
-continues_if Keep = false
-continues_if Fileinto = false
-continues_if Redirect = false
-continues_if Discard = false
-continues_if Stop = false
-continues_if Set = false
-continues_if SetFlag = false
-continues_if AddFlag = false
-continues_if RemoveFlag = false
-continues_if Include = false
-continues_if Return = false
-continues_if Global = false
+continues_if kind = same_command kind Elsif || same_command kind Else
 
 -- what is required behind a command with such arguments: a `require` at the top adds what it names
 abbrev pub required_behind : Context → CommandKind → List Argument → Required

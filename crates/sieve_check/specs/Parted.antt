@@ -3,7 +3,8 @@
 -- share (RFC 6609, section 3.4.1).
 use Rattle.std.specs.Prelude.{ℕ, List, [], ◌∷◌, Option, Some, None, map, drop, if◌then◌else◌}
 use Rattle.sieve_syntax.specs.Tree as syntax
-use Rattle.sieve_check.specs.Context.{Required, nothing_required, required_from, takes_references}
+use Rattle.sieve_check.specs.Context.{required_from, takes_references}
+use Rattle.sieve_table.specs.Required.{Required, nothing_required}
 use Rattle.sieve_reading.specs.Role.{first_role}
 use Rattle.sieve_table.specs.Role.{names_variable}
 use Rattle.sieve_check.specs.Scope.{declaring_arguments}

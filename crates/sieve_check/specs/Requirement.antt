@@ -2,7 +2,8 @@
 use Rattle.std.specs.Prelude.{◌≡◌, ⊤, Bool, false, List, ◌++◌}
 use Rattle.std.specs.List.{All, take_while}
 use Rattle.sieve_syntax.specs.Tree.{Node, node}
-use Rattle.sieve_check.specs.Context.{Required, requires_kind, takes_references}
+use Rattle.sieve_check.specs.Context.{requires_kind, takes_references}
+use Rattle.sieve_table.specs.Required.{Required}
 use Rattle.sieve_check.specs.Element.{Element, the_command, the_test, the_text, the_number, elements_of}
 use Rattle.sieve_table.specs.Role.{has_role}
 use Rattle.sieve_table.specs.Table.{command_named}

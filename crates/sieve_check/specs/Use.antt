@@ -2,7 +2,7 @@
 use Rattle.std.specs.Prelude.{Bool, true, false, not, ◌||◌, ◌&&◌, List, [], ◌∷◌, Option, Some, None, is_some, if◌then◌else◌}
 use Rattle.std.specs.List.{list_any}
 use Rattle.sieve_syntax.specs.Tree.{Tests, no_tests, one_test, test_list, Block, no_block, block}
-use Rattle.sieve_check.specs.Context.{Required, is_required}
+use Rattle.sieve_table.specs.Required.{Required, is_required}
 use Rattle.sieve_reading.specs.Positional.{is_positional_label}
 use Rattle.sieve_reading.specs.Label.{labels_of, row_is_filled}
 use Rattle.sieve_table.specs.Table.{Row, same_kind, tag_row}

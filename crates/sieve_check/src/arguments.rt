@@ -7,14 +7,15 @@ ghost use Rattle.sieve_check.specs.Context.{takes_references};
 ghost use Rattle.sieve_check.specs.Element.{argument_elements, labelled_elements, text_elements, the_number, the_text};
 ghost use Rattle.sieve_table.specs.Role.{has_role, names_variable};
 ghost use Rattle.sieve_reading.specs.Shape.{row_labels};
-ghost use Rattle.sieve_check.specs.view.Context.{context_as, required_as};
+ghost use Rattle.sieve_check.specs.view.Context.{context_as};
+ghost use Rattle.sieve_table.specs.view.Required.{required_as};
 ghost use Rattle.sieve_check.specs.view.Finds.{Finds, FindsIn};
 ghost use Rattle.sieve_table.specs.view.Row.{row_as};
 ghost use Rattle.sieve_check.specs.view.Use.{row_found};
 ghost use Rattle.sieve_table.specs.declared.row.Role.TheVariants.{NameToSet, NamesToDeclare};
 ghost use Rattle.sieve_variables.specs.Name.{is_global_name, is_identifier};
 
-use crate::context::{Context, Required, takes_references};
+use crate::context::{Context, takes_references};
 use crate::role::{behind_first, first_role};
 use crate::usage::{has_bad_arguments, has_bad_tag, lacks_required};
 use crate::validator::CheckFault;
@@ -22,8 +23,8 @@ use match_text::collation_named;
 use sieve_reading::{AsOctets, Label, RowLabels, row_labels};
 use sieve_syntax::{Argument, Tests, Text};
 use sieve_table::{
-    Capability, Role, Row, Rule, has_role, is_address_field, is_capability, is_envelope_part,
-    names_variable,
+    Capability, Required, Role, Row, Rule, has_role, is_address_field, is_capability,
+    is_envelope_part, names_variable,
 };
 use sieve_variables::{is_global_name, is_identifier, references_in};
 use std::alloc::{AllocError, Global};

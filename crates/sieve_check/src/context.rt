@@ -5,102 +5,47 @@ ghost use Rattle.sieve_syntax.specs.view.Tree.{argument_of, node_of, text_of};
 ghost use Rattle.sieve_check.specs.Context as spec;
 ghost use Rattle.sieve_check.specs.Scope.{naming_arguments, no_names};
 ghost use Rattle.sieve_reading.specs.Shape.{row_labels};
-ghost use Rattle.sieve_check.specs.view.Context.{at_spot, required_as};
+ghost use Rattle.sieve_check.specs.view.Context.{at_spot};
+ghost use Rattle.sieve_table.specs.view.Required.{required_as};
 ghost use Rattle.sieve_check.specs.view.Scope.{ScopeState};
+ghost use Rattle.sieve_table.specs.Required.{nothing_required};
 ghost use Rattle.sieve_table.specs.Table.{command_row};
 
 use crate::scope::Scope;
 use sieve_syntax::{Argument, Command, Text};
-use sieve_table::{Capability, CommandKind, Role, is_expanded, is_name_of};
+use sieve_table::{Capability, CommandKind, Required, Role, is_expanded};
 
-/// What is required, of what commands, tests, tags and arguments may need (RFC 5228, section 2.10.5).
-#[derive(Clone, Copy)]
-pub(crate) struct Required {
-    fileinto: bool,
-    envelope: bool,
-    variables: bool,
-    imap4flags: bool,
-    include: bool,
-    copy: bool,
+/// What is required with what strings name.
+fn requiring_texts(required: Required, texts: &[Text]) -> Required
+    ensures { required_as result ≡ spec.requiring_texts (required_as required) (map text_of texts.now) }
+{
+    let mut required = required;
+    for text in texts {
+        required = required.with_name(text.octets());
+    }
+    required
 }
 
-impl Required {
-    /// Nothing is required.
-    fn nothing() -> Required
-        ensures { required_as result ≡ spec.nothing_required }
-    {
-        Required {
-            fileinto: false,
-            envelope: false,
-            variables: false,
-            imap4flags: false,
-            include: false,
-            copy: false,
-        }
+/// What is required with what the strings of an argument name.
+fn requiring_argument(required: Required, argument: &Argument) -> Required
+    ensures { required_as result ≡ spec.requiring_argument (required_as required) (argument_of argument.now) }
+{
+    match argument {
+        Argument::Strings { items, .. } => requiring_texts(required, items),
+        Argument::Number { .. } => required,
+        Argument::Tag { .. } => required,
     }
+}
 
-    /// Whether a capability is required, or need not be.
-    pub(crate) fn has(self, capability: Capability) -> bool
-        ensures { result ≡ spec.is_required (required_as self) capability }
-    {
-        match capability {
-            Capability::Fileinto => self.fileinto,
-            Capability::Envelope => self.envelope,
-            Capability::Variables => self.variables,
-            Capability::Imap4flags => self.imap4flags,
-            Capability::Include => self.include,
-            Capability::Copy => self.copy,
-            Capability::OctetComparator => true,
-            Capability::CasemapComparator => true,
-        }
+/// What is required with what the strings of arguments name.
+fn requiring_arguments(required: Required, args: &[Argument]) -> Required
+    ensures { required_as result ≡ spec.requiring_arguments (required_as required) (map argument_of args.now) }
+{
+    let mut required = required;
+    for argument in args {
+        required = requiring_argument(required, argument);
     }
-
-    /// What is required with what a string names.
-    fn with_name(self, name: &[u8]) -> Required
-        ensures { required_as result ≡ spec.requiring (required_as self) name.now }
-    {
-        Required {
-            fileinto: self.fileinto || is_name_of(name, Capability::Fileinto),
-            envelope: self.envelope || is_name_of(name, Capability::Envelope),
-            variables: self.variables || is_name_of(name, Capability::Variables),
-            imap4flags: self.imap4flags || is_name_of(name, Capability::Imap4flags),
-            include: self.include || is_name_of(name, Capability::Include),
-            copy: self.copy || is_name_of(name, Capability::Copy),
-        }
-    }
-
-    /// What is required with what strings name.
-    fn with_texts(self, texts: &[Text]) -> Required
-        ensures { required_as result ≡ spec.requiring_texts (required_as self) (map text_of texts.now) }
-    {
-        let mut required = self;
-        for text in texts {
-            required = required.with_name(text.octets());
-        }
-        required
-    }
-
-    /// What is required with what the strings of an argument name.
-    fn with_argument(self, argument: &Argument) -> Required
-        ensures { required_as result ≡ spec.requiring_argument (required_as self) (argument_of argument.now) }
-    {
-        match argument {
-            Argument::Strings { items, .. } => self.with_texts(items),
-            Argument::Number { .. } => self,
-            Argument::Tag { .. } => self,
-        }
-    }
-
-    /// What is required with what the strings of arguments name.
-    fn with_arguments(self, args: &[Argument]) -> Required
-        ensures { required_as result ≡ spec.requiring_arguments (required_as self) (map argument_of args.now) }
-    {
-        let mut required = self;
-        for argument in args {
-            required = required.with_argument(argument);
-        }
-        required
-    }
+    required
 }
 
 /// Whether references in a string stand for values, by its role, if it has one (RFC 5229, section 3).
@@ -136,21 +81,21 @@ pub(crate) struct Context<'a> {
 pub(crate) fn is_require(kind: CommandKind) -> bool
     ensures { result ≡ spec.is_require kind }
 {
-    matches!(kind, CommandKind::Require)
+    kind == CommandKind::Require
 }
 
 /// Whether a command goes on with what an `if` began.
 pub(crate) fn continues_if(kind: CommandKind) -> bool
     ensures { result ≡ spec.continues_if kind }
 {
-    matches!(kind, CommandKind::Elsif | CommandKind::Else)
+    kind == CommandKind::Elsif || kind == CommandKind::Else
 }
 
 /// Whether an `elsif` or `else` may follow.
 fn allows_else(kind: CommandKind) -> bool
     ensures { result ≡ spec.allows_else kind }
 {
-    matches!(kind, CommandKind::If | CommandKind::Elsif)
+    kind == CommandKind::If || kind == CommandKind::Elsif
 }
 
 /// Whether only requires stand behind a command of this kind, where only requires stand before it or others too.
@@ -188,7 +133,7 @@ impl Spot {
         ensures { (scope : ScopeState) → required_as result ≡ spec.required_behind (at_spot self scope) kind (map argument_of args.now) }
     {
         if self.leads && is_require(kind) {
-            self.required.with_arguments(args)
+            requiring_arguments(self.required, args)
         } else {
             self.required
         }
@@ -208,12 +153,12 @@ impl Spot {
 
 /// What the requires at the top of a script name, which is all that is required in it.
 pub(crate) fn required_in(commands: &[Command]) -> Required
-    ensures { required_as result ≡ spec.required_from spec.nothing_required (nodes (map node_of commands.now)) }
+    ensures { required_as result ≡ spec.required_from nothing_required (nodes (map node_of commands.now)) }
 {
     let mut required = Required::nothing();
     for command in commands {
         match command.name.kind() {
-            Some(CommandKind::Require) => required = required.with_arguments(&command.args),
+            Some(CommandKind::Require) => required = requiring_arguments(required, &command.args),
             _ => return required,
         }
     }

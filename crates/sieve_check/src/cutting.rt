@@ -16,13 +16,13 @@ ghost use Rattle.sieve_variables.specs.Part.{literal, scoped_part, variable_part
 ghost use Rattle.sieve_variables.specs.Scan.{parts_of_text};
 ghost use Rattle.sieve_variables.specs.Variable.{scoped, variable_named};
 
-use crate::context::{Required, required_in, takes_references};
+use crate::context::{required_in, takes_references};
 use crate::scope::declare_argument;
 use sieve_reading::{AsOctets, role_of, row_expected, shape_of};
 use sieve_syntax::{
     Argument, Command, CommandName, ParsedScript, Test, TestName, Tests, Text, octets_in,
 };
-use sieve_table::{CommandKind, Role, Row, names_variable};
+use sieve_table::{CommandKind, Required, Role, Row, names_variable};
 use sieve_variables::{
     Names, Part, PartRef, Parts, Variable, parts_of_text, references_in, scoped_parts,
 };

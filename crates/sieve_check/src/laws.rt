@@ -1,5 +1,5 @@
 //! Laws over the definitions. Each of these functions does nothing: its contract is the law.
-ghost use Rattle.std.specs.Prelude.{◌≡◌, ◌-◌, ◌||◌, ◌∷◌, ℕ, true, false, filter, map, slice_get, take, All, List, [], Option, None, Some};
+ghost use Rattle.std.specs.Prelude.{◌≡◌, ◌∷◌, ℕ, true, false, map, slice_get, take, All, List, [], Option, None, Some};
 ghost use Rattle.std.specs.List.{flat_map};
 ghost use Rattle.sieve_base.specs.Limits.{test_depth, block_room};
 ghost use Rattle.sieve_syntax.specs.Grammar.{WritesSymbols};
@@ -9,7 +9,7 @@ ghost use Rattle.sieve_syntax.specs.Symbol.{symbols_of};
 ghost use Rattle.sieve_syntax.specs.declared.token.Token.{Token};
 ghost use Rattle.sieve_check.specs.Bare.{bare_node};
 ghost use Rattle.sieve_check.specs.Breach.{Breach, breaches_at, breaches_of, breaks, first_breach, IsLeastBreach};
-ghost use Rattle.sieve_check.specs.Context.{Context, Required, behind_nodes, is_required, requiring, script_start, takes_references};
+ghost use Rattle.sieve_check.specs.Context.{Context, behind_nodes, script_start, takes_references};
 ghost use Rattle.sieve_check.specs.Element.{Element, elements_of};
 ghost use Rattle.sieve_check.specs.Naming.{HasSetBefore, nodes_mentions, set_by};
 ghost use Rattle.sieve_check.specs.Order.{IsInTextOrder};
@@ -17,16 +17,9 @@ ghost use Rattle.sieve_check.specs.Parted.{Cutting, cutting_at_start, declared_b
 ghost use Rattle.sieve_check.specs.Readable.{IsReadable, DoesAll};
 ghost use Rattle.sieve_check.specs.Requirement.{IsTextJudgedUnder, JudgesBehindRequires};
 ghost use Rattle.sieve_table.specs.Role.{names_variable};
-ghost use Rattle.sieve_table.specs.Capability.{capabilities, capability_name, is_capability, is_name_of};
-ghost use Rattle.sieve_table.specs.Table.{command_named, command_row, tag_named, tag_row, test_named, test_row};
-ghost use Rattle.sieve_table.specs.view.Number.{all_tags};
 ghost use Rattle.sieve_reading.specs.Tree as checked;
-ghost use Rattle.sieve_table.specs.declared.capability.Capability.{Capability};
 ghost use Rattle.sieve_table.specs.declared.row.Role.{Role};
 ghost use Rattle.sieve_table.specs.declared.rule.Rule.{Rule};
-ghost use Rattle.sieve_table.specs.declared.table.CommandKind.{CommandKind};
-ghost use Rattle.sieve_table.specs.declared.table.Tag.{Tag};
-ghost use Rattle.sieve_table.specs.declared.table.TestKind.{TestKind};
 ghost use Rattle.sieve_variables.specs.Part.{grouped, literal, scoped_part, variable_part};
 ghost use Rattle.sieve_variables.specs.Reference.{Cuts, TextPiece};
 ghost use Rattle.sieve_variables.specs.Variable.{scoped, variable_named};
@@ -37,12 +30,6 @@ ghost use Rattle.sieve_variables.specs.Variable.{scoped, variable_named};
 pub fn first_breach_is_least()
     ensures order { (tree : List Node) → breaches_of tree ≡ flat_map breaches_at (elements_of tree) }
     ensures least { (tree : List Node) (breach : Breach) → first_breach tree ≡ Some breach → IsLeastBreach tree breach }
-{}
-
-/// Behind a string of a `require`, what was required still is, and what the string names, and nothing else.
-#[tactic(auto, using(crate::proofs::Required::named_is_required))]
-pub fn what_is_named_is_required()
-    ensures { (required : Required) (name : List ℕ) (capability : Capability) → is_required (requiring required name) capability ≡ (is_required required capability || is_name_of name capability) }
 {}
 
 /// How a string is cut into parts goes by its role. One whose references stand for values has the parts that its one cut makes (RFC
@@ -82,16 +69,6 @@ pub fn declared_names_are_one()
 pub fn what_is_written_to_be_set_is_set()
     ensures behind { (commands : Nodes) → (behind_nodes script_start commands).scope.assigned ≡ set_by (nodes_mentions commands) }
     ensures before { (tree : List Node) (place : ℕ) (element : Element) → slice_get (elements_of tree) place ≡ Some element → HasSetBefore (take place (elements_of tree)) element }
-{}
-
-/// Each command, each test and each tag is found by the name of its row, and each capability by its name, which no other has.
-#[tactic(auto, using(crate::proofs::Names::names))]
-pub fn names_are_found()
-    ensures commands { (kind : CommandKind) → command_named (command_row kind).name ≡ Some kind }
-    ensures tests { (kind : TestKind) → test_named (test_row kind).name ≡ Some kind }
-    ensures tags { (tag : Tag) → tag_named all_tags (tag_row tag).name ≡ Some tag }
-    ensures capabilities { (capability : Capability) → is_capability (capability_name capability) ≡ true }
-    ensures alone { (capability : Capability) → filter (is_name_of (capability_name capability)) capabilities ≡ capability ∷ [] }
 {}
 
 /// The abstract script of a readable tree has each command's choice, stop, return or act once, in the order of the text. So nothing of

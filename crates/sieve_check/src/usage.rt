@@ -4,13 +4,12 @@ ghost use Rattle.std.specs.List.{list_any};
 ghost use Rattle.sieve_syntax.specs.view.Tree.{tests_of};
 ghost use Rattle.sieve_reading.specs.Positional.{is_positional_label};
 ghost use Rattle.sieve_check.specs.Use as spec;
-ghost use Rattle.sieve_check.specs.view.Context.{required_as};
+ghost use Rattle.sieve_table.specs.view.Required.{required_as};
 ghost use Rattle.sieve_table.specs.view.Row.{row_as};
 
-use crate::context::Required;
 use sieve_reading::Label;
 use sieve_syntax::Tests;
-use sieve_table::{Capability, Inner, Row, TagKind, same_kind};
+use sieve_table::{Capability, Inner, Required, Row, TagKind, same_kind};
 
 /// Whether a capability has to be required and isn't.
 fn is_lacking(required: Required, capability: Capability) -> bool

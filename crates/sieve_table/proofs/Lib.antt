@@ -1,2 +1,5 @@
-mod Numbers
+pub mod Each
+mod Flags
+mod Names
+mod Naming
 pub mod Telling

@@ -1,12 +1,15 @@
 -- The capabilities that a script can require (RFC 5228, section 2.10.5).
-use Rattle.std.specs.Prelude.{ℕ, Bool, List, [], ◌∷◌, nat_eq, codes}
+use Rattle.std.specs.Prelude.{ℕ, Bool, List, [], ◌∷◌, Option, find, nat_eq, codes}
 use Rattle.std.specs.List.{list_any}
 use lib.Pointwise.{pointwise}
+use denote.Enum.Bare.{sameb}
+use Rattle.sieve_table.specs.Every.{every}
+use Rattle.sieve_table.specs.contracts.capability.Capability.{enum, the_type}
 use Rattle.sieve_table.specs.declared.capability.Capability.{Capability}
 use Rattle.sieve_table.specs.declared.capability.Capability.TheVariants.{Fileinto, Envelope, Variables, Imap4flags, Include, Copy, OctetComparator, CasemapComparator}
 
 -- the string that names one in a `require` (RFC 5228, sections 4.1 and 5.4; RFC 5229, section 2; RFC 5232, section 1; RFC
--- 6609, section 3.1; RFC 3894, section 2). The two comparators of RFC 5228, section 2.7.3, may be required, and need not be.
+-- 6609, section 3.1; RFC 3894, section 2; comparators: RFC 5228, section 2.7.3)
 abbrev pub capability_name : Capability → List ℕ
 capability_name Fileinto = codes "fileinto"
 capability_name Envelope = codes "envelope"
@@ -19,11 +22,22 @@ capability_name CasemapComparator = codes "comparator-i;ascii-casemap"
 
 -- the capabilities that there are
 abbrev pub capabilities : List Capability
-capabilities = Fileinto ∷ Envelope ∷ Variables ∷ Imap4flags ∷ Include ∷ Copy ∷ OctetComparator ∷ CasemapComparator ∷ []
+capabilities = every enum tt
+
+abbrev pub same_capability : Capability → Capability → Bool
+same_capability a b = sameb the_type a b
+
+-- the two comparators of RFC 5228, section 2.7.3, may be required, and need not be
+abbrev pub is_always_there : Capability → Bool
+is_always_there capability = list_any (same_capability capability) (OctetComparator ∷ CasemapComparator ∷ [])
 
 -- whether a string names this one, octet for octet
 abbrev pub is_name_of : List ℕ → Capability → Bool
 is_name_of name capability = pointwise nat_eq (capability_name capability) name
+
+-- the one that a string names
+abbrev pub capability_named : List ℕ → Option Capability
+capability_named name = find (is_name_of name) capabilities
 
 -- whether a string names one that there is
 abbrev pub is_capability : List ℕ → Bool

@@ -1,11 +1,12 @@
 -- The roles of arguments: which are one, and what they say of their strings.
-use Rattle.std.specs.Prelude.{Bool, true, false, ◌||◌, Option, Some, None, nat_eq}
+use Rattle.std.specs.Prelude.{Bool, true, false, ◌||◌, Option, Some, None}
+use denote.Enum.Bare.{sameb}
+use Rattle.sieve_table.specs.contracts.row.Role.{the_type}
 use Rattle.sieve_table.specs.declared.row.Role.{Role}
 use Rattle.sieve_table.specs.declared.row.Role.TheVariants as role
-use Rattle.sieve_table.specs.view.Number.{role_number}
 
 abbrev pub same_role : Role → Role → Bool
-same_role a b = nat_eq (role_number a) (role_number b)
+same_role a b = sameb the_type a b
 
 -- whether a role is given, and is the wanted one
 abbrev pub has_role : Role → Option Role → Bool

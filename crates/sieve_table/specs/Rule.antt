@@ -1,5 +1,8 @@
 -- The words of the rules, as a report prints them, and their numbers.
-use Rattle.std.specs.Prelude.{ℕ, List, [], ◌∷◌, codes}
+use Rattle.std.specs.Prelude.{ℕ, ◌+◌, List, codes}
+use denote.Enum.Declared.{tag_of}
+use Rattle.sieve_table.specs.Every.{every}
+use Rattle.sieve_table.specs.contracts.rule.Rule.{enum, the_type}
 use Rattle.sieve_table.specs.declared.rule.Rule.{Rule}
 use Rattle.sieve_table.specs.declared.rule.Rule.TheVariants.{RequirePlace, UnknownCapability, UnknownCommand, NotRequired, ElsePlace, BadTag, BadArguments, UnknownComparator, BadVariableName, GlobalAfterSet, BadNamespace, MatchIndex, NumberTooLarge, BadEnvelopePart, NotAddressHeader, TooManyVariables}
 
@@ -21,25 +24,10 @@ rule_word BadEnvelopePart = codes "bad-envelope-part"
 rule_word NotAddressHeader = codes "not-address-header"
 rule_word TooManyVariables = codes "too-many-variables"
 
--- a rule's number: of two that are broken at one place, the one with the lesser number is reported
-abbrev pub rule_number : Rule → ℕ
-rule_number RequirePlace = 1
-rule_number UnknownCapability = 2
-rule_number UnknownCommand = 3
-rule_number NotRequired = 4
-rule_number ElsePlace = 5
-rule_number BadTag = 6
-rule_number BadArguments = 7
-rule_number UnknownComparator = 8
-rule_number BadVariableName = 9
-rule_number GlobalAfterSet = 10
-rule_number BadNamespace = 11
-rule_number MatchIndex = 12
-rule_number NumberTooLarge = 13
-rule_number BadEnvelopePart = 14
-rule_number NotAddressHeader = 15
-rule_number TooManyVariables = 16
-
 -- the rules in the order of their numbers
 abbrev pub all_rules : List Rule
-all_rules = RequirePlace ∷ UnknownCapability ∷ UnknownCommand ∷ NotRequired ∷ ElsePlace ∷ BadTag ∷ BadArguments ∷ UnknownComparator ∷ BadVariableName ∷ GlobalAfterSet ∷ BadNamespace ∷ MatchIndex ∷ NumberTooLarge ∷ BadEnvelopePart ∷ NotAddressHeader ∷ TooManyVariables ∷ []
+all_rules = every enum tt
+
+-- a rule's number, from 1 on: of two that are broken at one place, the one with the lesser number is reported
+abbrev pub rule_number : Rule → ℕ
+rule_number rule = tag_of the_type rule + 1

@@ -1,6 +1,12 @@
 -- The table: a row for each command, test and tag that there is says what it takes.
-use Rattle.std.specs.Prelude.{ℕ, Bool, true, false, List, [], ◌∷◌, Option, Some, None, find, nat_eq, codes}
+use Rattle.std.specs.Prelude.{ℕ, Bool, true, false, List, [], ◌∷◌, Option, Some, None, find, codes}
 use Rattle.std.specs.Str.{str_eq_ignore_ascii_case}
+use denote.Enum.Bare.{sameb}
+use Rattle.sieve_table.specs.Every.{every}
+use Rattle.sieve_table.specs.contracts.row.TagKind as kinds
+use Rattle.sieve_table.specs.contracts.table.CommandKind as command_kinds
+use Rattle.sieve_table.specs.contracts.table.Tag as all
+use Rattle.sieve_table.specs.contracts.table.TestKind as test_kinds
 use Rattle.sieve_table.specs.declared.capability.Capability.{Capability}
 use Rattle.sieve_table.specs.declared.capability.Capability.TheVariants as capability
 use Rattle.sieve_table.specs.declared.row.Form.{Form}
@@ -18,7 +24,6 @@ use Rattle.sieve_table.specs.declared.table.Tag.{Tag}
 use Rattle.sieve_table.specs.declared.table.Tag.TheVariants as tag
 use Rattle.sieve_table.specs.declared.table.TestKind.{TestKind}
 use Rattle.sieve_table.specs.declared.table.TestKind.TheVariants as test
-use Rattle.sieve_table.specs.view.Number.{kind_number, tag_number}
 
 -- WHAT A ROW SAYS
 
@@ -52,12 +57,15 @@ pub record TagRow : Type 0 where
   -- what has to be required for it
   pub needs : Option Capability
 
--- whether two tags are one, and two kinds of tags
+-- whether two commands are one, two tags, and two kinds of tags
+abbrev pub same_command : CommandKind → CommandKind → Bool
+same_command a b = sameb command_kinds.the_type a b
+
 abbrev pub same_tag : Tag → Tag → Bool
-same_tag a b = nat_eq (tag_number a) (tag_number b)
+same_tag a b = sameb all.the_type a b
 
 abbrev pub same_kind : TagKind → TagKind → Bool
-same_kind a b = nat_eq (kind_number a) (kind_number b)
+same_kind a b = sameb kinds.the_type a b
 
 -- an argument of this form and role, for which nothing need be required
 abbrev pub slot : Form → Role → Slot
@@ -191,10 +199,13 @@ abbrev pub is_named : List ℕ → List ℕ → Bool
 is_named name written = str_eq_ignore_ascii_case name written
 
 abbrev pub commands : List CommandKind
-commands = command.Require ∷ command.If ∷ command.Elsif ∷ command.Else ∷ command.Keep ∷ command.Fileinto ∷ command.Redirect ∷ command.Discard ∷ command.Stop ∷ command.Set ∷ command.SetFlag ∷ command.AddFlag ∷ command.RemoveFlag ∷ command.Include ∷ command.Return ∷ command.Global ∷ []
+commands = every command_kinds.enum tt
 
 abbrev pub tests : List TestKind
-tests = test.Header ∷ test.Address ∷ test.Envelope ∷ test.Exists ∷ test.Size ∷ test.AllOf ∷ test.AnyOf ∷ test.Not ∷ test.True ∷ test.False ∷ test.String ∷ test.HasFlag ∷ []
+tests = every test_kinds.enum tt
+
+abbrev pub all_tags : List Tag
+all_tags = every all.enum tt
 
 -- the command of that name
 unfoldable pub command_named : List ℕ → Option CommandKind

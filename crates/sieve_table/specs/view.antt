@@ -1,3 +1,3 @@
 -- What the program's types stand for in contracts, and facts of one function alone. The other files of specs/ restate the subject.
-pub mod Number
+pub mod Required
 pub mod Row

@@ -1,9 +1,9 @@
 //! The capabilities that a script can require.
 ghost use Rattle.std.specs.Prelude.{◌≡◌};
-ghost use Rattle.sieve_table.specs.Capability.{capability_name, is_capability, is_name_of};
+ghost use Rattle.sieve_table.specs.Capability.{capability_name, capability_named, is_always_there, is_capability, is_name_of};
 
 /// What a command, a test, a tag or an argument may need (RFC 5228, section 2.10.5).
-#[derive(Clone, Copy)]
+#[derive(Clone, Copy, PartialEq, Eq)]
 pub enum Capability {
     /// `fileinto` (RFC 5228, section 4.1).
     Fileinto,
@@ -24,7 +24,7 @@ pub enum Capability {
 }
 
 /// The capabilities that there are.
-const CAPABILITIES: [Capability; 8] = [
+pub(crate) const CAPABILITIES: [Capability; 8] = [
     Capability::Fileinto,
     Capability::Envelope,
     Capability::Variables,
@@ -51,13 +51,30 @@ impl Capability {
             Capability::CasemapComparator => b"comparator-i;ascii-casemap",
         }
     }
+
+    /// Whether it need not be required (RFC 5228, section 2.7.3).
+    pub(crate) fn is_always_there(self) -> bool
+        ensures { result ≡ is_always_there self }
+    {
+        self == Capability::OctetComparator || self == Capability::CasemapComparator
+    }
 }
 
 /// Whether a string names it, octet for octet.
-pub fn is_name_of(name: &[u8], capability: Capability) -> bool
+fn is_name_of(name: &[u8], capability: Capability) -> bool
     ensures { result ≡ is_name_of name.now capability }
 {
     capability.name() == name
+}
+
+/// The capability that a string names.
+pub(crate) fn capability_named(name: &[u8]) -> Option<Capability>
+    ensures { result ≡ capability_named name.now }
+{
+    CAPABILITIES
+        .iter()
+        .copied()
+        .find(|capability| is_name_of(name, *capability))
 }
 
 /// Whether a string names a capability that there is.

@@ -1,23 +1,33 @@
 //! Laws over the definitions. Each of these functions does nothing: its contract is the law.
-ghost use Rattle.std.specs.Prelude.{◌≡◌, ◌-◌, Some, length, slice_get};
+ghost use Rattle.std.specs.Prelude.{◌≡◌, ◌-◌, ◌||◌, ◌∷◌, ℕ, List, [], Some, filter, length, slice_get, true};
+ghost use Rattle.sieve_table.specs.Capability.{capabilities, capability_name, is_capability, is_name_of};
+ghost use Rattle.sieve_table.specs.Required.{Required, is_required, requiring};
 ghost use Rattle.sieve_table.specs.Rule.{all_rules, rule_number};
-ghost use Rattle.sieve_table.specs.view.Number.{all_kinds, all_roles, all_tags, kind_number, role_number, tag_number};
-ghost use Rattle.sieve_table.specs.declared.row.Role.{Role};
-ghost use Rattle.sieve_table.specs.declared.row.TagKind.{TagKind};
+ghost use Rattle.sieve_table.specs.Table.{all_tags, command_named, command_row, tag_named, tag_row, test_named, test_row};
+ghost use Rattle.sieve_table.specs.declared.capability.Capability.{Capability};
 ghost use Rattle.sieve_table.specs.declared.rule.Rule.{Rule};
+ghost use Rattle.sieve_table.specs.declared.table.CommandKind.{CommandKind};
 ghost use Rattle.sieve_table.specs.declared.table.Tag.{Tag};
+ghost use Rattle.sieve_table.specs.declared.table.TestKind.{TestKind};
 
 /// The rules stand in the order of their numbers: the rule of number n is the n-th of them, and there is no other.
-#[tactic(auto, using(crate::proofs::Numbers::rule_at))]
 pub fn rules_go_by_their_numbers()
     ensures order { (rule : Rule) → slice_get all_rules (rule_number rule - 1) ≡ Some rule }
     ensures all { length all_rules ≡ 16 }
 {}
 
-/// Roles, tags and kinds of tags have numbers of their own, by which the definitions tell them apart.
-#[tactic(auto, using(crate::proofs::Numbers::numbered))]
-pub fn numbers_tell_roles_tags_and_kinds()
-    ensures roles { (role : Role) → slice_get all_roles (role_number role) ≡ Some role }
-    ensures tags { (tag : Tag) → slice_get all_tags (tag_number tag) ≡ Some tag }
-    ensures kinds { (kind : TagKind) → slice_get all_kinds (kind_number kind) ≡ Some kind }
+/// Behind a string of a `require`, what was required still is, and what the string names, and nothing else.
+#[tactic(auto, using(crate::proofs::Naming::named_is_required))]
+pub fn what_is_named_is_required()
+    ensures { (required : Required) (name : List ℕ) (capability : Capability) → is_required (requiring required name) capability ≡ (is_required required capability || is_name_of name capability) }
+{}
+
+/// Each command, each test and each tag is found by the name of its row, and each capability by its name, which no other has.
+#[tactic(auto, using(crate::proofs::Names::names))]
+pub fn names_are_found()
+    ensures commands { (kind : CommandKind) → command_named (command_row kind).name ≡ Some kind }
+    ensures tests { (kind : TestKind) → test_named (test_row kind).name ≡ Some kind }
+    ensures tags { (tag : Tag) → tag_named all_tags (tag_row tag).name ≡ Some tag }
+    ensures capabilities { (capability : Capability) → is_capability (capability_name capability) ≡ true }
+    ensures alone { (capability : Capability) → filter (is_name_of (capability_name capability)) capabilities ≡ capability ∷ [] }
 {}

@@ -6,6 +6,7 @@ mod address;
 mod capability;
 mod command_rows;
 pub mod laws;
+mod required;
 mod role;
 mod row;
 mod rule;
@@ -13,7 +14,8 @@ mod table;
 mod test_rows;
 
 pub use address::{is_address_field, is_envelope_part};
-pub use capability::{Capability, is_capability, is_name_of};
+pub use capability::{Capability, is_capability};
+pub use required::Required;
 pub use role::{has_role, is_expanded, names_variable};
 pub use row::{Form, Inner, Role, Row, Slot, TagKind, TagRow, same_kind};
 pub use rule::Rule;

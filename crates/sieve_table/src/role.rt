@@ -8,7 +8,7 @@ use crate::row::Role;
 fn same_role(a: Role, b: Role) -> bool
     ensures { result ≡ same_role a b }
 {
-    a as u8 == b as u8
+    a == b
 }
 
 /// Whether a role is given, and is the wanted one.

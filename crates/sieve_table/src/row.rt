@@ -17,7 +17,7 @@ pub enum Form {
 }
 
 /// What an argument is for. By this its strings are judged and read.
-#[derive(Clone, Copy)]
+#[derive(Clone, Copy, PartialEq, Eq)]
 pub enum Role {
     /// Capabilities (RFC 5228, section 3.2).
     Capabilities,
@@ -61,7 +61,7 @@ pub struct Slot {
 }
 
 /// The kinds of tags. Two of one kind don't stand together.
-#[derive(Clone, Copy)]
+#[derive(Clone, Copy, PartialEq, Eq)]
 pub enum TagKind {
     /// The comparator (RFC 5228, section 2.7.3).
     Comparator,
@@ -156,5 +156,5 @@ pub(crate) const FLAGS: Slot = Slot {
 pub fn same_kind(a: TagKind, b: TagKind) -> bool
     ensures { result ≡ same_kind a b }
 {
-    a as u8 == b as u8
+    a == b
 }

@@ -74,7 +74,7 @@ pub enum TestKind {
 }
 
 /// A tag that there is.
-#[derive(Clone, Copy)]
+#[derive(Clone, Copy, PartialEq, Eq)]
 pub enum Tag {
     /// `:comparator`, which takes the string behind it (RFC 5228, section 2.7.3).
     Comparator,
@@ -320,5 +320,5 @@ pub fn test_named(written: &[u8]) -> Option<TestKind>
 pub fn same_tag(a: Tag, b: Tag) -> bool
     ensures { result ≡ same_tag a b }
 {
-    a as u8 == b as u8
+    a == b
 }

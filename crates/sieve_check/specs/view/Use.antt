@@ -3,7 +3,8 @@ use Rattle.std.specs.Prelude.{ℕ, Bool, List, ◌++◌}
 use Rattle.sieve_syntax.specs.Tree.{Argument, Tests}
 use Rattle.sieve_check.specs.Breach.{Breach, breaches_by, breaches_in, row_breaks}
 use Rattle.sieve_table.specs.Rule.{all_rules}
-use Rattle.sieve_check.specs.Context.{Context, Required}
+use Rattle.sieve_check.specs.Context.{Context}
+use Rattle.sieve_table.specs.Required.{Required}
 use Rattle.sieve_check.specs.Element.{row_elements}
 use Rattle.sieve_table.specs.Table.{Row}
 use Rattle.sieve_table.specs.declared.rule.Rule.{Rule}

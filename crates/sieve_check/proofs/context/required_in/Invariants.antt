@@ -1,8 +1,9 @@
 use Rattle.std.proofs.Common.{◌≡◌, map, drop}
 use Rattle.sieve_syntax.specs.Tree.{nodes}
 use Rattle.sieve_syntax.specs.view.Tree.{node_of}
-use Rattle.sieve_check.specs.Context.{nothing_required, required_from}
-use Rattle.sieve_check.specs.view.Context.{required_as}
+use Rattle.sieve_check.specs.Context.{required_from}
+use Rattle.sieve_table.specs.Required.{nothing_required}
+use Rattle.sieve_table.specs.view.Required.{required_as}
 use Rattle.sieve_check.proofs.context.required_in.Given as goal
 
 -- the commands that are left require, with what the commands so far name, what all commands require

@@ -1,9 +1,9 @@
 use Rattle.std.proofs.Common.{◌≡◌, drop, map}
 use Rattle.sieve_syntax.specs.view.Tree.{text_of}
 use Rattle.sieve_check.specs.Context.{requiring_texts}
-use Rattle.sieve_check.specs.view.Context.{required_as}
-use Rattle.sieve_check.proofs.context.Required.with_texts.Given as goal
+use Rattle.sieve_table.specs.view.Required.{required_as}
+use Rattle.sieve_check.proofs.context.requiring_texts.Given as goal
 
 -- what is required so far, with what the strings that are left name, is what is required at the start with what all strings name
 abbrev pub invariant-loop-text : goal.invariant-loop-text
-invariant-loop-text l = requiring_texts (required_as l.required) (map text_of (drop l.text-index l.texts)) ≡ requiring_texts (required_as l.fn.self) (map text_of l.texts)
+invariant-loop-text l = requiring_texts (required_as l.required) (map text_of (drop l.text-index l.texts)) ≡ requiring_texts (required_as l.fn.required) (map text_of l.texts)
