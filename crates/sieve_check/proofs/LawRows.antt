@@ -5,7 +5,7 @@ use Rattle.sieve_syntax.specs.Symbol.{identifier, number_symbol, string_symbol}
 use Rattle.sieve_check.specs.Bare.{bare_node}
 use Rattle.sieve_check.specs.Breach.{breaches_at, breaches_in, breaches_of}
 use Rattle.sieve_check.specs.Context.{behind, takes_references}
-use Rattle.sieve_table.specs.Required.{nothing_required}
+use Rattle.sieve_table.specs.Required.{is_required, nothing_required}
 use Rattle.sieve_check.specs.Element.{Element, the_command, the_number, the_test, the_text, block_elements, elements_of, node_elements, nodes_elements, test_elements, tests_elements}
 use Rattle.sieve_check.specs.Naming.{declares, nodes_mentions, set_by, sets}
 use Rattle.sieve_check.specs.Order.{written_by}
@@ -16,9 +16,10 @@ use Rattle.sieve_check.specs.Requirement.{leading_requires}
 use Rattle.sieve_reading.specs.Script.{always, block_commands, chain_of, condition_of, conditions_in, never, chain_with, script_of}
 use Rattle.sieve_table.specs.Table.{command_named, test_named}
 use Rattle.sieve_reading.specs.Tree.{node, no_block, no_tests, nodes, strings}
+use Rattle.sieve_table.specs.declared.capability.Capability.TheVariants.{Variables}
 use Rattle.sieve_table.specs.declared.row.Role.TheVariants.{Address}
 use Rattle.sieve_check.proofs.Readable.{is_readable}
-use Rattle.sieve_check.proofs.Roles.{not_both}
+use Rattle.sieve_check.proofs.Truth.{not_both}
 
 -- a command that ends by a semicolon, one with a test and a block, and one with a block alone
 abbrev plain : List ℕ → ℕ → syntax.Node
@@ -83,7 +84,7 @@ leading_row : leading_requires late_require ≡ requiring_one (codes "variables"
 unfolding command_named
 leading_row = refl
 
-cut_row : (cutting_at_start late_require).required ≡ record nothing_required { variables = true }
+cut_row : is_required (cutting_at_start late_require).required Variables ≡ true
 unfolding command_named
 cut_row = refl
 

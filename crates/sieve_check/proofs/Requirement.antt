@@ -29,7 +29,7 @@ use Rattle.sieve_table.specs.declared.rule.Rule.TheVariants.{BadArguments, BadTa
 use Rattle.sieve_table.specs.declared.table.CommandKind.{CommandKind}
 use Rattle.sieve_table.specs.declared.table.CommandKind.TheVariants as command
 use Rattle.sieve_table.specs.declared.table.TestKind.{TestKind}
-use Rattle.sieve_check.proofs.Roles.{never_both, not_both}
+use Rattle.sieve_check.proofs.Truth.{never_both, not_both}
 use Rattle.sieve_check.proofs.Unbroken.{keeps, none_in_both, none_in_front}
 
 -- ARGUMENTS AND TESTS
