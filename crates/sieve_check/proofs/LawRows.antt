@@ -3,20 +3,18 @@ use Rattle.std.proofs.Common.{◌≡◌, ℕ, Bool, true, false, List, [], ◌�
 use Rattle.sieve_syntax.specs.Tree as syntax
 use Rattle.sieve_syntax.specs.Symbol.{identifier, number_symbol, string_symbol}
 use Rattle.sieve_check.specs.Bare.{bare_node}
-use Rattle.sieve_check.specs.Breach.{breaches_at, breaches_in, breaches_of}
 use Rattle.sieve_check.specs.Context.{behind, nothing_required, takes_references}
 use Rattle.sieve_check.specs.Element.{Element, the_command, the_number, the_test, the_text, block_elements, elements_of, node_elements, nodes_elements, test_elements, tests_elements}
 use Rattle.sieve_check.specs.Naming.{declares, nodes_mentions, set_by, sets}
 use Rattle.sieve_check.specs.Order.{written_by}
 use Rattle.sieve_check.specs.Parted.{cutting_at_start, parted}
-use Rattle.sieve_check.specs.Readable.{IsReadable, ReadsBlock, ReadsNode, ReadsNodes, act_mark, block_marks, choice_mark, marks, node_marks, nodes_marks, return_mark, stop_mark}
+use Rattle.sieve_check.specs.Readable.{IsReadable, ReadsBlock, ReadsNode, ReadsNodes, act_mark, choice_mark, marks, return_mark, stop_mark}
 use Rattle.sieve_reading.specs.Reading.{plain_settings, discard_leaf, keep_leaf}
 use Rattle.sieve_check.specs.Requirement.{leading_requires}
 use Rattle.sieve_reading.specs.Script.{always, block_commands, chain_of, condition_of, conditions_in, never, chain_with, script_of}
 use Rattle.sieve_table.specs.Table.{command_named, test_named}
-use Rattle.sieve_reading.specs.Tree.{node, no_block, no_tests, nodes, strings}
+use Rattle.sieve_reading.specs.Tree.{node, no_block, no_tests, strings}
 use Rattle.sieve_table.specs.declared.row.Role.TheVariants.{Address}
-use Rattle.sieve_check.proofs.Readable.{is_readable}
 use Rattle.sieve_check.proofs.Roles.{not_both}
 
 -- a command that ends by a semicolon, one with a test and a block, and one with a block alone
@@ -37,22 +35,10 @@ marks_row : marks (script_of (parted branches)) ≡ choice_mark always ∷ act_m
 unfolding marks chain_of chain_with block_commands condition_of conditions_in command_named test_named
 marks_row = refl
 
-tree_marks_row : nodes_marks (nodes (parted branches)) ≡ choice_mark always ∷ act_mark (keep_leaf plain_settings) 1 ∷ choice_mark never ∷ stop_mark ∷ act_mark discard_leaf 3 ∷ act_mark (keep_leaf plain_settings) 4 ∷ []
-unfolding nodes_marks node_marks block_marks condition_of conditions_in command_named test_named
-tree_marks_row = refl
-
 -- return; keep;
 return_marks_row : marks (script_of (parted (plain (codes "return") 1 ∷ plain (codes "keep") 2 ∷ []))) ≡ return_mark ∷ act_mark (keep_leaf plain_settings) 2 ∷ []
 unfolding marks chain_of chain_with block_commands condition_of conditions_in command_named test_named
 return_marks_row = refl
-
--- the branches break no rule, so they are readable
-faultless_row : breaches_of branches ≡ []
-unfolding breaches_in breaches_at nodes_elements node_elements block_elements tests_elements test_elements command_named test_named behind
-faultless_row = refl
-
-readable_row : IsReadable (parted branches)
-readable_row = is_readable branches faultless_row
 
 -- elsif true { keep; }
 astray_row : IsReadable (parted (branch (codes "elsif") 1 (codes "true") (plain (codes "keep") 1) ∷ [])) → ⊥
