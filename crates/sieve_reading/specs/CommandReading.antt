@@ -97,6 +97,10 @@ command_reading_by command.Global labels args = reads_nothing
 abbrev pub kind_reading : CommandKind → List Argument → CommandReading
 kind_reading kind args = command_reading_by kind (row_labels (command_row kind) args) args
 
+-- what a command of a kind is, where it is of one
+abbrev pub some_reading : Option CommandKind → List Argument → Option CommandReading
+some_reading kind args = option_map (λ k. kind_reading k args) kind
+
 -- what a command is, where there is one of its name
 abbrev pub command_reading : Node → Option CommandReading
-command_reading (node name line args ts ending) = option_map (λ kind. kind_reading kind args) (command_named name)
+command_reading (node name line args ts ending) = some_reading (command_named name) args
