@@ -17,7 +17,7 @@ use Rattle.sieve_reading.specs.Reading.{ValueSource, header_values, address_valu
 
 -- what a test asks that compares values with keys
 abbrev pub compares_from : Option ValueSource → MatchType → Option Collation → Option (List (List Part)) → Option Ask
-compares_from (Some source) match_type (Some collation) (Some keys) = Some (compares source match_type collation keys)
+compares_from (Some source) match_type (Some collation) (Some keys) = Some (compares source (record { match_type = match_type; collation = collation }) keys)
 compares_from (Some source) match_type (Some collation) None = None
 compares_from (Some source) match_type None keys = None
 compares_from None match_type collation keys = None

@@ -16,7 +16,8 @@ pub use command_reading::read_command;
 pub use given::literal_in_parts;
 pub use label::{Expected, Label, Shape};
 pub use reading::{
-    Ask, CommandReading, FlagChange, Leaf, MatchType, Settings, TestReading, ValueSource,
+    Ask, CommandReading, Comparison, FlagChange, Leaf, MatchType, Settings, TestReading,
+    ValueSource,
 };
 pub use role::role_of;
 pub use shape::{AsOctets, AsParts, RowLabels, StringView, row_expected, row_labels, shape_of};

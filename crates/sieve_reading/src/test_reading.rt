@@ -14,7 +14,7 @@ use crate::given::{
     address_part_of, collation_by, given_texts, match_type_of, number_in, texts_in,
 };
 use crate::labelled::{argument_in, has_tag, into_argument, into_arguments};
-use crate::reading::{Ask, MatchType, TestReading, ValueSource};
+use crate::reading::{Ask, Comparison, MatchType, TestReading, ValueSource};
 use match_text::Collation;
 use message_text::AddressPart;
 use sieve_syntax::{Argument, TestName};
@@ -85,8 +85,10 @@ fn compares_from(
     let keys = texts_in(keys)?;
     Some(Ask::Compares {
         source,
-        match_type,
-        collation,
+        comparison: Comparison {
+            match_type,
+            collation,
+        },
         keys,
     })
 }

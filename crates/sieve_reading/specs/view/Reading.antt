@@ -34,7 +34,7 @@ source_as (source.String texts) = reading.string_values (texts_as texts.items)
 source_as (source.Flags variables) = reading.flag_values (option_map (λ texts. texts_as texts.items) variables)
 
 abbrev pub ask_as : Ask → reading.Ask
-ask_as (Compares source match_type collation keys) = reading.compares (source_as source) match_type collation (texts_as keys.items)
+ask_as (Compares source comparison keys) = reading.compares (source_as source) comparison (texts_as keys.items)
 ask_as (Exists names) = reading.exists_ask (texts_as names.items)
 ask_as (Over limit) = reading.over_ask limit
 ask_as (Under limit) = reading.under_ask limit
