@@ -151,7 +151,7 @@ chain_row : script_of (parted (branch (codes "if") 1 (header (tagged (codes "con
     ∷ branch (codes "elsif") 3 truth (plain (codes "stop") 4 [] ∷ [])
     ∷ syntax.node (codes "else") 5 [] syntax.no_tests (syntax.block syntax.end_nodes)
     ∷ plain (codes "keep") 6 [] ∷ []))
-    ≡ chooses (asks (compares (header_values ((literal (codes "a") ∷ []) ∷ [])) Contains Casemap ((literal (codes "b") ∷ []) ∷ []))) (acts discard_leaf 2 no_commands)
+    ≡ chooses (asks (compares (header_values ((literal (codes "a") ∷ []) ∷ [])) (record { match_type = Contains; collation = Casemap }) ((literal (codes "b") ∷ []) ∷ []))) (acts discard_leaf 2 no_commands)
     (chooses always (stops no_commands) no_commands no_commands)
     (acts (keep_leaf plain_settings) 6 no_commands)
 unfolding chain_of chain_with block_commands condition_of conditions_in command_named test_named
@@ -159,7 +159,7 @@ chain_row = refl
 
 -- if header :comparator "i;octet" ["a", "c"] "b" {}
 octet_row : script_of (parted (branch (codes "if") 1 (header (tagged (codes "comparator") ∷ one (codes "i;octet") ∷ syntax.strings (text (codes "a") ∷ text (codes "c") ∷ []) true ∷ one (codes "b") ∷ [])) [] ∷ []))
-    ≡ chooses (asks (compares (header_values ((literal (codes "a") ∷ []) ∷ (literal (codes "c") ∷ []) ∷ [])) Is Octet ((literal (codes "b") ∷ []) ∷ []))) no_commands no_commands no_commands
+    ≡ chooses (asks (compares (header_values ((literal (codes "a") ∷ []) ∷ (literal (codes "c") ∷ []) ∷ [])) (record { match_type = Is; collation = Octet }) ((literal (codes "b") ∷ []) ∷ []))) no_commands no_commands no_commands
 unfolding chain_of chain_with block_commands condition_of conditions_in command_named test_named
 octet_row = refl
 
@@ -179,7 +179,7 @@ flags_row : script_of (parted (plain (codes "require") 1 (one (codes "imap4flags
     ∷ branch (codes "if") 4 (syntax.test (codes "hasflag") 4 (tagged (codes "comparator") ∷ one (codes "i;octet") ∷ one (codes "a") ∷ []) syntax.no_tests) [] ∷ []))
     ≡ acts (flag_leaf Add (Some (local_variable (codes "v"))) ((literal (codes "x") ∷ []) ∷ [])) 2
     (acts (keep_leaf (record plain_settings { flags = Some ((literal (codes "y") ∷ []) ∷ []) })) 3
-    (chooses (asks (compares (flag_values None) Is Octet ((literal (codes "a") ∷ []) ∷ []))) no_commands no_commands no_commands))
+    (chooses (asks (compares (flag_values None) (record { match_type = Is; collation = Octet }) ((literal (codes "a") ∷ []) ∷ []))) no_commands no_commands no_commands))
 unfolding chain_of chain_with block_commands condition_of conditions_in command_named test_named
 flags_row = refl
 
