@@ -1,5 +1,5 @@
 -- What is kept in pools stays where it is.
-use Rattle.std.proofs.Common.{◌≡◌, ℕ, zero, suc, ◌<◌, ◌==◌, arith, Bool, true, false, if◌then◌else◌, List, [], ◌∷◌, ◌++◌, length, map, drop, get_or, Some, None, refl, sym, ap, ◌∙◌, subst}
+use Rattle.std.proofs.Common.{◌≡◌, ℕ, ◌<◌, ◌==◌, arith, Bool, true, false, if◌then◌else◌, List, [], ◌∷◌, ◌++◌, length, map, drop, get_or, Some, None, refl, sym, ap, ◌∙◌, subst}
 use Rattle.std.specs.Option.{option_map}
 use Rattle.std.proofs.lemmas.Bool.{eqb-true}
 use Rattle.std.specs.List.{slice_get}
@@ -73,12 +73,6 @@ slice_get-seam : {X : Type 0} (xs : List X) (x : X) (ys : List X) → slice_get 
 slice_get-seam [] x ys = refl
 slice_get-seam (y ∷ xs) x ys = slice_get-seam xs x ys
 
--- an item that lies at a place is found there, whatever stands behind
-get_or-there : {X : Type 0} (xs ys : List X) (i : ℕ) (d x : X) → slice_get xs i ≡ Some x → get_or (xs ++ ys) i d ≡ x
-get_or-there [] ys i d x at = cc
-get_or-there (y ∷ xs) ys zero d x at = cc
-get_or-there (y ∷ xs) ys (suc i) d x at = get_or-there xs ys i d x at
-
 somewhere : (place : ℕ) → place < nowhere → (place == nowhere) ≡ false
 somewhere place below = by_test (place == nowhere) refl
   where
@@ -110,10 +104,6 @@ module _ (p q : Pool) (place : ℕ) where
     grows = λ more. (record more { tests = test ∷ more.tests }, ap (λ (t : List PackedTest). record (plus p more) { tests = t }) (append_assoc p.tests (test ∷ []) more.tests));
     keeps = λ more. ap (λ (l : List PackedTest). get_or l place no_test) (append_assoc p.tests (test ∷ []) more.tests) ∙ ap (λ n. get_or (p.tests ++ test ∷ more.tests) n no_test) at ∙ get_or-append_seam p.tests test more.tests no_test;
   })
-
-  -- a test that was kept already is still there
-  pub test_still : (test : PackedTest) → slice_get p.tests place ≡ Some test → Kept p p (λ r. test_in r place) test
-  test_still test there = record { grows = grows_self p; keeps = λ more. get_or-there p.tests more.tests place no_test test there }
 
   pub settings_kept : (settings : PackedSettings) → place ≡ length p.settings → place < nowhere → q ≡ record p { settings = p.settings ++ settings ∷ [] } → Kept p q (λ r. packed_in r place) settings
   settings_kept settings at below is = subst (λ (q : Pool). Kept p q (λ r. packed_in r place) settings) (sym is) (record {

@@ -8,7 +8,7 @@ use std::mem::size_of;
 pub(crate) const NOWHERE: u32 = u32::MAX;
 
 /// Where a test takes values from, whose list lies at a place.
-#[derive(Clone, Copy, PartialEq, Eq)]
+#[derive(Clone, Copy)]
 pub enum SourceKind {
     /// From the fields of some names (RFC 5228, section 5.7).
     Header,
@@ -23,7 +23,7 @@ pub enum SourceKind {
 }
 
 /// What a test that compares says beside its values and its keys.
-#[derive(Clone, Copy, PartialEq, Eq)]
+#[derive(Clone, Copy)]
 pub struct PackedTest {
     /// Where the values are from.
     pub source: SourceKind,

@@ -1,5 +1,5 @@
 //! What operations of code say by its place: strings, variables, names of scripts, and what stands beside.
-ghost use Rattle.std.specs.Prelude.{◌≡◌, ◌<◌, [], true, IfOk, IfSome, None, Some, slice_index_or};
+ghost use Rattle.std.specs.Prelude.{◌≡◌, ◌<◌, [], true, IfOk, None, Some, slice_index_or};
 ghost use Rattle.std.specs.List.{slice_get};
 ghost use Rattle.std.specs.Option.{option_map};
 ghost use Rattle.sieve_reading.specs.Reading.{plain_settings};
@@ -53,21 +53,6 @@ fn unmodified() -> Modifiers {
         first_letter: None,
         quote_wildcard: false,
         length: false,
-    }
-}
-
-/// The place of the last test, where it is this one.
-fn last_place(tests: &[PackedTest], test: PackedTest) -> Option<usize>
-    ensures { IfSome result (λ i. slice_get tests.now i ≡ Some test) }
-{
-    if tests.is_empty() {
-        return None;
-    }
-    let last = tests.len() - 1;
-    if tests[last] == test {
-        Some(last)
-    } else {
-        None
     }
 }
 
@@ -187,13 +172,10 @@ impl Pools {
         Ok(place)
     }
 
-    /// Keeps what a test that compares says beside. Answers its place: that of the last one, where that says the same.
+    /// Keeps what a test that compares says beside. Answers its place.
     pub(crate) fn keep_test(&mut self, test: PackedTest) -> Result<u32, AllocError>
         ensures { IfOk result (λ place. Kept (pool_as self.old) (pool_as self.new) (λ p. test_in p place) test) }
     {
-        if let Some(last) = last_place(&self.tests, test) {
-            return place_of(last);
-        }
         let place = place_of(self.tests.len())?;
         self.tests.push(test)?;
         Ok(place)
