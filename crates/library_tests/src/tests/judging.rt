@@ -3,7 +3,7 @@
 use super::{holds, same};
 use sieve_check::{CheckFault, Checked, Rule, check};
 use sieve_reading::{
-    Argument, Ask, Command, CommandKind, CommandName, CommandReading, Leaf, MatchType, PartRef,
+    Argument, Ask, Command, CommandKind, CommandName, CommandReading, Comparison, Leaf, MatchType, PartRef,
     Test, TestKind, TestReading, Tests, Text, ValueSource, read_command, read_test,
 };
 use sieve_syntax::{ParsedScript, parse};
@@ -159,8 +159,10 @@ fn check_header(rt: &impl Abort, test: Test) {
             TestReading::Asks(
                 Ask::Compares {
                     source,
-                    match_type: MatchType::Is,
-                    collation: match_text::Collation::Octet,
+                    comparison: Comparison {
+                        match_type: MatchType::Is,
+                        collation: match_text::Collation::Octet,
+                    },
                     keys,
                 },
             ),

@@ -2,7 +2,6 @@
 ghost use Rattle.std.specs.Prelude.{◌≡◌, [], IfOk, None, Some, is_some, map, if◌then◌else◌};
 ghost use Rattle.match_text.specs.Wildcard.{matched};
 ghost use Rattle.sieve_effects.specs.Matching.{match_of, with_found};
-ghost use Rattle.match_text.specs.Comparator.{fold_of};
 ghost use Rattle.sieve_base.specs.view.Texts.{octets_of_each};
 ghost use Rattle.sieve_effects.specs.Matching.{first_match, pairs_with};
 ghost use Rattle.sieve_effects.specs.view.FieldTests.{found_with};
@@ -15,7 +14,7 @@ use match_text::{
     AsciiCasemap, Captures, Collation, Comparator, Octet, contains, contains_in, is, matches,
 };
 use sieve_base::Octets;
-use sieve_reading::MatchType;
+use sieve_reading::{Comparison, MatchType};
 use sieve_variables::Values;
 use std::alloc::{AllocError, Global};
 use std::borrow::CowSlice;
@@ -116,15 +115,14 @@ pub(crate) enum Keys<'a> {
     Texts(&'a [CowSlice<'a, u8>]),
 }
 
-/// How a test compares a value with keys.
+/// How a test compares a value with keys, and these.
 #[derive(Clone, Copy)]
-pub(crate) struct Comparison<'a> {
-    pub(crate) match_type: MatchType,
-    pub(crate) collation: Collation,
+pub(crate) struct Matcher<'a> {
+    pub(crate) comparison: Comparison,
     pub(crate) keys: Keys<'a>,
 }
 
-impl Comparison<'_> {
+impl Matcher<'_> {
     /// What a value gives that matches a key.
     fn match_of(
         &self,
@@ -132,9 +130,9 @@ impl Comparison<'_> {
         value: &[u8],
         key: &[u8],
     ) -> Result<Option<MatchValues>, AllocError>
-        ensures { IfOk result (λ found. found ≡ match_of self.now.match_type (fold_of self.now.collation) value.now key.now) }
+        ensures { IfOk result (λ found. found ≡ match_of self.now.comparison value.now key.now) }
     {
-        match (self.match_type, self.collation) {
+        match (self.comparison.match_type, self.comparison.collation) {
             (MatchType::Is, Collation::Octet) => Ok(plain_match(alloc, is::<Octet>(value, key))),
             (MatchType::Is, Collation::Casemap) => {
                 Ok(plain_match(alloc, is::<AsciiCasemap>(value, key)))
@@ -160,7 +158,7 @@ impl Comparison<'_> {
         texts: &[CowSlice<'_, u8>],
         value: &[u8],
     ) -> Result<Option<MatchValues>, AllocError>
-        ensures { IfOk result (λ found. found ≡ first_match self.now.match_type (fold_of self.now.collation) (pairs_with (octets_of_each texts.now) value.now)) }
+        ensures { IfOk result (λ found. found ≡ first_match self.now.comparison (pairs_with (octets_of_each texts.now) value.now)) }
     {
         for key in texts {
             if let Some(found) = self.match_of(alloc, value, key.as_slice())? {
@@ -178,7 +176,7 @@ impl Comparison<'_> {
         strings: &Strings<'_>,
         value: &[u8],
     ) -> Result<Option<MatchValues>, AllocError>
-        ensures { IfOk result (λ found. found ≡ first_match self.now.match_type (fold_of self.now.collation) (pairs_with (map (text_value values.now) strings.now) value.now)) }
+        ensures { IfOk result (λ found. found ≡ first_match self.now.comparison (pairs_with (map (text_value values.now) strings.now) value.now)) }
     {
         let mut buffer = Vec::new(alloc);
         for i in 0..strings.len() {

@@ -1,6 +1,6 @@
 use Rattle.std.proofs.Common.{◌++◌, ◌+◌, [], drop, ap, ◌∙◌, arith}
 use Rattle.sieve_effects.proofs.Copying.{one_further}
-use Rattle.sieve_effects.proofs.comparison.MatchValues.copied.Goals as goal
+use Rattle.sieve_effects.proofs.matcher.MatchValues.copied.Goals as goal
 
 pub loop-k-preserved : goal.loop-k-preserved
 loop-k-preserved c =

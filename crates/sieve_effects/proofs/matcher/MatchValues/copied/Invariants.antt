@@ -1,5 +1,5 @@
 use Rattle.std.proofs.Common.{◌≡◌, ◌+◌, ◌++◌, drop}
-use Rattle.sieve_effects.proofs.comparison.MatchValues.copied.Given as goal
+use Rattle.sieve_effects.proofs.matcher.MatchValues.copied.Given as goal
 
 -- the texts so far, and then the captures that are left, are all captures
 abbrev pub invariant-loop-k : goal.invariant-loop-k
