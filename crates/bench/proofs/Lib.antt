@@ -1,7 +1,6 @@
 pub mod Dumping
 mod EditRows
 pub mod Entries
-pub mod JobRows
 pub mod Jobs
 pub mod Judged
 pub mod Kept
@@ -10,7 +9,6 @@ pub mod Marks
 pub mod Names
 pub mod Rebuilt
 pub mod Refreshing
-mod ReportRows
 pub mod Stales
 pub mod Within
 pub mod Writing

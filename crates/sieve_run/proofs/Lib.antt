@@ -2,7 +2,6 @@ mod AgreeRows
 mod Bounds
 mod Depth
 mod Distinct
-mod Rows
 mod RunRows
 pub mod Unchanged
 pub mod Frame

@@ -2,6 +2,5 @@ pub mod Endings
 pub mod Moving
 pub mod Requests
 pub mod Serving
-pub mod SessionRows
 pub mod Sessions
 pub mod Tried

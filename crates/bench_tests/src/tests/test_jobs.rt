@@ -273,7 +273,8 @@ fn the_first_refusal_is_told(rt: HostRuntime) -> Result<(), AllocError> {
             (4_097, Part::Main, 1_025, TestEnd::Full, false),
             (4_097, Part::Id, 1_025, TestEnd::Full, false),
             (4_097, Part::Text, 1_048_577, TestEnd::Full, false),
-            // A text that is too large is refused before there is room for it.
+            // A name or a text that is too large is refused before there is room for it.
+            (4_096, Part::Name, 1_025, TestEnd::TooLarge, false),
             (4_096, Part::Text, 1_048_577, TestEnd::TooLarge, false),
             (4_096, Part::Text, 0, TestEnd::Full, false),
         ],
