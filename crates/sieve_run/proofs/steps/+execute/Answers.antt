@@ -22,7 +22,37 @@ use Rattle.sieve_variables.specs.Value.{with_own}
 use Rattle.sieve_run.proofs.Includes.{enters_by, fails_deep, fails_many, fails_running, looks_included, looks_present, not_entered, not_once, skips_included}
 use Rattle.sieve_run.proofs.Stepping.{acts_follow, past_end, runs_out, turns}
 use Rattle.sieve_run.proofs.steps.+execute.Goals as goal
-use Rattle.sieve_run.proofs.steps.+execute.Goals.{include-else-once-via-then-once+else-is_script, include-else-once-via-else-once}
+use Rattle.sieve_run.proofs.steps.+execute.Goals.{include-else-inclusion-via-then-inclusion+else-is_script, include-else-inclusion-via-else-inclusion}
+
+pub carry_out-returns-in-Keep-clause-step : goal.carry_out-returns-in-Keep-clause-step
+carry_out-returns-in-Keep-clause-step g t c =
+    let find : ScriptName → Lookup = library_of (g.L.Library.texts c.args.running.now.lib.now) in
+    rw c.in-Keep.is (c.act_keep.ensures (included find c.args.running.now.depth (delivery_as c.args.running.now.delivery.now)))
+
+pub carry_out-returns-in-Fileinto-clause-step : goal.carry_out-returns-in-Fileinto-clause-step
+carry_out-returns-in-Fileinto-clause-step g t c =
+    let find : ScriptName → Lookup = library_of (g.L.Library.texts c.args.running.now.lib.now) in
+    rw c.in-Fileinto.is (c.act_fileinto.ensures (included find c.args.running.now.depth (delivery_as c.args.running.now.delivery.now)))
+
+pub carry_out-returns-in-Redirect-clause-step : goal.carry_out-returns-in-Redirect-clause-step
+carry_out-returns-in-Redirect-clause-step g t c =
+    let find : ScriptName → Lookup = library_of (g.L.Library.texts c.args.running.now.lib.now) in
+    rw c.in-Redirect.is (c.act_redirect.ensures (included find c.args.running.now.depth (delivery_as c.args.running.now.delivery.now)))
+
+pub carry_out-returns-in-Discard-clause-step : goal.carry_out-returns-in-Discard-clause-step
+carry_out-returns-in-Discard-clause-step g t c =
+    let find : ScriptName → Lookup = library_of (g.L.Library.texts c.args.running.now.lib.now) in
+    rw c.in-Discard.is (c.act_discard.ensures (included find c.args.running.now.depth (delivery_as c.args.running.now.delivery.now)))
+
+pub carry_out-returns-in-Set-clause-step : goal.carry_out-returns-in-Set-clause-step
+carry_out-returns-in-Set-clause-step g t c =
+    let find : ScriptName → Lookup = library_of (g.L.Library.texts c.args.running.now.lib.now) in
+    rw c.in-Set.is (c.act_set.ensures (included find c.args.running.now.depth (delivery_as c.args.running.now.delivery.now)))
+
+pub carry_out-returns-in-Flags-clause-step : goal.carry_out-returns-in-Flags-clause-step
+carry_out-returns-in-Flags-clause-step g t c =
+    let find : ScriptName → Lookup = library_of (g.L.Library.texts c.args.running.now.lib.now) in
+    rw c.in-Flags.is (c.act_flags.ensures (included find c.args.running.now.depth (delivery_as c.args.running.now.delivery.now)))
 
 pub carry_out-returns-in-Include-clause-step : goal.carry_out-returns-in-Include-clause-step
 carry_out-returns-in-Include-clause-step g t c =
@@ -92,7 +122,7 @@ execute-returns-clause-ending g t c =
 pub include-returns-then-is_script-clause-ending : goal.include-returns-then-is_script-clause-ending
 include-returns-then-is_script-clause-ending g t c =
     let find : ScriptName → Lookup = library_of (g.L.Library.texts c.args.running.now.lib.now) in
-    skips_included find (delivery_as c.args.running.now.delivery.now) c.args.name.now c.args.inclusion.once c.args.inclusion.optional c.args.inclusion.line (state_of c.args.state.now) c.args.running.now.depth c.if-once.true
+    skips_included find (delivery_as c.args.running.now.delivery.now) c.args.name.now c.args.inclusion.once c.args.inclusion.optional c.args.inclusion.line (state_of c.args.state.now) c.args.running.now.depth c.if-inclusion.true
     (sym (c.is_script.ensures ∙ ap (is_script c.args.name.now) c.as_slice.ensures.value) ∙ c.if-is_script.true)
 
 pub include-returns-then-is_running-clause-ending : goal.include-returns-then-is_running-clause-ending
@@ -100,42 +130,42 @@ include-returns-then-is_running-clause-ending g t c =
     let find : ScriptName → Lookup = library_of (g.L.Library.texts c.args.running.now.lib.now) in
     let d = delivery_as c.args.running.now.delivery.now in
     let s = state_of c.args.state.now in
-    let first : (c.args.inclusion.once && is_script c.args.name.now s.entered) ≡ false = elim c.else-once.branch [
-      | include-else-once-via-then-once+else-is_script w ↦ not_entered c.args.inclusion.once w.is_script.result c.args.name.now s.entered w.as_slice.result.now w.as_slice.ensures.value w.is_script.ensures w.if-is_script.false
-      | include-else-once-via-else-once w ↦ not_once c.args.inclusion.once c.args.name.now s.entered w.if-once.false
+    let first : (c.args.inclusion.once && is_script c.args.name.now s.entered) ≡ false = elim c.else-inclusion.branch [
+      | include-else-inclusion-via-then-inclusion+else-is_script w ↦ not_entered c.args.inclusion.once w.is_script.result c.args.name.now s.entered w.as_slice.result.now w.as_slice.ensures.value w.is_script.ensures w.if-is_script.false
+      | include-else-inclusion-via-else-inclusion w ↦ not_once c.args.inclusion.once c.args.name.now s.entered w.if-inclusion.false
     ] in
     IfOk-weaker c.fail.result (λ (flow : Flow). flow ≡ Failed (record { script = d.script; line = c.args.inclusion.line; kind = RecursiveInclude }))
     (λ (flow : Flow). ending_by flow s ≡ included find c.args.running.now.depth d c.args.name.now c.args.inclusion.once c.args.inclusion.optional c.args.inclusion.line s)
     (λ flow is. ap (λ f. ending_by f s) is ∙ fails_running find d c.args.name.now c.args.inclusion.once c.args.inclusion.optional c.args.inclusion.line s c.args.running.now.depth first (sym c.is_running.ensures ∙ c.if-is_running.true))
     c.fail.ensures
 
-pub include-returns-then-depth-eq0-clause-ending : goal.include-returns-then-depth-eq0-clause-ending
-include-returns-then-depth-eq0-clause-ending g t c =
+pub include-returns-then-running-eq0-clause-ending : goal.include-returns-then-running-eq0-clause-ending
+include-returns-then-running-eq0-clause-ending g t c =
     let find : ScriptName → Lookup = library_of (g.L.Library.texts c.args.running.now.lib.now) in
     let d = delivery_as c.args.running.now.delivery.now in
     let s = state_of c.args.state.now in
-    let first : (c.args.inclusion.once && is_script c.args.name.now s.entered) ≡ false = elim c.else-once.branch [
-      | include-else-once-via-then-once+else-is_script w ↦ not_entered c.args.inclusion.once w.is_script.result c.args.name.now s.entered w.as_slice.result.now w.as_slice.ensures.value w.is_script.ensures w.if-is_script.false
-      | include-else-once-via-else-once w ↦ not_once c.args.inclusion.once c.args.name.now s.entered w.if-once.false
+    let first : (c.args.inclusion.once && is_script c.args.name.now s.entered) ≡ false = elim c.else-inclusion.branch [
+      | include-else-inclusion-via-then-inclusion+else-is_script w ↦ not_entered c.args.inclusion.once w.is_script.result c.args.name.now s.entered w.as_slice.result.now w.as_slice.ensures.value w.is_script.ensures w.if-is_script.false
+      | include-else-inclusion-via-else-inclusion w ↦ not_once c.args.inclusion.once c.args.name.now s.entered w.if-inclusion.false
     ] in
-    IfOk-weaker c.fail-then-depth-eq0.result (λ (flow : Flow). flow ≡ Failed (record { script = d.script; line = c.args.inclusion.line; kind = IncludeDepth }))
+    IfOk-weaker c.fail-then-running-eq0.result (λ (flow : Flow). flow ≡ Failed (record { script = d.script; line = c.args.inclusion.line; kind = IncludeDepth }))
     (λ (flow : Flow). ending_by flow s ≡ included find c.args.running.now.depth d c.args.name.now c.args.inclusion.once c.args.inclusion.optional c.args.inclusion.line s)
-    (λ flow is. ap (λ f. ending_by f s) is ∙ fails_deep find d c.args.name.now c.args.inclusion.once c.args.inclusion.optional c.args.inclusion.line s c.args.running.now.depth first (sym c.is_running.ensures ∙ c.if-is_running.false) c.if-depth-eq0.true)
-    c.fail-then-depth-eq0.ensures
+    (λ flow is. ap (λ f. ending_by f s) is ∙ fails_deep find d c.args.name.now c.args.inclusion.once c.args.inclusion.optional c.args.inclusion.line s c.args.running.now.depth first (sym c.is_running.ensures ∙ c.if-is_running.false) c.if-running-eq0.true)
+    c.fail-then-running-eq0.ensures
 
 pub include-returns-then-len-gt-MAX_INCLUDES-clause-ending : goal.include-returns-then-len-gt-MAX_INCLUDES-clause-ending
 include-returns-then-len-gt-MAX_INCLUDES-clause-ending g t c =
     let find : ScriptName → Lookup = library_of (g.L.Library.texts c.args.running.now.lib.now) in
     let d = delivery_as c.args.running.now.delivery.now in
     let s = state_of c.args.state.now in
-    let first : (c.args.inclusion.once && is_script c.args.name.now s.entered) ≡ false = elim c.else-once.branch [
-      | include-else-once-via-then-once+else-is_script w ↦ not_entered c.args.inclusion.once w.is_script.result c.args.name.now s.entered w.as_slice.result.now w.as_slice.ensures.value w.is_script.ensures w.if-is_script.false
-      | include-else-once-via-else-once w ↦ not_once c.args.inclusion.once c.args.name.now s.entered w.if-once.false
+    let first : (c.args.inclusion.once && is_script c.args.name.now s.entered) ≡ false = elim c.else-inclusion.branch [
+      | include-else-inclusion-via-then-inclusion+else-is_script w ↦ not_entered c.args.inclusion.once w.is_script.result c.args.name.now s.entered w.as_slice.result.now w.as_slice.ensures.value w.is_script.ensures w.if-is_script.false
+      | include-else-inclusion-via-else-inclusion w ↦ not_once c.args.inclusion.once c.args.name.now s.entered w.if-inclusion.false
     ] in
     let many : nat_lt include_limit (length s.entered) ≡ true = grind (arith, nat_tests, c.len.ensures, c.if-len-gt-MAX_INCLUDES.true) in
     IfOk-weaker c.fail-then-len-gt-MAX_INCLUDES.result (λ (flow : Flow). flow ≡ Failed (record { script = d.script; line = c.args.inclusion.line; kind = IncludeCount }))
     (λ (flow : Flow). ending_by flow s ≡ included find c.args.running.now.depth d c.args.name.now c.args.inclusion.once c.args.inclusion.optional c.args.inclusion.line s)
-    (λ flow is. ap (λ f. ending_by f s) is ∙ fails_many find d c.args.name.now c.args.inclusion.once c.args.inclusion.optional c.args.inclusion.line s c.args.running.now.depth first (sym c.is_running.ensures ∙ c.if-is_running.false) c.if-depth-eq0.false many)
+    (λ flow is. ap (λ f. ending_by f s) is ∙ fails_many find d c.args.name.now c.args.inclusion.once c.args.inclusion.optional c.args.inclusion.line s c.args.running.now.depth first (sym c.is_running.ensures ∙ c.if-is_running.false) c.if-running-eq0.false many)
     c.fail-then-len-gt-MAX_INCLUDES.ensures
 
 pub include-returns-clause-ending : goal.include-returns-clause-ending
@@ -143,14 +173,14 @@ include-returns-clause-ending g t c =
     let find : ScriptName → Lookup = library_of (g.L.Library.texts c.args.running.now.lib.now) in
     let d = delivery_as c.args.running.now.delivery.now in
     let s = state_of c.args.state.now in
-    let first : (c.args.inclusion.once && is_script c.args.name.now s.entered) ≡ false = elim c.else-once.branch [
-      | include-else-once-via-then-once+else-is_script w ↦ not_entered c.args.inclusion.once w.is_script.result c.args.name.now s.entered w.as_slice.result.now w.as_slice.ensures.value w.is_script.ensures w.if-is_script.false
-      | include-else-once-via-else-once w ↦ not_once c.args.inclusion.once c.args.name.now s.entered w.if-once.false
+    let first : (c.args.inclusion.once && is_script c.args.name.now s.entered) ≡ false = elim c.else-inclusion.branch [
+      | include-else-inclusion-via-then-inclusion+else-is_script w ↦ not_entered c.args.inclusion.once w.is_script.result c.args.name.now s.entered w.as_slice.result.now w.as_slice.ensures.value w.is_script.ensures w.if-is_script.false
+      | include-else-inclusion-via-else-inclusion w ↦ not_once c.args.inclusion.once c.args.name.now s.entered w.if-inclusion.false
     ] in
     let few : nat_lt include_limit (length s.entered) ≡ false = grind (arith, nat_tests, c.len.ensures, c.if-len-gt-MAX_INCLUDES.false) in
     IfOk-weaker c.look_up.result (λ (flow : Flow). ending_by flow (state_of c.look_up.new.state) ≡ looks_up find (c.args.running.now.depth - 1) d c.args.name.now c.args.inclusion.optional c.args.inclusion.line s)
     (λ (flow : Flow). ending_by flow (state_of c.look_up.new.state) ≡ included find c.args.running.now.depth d c.args.name.now c.args.inclusion.once c.args.inclusion.optional c.args.inclusion.line s)
-    (λ flow is. is ∙ looks_included find d c.args.name.now c.args.inclusion.once c.args.inclusion.optional c.args.inclusion.line s c.args.running.now.depth first (sym c.is_running.ensures ∙ c.if-is_running.false) c.if-depth-eq0.false few)
+    (λ flow is. is ∙ looks_included find d c.args.name.now c.args.inclusion.once c.args.inclusion.optional c.args.inclusion.line s c.args.running.now.depth first (sym c.is_running.ensures ∙ c.if-is_running.false) c.if-running-eq0.false few)
     c.look_up.ensures.ending
 
 pub look_up-returns-in-Present-clause-ending : goal.look_up-returns-in-Present-clause-ending
