@@ -10,7 +10,7 @@ use Rattle.sieve_check.specs.Breach.{test_breaks, breaches_in}
 use Rattle.sieve_check.specs.Context.{Context}
 use Rattle.sieve_check.specs.Element.{test_arguments}
 use Rattle.sieve_reading.specs.Label.{expecting, fills, is_unfit, labels_from, no_slots, slots_left, slots_of, slots_with}
-use Rattle.sieve_check.specs.Parted.{Cutting, parted_labelled, parted_test, parted_test_list, parted_tests, test_labels}
+use Rattle.sieve_check.specs.Parted.{parted_labelled, parted_test, parted_test_list, parted_tests, test_labels}
 use Rattle.sieve_check.specs.Readable.{Joins, test_takes}
 use Rattle.sieve_reading.specs.Reading.{Ask, ValueSource, address_values, envelope_values, exists_ask, flag_values, header_values, over_ask, reads_ask, string_values, under_ask}
 use Rattle.sieve_reading.specs.TestReading.{address_source, compares_by, compares_from, envelope_source, exists_by, flag_source, header_source, size_by, size_from, string_source, test_reading_by}
@@ -329,7 +329,7 @@ size_reads args ts says =
 
 -- WHAT IS JOINED
 
-module _ (cutting : Cutting) where
+module _ (cutting : Context) where
   pub none_fit : (ts : syntax.Tests) → tests_fit inner.None ts ≡ true → parted_tests cutting ts ≡ no_tests
   none_fit syntax.no_tests fit = refl
   none_fit (syntax.one_test t) fit = absurd (not_both fit)

@@ -10,7 +10,7 @@ use Rattle.sieve_check.specs.Breach.{breaches_at, breaches_in}
 use Rattle.sieve_check.specs.Context.{Context}
 use Rattle.sieve_check.specs.Element.{argument_elements, judged_labels, labelled_elements, row_elements, text_elements, the_text, the_number}
 use Rattle.sieve_reading.specs.Label.{fits, row_is_filled, labels_of}
-use Rattle.sieve_check.specs.Parted.{Cutting, parted_argument, parted_labelled, parted_text, parts_in}
+use Rattle.sieve_check.specs.Parted.{parted_argument, parted_labelled, parted_text, parts_in}
 use Rattle.sieve_check.specs.Readable.{row_takes}
 use Rattle.sieve_reading.specs.Given.{collation_by, given_texts, given_variable, literal_in, literal_in_parts, number_in, text_in, texts_in, variable_in, variable_in_parts}
 use Rattle.sieve_reading.specs.Role.{first_role}
@@ -37,7 +37,7 @@ length-map : {X Y : Type 0} (f : X → Y) (xs : List X) → length (map f xs) �
 length-map f [] = refl
 length-map f (x ∷ xs) = ap suc (length-map f xs)
 
-module _ (cutting : Cutting) where
+module _ (cutting : Context) where
   -- a parted argument has the shape of the argument
   same_shape : (tags : List Tag) (r : Option Role) (a : syntax.Argument) → shape_of tags (parted_argument cutting r a) ≡ shape_of tags a
   same_shape tags r (syntax.strings items bracketed) = ap (λ n. texts_shape n bracketed) (length-map (parted_text cutting r) items)
@@ -50,7 +50,7 @@ module _ (cutting : Cutting) where
       ap (λ s. s ∷ map (shape_of tags) (parted_labelled cutting (drop 1 labels) args)) (same_shape tags (first_role labels) a)
       ∙ ap (λ l. shape_of tags a ∷ l) (same_shapes tags (drop 1 labels) args)
 
-module _ (cutting : Cutting) (context : Context) where
+module _ (cutting : Context) (context : Context) where
   -- a comparator's name still names one when the string is cut
   names_well : (r : Option Role) (octets : List ℕ) → (has_role role.ComparatorName r && is_none (collation_named octets)) ≡ false → (has_role role.ComparatorName r && is_none (option_and_then collation_named (literal_in_parts (parts_in cutting r octets)))) ≡ false
   names_well r octets fine = by_role r (has_role role.ComparatorName r) refl fine
@@ -106,7 +106,7 @@ not_false false e = absurd (never_both e)
 well_used : (bad_tag arguments : Bool) → bad_tag ≡ false → arguments ≡ false → (not bad_tag && not arguments) ≡ true
 well_used bad_tag arguments fine well = ap (λ b. not b && not arguments) fine ∙ ap not well
 
-module _ (cutting : Cutting) (context : Context) (row : Row) (args : List syntax.Argument) (ts : syntax.Tests) (b : Bool) where
+module _ (cutting : Context) (context : Context) (row : Row) (args : List syntax.Argument) (ts : syntax.Tests) (b : Bool) where
   abbrev parted_args : List Argument
   parted_args = parted_labelled cutting (row_labels row args) args
 

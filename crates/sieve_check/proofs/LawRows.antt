@@ -1,22 +1,19 @@
 -- Worked rows of what the laws speak of.
-use Rattle.std.proofs.Common.{◌≡◌, ℕ, Bool, true, false, List, [], ◌∷◌, map, Some, refl, codes}
+use Rattle.std.proofs.Common.{◌≡◌, ℕ, List, [], ◌∷◌, map, Some, refl, codes}
 use Rattle.sieve_syntax.specs.Tree as syntax
 use Rattle.sieve_syntax.specs.Symbol.{identifier, number_symbol, string_symbol}
 use Rattle.sieve_check.specs.Bare.{bare_node}
 use Rattle.sieve_check.specs.Breach.{breaches_at, breaches_in, breaches_of}
-use Rattle.sieve_check.specs.Context.{behind, takes_references}
-use Rattle.sieve_table.specs.Required.{nothing_required}
-use Rattle.sieve_check.specs.Element.{Element, the_command, the_number, the_test, the_text, block_elements, elements_of, node_elements, nodes_elements, test_elements, tests_elements}
+use Rattle.sieve_check.specs.Context.{behind}
+use Rattle.sieve_check.specs.Element.{block_elements, elements_of, node_elements, nodes_elements, test_elements, tests_elements}
 use Rattle.sieve_check.specs.Naming.{declares, nodes_mentions, set_by, sets}
 use Rattle.sieve_check.specs.Order.{written_by}
-use Rattle.sieve_check.specs.Parted.{cutting_at_start, parted}
+use Rattle.sieve_check.specs.Parted.{parted}
 use Rattle.sieve_check.specs.Readable.{IsReadable, ReadsBlock, ReadsNode, ReadsNodes, act_mark, block_marks, choice_mark, marks, node_marks, nodes_marks, return_mark, stop_mark}
 use Rattle.sieve_reading.specs.Reading.{plain_settings, discard_leaf, keep_leaf}
-use Rattle.sieve_check.specs.Requirement.{leading_requires}
 use Rattle.sieve_reading.specs.Script.{always, block_commands, chain_of, condition_of, conditions_in, never, chain_with, script_of}
 use Rattle.sieve_table.specs.Table.{command_named, test_named}
 use Rattle.sieve_reading.specs.Tree.{node, no_block, no_tests, nodes, strings}
-use Rattle.sieve_table.specs.declared.row.Role.TheVariants.{Address}
 use Rattle.sieve_check.proofs.Readable.{is_readable}
 use Rattle.sieve_check.proofs.Roles.{not_both}
 
@@ -35,16 +32,16 @@ abbrev branches : List syntax.Node
 branches = branch (codes "if") 1 (codes "true") (plain (codes "keep") 1) ∷ branch (codes "elsif") 2 (codes "false") (plain (codes "stop") 2) ∷ last 3 (plain (codes "discard") 3) ∷ plain (codes "keep") 4 ∷ []
 
 marks_row : marks (script_of (parted branches)) ≡ choice_mark always ∷ act_mark (keep_leaf plain_settings) 1 ∷ choice_mark never ∷ stop_mark ∷ act_mark discard_leaf 3 ∷ act_mark (keep_leaf plain_settings) 4 ∷ []
-unfolding marks chain_of chain_with block_commands condition_of conditions_in command_named test_named
+unfolding marks chain_of chain_with block_commands condition_of conditions_in command_named test_named behind
 marks_row = refl
 
 tree_marks_row : nodes_marks (nodes (parted branches)) ≡ choice_mark always ∷ act_mark (keep_leaf plain_settings) 1 ∷ choice_mark never ∷ stop_mark ∷ act_mark discard_leaf 3 ∷ act_mark (keep_leaf plain_settings) 4 ∷ []
-unfolding nodes_marks node_marks block_marks condition_of conditions_in command_named test_named
+unfolding nodes_marks node_marks block_marks condition_of conditions_in command_named test_named behind
 tree_marks_row = refl
 
 -- return; keep;
 return_marks_row : marks (script_of (parted (plain (codes "return") 1 ∷ plain (codes "keep") 2 ∷ []))) ≡ return_mark ∷ act_mark (keep_leaf plain_settings) 2 ∷ []
-unfolding marks chain_of chain_with block_commands condition_of conditions_in command_named test_named
+unfolding marks chain_of chain_with block_commands condition_of conditions_in command_named test_named behind
 return_marks_row = refl
 
 -- the branches break no rule, so they are readable
@@ -67,47 +64,10 @@ order_row : map written_by (elements_of (syntax.node (codes "if") 1 [] (syntax.o
 unfolding nodes_elements node_elements block_elements tests_elements test_elements command_named test_named behind
 order_row = refl
 
--- A STRING, AND WHAT IS REQUIRED
+-- A STRING
 
 abbrev string : List ℕ → ℕ → syntax.Argument
 string octets line = syntax.strings (record { string = octets; line = line } ∷ []) false
-
-abbrev requiring_one : List ℕ → ℕ → syntax.Node
-requiring_one name line = syntax.node (codes "require") line (string name line ∷ []) syntax.no_tests syntax.no_block
-
--- require "variables"; keep; require "fileinto";
-abbrev late_require : List syntax.Node
-late_require = requiring_one (codes "variables") 1 ∷ plain (codes "keep") 2 ∷ requiring_one (codes "fileinto") 3 ∷ []
-
-leading_row : leading_requires late_require ≡ requiring_one (codes "variables") 1 ∷ []
-unfolding command_named
-leading_row = refl
-
-cut_row : (cutting_at_start late_require).required ≡ record nothing_required { variables = true }
-unfolding command_named
-cut_row = refl
-
--- whether references stand for values in the strings of a script, where they are judged
-abbrev texts_taking : List Element → List Bool
-texts_taking [] = []
-texts_taking (the_command context name line args ts ending ∷ es) = texts_taking es
-texts_taking (the_test context name line args ts ∷ es) = texts_taking es
-texts_taking (the_text context role text ∷ es) = takes_references context.required role ∷ texts_taking es
-texts_taking (the_number value line ∷ es) = texts_taking es
-
--- require "fileinto" { redirect "${a}"; } require "variables"; references count where strings are cut, and not yet where they are judged
-abbrev early_block : List syntax.Node
-early_block =
-    syntax.node (codes "require") 1 (string (codes "fileinto") 1 ∷ []) syntax.no_tests (syntax.block (syntax.nodes (syntax.node (codes "redirect") 1 (string (codes "${a}") 1 ∷ []) syntax.no_tests syntax.no_block ∷ [])))
-    ∷ requiring_one (codes "variables") 2 ∷ []
-
-early_row : texts_taking (elements_of early_block) ≡ false ∷ false ∷ false ∷ []
-unfolding nodes_elements node_elements block_elements tests_elements command_named behind
-early_row = refl
-
-early_cut_row : takes_references (cutting_at_start early_block).required (Some Address) ≡ true
-unfolding command_named
-early_cut_row = refl
 
 -- A TREE WITHOUT WHAT ITS STRINGS ARE
 

@@ -5,7 +5,7 @@ use Rattle.sieve_syntax.specs.Tree as syntax
 use Rattle.sieve_check.specs.Breach.{breaches_in, breaches_of, command_breaks}
 use Rattle.sieve_check.specs.Context.{Context, behind, behind_block, behind_kind, continues_if, inside, script_start}
 use Rattle.sieve_check.specs.Element.{block_elements, command_arguments, node_elements, nodes_elements, test_arguments, test_elements, test_list_elements, tests_elements, the_command, the_test}
-use Rattle.sieve_check.specs.Parted.{Cutting, command_labels, cutting_at_start, declared_behind, declaring_command, parted, parted_block, parted_labelled, parted_node, parted_nodes, parted_test, parted_test_list, parted_tests}
+use Rattle.sieve_check.specs.Parted.{command_labels, parted, parted_block, parted_labelled, parted_node, parted_nodes, parted_test, parted_test_list, parted_tests}
 use Rattle.sieve_check.specs.Readable.{IsReadable, ReadsBlock, ReadsNode, ReadsNodes, ReadsTest, ReadsTestList, ReadsTests, Stands, command_takes, may_go_on}
 use Rattle.sieve_reading.specs.Reading as reading
 use Rattle.sieve_reading.specs.Reading.{Leaf, include_leaf, keep_leaf, Settings}
@@ -36,10 +36,10 @@ use Rattle.sieve_check.proofs.Unbroken.{keeps, none_in_both, none_in_front}
 -- WHERE A COMMAND STANDS
 
 -- a command whose strings are cut by `cutting`, and those of its block by `within`
-module _ (cutting within : Cutting) (context : Context) where
+module _ (cutting within context : Context) where
   block_there : (ending : syntax.Block) → block_fits true (has_block ending) ≡ true → (ns : Nodes) × (parted_block within ending ≡ block ns)
   block_there syntax.no_block fit = absurd (not_both fit)
-  block_there (syntax.block ns) fit = (parted_nodes within ns, refl)
+  block_there (syntax.block ns) fit = (parted_nodes (inside within) ns, refl)
 
   none_there : (ending : syntax.Block) → block_fits false (has_block ending) ≡ true → parted_block within ending ≡ no_block
   none_there syntax.no_block fit = refl
@@ -192,19 +192,19 @@ module _ (cutting within : Cutting) (context : Context) where
 mutual
   unfolding ReadsTest ReadsTests ReadsTestList test_elements tests_elements test_list_elements
 
-  test_reads : (cutting : Cutting) (t : syntax.Test) (context : Context) → breaches_in (test_elements context t) ≡ [] → ReadsTest (parted_test cutting t)
+  test_reads : (cutting : Context) (t : syntax.Test) (context : Context) → breaches_in (test_elements context t) ≡ [] → ReadsTest (parted_test cutting t)
   test_reads cutting (syntax.test name line args ts) context none =
       let parts = none_in_front (the_test context name line args ts) (test_arguments context (test_named name) args ts ++ tests_elements context ts) none in
       let rest = none_in_both (test_arguments context (test_named name) args ts) (tests_elements context ts) parts.1 in
       let read = test_is_read cutting context (test_named name) args ts (keeps (the_test context name line args ts) parts.0) rest.0 in
       (read.0, read.1, tests_read cutting ts context rest.1)
 
-  tests_read : (cutting : Cutting) (ts : syntax.Tests) (context : Context) → breaches_in (tests_elements context ts) ≡ [] → ReadsTests (parted_tests cutting ts)
+  tests_read : (cutting : Context) (ts : syntax.Tests) (context : Context) → breaches_in (tests_elements context ts) ≡ [] → ReadsTests (parted_tests cutting ts)
   tests_read cutting syntax.no_tests context none = tt
   tests_read cutting (syntax.one_test t) context none = test_reads cutting t context none
   tests_read cutting (syntax.test_list ts) context none = test_list_reads cutting ts context none
 
-  test_list_reads : (cutting : Cutting) (ts : syntax.TestList) (context : Context) → breaches_in (test_list_elements context ts) ≡ [] → ReadsTestList (parted_test_list cutting ts)
+  test_list_reads : (cutting : Context) (ts : syntax.TestList) (context : Context) → breaches_in (test_list_elements context ts) ≡ [] → ReadsTestList (parted_test_list cutting ts)
   test_list_reads cutting syntax.end_tests context none = tt
   test_list_reads cutting (syntax.more_tests t ts) context none =
       let parts = none_in_both (test_elements context t) (test_list_elements context ts) none in
@@ -215,26 +215,26 @@ mutual
 mutual
   unfolding ReadsNode ReadsBlock ReadsNodes node_elements block_elements nodes_elements
 
-  node_reads : (n : syntax.Node) (cutting : Cutting) (context : Context) → breaches_in (node_elements context n) ≡ [] → ReadsNode context.follows_if (parted_node cutting n)
-  node_reads (syntax.node name line args ts ending) cutting context none =
+  node_reads : (n : syntax.Node) (context : Context) → breaches_in (node_elements context n) ≡ [] → ReadsNode context.follows_if (parted_node context n)
+  node_reads (syntax.node name line args ts ending) context none =
       let inside_it = tests_elements context ts ++ block_elements (behind_kind context (command_named name) args) ending in
       let parts = none_in_front (the_command context name line args ts ending) (command_arguments context (command_named name) args ts ending ++ inside_it) none in
       let rest = none_in_both (command_arguments context (command_named name) args ts ending) inside_it parts.1 in
       let inner = none_in_both (tests_elements context ts) (block_elements (behind_kind context (command_named name) args) ending) rest.1 in
-      let within = record cutting { declared = declaring_command cutting.declared name args } in
-      let read = command_is_read cutting within context (command_named name) args ts ending (keeps (the_command context name line args ts ending) parts.0) rest.0 in
-      (read.0, read.1, tests_read cutting ts context inner.0, block_reads ending within (behind_kind context (command_named name) args) inner.1)
+      let within = behind_kind context (command_named name) args in
+      let read = command_is_read context within context (command_named name) args ts ending (keeps (the_command context name line args ts ending) parts.0) rest.0 in
+      (read.0, read.1, tests_read context ts context inner.0, block_reads ending within inner.1)
 
-  block_reads : (b : syntax.Block) (cutting : Cutting) (context : Context) → breaches_in (block_elements context b) ≡ [] → ReadsBlock (parted_block cutting b)
-  block_reads syntax.no_block cutting context none = tt
-  block_reads (syntax.block ns) cutting context none = nodes_read ns cutting (inside context) none
+  block_reads : (b : syntax.Block) (context : Context) → breaches_in (block_elements context b) ≡ [] → ReadsBlock (parted_block context b)
+  block_reads syntax.no_block context none = tt
+  block_reads (syntax.block ns) context none = nodes_read ns (inside context) none
 
-  nodes_read : (ns : syntax.Nodes) (cutting : Cutting) (context : Context) → breaches_in (nodes_elements context ns) ≡ [] → ReadsNodes context.follows_if (parted_nodes cutting ns)
-  nodes_read syntax.end_nodes cutting context none = tt
-  nodes_read (syntax.more_nodes n ns) cutting context none =
+  nodes_read : (ns : syntax.Nodes) (context : Context) → breaches_in (nodes_elements context ns) ≡ [] → ReadsNodes context.follows_if (parted_nodes context ns)
+  nodes_read syntax.end_nodes context none = tt
+  nodes_read (syntax.more_nodes n ns) context none =
       let parts = none_in_both (node_elements context n) (nodes_elements (behind context n) ns) none in
-      let next = record cutting { declared = declared_behind cutting.declared n } in
-      (node_reads n cutting context parts.0, subst (λ b. ReadsNodes b (parted_nodes next ns)) (goes_on cutting cutting context n) (nodes_read ns next (behind context n) parts.1))
+      let next = behind context n in
+      (node_reads n context parts.0, subst (λ b. ReadsNodes b (parted_nodes next ns)) (goes_on context context context n) (nodes_read ns next parts.1))
 
 -- THE TREE
 
@@ -244,7 +244,6 @@ as_items (more_nodes n ns) = ap (λ l. more_nodes n l) (as_items ns)
 
 pub is_readable : (tree : List syntax.Node) → breaches_of tree ≡ [] → IsReadable (parted tree)
 is_readable tree none =
-    let cutting = cutting_at_start tree in
-    subst (λ ns. ReadsNodes false ns) (sym (as_items (parted_nodes cutting (syntax.nodes tree)))) (nodes_read (syntax.nodes tree) cutting script_start none)
+    subst (λ ns. ReadsNodes false ns) (sym (as_items (parted_nodes script_start (syntax.nodes tree)))) (nodes_read (syntax.nodes tree) script_start none)
 
 pub ruleset readable = (is_readable)

@@ -154,19 +154,19 @@ chain_row : script_of (parted (branch (codes "if") 1 (header (tagged (codes "con
     ≡ chooses (asks (compares (header_values ((literal (codes "a") ∷ []) ∷ [])) Contains Casemap ((literal (codes "b") ∷ []) ∷ []))) (acts discard_leaf 2 no_commands)
     (chooses always (stops no_commands) no_commands no_commands)
     (acts (keep_leaf plain_settings) 6 no_commands)
-unfolding chain_of chain_with block_commands condition_of conditions_in command_named test_named
+unfolding chain_of chain_with block_commands condition_of conditions_in command_named test_named behind assigning
 chain_row = refl
 
 -- if header :comparator "i;octet" ["a", "c"] "b" {}
 octet_row : script_of (parted (branch (codes "if") 1 (header (tagged (codes "comparator") ∷ one (codes "i;octet") ∷ syntax.strings (text (codes "a") ∷ text (codes "c") ∷ []) true ∷ one (codes "b") ∷ [])) [] ∷ []))
     ≡ chooses (asks (compares (header_values ((literal (codes "a") ∷ []) ∷ (literal (codes "c") ∷ []) ∷ [])) Is Octet ((literal (codes "b") ∷ []) ∷ []))) no_commands no_commands no_commands
-unfolding chain_of chain_with block_commands condition_of conditions_in command_named test_named
+unfolding chain_of chain_with block_commands condition_of conditions_in command_named test_named behind assigning
 octet_row = refl
 
 -- require ["fileinto", "copy"]; fileinto :copy "A"; redirect :COPY "b";
 copy_row : script_of (parted (plain (codes "require") 1 (syntax.strings (text (codes "fileinto") ∷ text (codes "copy") ∷ []) true ∷ []) ∷ plain (codes "fileinto") 2 (tagged (codes "copy") ∷ one (codes "A") ∷ []) ∷ plain (codes "redirect") 3 (tagged (codes "COPY") ∷ one (codes "b") ∷ []) ∷ []))
     ≡ acts (fileinto_leaf (literal (codes "A") ∷ []) (record plain_settings { copy = true })) 2 (acts (redirect_leaf (literal (codes "b") ∷ []) (record plain_settings { copy = true })) 3 no_commands)
-unfolding chain_of chain_with block_commands condition_of conditions_in command_named test_named
+unfolding chain_of chain_with block_commands condition_of conditions_in command_named test_named behind assigning
 copy_row = refl
 
 -- redirect :copy "a@b"; keep :copy;
@@ -180,7 +180,7 @@ flags_row : script_of (parted (plain (codes "require") 1 (one (codes "imap4flags
     ≡ acts (flag_leaf Add (Some (local_variable (codes "v"))) ((literal (codes "x") ∷ []) ∷ [])) 2
     (acts (keep_leaf (record plain_settings { flags = Some ((literal (codes "y") ∷ []) ∷ []) })) 3
     (chooses (asks (compares (flag_values None) Is Octet ((literal (codes "a") ∷ []) ∷ []))) no_commands no_commands no_commands))
-unfolding chain_of chain_with block_commands condition_of conditions_in command_named test_named
+unfolding chain_of chain_with block_commands condition_of conditions_in command_named test_named behind assigning
 flags_row = refl
 
 -- VARIABLES THAT SCRIPTS SHARE, AND SCRIPTS THAT ARE INCLUDED (RFC 6609)
@@ -228,17 +228,17 @@ unfolding breaches_in breaches_at nodes_elements node_elements block_elements te
 global_before_set_row = refl
 
 shared_row : script_of (parted declared_first) ≡ acts (set_leaf (local_variable (codes "b")) no_modifiers (literal (codes "x") ∷ [])) 2 (acts (set_leaf (global_variable (codes "a")) no_modifiers (global_part (codes "a") ∷ local_part (codes "b") ∷ [])) 4 no_commands)
-unfolding chain_of chain_with block_commands condition_of conditions_in command_named test_named pieces_from inside_at before_brace
+unfolding chain_of chain_with block_commands condition_of conditions_in command_named test_named behind assigning pieces_from inside_at before_brace
 shared_row = refl
 
 -- if true { global "a"; } set "a" "x";
 inner_declaration_row : script_of (parted (both ∷ branch (codes "if") 2 truth (global 2 (codes "a") ∷ []) ∷ set 3 (codes "a") (codes "x") ∷ [])) ≡ chooses always no_commands no_commands (acts (set_leaf (global_variable (codes "a")) no_modifiers (literal (codes "x") ∷ [])) 3 no_commands)
-unfolding chain_of chain_with block_commands condition_of conditions_in command_named test_named pieces_from inside_at
+unfolding chain_of chain_with block_commands condition_of conditions_in command_named test_named behind assigning pieces_from inside_at
 inner_declaration_row = refl
 
 -- set "a" "x"; if true { global "a"; }
 later_declaration_row : script_of (parted (both ∷ set 2 (codes "a") (codes "x") ∷ branch (codes "if") 3 truth (global 3 (codes "a") ∷ []) ∷ [])) ≡ acts (set_leaf (local_variable (codes "a")) no_modifiers (literal (codes "x") ∷ [])) 2 (chooses always no_commands no_commands no_commands)
-unfolding chain_of chain_with block_commands condition_of conditions_in command_named test_named pieces_from inside_at
+unfolding chain_of chain_with block_commands condition_of conditions_in command_named test_named behind assigning pieces_from inside_at
 later_declaration_row = refl
 
 -- global "global.a";
@@ -272,13 +272,13 @@ set_without_include_row = refl
 -- global "x"; set "global.X" "y"; redirect "${x}${GLOBAL.x}"; where all these names are of one variable
 one_variable_row : script_of (parted (both ∷ global 2 (codes "x") ∷ set 3 (codes "global.X") (codes "y") ∷ naming (codes "redirect") 4 (codes "${x}${GLOBAL.x}") ∷ []))
     ≡ acts (set_leaf (global_variable (codes "x")) no_modifiers (literal (codes "y") ∷ [])) 3 (acts (redirect_leaf (global_part (codes "x") ∷ global_part (codes "x") ∷ []) plain_settings) 4 no_commands)
-unfolding chain_of chain_with block_commands condition_of conditions_in command_named test_named pieces_from inside_at before_brace
+unfolding chain_of chain_with block_commands condition_of conditions_in command_named test_named behind assigning pieces_from inside_at before_brace
 one_variable_row = refl
 
 -- include :global :once "a"; include :optional "${b}"; return; keep;
 include_row : script_of (parted (both ∷ plain (codes "include") 2 (tagged (codes "global") ∷ tagged (codes "once") ∷ one (codes "a") ∷ []) ∷ plain (codes "include") 3 (tagged (codes "optional") ∷ one (codes "${b}") ∷ []) ∷ plain (codes "return") 4 [] ∷ plain (codes "keep") 5 [] ∷ []))
     ≡ acts (include_leaf Global true false (codes "a")) 2 (acts (include_leaf Personal false true (codes "${b}")) 3 (returns (acts (keep_leaf plain_settings) 5 no_commands)))
-unfolding chain_of chain_with block_commands condition_of conditions_in command_named test_named pieces_from inside_at before_brace
+unfolding chain_of chain_with block_commands condition_of conditions_in command_named test_named behind assigning pieces_from inside_at before_brace
 include_row = refl
 
 -- include :personal :global "a";

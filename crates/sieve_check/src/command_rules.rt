@@ -149,7 +149,7 @@ fn check_front(
 
 /// Checks a command with its tests and its block, cuts its strings, and answers what stands before the next one.
 #[cycle(check_commands)]
-#[tactic(auto, using(crate::proofs::Heads::command_steps))]
+#[tactic(auto, using(crate::proofs::Walk::command_steps))]
 fn check_command(
     alloc: Global,
     spot: Spot,
@@ -186,7 +186,6 @@ fn check_command(
 
 /// Checks commands, before the first of which this stands, and cuts their strings.
 #[cycle(check_commands)]
-#[tactic(auto, using(crate::proofs::Heads::commands_steps))]
 pub(crate) fn check_commands(
     alloc: Global,
     start: Spot,

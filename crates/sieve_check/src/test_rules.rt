@@ -46,7 +46,7 @@ fn check_test_head(
 
 /// Checks a test and the tests in it, and cuts its strings.
 #[cycle(check_tests)]
-#[tactic(auto, using(crate::proofs::Heads::test_steps))]
+#[tactic(auto, using(crate::proofs::Walk::test_steps))]
 fn check_test(alloc: Global, context: Context<'_>, test: &mut Test) -> Result<(), CheckFault>
     ensures found { FindsIn (test_elements (context_as context.entry) (seen.test_of test.old)) result }
     ensures cut { OnOk result (test_of test.new ≡ parted_test (context_as context.entry) (seen.test_of test.old)) }
@@ -86,7 +86,6 @@ pub(crate) fn check_tests(
 
 /// Checks a list of tests, and cuts their strings.
 #[cycle(check_tests)]
-#[tactic(auto, using(crate::proofs::Heads::list_steps))]
 fn check_test_list(
     alloc: Global,
     context: Context<'_>,
