@@ -43,6 +43,10 @@ list_cut context new ts xs whole is same e =
     ∙ sym (ap (λ list. test_list list) (test_list_parted context (map seen.test_of ts.value.items)))
     ∙ sym (ap (parted_tests context) (ap seen.tests_of is ∙ views.list_seen seen.octets_of ts))
 
+-- a command whose arguments and tests are others has its block
+pub block_kept : (whole : commands.Command) (args : Vec arguments.Argument Global) (ts : test_variants.the_data) → (command_views.out-Command (command_views.roll-Command (record (command_views.out-Command whole) { args = args; tests = ts }))).block ≡ (command_views.out-Command whole).block
+block_kept whole args ts = ap (λ r. r.block) (command_views.out-roll-Command (record (command_views.out-Command whole) { args = args; tests = ts }))
+
 -- a command whose parts are cut is the command cut
 pub command_cut : (context : Context) (labels : List Label) (args : Vec arguments.Argument Global) (ts : test_variants.the_data) (now : Option (Vec commands.Command Global)) (whole : commands.Command) → let o = command_views.out-Command whole in let old = map seen.argument_of o.args.items in
     map argument_of args.items ≡ parted_labelled context labels old → labels ≡ command_labels (command_named o.name) old → tests_of ts ≡ parted_tests context (seen.tests_of o.tests) → block_of now ≡ parted_block (behind_kind context (command_named o.name) old) (seen.block_of o.block)
