@@ -15,4 +15,3 @@ pub mod Pieces
 pub mod Turns
 pub mod Keywords
 mod FlagRows
-mod Rows

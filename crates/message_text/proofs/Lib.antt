@@ -1,5 +1,3 @@
-pub mod Rows
-pub mod AddressRows
 pub mod PieceLemmas
 pub mod RouteLemmas
 pub mod MarkLemmas

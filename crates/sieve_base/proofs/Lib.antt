@@ -1,3 +1,2 @@
 pub mod Both
-mod Rows
 pub mod Writing

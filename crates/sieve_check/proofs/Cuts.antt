@@ -1,5 +1,5 @@
 -- Tests and commands that are cut, by their parts.
-use Rattle.std.proofs.Common.{◌≡◌, Option, Some, None, List, [], ◌∷◌, map, refl, ap, sym, ◌∙◌}
+use Rattle.std.proofs.Common.{◌≡◌, Option, Some, List, [], ◌∷◌, map, refl, ap, sym, ◌∙◌}
 use Rattle.sieve_syntax.specs.Tree as syntax
 use Rattle.sieve_syntax.specs.view.Tree as seen
 use Rattle.sieve_syntax.specs.view.TreeOf.{as_parts}

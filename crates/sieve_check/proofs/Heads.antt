@@ -1,36 +1,29 @@
 -- The breaches of commands and tests apart from the tests and the block in them.
-use Rattle.std.proofs.Common.{◌≡◌, ℕ, ◌+◌, ◌<◌, ◌≤◌, Bool, true, false, not, ◌&&◌, List, [], ◌++◌, map, length, get_or, drop, Option, None, Some, is_some, Result, refl, sym, ap, ◌∙◌, subst}
-use Rattle.std.proofs.lemmas.List.{append_assoc, at_drop_more, at_drop_all}
+use Rattle.std.proofs.Common.{◌≡◌, ℕ, Bool, true, false, not, ◌&&◌, List, [], ◌++◌, map, Option, None, Some, is_some, Result, refl, sym, ap, ◌∙◌, subst}
+use Rattle.std.proofs.lemmas.List.{append_assoc}
 use Rattle.std.specs.declared.vec.Vec.{Vec}
 use Rattle.std.specs.declared.alloc.Global.{Global}
-use Rattle.sieve_syntax.specs.Tree.{block, nodes, tests}
-use Rattle.sieve_syntax.specs.view.Tree.{argument_of, block_of, node_of, octets_of, test_of, tests_of}
+use Rattle.sieve_syntax.specs.view.Tree.{argument_of, block_of, tests_of}
 use Rattle.sieve_syntax.specs.declared.tree.Argument as arguments
 use Rattle.sieve_syntax.specs.declared.tree.Command as commands
 use Rattle.sieve_syntax.specs.declared.tree.Test as one_tests
 use Rattle.sieve_check.specs.Breach.{Breach, breach_if, breaches_at, breaches_by, breaches_in, command_breaks, test_breaks}
 use Rattle.sieve_table.specs.Rule.{all_rules}
 use Rattle.sieve_check.specs.CheckFault.{IsFirst}
-use Rattle.sieve_check.specs.Scope.{Scope, naming_arguments}
-use Rattle.sieve_check.specs.Context.{Context, behind, behind_block, behind_kind, behind_nodes, inside, is_require, continues_if}
-use Rattle.sieve_check.specs.Element.{the_command, the_test, test_arguments, command_arguments, test_elements, tests_elements, test_list_elements, node_elements, nodes_elements, block_elements}
+use Rattle.sieve_check.specs.Context.{Context, is_require, continues_if}
+use Rattle.sieve_check.specs.Element.{the_command, the_test, test_arguments, command_arguments}
 use Rattle.sieve_table.specs.Table as table
 use Rattle.sieve_table.specs.Table.{Row, command_row, test_row}
 use Rattle.sieve_check.specs.Use.{has_block}
 use Rattle.sieve_check.specs.view.Finds.{Finds, FindsIn}
-use Rattle.sieve_reading.specs.Shape.{row_labels}
-use Rattle.sieve_check.specs.view.Context.{at_spot}
 use Rattle.sieve_check.specs.view.Head.{test_head, command_head, kind_found}
 use Rattle.sieve_check.specs.view.Use.{row_found, use_breaks}
 use Rattle.sieve_table.specs.declared.rule.Rule.TheVariants.{RequirePlace, UnknownCommand}
 use Rattle.sieve_table.specs.declared.table.CommandKind.{CommandKind}
 use Rattle.sieve_table.specs.declared.table.TestKind.{TestKind}
-use Rattle.sieve_check.specs.declared.context.Spot.{Spot}
-use Rattle.sieve_reading.specs.declared.label.Label.{Label}
 use Rattle.sieve_check.specs.declared.validator.CheckFault.{CheckFault}
 use Rattle.sieve_check.specs.declared.validator.CheckFault.TheVariants as faults
-use Rattle.sieve_check.proofs.Searches.{first_stops, front_stops, front_passes, finds_past, none_in, cons_in}
-use Rattle.sieve_syntax.proofs.Views.{seen_command, seen_test}
+use Rattle.sieve_check.proofs.Searches.{first_stops, cons_in}
 
 -- TESTS
 

@@ -3,19 +3,18 @@ use Rattle.std.proofs.Common.{◌≡◌, ℕ, false, List, [], ◌∷◌, map, S
 use Rattle.sieve_syntax.specs.Tree as syntax
 use Rattle.sieve_syntax.specs.Symbol.{identifier, number_symbol, string_symbol}
 use Rattle.sieve_check.specs.Bare.{bare_node}
-use Rattle.sieve_check.specs.Breach.{breaches_at, breaches_in, breaches_of}
 use Rattle.sieve_check.specs.Context.{behind}
 use Rattle.sieve_check.specs.Element.{block_elements, elements_of, node_elements, nodes_elements, test_elements, tests_elements}
 use Rattle.sieve_check.specs.Naming.{declares, nodes_mentions, set_by, sets}
 use Rattle.sieve_check.specs.Order.{written_by}
 use Rattle.sieve_check.specs.Parted.{parted}
-use Rattle.sieve_check.specs.Readable.{IsReadable, ReadsBlock, ReadsNode, ReadsNodes, act_mark, block_marks, choice_mark, marks, node_marks, nodes_marks, return_mark, stop_mark}
+use Rattle.sieve_check.specs.Readable.{IsReadable, ReadsBlock, ReadsNode, ReadsNodes, act_mark, choice_mark, marks, return_mark, stop_mark}
+use Rattle.sieve_reading.specs.Given.{has_tag}
 use Rattle.sieve_reading.specs.Reading.{plain_settings, discard_leaf, keep_leaf}
 use Rattle.sieve_reading.specs.Script.{always, block_commands, chain_of, condition_of, conditions_in, never, chain_with, script_of}
 use Rattle.sieve_table.specs.Table.{command_named, test_named}
 use Rattle.sieve_reading.specs.Tree.{node, no_block, no_tests, nodes, strings}
-use Rattle.sieve_check.proofs.Readable.{is_readable}
-use Rattle.sieve_check.proofs.Roles.{not_both}
+use Rattle.sieve_check.proofs.Truth.{not_both}
 
 -- a command that ends by a semicolon, one with a test and a block, and one with a block alone
 abbrev plain : List ℕ → ℕ → syntax.Node
@@ -32,30 +31,18 @@ abbrev branches : List syntax.Node
 branches = branch (codes "if") 1 (codes "true") (plain (codes "keep") 1) ∷ branch (codes "elsif") 2 (codes "false") (plain (codes "stop") 2) ∷ last 3 (plain (codes "discard") 3) ∷ plain (codes "keep") 4 ∷ []
 
 marks_row : marks (script_of (parted branches)) ≡ choice_mark always ∷ act_mark (keep_leaf plain_settings) 1 ∷ choice_mark never ∷ stop_mark ∷ act_mark discard_leaf 3 ∷ act_mark (keep_leaf plain_settings) 4 ∷ []
-unfolding marks chain_of chain_with block_commands condition_of conditions_in command_named test_named behind
+unfolding marks chain_of chain_with block_commands condition_of conditions_in command_named test_named behind has_tag
 marks_row = refl
-
-tree_marks_row : nodes_marks (nodes (parted branches)) ≡ choice_mark always ∷ act_mark (keep_leaf plain_settings) 1 ∷ choice_mark never ∷ stop_mark ∷ act_mark discard_leaf 3 ∷ act_mark (keep_leaf plain_settings) 4 ∷ []
-unfolding nodes_marks node_marks block_marks condition_of conditions_in command_named test_named behind
-tree_marks_row = refl
 
 -- return; keep;
 return_marks_row : marks (script_of (parted (plain (codes "return") 1 ∷ plain (codes "keep") 2 ∷ []))) ≡ return_mark ∷ act_mark (keep_leaf plain_settings) 2 ∷ []
-unfolding marks chain_of chain_with block_commands condition_of conditions_in command_named test_named behind
+unfolding marks chain_of chain_with block_commands condition_of conditions_in command_named test_named behind has_tag
 return_marks_row = refl
-
--- the branches break no rule, so they are readable
-faultless_row : breaches_of branches ≡ []
-unfolding breaches_in breaches_at nodes_elements node_elements block_elements tests_elements test_elements command_named test_named behind
-faultless_row = refl
-
-readable_row : IsReadable (parted branches)
-readable_row = is_readable branches faultless_row
 
 -- elsif true { keep; }
 astray_row : IsReadable (parted (branch (codes "elsif") 1 (codes "true") (plain (codes "keep") 1) ∷ [])) → ⊥
 unfolding ReadsNode ReadsBlock ReadsNodes command_named
-astray_row reads = not_both reads.0.1.0
+astray_row reads = not_both (reads.0.1.2 refl)
 
 -- if size :over 5 { keep; } require "a";
 order_row : map written_by (elements_of (syntax.node (codes "if") 1 [] (syntax.one_test (syntax.test (codes "size") 1 (syntax.tag (codes "over") 1 ∷ syntax.number (Some 5) 1 ∷ []) syntax.no_tests)) (syntax.block (syntax.nodes (plain (codes "keep") 2 ∷ [])))
@@ -64,7 +51,7 @@ order_row : map written_by (elements_of (syntax.node (codes "if") 1 [] (syntax.o
 unfolding nodes_elements node_elements block_elements tests_elements test_elements command_named test_named behind
 order_row = refl
 
--- A STRING
+-- A STRING, AND WHAT IS REQUIRED
 
 abbrev string : List ℕ → ℕ → syntax.Argument
 string octets line = syntax.strings (record { string = octets; line = line } ∷ []) false

@@ -2,11 +2,13 @@
 use Rattle.std.proofs.Common.{◌≡◌, ℕ, Bool, true, false, List, [], ◌∷◌, ◌++◌, Option, Some, None, refl, sym, ap, ◌∙◌}
 use Rattle.std.proofs.lemmas.List.{append-nil, append_assoc}
 use Rattle.sieve_check.specs.Readable.{Mark, marks, own_marks, node_marks, block_marks, nodes_marks, choice_mark, stop_mark, return_mark, act_mark, may_go_on, Stands, ReadsNode, ReadsBlock, ReadsNodes, IsReadable, DoesAll}
+use Rattle.sieve_check.specs.Use.{block_fits, has_block}
 use Rattle.sieve_reading.specs.Reading as reading
 use Rattle.sieve_reading.specs.Reading.{CommandReading}
 use Rattle.sieve_reading.specs.CommandReading.{command_reading}
 use Rattle.sieve_reading.specs.Script.{no_commands, Chain, Condition, branch_condition, chain_with_command, chain_with, block_commands, chain_of, conditions_in}
 use Rattle.sieve_reading.specs.Tree.{Tests, Node, node, Block, no_block, block, Nodes, end_nodes, more_nodes, nodes}
+use Rattle.sieve_check.proofs.Truth.{not_both}
 
 -- Commands from some place on do what these marks say. Where no branch may go on there, no branch does.
 record Agrees (follows_if : Bool) (chain : Chain) (all : List Mark) : Type 0 where
@@ -22,9 +24,10 @@ unfolding marks
 rest_alone chain all so = sym (ap (λ c. marks c ++ marks chain.rest) (so.no_branch refl)) ∙ so.same
 
 -- a command without a block has no marks of a block
-block_empty : (ending : Block) → ending ≡ no_block → block_marks ending ≡ []
+block_empty : (ending : Block) → block_fits false (has_block ending) ≡ true → block_marks ending ≡ []
 unfolding block_marks
-block_empty ending is = ap block_marks is
+block_empty no_block fits = refl
+block_empty (block ns) fits = absurd (not_both fits)
 
 -- A COMMAND IN FRONT
 
@@ -59,28 +62,28 @@ module _ (line : ℕ) (condition : Condition) (ending : Block) (chain : Chain) (
     no_branch = λ not. absurd (both_ways follows_if follows not);
   }
 
-  at_stop : (follows_if : Bool) → ending ≡ no_block → Agrees false chain all → Agrees follows_if (before reading.reads_stop) (with_own reading.reads_stop)
+  at_stop : (follows_if : Bool) → block_fits false (has_block ending) ≡ true → Agrees false chain all → Agrees follows_if (before reading.reads_stop) (with_own reading.reads_stop)
   unfolding marks
   at_stop follows_if is so = record {
     same = ap (λ l. stop_mark ∷ l) (rest_alone chain all so) ∙ ap (λ l. stop_mark ∷ (l ++ all)) (sym (block_empty ending is));
     no_branch = λ not. refl;
   }
 
-  at_return : (follows_if : Bool) → ending ≡ no_block → Agrees false chain all → Agrees follows_if (before reading.reads_return) (with_own reading.reads_return)
+  at_return : (follows_if : Bool) → block_fits false (has_block ending) ≡ true → Agrees false chain all → Agrees follows_if (before reading.reads_return) (with_own reading.reads_return)
   unfolding marks
   at_return follows_if is so = record {
     same = ap (λ l. return_mark ∷ l) (rest_alone chain all so) ∙ ap (λ l. return_mark ∷ (l ++ all)) (sym (block_empty ending is));
     no_branch = λ not. refl;
   }
 
-  at_nothing : (follows_if : Bool) → ending ≡ no_block → Agrees false chain all → Agrees follows_if (before reading.reads_nothing) (with_own reading.reads_nothing)
+  at_nothing : (follows_if : Bool) → block_fits false (has_block ending) ≡ true → Agrees false chain all → Agrees follows_if (before reading.reads_nothing) (with_own reading.reads_nothing)
   unfolding marks
   at_nothing follows_if is so = record {
     same = rest_alone chain all so ∙ ap (λ l. l ++ all) (sym (block_empty ending is));
     no_branch = λ not. refl;
   }
 
-  at_act : (leaf : reading.Leaf) (follows_if : Bool) → ending ≡ no_block → Agrees false chain all → Agrees follows_if (before (reading.reads_act leaf)) (with_own (reading.reads_act leaf))
+  at_act : (leaf : reading.Leaf) (follows_if : Bool) → block_fits false (has_block ending) ≡ true → Agrees false chain all → Agrees follows_if (before (reading.reads_act leaf)) (with_own (reading.reads_act leaf))
   unfolding marks
   at_act leaf follows_if is so = record {
     same = ap (λ l. act_mark leaf line ∷ l) (rest_alone chain all so) ∙ ap (λ l. act_mark leaf line ∷ (l ++ all)) (sym (block_empty ending is));
@@ -92,8 +95,8 @@ module _ (line : ℕ) (condition : Condition) (ending : Block) (chain : Chain) (
       → Agrees follows_if (chain_with_command r line condition (block_commands ending) chain) ((own_marks r line condition ++ block_marks ending) ++ all)
   at_command None follows_if ts stands inner so = absurd stands
   at_command (Some reading.reads_if) follows_if ts stands inner so = at_open follows_if inner so
-  at_command (Some reading.reads_elsif) follows_if ts stands inner so = at_continuing follows_if stands.0 inner so
-  at_command (Some reading.reads_else) follows_if ts stands inner so = at_last follows_if stands.0 inner so
+  at_command (Some reading.reads_elsif) follows_if ts stands inner so = at_continuing follows_if (stands.2 refl) inner so
+  at_command (Some reading.reads_else) follows_if ts stands inner so = at_last follows_if (stands.2 refl) inner so
   at_command (Some reading.reads_stop) follows_if ts stands inner so = at_stop follows_if stands.1 so
   at_command (Some reading.reads_return) follows_if ts stands inner so = at_return follows_if stands.1 so
   at_command (Some reading.reads_nothing) follows_if ts stands inner so = at_nothing follows_if stands.1 so

@@ -1,189 +1,180 @@
 -- Of a tree without a breach each command and each test is read as something: nothing of it vanishes.
-use Rattle.std.proofs.Common.{◌≡◌, ℕ, Bool, true, false, not, ◌&&◌, List, [], ◌++◌, map, Option, None, Some, is_some, refl, sym, ap, ◌∙◌, subst}
+use Rattle.std.proofs.Common.{◌≡◌, suc, Bool, true, false, not, ◌&&◌, ◌||◌, List, [], ◌∷◌, ◌++◌, map, length, drop, Option, None, Some, refl, sym, ap, ◌∙◌, subst}
+use Rattle.std.proofs.lemmas.Bool.{and_parts, or_parts}
 use Rattle.std.specs.Option.{option_map}
+use denote.Enum.Bare.{sameb, same_true}
 use Rattle.sieve_syntax.specs.Tree as syntax
-use Rattle.sieve_check.specs.Breach.{breaches_in, breaches_of, command_breaks}
-use Rattle.sieve_check.specs.Context.{Context, behind, behind_block, behind_kind, continues_if, inside, script_start}
+use Rattle.sieve_check.specs.Breach.{breaches_in, breaches_of, command_breaks, test_breaks}
+use Rattle.sieve_check.specs.Context.{Context, allows_else, behind, behind_block, behind_kind, continues_if, inside, script_start}
 use Rattle.sieve_check.specs.Element.{block_elements, command_arguments, node_elements, nodes_elements, test_arguments, test_elements, test_list_elements, tests_elements, the_command, the_test}
-use Rattle.sieve_check.specs.Parted.{command_labels, parted, parted_block, parted_labelled, parted_node, parted_nodes, parted_test, parted_test_list, parted_tests}
-use Rattle.sieve_check.specs.Readable.{IsReadable, ReadsBlock, ReadsNode, ReadsNodes, ReadsTest, ReadsTestList, ReadsTests, Stands, command_takes, may_go_on}
-use Rattle.sieve_reading.specs.Reading as reading
-use Rattle.sieve_reading.specs.Reading.{Leaf, include_leaf, keep_leaf, Settings}
-use Rattle.sieve_reading.specs.CommandReading.{redirect_from, settings_with, command_reading, command_reading_by, fileinto_from, flags_by, flags_from, place_of, set_from}
-use Rattle.sieve_reading.specs.Given.{has_tag}
-use Rattle.sieve_reading.specs.Shape.{row_labels, shape_of}
-use Rattle.sieve_reading.specs.Label.{slots_of}
-use Rattle.sieve_table.specs.Table.{command_named, command_row, flag_command, naming_slot, test_named}
-use Rattle.sieve_reading.specs.Tree.{Argument, Block, Tests, no_tests, Nodes, end_nodes, more_nodes, no_block, block, items, nodes}
-use Rattle.sieve_check.specs.Use.{block_fits, has_block}
-use Rattle.sieve_reading.specs.declared.reading.FlagChange.{FlagChange}
-use Rattle.sieve_reading.specs.declared.reading.FlagChange.TheVariants as change
-use Rattle.sieve_table.specs.declared.row.Form.TheVariants as form
-use Rattle.sieve_table.specs.declared.row.Role.TheVariants as role
+use Rattle.sieve_check.specs.Parted.{command_labels, parted, parted_argument, parted_block, parted_labelled, parted_node, parted_nodes, parted_test, parted_test_list, parted_tests, parted_text, test_labels}
+use Rattle.sieve_check.specs.Readable.{IsReadable, Joins, ReadsBlock, ReadsNode, ReadsNodes, ReadsTest, ReadsTestList, ReadsTests, Stands, command_takes, may_go_on, needs_of, test_takes, tests_of_reading}
+use Rattle.sieve_check.specs.Use.{block_fits, has_bad_arguments, has_bad_tag, has_block, is_well_used, lacks_kind, lacks_own, tests_fit, tests_there}
+use Rattle.sieve_reading.specs.CommandReading as commands
+use Rattle.sieve_reading.specs.Label.{labels_of, row_is_filled}
+use Rattle.sieve_reading.specs.Reading.{CommandReading}
+use Rattle.sieve_reading.specs.Role.{first_role}
+use Rattle.sieve_reading.specs.Shape.{row_labels, shape_of, shapes_of, texts_shape}
+use Rattle.sieve_reading.specs.TestReading as tests
+use Rattle.sieve_reading.specs.Tree.{Argument, Nodes, end_nodes, more_nodes, items, nodes}
+use Rattle.sieve_reading.specs.declared.label.Label.{Label}
+use Rattle.sieve_reading.specs.declared.label.Shape.{Shape}
+use Rattle.sieve_table.proofs.Each.{of_each}
+use Rattle.sieve_table.specs.Table.{Row, command_named, command_row, test_named, test_row}
+use Rattle.sieve_table.specs.contracts.row.Inner as inners
+use Rattle.sieve_table.specs.contracts.table.CommandKind as every_command
+use Rattle.sieve_table.specs.contracts.table.TestKind as every_test
+use Rattle.sieve_table.specs.declared.row.Inner.{Inner}
+use Rattle.sieve_table.specs.declared.row.Role.{Role}
 use Rattle.sieve_table.specs.declared.rule.Rule.{Rule}
 use Rattle.sieve_table.specs.declared.rule.Rule.TheVariants.{BadArguments, BadTag, ElsePlace, UnknownCommand}
 use Rattle.sieve_table.specs.declared.table.CommandKind.{CommandKind}
-use Rattle.sieve_table.specs.declared.table.CommandKind.TheVariants as command
-use Rattle.sieve_table.specs.declared.table.Tag.TheVariants as tag
-use Rattle.sieve_variables.specs.Part.{Part}
-use Rattle.sieve_variables.specs.Variable.{Variable}
-use Rattle.sieve_variables.specs.declared.modifier.Modifiers.{Modifiers}
-use Rattle.sieve_check.proofs.Asked.{all_may_take, either_slots, given_texts_are_read, given_variable_is_read, literal_is_read, maps_some, none_fit, one_fits, test_is_read, text_is_read, texts_are_read, variable_is_read}
-use Rattle.sieve_check.proofs.Filled.{AsRowSays, as_parted, takes}
-use Rattle.sieve_check.proofs.Roles.{is_to_come, never_both, not_both}
+use Rattle.sieve_table.specs.declared.table.Tag.{Tag}
+use Rattle.sieve_table.specs.declared.table.TestKind.{TestKind}
+use Rattle.sieve_check.proofs.Truth.{agree, alike, never_both, not_false}
 use Rattle.sieve_check.proofs.Unbroken.{keeps, none_in_both, none_in_front}
 
--- WHERE A COMMAND STANDS
+-- WHAT STAYS WHEN STRINGS ARE CUT
 
--- a command whose strings are cut by `cutting`, and those of its block by `within`
-module _ (cutting within context : Context) where
-  block_there : (ending : syntax.Block) → block_fits true (has_block ending) ≡ true → (ns : Nodes) × (parted_block within ending ≡ block ns)
-  block_there syntax.no_block fit = absurd (not_both fit)
-  block_there (syntax.block ns) fit = (parted_nodes (inside within) ns, refl)
+length-map : {X Y : Type 0} (f : X → Y) (xs : List X) → length (map f xs) ≡ length xs
+length-map f [] = refl
+length-map f (x ∷ xs) = ap suc (length-map f xs)
 
-  none_there : (ending : syntax.Block) → block_fits false (has_block ending) ≡ true → parted_block within ending ≡ no_block
-  none_there syntax.no_block fit = refl
-  none_there (syntax.block ns) fit = absurd (not_both fit)
+module _ (context : Context) where
+  -- a parted argument has the shape of the argument
+  same_shape : (tags : List Tag) (r : Option Role) (a : syntax.Argument) → shape_of tags (parted_argument context r a) ≡ shape_of tags a
+  same_shape tags r (syntax.strings items bracketed) = ap (λ n. texts_shape n bracketed) (length-map (parted_text context r) items)
+  same_shape tags r (syntax.number value line) = refl
+  same_shape tags r (syntax.tag name line) = refl
 
-  not_false : (b : Bool) → not b ≡ false → b ≡ true
-  not_false true e = refl
-  not_false false e = absurd (never_both e)
+  same_shapes : (tags : List Tag) (labels : List Label) (args : List syntax.Argument) → shapes_of tags (parted_labelled context labels args) ≡ shapes_of tags args
+  same_shapes tags labels [] = refl
+  same_shapes tags labels (a ∷ args) =
+      ap (λ s. s ∷ shapes_of tags (parted_labelled context (drop 1 labels) args)) (same_shape tags (first_role labels) a)
+      ∙ ap (λ l. shape_of tags a ∷ l) (same_shapes tags (drop 1 labels) args)
 
-  -- arguments of a command of that kind, with these tests and this end, are as its row says
-  abbrev Says : CommandKind → List Argument → syntax.Tests → (ends_by_block : Bool) → Type 0
-  Says k args ts ends_by_block = AsRowSays (command_row k) (map (shape_of (command_row k).tags) args) args ts ends_by_block
+  same_tests : (ts : syntax.Tests) → tests_there (parted_tests context ts) ≡ tests_there ts
+  same_tests syntax.no_tests = refl
+  same_tests (syntax.one_test t) = refl
+  same_tests (syntax.test_list ts) = refl
 
-  sets_all : (variable : Option Variable) (modifiers : Modifiers) (value : Option (List Part)) → is_some variable ≡ true → is_some value ≡ true → is_some (set_from variable modifiers value) ≡ true
-  sets_all None modifiers value n v = absurd (not_both n)
-  sets_all (Some variable) modifiers None n v = absurd (not_both v)
-  sets_all (Some variable) modifiers (Some value) n v = refl
+  same_block : (ending : syntax.Block) → has_block (parted_block context ending) ≡ has_block ending
+  same_block syntax.no_block = refl
+  same_block (syntax.block ns) = refl
 
-  files_all : (mailbox : Option (List Part)) (settings : Option Settings) → is_some mailbox ≡ true → is_some settings ≡ true → is_some (fileinto_from mailbox settings) ≡ true
-  files_all None settings m s = absurd (not_both m)
-  files_all (Some mailbox) None m s = absurd (not_both s)
-  files_all (Some mailbox) (Some settings) m s = refl
+-- whether all is as the row says, by the shapes of its arguments, by which tests there are, and by whether there is a block
+abbrev used_by : Row → List Shape → Inner → Bool → Bool
+used_by row shapes there ends =
+    not (has_bad_tag (labels_of row shapes))
+    && not ((not (row_is_filled row shapes) || (not (sameb inners.the_type row.tests there) || not (block_fits row.has_block ends))) || (lacks_own (labels_of row shapes) || lacks_kind row.one_of (labels_of row shapes)))
 
-  redirects_all : (address : Option (List Part)) (settings : Option Settings) → is_some address ≡ true → is_some settings ≡ true → is_some (redirect_from address settings) ≡ true
-  redirects_all None settings a s = absurd (not_both a)
-  redirects_all (Some address) None a s = absurd (not_both s)
-  redirects_all (Some address) (Some settings) a s = refl
+well_used : (bad_tag bad_arguments : Bool) → bad_tag ≡ false → bad_arguments ≡ false → (not bad_tag && not bad_arguments) ≡ true
+well_used bad_tag bad_arguments tags arguments = ap (λ b. not b && not bad_arguments) tags ∙ ap not arguments
 
-  changes_all : (how : FlagChange) (variable : Option (Option Variable)) (flags : Option (List (List Part))) → is_some variable ≡ true → is_some flags ≡ true → is_some (flags_from how variable flags) ≡ true
-  changes_all how None flags v f = absurd (not_both v)
-  changes_all how (Some variable) None v f = absurd (not_both f)
-  changes_all how (Some variable) (Some flags) v f = refl
+-- what is as its row says still is when its strings are cut
+still_used : (context within : Context) (row : Row) (args : List syntax.Argument) (ts : syntax.Tests) (ending : syntax.Block) → has_bad_tag (row_labels row args) ≡ false → has_bad_arguments row (shapes_of row.tags args) ts (has_block ending) ≡ false
+    → is_well_used row (shapes_of row.tags (parted_labelled context (row_labels row args) args)) (parted_tests context ts) (has_block (parted_block within ending)) ≡ true
+still_used context within row args ts ending tags arguments =
+    ap (λ shapes. used_by row shapes (tests_there (parted_tests context ts)) (has_block (parted_block within ending))) (same_shapes context row.tags (row_labels row args) args)
+    ∙ ap (λ there. used_by row (shapes_of row.tags args) there (has_block (parted_block within ending))) (same_tests context ts)
+    ∙ ap (used_by row (shapes_of row.tags args) (tests_there ts)) (same_block within ending)
+    ∙ well_used (has_bad_tag (row_labels row args)) (has_bad_arguments row (shapes_of row.tags args) ts (has_block ending)) tags arguments
 
-  stands_acting : (leaf : Option Leaf) (ts : Tests) (ending : Block) → is_some (option_map reading.reads_act leaf) ≡ true → ts ≡ no_tests → ending ≡ no_block → Stands context.follows_if (option_map reading.reads_act leaf) ts ending
-  stands_acting None ts ending is none ends = absurd (not_both is)
-  stands_acting (Some leaf) ts ending is none ends = (none, ends)
+-- the tests and the block are those of the row
+ends_well : (row : Row) (shapes : List Shape) (there : Inner) (ends : Bool) → used_by row shapes there ends ≡ true → (sameb inners.the_type row.tests there ≡ true) × (block_fits row.has_block ends ≡ true)
+ends_well row shapes there ends used =
+    let labels = labels_of row shapes in
+    let fit = sameb inners.the_type row.tests there in
+    let bad = (not (row_is_filled row shapes) || (not fit || not (block_fits row.has_block ends))) || (lacks_own labels || lacks_kind row.one_of labels) in
+    let well = or_parts (not (row_is_filled row shapes) || (not fit || not (block_fits row.has_block ends))) (lacks_own labels || lacks_kind row.one_of labels) (not_true bad (and_parts (not (has_bad_tag labels)) (not bad) used).1) in
+    let filled = or_parts (not (row_is_filled row shapes)) (not fit || not (block_fits row.has_block ends)) well.0 in
+    let both = or_parts (not fit) (not (block_fits row.has_block ends)) filled.1 in
+    (not_false fit both.0, not_false (block_fits row.has_block ends) both.1)
+  where
+    not_true : (b : Bool) → not b ≡ true → b ≡ false
+    not_true true e = sym e
+    not_true false e = refl
 
-  -- a command that changes flags stands where it may, whatever its name
-  flags_stand : (how : FlagChange) (name : List ℕ) (args : List Argument) (ts : syntax.Tests) (ending : syntax.Block) → let row = flag_command name in
-      AsRowSays row (map (shape_of row.tags) args) args ts (has_block ending) → Stands context.follows_if (option_map reading.reads_act (flags_by how (row_labels row args) args)) (parted_tests cutting ts) (parted_block within ending)
-  flags_stand how name args ts ending says =
-      let row = flag_command name in
-      let shapes = map (shape_of row.tags) args in
-      let slots = slots_of row shapes in
-      let front = naming_slot form.One role.NameToSet in
-      stands_acting _ (parted_tests cutting ts) (parted_block within ending)
-      (maps_some reading.reads_act _ (changes_all how _ _
-      (given_variable_is_read row.tags slots args (either_slots (all_may_take role.NameToSet form.One) front row.slots shapes refl refl) says.keep)
-      (texts_are_read row.tags slots args role.Flags refl (either_slots (all_may_take role.Flags form.List) front row.slots shapes refl refl) (either_slots (is_to_come role.Flags) front row.slots shapes refl refl) says.filled says.keep)))
-      (none_fit cutting ts says.tests) (none_there ending says.block)
+-- WHAT READINGS NEED, AND ROWS SAY
 
-  -- a command that is used as its row says, and stands behind an `if` where it goes on with one, stands where it may
-  stands : (k : CommandKind) (args : List Argument) (ts : syntax.Tests) (ending : syntax.Block) → Says k args ts (has_block ending) → (continues_if k && not context.follows_if) ≡ false
-      → Stands context.follows_if (command_reading_by (Some k) args) (parted_tests cutting ts) (parted_block within ending)
-  stands command.Require args ts ending says place = (none_fit cutting ts says.tests, none_there ending says.block)
-  stands command.If args ts ending says place =
-      let t = one_fits cutting ts says.tests in
-      let b = block_there ending says.block in
-      (t.0, b.0, t.1, b.1)
-  stands command.Elsif args ts ending says place =
-      let t = one_fits cutting ts says.tests in
-      let b = block_there ending says.block in
-      (not_false context.follows_if place, t.0, b.0, t.1, b.1)
-  stands command.Else args ts ending says place =
-      let b = block_there ending says.block in
-      (not_false context.follows_if place, b.0, none_fit cutting ts says.tests, b.1)
-  stands command.Keep args ts ending says place =
-      let row = command_row command.Keep in
-      stands_acting _ (parted_tests cutting ts) (parted_block within ending)
-      (maps_some reading.reads_act _ (maps_some keep_leaf _ (maps_some (settings_with _) _ (given_texts_are_read row.tags row.slots args role.Flags refl refl says.keep))))
-      (none_fit cutting ts says.tests) (none_there ending says.block)
-  stands command.Fileinto args ts ending says place =
-      let row = command_row command.Fileinto in
-      stands_acting _ (parted_tests cutting ts) (parted_block within ending)
-      (maps_some reading.reads_act _ (files_all _ _
-      (text_is_read row.tags row.slots args role.Mailbox refl refl refl says.filled says.keep)
-      (maps_some (settings_with _) _ (given_texts_are_read row.tags row.slots args role.Flags refl refl says.keep))))
-      (none_fit cutting ts says.tests) (none_there ending says.block)
-  stands command.Redirect args ts ending says place =
-      let row = command_row command.Redirect in
-      stands_acting _ (parted_tests cutting ts) (parted_block within ending)
-      (maps_some reading.reads_act _ (redirects_all _ _
-      (text_is_read row.tags row.slots args role.Address refl refl refl says.filled says.keep)
-      (maps_some (settings_with _) _ (given_texts_are_read row.tags row.slots args role.Flags refl refl says.keep))))
-      (none_fit cutting ts says.tests) (none_there ending says.block)
-  stands command.Discard args ts ending says place = (none_fit cutting ts says.tests, none_there ending says.block)
-  stands command.Stop args ts ending says place = (none_fit cutting ts says.tests, none_there ending says.block)
-  stands command.Set args ts ending says place =
-      let row = command_row command.Set in
-      stands_acting _ (parted_tests cutting ts) (parted_block within ending)
-      (maps_some reading.reads_act _ (sets_all _ _ _
-      (variable_is_read row.tags row.slots args refl refl says.filled says.keep)
-      (text_is_read row.tags row.slots args role.Text refl refl refl says.filled says.keep)))
-      (none_fit cutting ts says.tests) (none_there ending says.block)
-  stands command.SetFlag args ts ending says place = flags_stand change.Set _ args ts ending says
-  stands command.AddFlag args ts ending says place = flags_stand change.Add _ args ts ending says
-  stands command.RemoveFlag args ts ending says place = flags_stand change.Remove _ args ts ending says
-  stands command.Include args ts ending says place =
-      let row = command_row command.Include in
-      let labels = row_labels row args in
-      stands_acting _ (parted_tests cutting ts) (parted_block within ending)
-      (maps_some reading.reads_act _ (maps_some (include_leaf (place_of labels) (has_tag tag.Once labels) (has_tag tag.Optional labels)) _ (literal_is_read row.tags row.slots args refl refl says.filled says.keep)))
-      (none_fit cutting ts says.tests) (none_there ending says.block)
-  stands command.Return args ts ending says place = (none_fit cutting ts says.tests, none_there ending says.block)
-  stands command.Global args ts ending says place = (none_fit cutting ts says.tests, none_there ending says.block)
+one_inner : (a b : Inner) → sameb inners.the_type a b ≡ true → a ≡ b
+one_inner a b e = same_true inners.the_type tt a b e
+
+tests_read_of : (k : TestKind) (labels : List Label) (args : List Argument) → tests_of_reading (tests.test_reading_by k labels args) ≡ (test_row k).tests
+tests_read_of k labels args =
+    one_inner (tests_of_reading (tests.test_reading_by k labels args)) (test_row k).tests
+    (of_each every_test.enum tt (λ k. sameb inners.the_type (tests_of_reading (tests.test_reading_by k labels args)) (test_row k).tests) refl k)
+
+-- which tests, whether a block, whether an `if` before it, and whether a branch may go on behind it
+abbrev says_so : CommandKind → CommandReading → Bool
+says_so k r =
+    sameb inners.the_type (needs_of r).tests (command_row k).tests
+    && (agree (needs_of r).block (command_row k).has_block && (agree (needs_of r).behind_if (continues_if k) && agree (allows_else k) (may_go_on (Some r))))
+
+record SaysSo (k : CommandKind) (r : CommandReading) : Type 0 where
+  tests : (needs_of r).tests ≡ (command_row k).tests
+  block : (needs_of r).block ≡ (command_row k).has_block
+  behind_if : (needs_of r).behind_if ≡ continues_if k
+  goes_on : allows_else k ≡ may_go_on (Some r)
+
+command_says_so : (k : CommandKind) (labels : List Label) (args : List Argument) → SaysSo k (commands.command_reading_by k labels args)
+command_says_so k labels args =
+    let r = commands.command_reading_by k labels args in
+    let all : says_so k r ≡ true = of_each every_command.enum tt (λ k. says_so k (commands.command_reading_by k labels args)) refl k in
+    let first = and_parts (sameb inners.the_type (needs_of r).tests (command_row k).tests) (agree (needs_of r).block (command_row k).has_block && (agree (needs_of r).behind_if (continues_if k) && agree (allows_else k) (may_go_on (Some r)))) all in
+    let second = and_parts (agree (needs_of r).block (command_row k).has_block) (agree (needs_of r).behind_if (continues_if k) && agree (allows_else k) (may_go_on (Some r))) first.1 in
+    let third = and_parts (agree (needs_of r).behind_if (continues_if k)) (agree (allows_else k) (may_go_on (Some r))) second.1 in
+    record {
+      tests = one_inner (needs_of r).tests (command_row k).tests first.0;
+      block = alike (needs_of r).block (command_row k).has_block second.0;
+      behind_if = alike (needs_of r).behind_if (continues_if k) third.0;
+      goes_on = alike (allows_else k) (may_go_on (Some r)) third.1;
+    }
+
+-- A TEST AND A COMMAND
+
+module _ (context : Context) where
+  -- a test of some kind or none that breaks no rule is of a kind, takes its arguments, and is read
+  test_is_read : (k : Option TestKind) (args : List syntax.Argument) (ts : syntax.Tests) → ((rule : Rule) → test_breaks context k args ts rule ≡ false)
+      → let cut = parted_labelled context (test_labels k args) args in (test_takes k cut (parted_tests context ts) ≡ true) × Joins (option_map (λ kind. tests.kind_reading kind cut) k) (parted_tests context ts)
+  test_is_read None args ts unbroken = absurd (never_both (unbroken UnknownCommand))
+  test_is_read (Some k) args ts unbroken =
+      let row = test_row k in
+      let cut = parted_labelled context (row_labels row args) args in
+      let used = still_used context context row args ts syntax.no_block (unbroken BadTag) (unbroken BadArguments) in
+      let ends = ends_well row (shapes_of row.tags cut) (tests_there (parted_tests context ts)) false used in
+      (used, subst (λ i. tests_fit i (parted_tests context ts) ≡ true) (sym (tests_read_of k (row_labels row cut) cut)) ends.0)
 
   -- a command of some kind or none that breaks no rule is of a kind, takes its arguments, and stands where it may
-  command_is_read : (k : Option CommandKind) (args : List syntax.Argument) (ts : syntax.Tests) (ending : syntax.Block) → ((rule : Rule) → command_breaks context k args ts ending rule ≡ false) → breaches_in (command_arguments context k args ts ending) ≡ []
-      → (command_takes k (parted_labelled cutting (command_labels k args) args) ≡ true) × Stands context.follows_if (command_reading_by k (parted_labelled cutting (command_labels k args) args)) (parted_tests cutting ts) (parted_block within ending)
-  command_is_read None args ts ending keeps none = absurd (never_both (keeps UnknownCommand))
-  command_is_read (Some k) args ts ending keeps none =
-      let says = as_parted cutting context (command_row k) args ts (has_block ending) (keeps BadTag) (keeps BadArguments) none in
-      (takes (command_row k) _ ts (has_block ending) says, stands k _ ts ending says (keeps ElsePlace))
-
-  acting_ends : (leaf : Option Leaf) → false ≡ may_go_on (option_map reading.reads_act leaf)
-  acting_ends None = refl
-  acting_ends (Some leaf) = refl
+  command_is_read : (within : Context) (k : Option CommandKind) (args : List syntax.Argument) (ts : syntax.Tests) (ending : syntax.Block) → ((rule : Rule) → command_breaks context k args ts ending rule ≡ false)
+      → let cut = parted_labelled context (command_labels k args) args in
+        (command_takes k cut (parted_tests context ts) (parted_block within ending) ≡ true) × Stands context.follows_if (option_map (λ kind. commands.kind_reading kind cut) k) (parted_tests context ts) (parted_block within ending)
+  command_is_read within None args ts ending unbroken = absurd (never_both (unbroken UnknownCommand))
+  command_is_read within (Some k) args ts ending unbroken =
+      let row = command_row k in
+      let cut = parted_labelled context (row_labels row args) args in
+      let used = still_used context within row args ts ending (unbroken BadTag) (unbroken BadArguments) in
+      let ends = ends_well row (shapes_of row.tags cut) (tests_there (parted_tests context ts)) (has_block (parted_block within ending)) used in
+      let says = command_says_so k (row_labels row cut) cut in
+      let fit : tests_fit (needs_of (commands.kind_reading k cut)).tests (parted_tests context ts) ≡ true = subst (λ i. tests_fit i (parted_tests context ts) ≡ true) (sym says.tests) ends.0 in
+      let fits : block_fits (needs_of (commands.kind_reading k cut)).block (has_block (parted_block within ending)) ≡ true = subst (λ b. block_fits b (has_block (parted_block within ending)) ≡ true) (sym says.block) ends.1 in
+      (used, (fit, fits, λ needs. follows (continues_if k) context.follows_if (sym says.behind_if ∙ needs) (unbroken ElsePlace)))
+    where
+      follows : (continues follows_if : Bool) → continues ≡ true → (continues && not follows_if) ≡ false → follows_if ≡ true
+      follows continues true is fine = refl
+      follows continues false is fine = absurd (never_both (sym (ap (λ b. b && true) is) ∙ fine))
 
   -- a branch may go on behind a command exactly where the command is read as one that it may go on behind
-  kind_goes_on : (k : Option CommandKind) (written : List syntax.Argument) (args : List Argument) → (behind_kind context k written).follows_if ≡ may_go_on (command_reading_by k args)
+  kind_goes_on : (k : Option CommandKind) (written : List syntax.Argument) (args : List Argument) → (behind_kind context k written).follows_if ≡ may_go_on (option_map (λ kind. commands.kind_reading kind args) k)
   kind_goes_on None written args = refl
-  kind_goes_on (Some command.Require) written args = refl
-  kind_goes_on (Some command.If) written args = refl
-  kind_goes_on (Some command.Elsif) written args = refl
-  kind_goes_on (Some command.Else) written args = refl
-  kind_goes_on (Some command.Keep) written args = acting_ends _
-  kind_goes_on (Some command.Fileinto) written args = acting_ends _
-  kind_goes_on (Some command.Redirect) written args = acting_ends _
-  kind_goes_on (Some command.Discard) written args = refl
-  kind_goes_on (Some command.Stop) written args = refl
-  kind_goes_on (Some command.Set) written args = acting_ends _
-  kind_goes_on (Some command.SetFlag) written args = acting_ends _
-  kind_goes_on (Some command.AddFlag) written args = acting_ends _
-  kind_goes_on (Some command.RemoveFlag) written args = acting_ends _
-  kind_goes_on (Some command.Include) written args = acting_ends _
-  kind_goes_on (Some command.Return) written args = refl
-  kind_goes_on (Some command.Global) written args = refl
+  kind_goes_on (Some k) written args = (command_says_so k (row_labels (command_row k) args) args).goes_on
 
   block_keeps : (before : Context) (ending : syntax.Block) → (behind_block before ending).follows_if ≡ before.follows_if
   unfolding behind_block
   block_keeps before syntax.no_block = refl
   block_keeps before (syntax.block ns) = refl
 
-  goes_on : (n : syntax.Node) → (behind context n).follows_if ≡ may_go_on (command_reading (parted_node cutting n))
+  goes_on : (n : syntax.Node) → (behind context n).follows_if ≡ may_go_on (commands.command_reading (parted_node context n))
   unfolding behind
   goes_on (syntax.node name line args ts ending) = block_keeps (behind_kind context (command_named name) args) ending ∙ kind_goes_on (command_named name) args _
 
@@ -192,23 +183,23 @@ module _ (cutting within context : Context) where
 mutual
   unfolding ReadsTest ReadsTests ReadsTestList test_elements tests_elements test_list_elements
 
-  test_reads : (cutting : Context) (t : syntax.Test) (context : Context) → breaches_in (test_elements context t) ≡ [] → ReadsTest (parted_test cutting t)
-  test_reads cutting (syntax.test name line args ts) context none =
+  test_reads : (t : syntax.Test) (context : Context) → breaches_in (test_elements context t) ≡ [] → ReadsTest (parted_test context t)
+  test_reads (syntax.test name line args ts) context none =
       let parts = none_in_front (the_test context name line args ts) (test_arguments context (test_named name) args ts ++ tests_elements context ts) none in
       let rest = none_in_both (test_arguments context (test_named name) args ts) (tests_elements context ts) parts.1 in
-      let read = test_is_read cutting context (test_named name) args ts (keeps (the_test context name line args ts) parts.0) rest.0 in
-      (read.0, read.1, tests_read cutting ts context rest.1)
+      let read = test_is_read context (test_named name) args ts (keeps (the_test context name line args ts) parts.0) in
+      (read.0, read.1, tests_read ts context rest.1)
 
-  tests_read : (cutting : Context) (ts : syntax.Tests) (context : Context) → breaches_in (tests_elements context ts) ≡ [] → ReadsTests (parted_tests cutting ts)
-  tests_read cutting syntax.no_tests context none = tt
-  tests_read cutting (syntax.one_test t) context none = test_reads cutting t context none
-  tests_read cutting (syntax.test_list ts) context none = test_list_reads cutting ts context none
+  tests_read : (ts : syntax.Tests) (context : Context) → breaches_in (tests_elements context ts) ≡ [] → ReadsTests (parted_tests context ts)
+  tests_read syntax.no_tests context none = tt
+  tests_read (syntax.one_test t) context none = test_reads t context none
+  tests_read (syntax.test_list ts) context none = test_list_reads ts context none
 
-  test_list_reads : (cutting : Context) (ts : syntax.TestList) (context : Context) → breaches_in (test_list_elements context ts) ≡ [] → ReadsTestList (parted_test_list cutting ts)
-  test_list_reads cutting syntax.end_tests context none = tt
-  test_list_reads cutting (syntax.more_tests t ts) context none =
+  test_list_reads : (ts : syntax.TestList) (context : Context) → breaches_in (test_list_elements context ts) ≡ [] → ReadsTestList (parted_test_list context ts)
+  test_list_reads syntax.end_tests context none = tt
+  test_list_reads (syntax.more_tests t ts) context none =
       let parts = none_in_both (test_elements context t) (test_list_elements context ts) none in
-      (test_reads cutting t context parts.0, test_list_reads cutting ts context parts.1)
+      (test_reads t context parts.0, test_list_reads ts context parts.1)
 
 -- COMMANDS
 
@@ -222,8 +213,8 @@ mutual
       let rest = none_in_both (command_arguments context (command_named name) args ts ending) inside_it parts.1 in
       let inner = none_in_both (tests_elements context ts) (block_elements (behind_kind context (command_named name) args) ending) rest.1 in
       let within = behind_kind context (command_named name) args in
-      let read = command_is_read context within context (command_named name) args ts ending (keeps (the_command context name line args ts ending) parts.0) rest.0 in
-      (read.0, read.1, tests_read context ts context inner.0, block_reads ending within inner.1)
+      let read = command_is_read context within (command_named name) args ts ending (keeps (the_command context name line args ts ending) parts.0) in
+      (read.0, read.1, tests_read ts context inner.0, block_reads ending within inner.1)
 
   block_reads : (b : syntax.Block) (context : Context) → breaches_in (block_elements context b) ≡ [] → ReadsBlock (parted_block context b)
   block_reads syntax.no_block context none = tt
@@ -234,7 +225,7 @@ mutual
   nodes_read (syntax.more_nodes n ns) context none =
       let parts = none_in_both (node_elements context n) (nodes_elements (behind context n) ns) none in
       let next = behind context n in
-      (node_reads n context parts.0, subst (λ b. ReadsNodes b (parted_nodes next ns)) (goes_on context context context n) (nodes_read ns next parts.1))
+      (node_reads n context parts.0, subst (λ b. ReadsNodes b (parted_nodes next ns)) (goes_on context n) (nodes_read ns next parts.1))
 
 -- THE TREE
 

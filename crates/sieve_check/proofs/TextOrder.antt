@@ -20,7 +20,7 @@ use Rattle.sieve_syntax.specs.declared.token.TokenKind.TheVariants as kinds
 use Rattle.sieve_check.specs.Breach.{line_of}
 use Rattle.sieve_check.specs.Element.{Element, elements_of, the_command, the_number, the_test, the_text}
 use Rattle.sieve_check.specs.Order.{IsInTextOrder, writes_element, written_by}
-use Rattle.sieve_check.proofs.Roles.{not_both}
+use Rattle.sieve_check.proofs.Truth.{not_both}
 use Rattle.sieve_check.proofs.Written.{elements_written}
 
 -- NUMBERS THAT NEVER FALL

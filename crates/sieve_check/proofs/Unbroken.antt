@@ -1,53 +1,35 @@
 -- An element without a breach breaks no rule.
-use Rattle.std.proofs.Common.{◌≡◌, ℕ, Bool, true, false, List, [], ◌∷◌, ◌++◌, None, Some, slice_get, refl, sym, ◌∙◌, arith}
+use Rattle.std.proofs.Common.{◌≡◌, ℕ, Bool, true, false, not, ◌&&◌, List, [], ◌∷◌, ◌++◌, None, Some, slice_get, refl, sym, ◌∙◌, arith}
 use Rattle.std.proofs.lemmas.List.Elements.{All-cons}
-use Rattle.std.specs.List.{All}
+use Rattle.std.specs.List.{All, list_all}
 use Rattle.sieve_syntax.specs.Tree.{Node}
 use Rattle.sieve_check.specs.Breach.{Breach, breach_if, breaches_at, breaches_by, breaches_in, breaches_of, breaks, first_breach, line_of}
 use Rattle.sieve_table.specs.Rule.{all_rules}
 use Rattle.sieve_check.specs.Element.{Element, elements_of}
 use Rattle.sieve_table.specs.declared.rule.Rule.{Rule}
-use Rattle.sieve_table.specs.declared.rule.Rule.TheVariants.{RequirePlace, UnknownCapability, UnknownCommand, NotRequired, ElsePlace, BadTag, BadArguments, UnknownComparator, BadVariableName, GlobalAfterSet, BadNamespace, MatchIndex, NumberTooLarge, BadEnvelopePart, NotAddressHeader, TooManyVariables}
+use Rattle.sieve_table.proofs.Each.{of_each}
+use Rattle.sieve_table.specs.contracts.rule.Rule as every_rule
 use Rattle.sieve_check.proofs.Searches.{in_turn, cons_in}
-
--- none of some rules is broken
-abbrev KeepsAll : (Rule → Bool) → List Rule → Type 0
-KeepsAll broken [] = Unit {0}
-KeepsAll broken (rule ∷ rules) = (broken rule ≡ false) × KeepsAll broken rules
 
 not_empty : (b : Breach) (bs : List Breach) → b ∷ bs ≡ [] → ⊥
 not_empty b bs e = cc
 
-with_rule : (broken : Rule → Bool) (line : ℕ) (rule : Rule) (rules : List Rule) (does : Bool) → broken rule ≡ does → breach_if does line rule ++ breaches_by broken line rules ≡ []
-    → (breaches_by broken line rules ≡ [] → KeepsAll broken rules) → KeepsAll broken (rule ∷ rules)
-with_rule broken line rule rules true is none below = absurd (not_empty _ _ none)
-with_rule broken line rule rules false is none below = (is, below none)
-
-keeps_all : (broken : Rule → Bool) (line : ℕ) (rules : List Rule) → breaches_by broken line rules ≡ [] → KeepsAll broken rules
-keeps_all broken line [] none = tt
-keeps_all broken line (rule ∷ rules) none = with_rule broken line rule rules (broken rule) refl none (keeps_all broken line rules)
-
-keeps_each : (broken : Rule → Bool) → KeepsAll broken all_rules → (rule : Rule) → broken rule ≡ false
-keeps_each broken all RequirePlace = all.0
-keeps_each broken all UnknownCapability = all.1.0
-keeps_each broken all UnknownCommand = all.1.1.0
-keeps_each broken all NotRequired = all.1.1.1.0
-keeps_each broken all ElsePlace = all.1.1.1.1.0
-keeps_each broken all BadTag = all.1.1.1.1.1.0
-keeps_each broken all BadArguments = all.1.1.1.1.1.1.0
-keeps_each broken all UnknownComparator = all.1.1.1.1.1.1.1.0
-keeps_each broken all BadVariableName = all.1.1.1.1.1.1.1.1.0
-keeps_each broken all GlobalAfterSet = all.1.1.1.1.1.1.1.1.1.0
-keeps_each broken all BadNamespace = all.1.1.1.1.1.1.1.1.1.1.0
-keeps_each broken all MatchIndex = all.1.1.1.1.1.1.1.1.1.1.1.0
-keeps_each broken all NumberTooLarge = all.1.1.1.1.1.1.1.1.1.1.1.1.0
-keeps_each broken all BadEnvelopePart = all.1.1.1.1.1.1.1.1.1.1.1.1.1.0
-keeps_each broken all NotAddressHeader = all.1.1.1.1.1.1.1.1.1.1.1.1.1.1.0
-keeps_each broken all TooManyVariables = all.1.1.1.1.1.1.1.1.1.1.1.1.1.1.1.0
+-- none of some rules is broken
+none_broken : (broken : Rule → Bool) (line : ℕ) (rules : List Rule) → breaches_by broken line rules ≡ [] → list_all (λ rule. not (broken rule)) rules ≡ true
+none_broken broken line [] none = refl
+none_broken broken line (rule ∷ rules) none = by_rule (broken rule) none (none_broken broken line rules)
+  where
+    by_rule : (does : Bool) → breach_if does line rule ++ breaches_by broken line rules ≡ [] → (breaches_by broken line rules ≡ [] → list_all (λ rule. not (broken rule)) rules ≡ true) → (not does && list_all (λ rule. not (broken rule)) rules) ≡ true
+    by_rule true none rest = absurd (not_empty _ _ none)
+    by_rule false none rest = rest none
 
 pub keeps : (e : Element) → breaches_at e ≡ [] → (rule : Rule) → breaks e rule ≡ false
 unfolding breaches_at
-keeps e none rule = keeps_each (breaks e) (keeps_all (breaks e) (line_of e) all_rules none) rule
+keeps e none rule = not_so (breaks e rule) (of_each every_rule.enum tt (λ rule. not (breaks e rule)) (none_broken (breaks e) (line_of e) all_rules none) rule)
+  where
+    not_so : (b : Bool) → not b ≡ true → b ≡ false
+    not_so true is = sym is
+    not_so false is = refl
 
 -- ELEMENTS IN TURN
 

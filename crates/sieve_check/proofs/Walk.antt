@@ -14,7 +14,6 @@ use Rattle.sieve_check.specs.Element.{Element, block_elements, node_elements, no
 use Rattle.sieve_check.specs.view.Context.{at_spot}
 use Rattle.sieve_check.specs.view.Head.{command_head, test_head}
 use Rattle.sieve_table.specs.Table.{command_named}
-use Rattle.sieve_table.specs.declared.table.CommandKind.{CommandKind}
 use Rattle.sieve_check.specs.declared.context.Spot.{Spot}
 use Rattle.sieve_check.specs.declared.validator.CheckFault.{CheckFault}
 use Rattle.sieve_check.proofs.Searches.{front_stops, front_passes, none_in}

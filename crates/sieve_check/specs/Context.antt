@@ -1,5 +1,5 @@
 -- What stands before a command in its text, as far as rules ask.
-use Rattle.std.specs.Prelude.{ℕ, Bool, true, false, ◌&&◌, ◌||◌, List, [], ◌∷◌, Option, Some, None, if◌then◌else◌}
+use Rattle.std.specs.Prelude.{Bool, true, false, ◌&&◌, ◌||◌, List, [], ◌∷◌, Option, Some, None, if◌then◌else◌}
 use Rattle.sieve_syntax.specs.Tree.{Node, node, Nodes, end_nodes, more_nodes, Block, no_block, block, Text, Argument, strings, number, tag}
 use Rattle.sieve_table.specs.Role.{is_expanded}
 use Rattle.sieve_check.specs.Scope.{Scope, naming_arguments, no_names}

@@ -1,50 +1,47 @@
 -- A tree of which each command and each test is read as something: it has a row, its arguments are what the row says, and it
 -- stands where it may. Nothing of such a tree vanishes from the abstract script.
-use Rattle.std.specs.Prelude.{◌≡◌, ℕ, Bool, true, false, not, ◌&&◌, List, [], ◌∷◌, ◌++◌, map, Option, Some, None}
-use Rattle.sieve_reading.specs.Label.{labels_of, row_is_filled}
+use Rattle.std.specs.Prelude.{◌≡◌, ℕ, Bool, true, false, List, [], ◌∷◌, ◌++◌, Option, Some, None}
 use Rattle.sieve_reading.specs.Reading as reading
 use Rattle.sieve_reading.specs.Reading.{TestReading, reads_always, reads_never, reads_ask, reads_all, reads_any, reads_not, CommandReading, Leaf}
 use Rattle.sieve_reading.specs.CommandReading.{command_reading}
 use Rattle.sieve_reading.specs.TestReading.{test_reading}
-use Rattle.sieve_reading.specs.Shape.{shape_of}
+use Rattle.sieve_reading.specs.Shape.{shapes_of}
 use Rattle.sieve_reading.specs.Script.{Commands, no_commands, stops, returns, acts, chooses, Condition, branch_condition, conditions_in, script_of}
-use Rattle.sieve_table.specs.Table.{Row, command_named, test_named, command_row, test_row}
+use Rattle.sieve_table.specs.Table.{command_named, test_named, command_row, test_row}
 use Rattle.sieve_reading.specs.Tree.{Argument, Test, test, Tests, no_tests, one_test, test_list, TestList, end_tests, more_tests, Node, node, Block, no_block, block, Nodes, end_nodes, more_nodes, nodes}
-use Rattle.sieve_check.specs.Use.{has_bad_tag, lacks_own, lacks_kind}
-use Rattle.sieve_reading.specs.declared.label.Shape.{Shape}
+use Rattle.sieve_check.specs.Use.{block_fits, has_block, is_well_used, tests_fit}
+use Rattle.sieve_table.specs.declared.row.Inner.{Inner}
+use Rattle.sieve_table.specs.declared.row.Inner.TheVariants as inner
 use Rattle.sieve_table.specs.declared.table.CommandKind.{CommandKind}
 use Rattle.sieve_table.specs.declared.table.TestKind.{TestKind}
 
--- the tests that a test of such a reading has in it: a list, one, or none (RFC 5228, sections 5.2, 5.3 and 5.8)
+-- which tests a test of such a reading has in it (RFC 5228, sections 5.2, 5.3 and 5.8)
+abbrev pub tests_of_reading : TestReading → Inner
+tests_of_reading reads_always = inner.None
+tests_of_reading reads_never = inner.None
+tests_of_reading (reads_ask ask) = inner.None
+tests_of_reading reads_all = inner.List
+tests_of_reading reads_any = inner.List
+tests_of_reading reads_not = inner.One
+
 abbrev pub Joins : Option TestReading → Tests → Type 0
 Joins None ts = ⊥
-Joins (Some reads_always) ts = ts ≡ no_tests
-Joins (Some reads_never) ts = ts ≡ no_tests
-Joins (Some (reads_ask ask)) ts = ts ≡ no_tests
-Joins (Some reads_all) ts = (list : TestList) × (ts ≡ test_list list)
-Joins (Some reads_any) ts = (list : TestList) × (ts ≡ test_list list)
-Joins (Some reads_not) ts = (t : Test) × (ts ≡ one_test t)
+Joins (Some r) ts = tests_fit (tests_of_reading r) ts ≡ true
 
--- the arguments are what the row says: the tags are its own, of each kind one at most, and stand before the positional
--- arguments; these are there and no others; each tag has its own argument; and the kind that is needed is there
-abbrev pub are_in_order : Row → List Shape → Bool
-are_in_order row shapes = not (has_bad_tag (labels_of row shapes)) && (row_is_filled row shapes && (not (lacks_own (labels_of row shapes)) && not (lacks_kind row.one_of (labels_of row shapes))))
+-- There is such a test, and such a command, and it takes these arguments, tests and block: the tags are its row's own, of each kind one at
+-- most, and stand before the positional arguments; these are there and no others; each tag has its own argument; the kind that is needed is
+-- there, and so are the tests and the block.
+abbrev pub test_takes : Option TestKind → List Argument → Tests → Bool
+test_takes None args ts = false
+test_takes (Some kind) args ts = is_well_used (test_row kind) (shapes_of (test_row kind).tags args) ts false
 
-abbrev pub row_takes : Row → List Argument → Bool
-row_takes row args = are_in_order row (map (shape_of row.tags) args)
-
--- there is such a test, and such a command, and it takes these arguments
-abbrev pub test_takes : Option TestKind → List Argument → Bool
-test_takes None args = false
-test_takes (Some kind) args = row_takes (test_row kind) args
-
-abbrev pub command_takes : Option CommandKind → List Argument → Bool
-command_takes None args = false
-command_takes (Some kind) args = row_takes (command_row kind) args
+abbrev pub command_takes : Option CommandKind → List Argument → Tests → Block → Bool
+command_takes None args ts ending = false
+command_takes (Some kind) args ts ending = is_well_used (command_row kind) (shapes_of (command_row kind).tags args) ts (has_block ending)
 
 unfoldable mutual
   pub ReadsTest : Test → Type 0
-  ReadsTest (test name line args ts) = (test_takes (test_named name) args ≡ true) × Joins (test_reading (test name line args ts)) ts × ReadsTests ts
+  ReadsTest (test name line args ts) = (test_takes (test_named name) args ts ≡ true) × Joins (test_reading (test name line args ts)) ts × ReadsTests ts
 
   pub ReadsTests : Tests → Type 0
   ReadsTests no_tests = Unit {0}
@@ -55,18 +52,28 @@ unfoldable mutual
   ReadsTestList end_tests = Unit {0}
   ReadsTestList (more_tests t ts) = ReadsTest t × ReadsTestList ts
 
--- A command of such a reading stands where it may, and has the test and the block that it needs and no others: a branch has
--- one test, but for the last, and each has a block; a branch that goes on with an `if` stands behind one (RFC 5228, section
--- 3.1).
+-- What a command of such a reading needs: which test, whether a block, and whether an `if` with which it goes on (RFC 5228, section 3.1).
+pub record Needs : Type 0 where
+  pub tests : Inner
+  pub block : Bool
+  pub behind_if : Bool
+
+abbrev pub no_needs : Needs
+no_needs = record { tests = inner.None; block = false; behind_if = false }
+
+abbrev pub needs_of : CommandReading → Needs
+needs_of reading.reads_if = record { tests = inner.One; block = true; behind_if = false }
+needs_of reading.reads_elsif = record { tests = inner.One; block = true; behind_if = true }
+needs_of reading.reads_else = record { tests = inner.None; block = true; behind_if = true }
+needs_of reading.reads_stop = no_needs
+needs_of reading.reads_return = no_needs
+needs_of reading.reads_nothing = no_needs
+needs_of (reading.reads_act leaf) = no_needs
+
+-- A command of such a reading stands where it may, and has the test and the block that it needs and no others.
 abbrev pub Stands : (follows_if : Bool) → Option CommandReading → Tests → Block → Type 0
 Stands follows_if None ts ending = ⊥
-Stands follows_if (Some reading.reads_if) ts ending = (t : Test) × (ns : Nodes) × (ts ≡ one_test t) × (ending ≡ block ns)
-Stands follows_if (Some reading.reads_elsif) ts ending = (follows_if ≡ true) × (t : Test) × (ns : Nodes) × (ts ≡ one_test t) × (ending ≡ block ns)
-Stands follows_if (Some reading.reads_else) ts ending = (follows_if ≡ true) × (ns : Nodes) × (ts ≡ no_tests) × (ending ≡ block ns)
-Stands follows_if (Some reading.reads_stop) ts ending = (ts ≡ no_tests) × (ending ≡ no_block)
-Stands follows_if (Some reading.reads_return) ts ending = (ts ≡ no_tests) × (ending ≡ no_block)
-Stands follows_if (Some reading.reads_nothing) ts ending = (ts ≡ no_tests) × (ending ≡ no_block)
-Stands follows_if (Some (reading.reads_act leaf)) ts ending = (ts ≡ no_tests) × (ending ≡ no_block)
+Stands follows_if (Some r) ts ending = (tests_fit (needs_of r).tests ts ≡ true) × (block_fits (needs_of r).block (has_block ending) ≡ true) × ((needs_of r).behind_if ≡ true → follows_if ≡ true)
 
 -- whether a branch may go on behind it
 abbrev pub may_go_on : Option CommandReading → Bool
@@ -81,7 +88,7 @@ may_go_on (Some (reading.reads_act leaf)) = false
 
 unfoldable mutual
   pub ReadsNode : (follows_if : Bool) → Node → Type 0
-  ReadsNode follows_if (node name line args ts ending) = (command_takes (command_named name) args ≡ true) × Stands follows_if (command_reading (node name line args ts ending)) ts ending × ReadsTests ts × ReadsBlock ending
+  ReadsNode follows_if (node name line args ts ending) = (command_takes (command_named name) args ts ending ≡ true) × Stands follows_if (command_reading (node name line args ts ending)) ts ending × ReadsTests ts × ReadsBlock ending
 
   pub ReadsBlock : Block → Type 0
   ReadsBlock no_block = Unit {0}

@@ -1,15 +1,18 @@
 -- Whether a command or a test is used as its row says (RFC 5228, sections 2.5, 2.6, 2.8 and 2.9).
 use Rattle.std.specs.Prelude.{Bool, true, false, not, ◌||◌, ◌&&◌, List, [], ◌∷◌, Option, Some, None, is_some, if◌then◌else◌}
 use Rattle.std.specs.List.{list_any}
-use Rattle.sieve_syntax.specs.Tree.{Tests, no_tests, one_test, test_list, Block, no_block, block}
+use denote.Enum.Bare.{sameb}
+use Rattle.sieve_syntax.specs.TreeOf.{Tests, no_tests, one_test, test_list, Block, no_block, block}
 use Rattle.sieve_table.specs.Required.{Required, is_required}
+use Rattle.sieve_reading.specs.Given.{is_of_kind}
 use Rattle.sieve_reading.specs.Positional.{is_positional_label}
 use Rattle.sieve_reading.specs.Label.{labels_of, row_is_filled}
-use Rattle.sieve_table.specs.Table.{Row, same_kind, tag_row}
+use Rattle.sieve_table.specs.Table.{Row, tag_row}
 use Rattle.sieve_reading.specs.declared.label.Label.{Label}
 use Rattle.sieve_reading.specs.declared.label.Label.TheVariants.{Tagged, OtherTag, Own, InSlot, Unfit}
 use Rattle.sieve_reading.specs.declared.label.Shape.{Shape}
 use Rattle.sieve_table.specs.declared.capability.Capability.{Capability}
+use Rattle.sieve_table.specs.contracts.row.Inner.{the_type}
 use Rattle.sieve_table.specs.declared.row.Inner.{Inner}
 use Rattle.sieve_table.specs.declared.row.Inner.TheVariants as inner
 use Rattle.sieve_table.specs.declared.row.TagKind.{TagKind}
@@ -57,14 +60,6 @@ abbrev pub has_late_tag : List Label → Bool
 has_late_tag [] = false
 has_late_tag (label ∷ labels) = if is_positional_label label then list_any is_tag labels else has_late_tag labels
 
--- a tag of that kind
-abbrev pub is_of_kind : TagKind → Label → Bool
-is_of_kind k (Tagged taken) = same_kind k (tag_row taken).kind
-is_of_kind k OtherTag = false
-is_of_kind k (Own slot) = false
-is_of_kind k (InSlot slot) = false
-is_of_kind k Unfit = false
-
 -- a tag of the kind of the first stands behind it
 abbrev pub is_repeated : Label → List Label → Bool
 is_repeated (Tagged taken) labels = list_any (is_of_kind (tag_row taken).kind) labels
@@ -110,19 +105,18 @@ abbrev pub lacks_kind : Option TagKind → List Label → Bool
 lacks_kind None labels = false
 lacks_kind (Some k) labels = not (list_any (is_of_kind k) labels)
 
-abbrev pub tests_fit : Inner → Tests → Bool
-tests_fit inner.None no_tests = true
-tests_fit inner.None (one_test t) = false
-tests_fit inner.None (test_list ts) = false
-tests_fit inner.One no_tests = false
-tests_fit inner.One (one_test t) = true
-tests_fit inner.One (test_list ts) = false
-tests_fit inner.List no_tests = false
-tests_fit inner.List (one_test t) = false
-tests_fit inner.List (test_list ts) = true
+-- which tests there are
+abbrev pub tests_there : {S : Type 0} → Tests S → Inner
+tests_there no_tests = inner.None
+tests_there (one_test t) = inner.One
+tests_there (test_list ts) = inner.List
+
+-- whether these tests are there
+abbrev pub tests_fit : {S : Type 0} → Inner → Tests S → Bool
+tests_fit taken ts = sameb the_type taken (tests_there ts)
 
 -- whether a command ends by a block
-abbrev pub has_block : Block → Bool
+abbrev pub has_block : {S : Type 0} → Block S → Bool
 has_block no_block = false
 has_block (block ns) = true
 
@@ -134,13 +128,13 @@ block_fits false true = false
 block_fits false false = true
 
 -- arguments, tests or a block that aren't what is taken, a tag without its own argument, or none of a kind that is needed
-abbrev pub are_bad : (filled : Bool) → Row → List Label → Tests → (ends_by_block : Bool) → Bool
+abbrev pub are_bad : {S : Type 0} → (filled : Bool) → Row → List Label → Tests S → (ends_by_block : Bool) → Bool
 are_bad filled row labels ts ends_by_block =
     (not filled || (not (tests_fit row.tests ts) || not (block_fits row.has_block ends_by_block))) || (lacks_own labels || lacks_kind row.one_of labels)
 
-abbrev pub has_bad_arguments : Row → List Shape → Tests → (ends_by_block : Bool) → Bool
+abbrev pub has_bad_arguments : {S : Type 0} → Row → List Shape → Tests S → (ends_by_block : Bool) → Bool
 has_bad_arguments row shapes ts ends_by_block = are_bad (row_is_filled row shapes) row (labels_of row shapes) ts ends_by_block
 
 -- whether all is as the row says
-abbrev pub is_well_used : Row → List Shape → Tests → (ends_by_block : Bool) → Bool
+abbrev pub is_well_used : {S : Type 0} → Row → List Shape → Tests S → (ends_by_block : Bool) → Bool
 is_well_used row shapes ts ends_by_block = not (has_bad_tag (labels_of row shapes)) && not (has_bad_arguments row shapes ts ends_by_block)

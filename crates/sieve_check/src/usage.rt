@@ -2,6 +2,7 @@
 ghost use Rattle.std.specs.Prelude.{◌≡◌};
 ghost use Rattle.std.specs.List.{list_any};
 ghost use Rattle.sieve_syntax.specs.view.Tree.{tests_of};
+ghost use Rattle.sieve_reading.specs.Given.{is_of_kind};
 ghost use Rattle.sieve_reading.specs.Positional.{is_positional_label};
 ghost use Rattle.sieve_check.specs.Use as spec;
 ghost use Rattle.sieve_table.specs.view.Required.{required_as};
@@ -124,7 +125,7 @@ fn has_late_tag(labels: &[Label]) -> bool
 
 /// Whether an argument is a tag of that kind.
 fn is_of_kind(kind: TagKind, label: Label) -> bool
-    ensures { result ≡ spec.is_of_kind kind label }
+    ensures { result ≡ is_of_kind kind label }
 {
     match label {
         Label::Tagged(tag) => same_kind(kind, tag.row().kind),
@@ -134,7 +135,7 @@ fn is_of_kind(kind: TagKind, label: Label) -> bool
 
 /// Whether a tag of that kind is among them.
 fn has_kind(kind: TagKind, labels: &[Label]) -> bool
-    ensures { result ≡ list_any (spec.is_of_kind kind) labels.now }
+    ensures { result ≡ list_any (is_of_kind kind) labels.now }
 {
     labels.iter().any(|label| is_of_kind(kind, *label))
 }

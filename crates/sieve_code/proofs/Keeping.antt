@@ -7,8 +7,10 @@ use Rattle.std.proofs.Math.Seq.{get_or-append_seam}
 use Rattle.std.proofs.lemmas.List.{append-nil, append_assoc, drop-map}
 use Rattle.sieve_effects.specs.Joined.{Lists, list_in, lists_plus, lists_with, no_lists}
 use Rattle.sieve_variables.specs.Part.{Part}
+use Rattle.sieve_code.specs.declared.op.PackedSettings.{PackedSettings}
+use Rattle.sieve_code.specs.declared.op.PackedTest.{PackedTest}
 use Rattle.sieve_code.specs.declared.pools.Target.{Target}
-use Rattle.sieve_code.specs.Pool.{Grows, Keeps, Kept, Pool, given_list, given_variable, no_pool, nowhere, plus}
+use Rattle.sieve_code.specs.Pool.{Grows, Keeps, Kept, Pool, given_list, given_variable, no_pool, no_test, nowhere, packed_in, plain_packed, plus, test_in}
 use Rattle.sieve_code.specs.Operation.{Operation}
 use Rattle.sieve_code.specs.view.Op.{is_plain, op_in, plain_as}
 use Rattle.sieve_code.specs.declared.op.Op.{Op}
@@ -26,7 +28,9 @@ plus_none p =
     ∙ ap (λ (l : Lists). record (plus p no_pool) { strings = p.strings; lists = l }) (lists_none p.lists)
     ∙ ap (λ (n : Lists). record (plus p no_pool) { strings = p.strings; lists = p.lists; names = n }) (lists_none p.names)
     ∙ ap (λ (t : List Target). record (plus p no_pool) { strings = p.strings; lists = p.lists; names = p.names; targets = t }) (append-nil p.targets)
-    ∙ ap (λ (s : List (List ℕ)). record p { scripts = s }) (append-nil p.scripts)
+    ∙ ap (λ (s : List (List ℕ)). record p { scripts = s; tests = p.tests ++ []; settings = p.settings ++ [] }) (append-nil p.scripts)
+    ∙ ap (λ (t : List PackedTest). record p { tests = t; settings = p.settings ++ [] }) (append-nil p.tests)
+    ∙ ap (λ (s : List PackedSettings). record p { settings = s }) (append-nil p.settings)
 
 pub grows_self : (p : Pool) → Grows p p
 grows_self p = λ more. (more, refl)
@@ -49,6 +53,17 @@ kept_two g p q r f h x y first second = record {
   keeps = λ more. ap (λ a. g a (h (plus r more))) (keeps_on q r f x second.grows first.keeps more) ∙ ap (g x) (second.keeps more);
 }
 
+-- what is made of what is found
+pub kept_as : {X Y : Type 0} (g : X → Y) (p q : Pool) (f : Pool → X) (x : X) → Kept p q f x → Kept p q (λ s. g (f s)) (g x)
+kept_as g p q f x kept = record { grows = kept.grows; keeps = λ more. ap g (kept.keeps more) }
+
+-- what is found where something says its places that is found itself
+pub kept_by : {X Y : Type 0} (f : Y → Pool → X) (p q r : Pool) (h : Pool → Y) (x : X) (y : Y) → Kept p q (f y) x → Kept q r h y → Kept p r (λ s. f (h s) s) x
+kept_by f p q r h x y first second = record {
+  grows = grows_on p q r first.grows second.grows;
+  keeps = λ more. ap (λ a. f a (plus r more)) (second.keeps more) ∙ keeps_on q r (f y) x second.grows first.keeps more;
+}
+
 -- WHAT IS ADDED
 
 no_plain : false ≡ true → ⊥
@@ -57,6 +72,13 @@ no_plain e = cc
 slice_get-seam : {X : Type 0} (xs : List X) (x : X) (ys : List X) → slice_get (xs ++ x ∷ ys) (length xs) ≡ Some x
 slice_get-seam [] x ys = refl
 slice_get-seam (y ∷ xs) x ys = slice_get-seam xs x ys
+
+somewhere : (place : ℕ) → place < nowhere → (place == nowhere) ≡ false
+somewhere place below = by_test (place == nowhere) refl
+  where
+    by_test : (b : Bool) → (place == nowhere) ≡ b → (place == nowhere) ≡ false
+    by_test true is = let same : place ≡ nowhere = eqb-true place nowhere is in absurd (omega (arith, below, same))
+    by_test false is = is
 
 module _ (p q : Pool) (place : ℕ) where
   pub string_kept : (string : List Part) → place ≡ length p.strings → q ≡ record p { strings = p.strings ++ string ∷ [] } → Kept p q (λ r. get_or r.strings place []) string
@@ -75,6 +97,20 @@ module _ (p q : Pool) (place : ℕ) where
   target_kept target at is = subst (λ (q : Pool). Kept p q (λ r. slice_get r.targets place) (Some target)) (sym is) (record {
     grows = λ more. (record more { targets = target ∷ more.targets }, ap (λ (s : List Target). record (plus p more) { targets = s }) (append_assoc p.targets (target ∷ []) more.targets));
     keeps = λ more. ap (λ (l : List Target). slice_get l place) (append_assoc p.targets (target ∷ []) more.targets) ∙ ap (slice_get (p.targets ++ target ∷ more.targets)) at ∙ slice_get-seam p.targets target more.targets;
+  })
+
+  pub test_kept : (test : PackedTest) → place ≡ length p.tests → q ≡ record p { tests = p.tests ++ test ∷ [] } → Kept p q (λ r. test_in r place) test
+  test_kept test at is = subst (λ (q : Pool). Kept p q (λ r. test_in r place) test) (sym is) (record {
+    grows = λ more. (record more { tests = test ∷ more.tests }, ap (λ (t : List PackedTest). record (plus p more) { tests = t }) (append_assoc p.tests (test ∷ []) more.tests));
+    keeps = λ more. ap (λ (l : List PackedTest). get_or l place no_test) (append_assoc p.tests (test ∷ []) more.tests) ∙ ap (λ n. get_or (p.tests ++ test ∷ more.tests) n no_test) at ∙ get_or-append_seam p.tests test more.tests no_test;
+  })
+
+  pub settings_kept : (settings : PackedSettings) → place ≡ length p.settings → place < nowhere → q ≡ record p { settings = p.settings ++ settings ∷ [] } → Kept p q (λ r. packed_in r place) settings
+  settings_kept settings at below is = subst (λ (q : Pool). Kept p q (λ r. packed_in r place) settings) (sym is) (record {
+    grows = λ more. (record more { settings = settings ∷ more.settings }, ap (λ (s : List PackedSettings). record (plus p more) { settings = s }) (append_assoc p.settings (settings ∷ []) more.settings));
+    keeps = λ more.
+        ap (λ b. if b then plain_packed else get_or ((p.settings ++ settings ∷ []) ++ more.settings) place plain_packed) (somewhere place below)
+        ∙ ap (λ (l : List PackedSettings). get_or l place plain_packed) (append_assoc p.settings (settings ∷ []) more.settings) ∙ ap (λ n. get_or (p.settings ++ settings ∷ more.settings) n plain_packed) at ∙ get_or-append_seam p.settings settings more.settings plain_packed;
   })
 
 lists_more : (lists more : Lists) (texts : List (List Part)) → lists_plus (lists_with lists texts) more ≡ lists_plus lists (record { strings = texts ++ more.strings; ends = length (lists.strings ++ texts) ∷ more.ends })
@@ -96,13 +132,6 @@ module _ (p q : Pool) (place : ℕ) (texts : List (List Part)) where
   })
 
 -- WHAT MAY BE LEFT OUT
-
-somewhere : (place : ℕ) → place < nowhere → (place == nowhere) ≡ false
-somewhere place below = by_test (place == nowhere) refl
-  where
-    by_test : (b : Bool) → (place == nowhere) ≡ b → (place == nowhere) ≡ false
-    by_test true is = let same : place ≡ nowhere = eqb-true place nowhere is in absurd (omega (arith, below, same))
-    by_test false is = is
 
 pub given_kept : (p q : Pool) (place : ℕ) (texts : List (List Part)) → place < nowhere → Kept p q (λ r. list_in r.lists place) texts → Kept p q (λ r. given_list r place) (Some texts)
 given_kept p q place texts below kept = record {
@@ -132,17 +161,17 @@ plain_in pool (op.JumpIfFalse left) plain = refl
 plain_in pool (op.JumpIfTrue left) plain = refl
 plain_in pool op.Stop plain = refl
 plain_in pool op.Return plain = refl
-plain_in pool (op.Compares source match_type collation values keys) plain = absurd (no_plain plain)
+plain_in pool (op.Compares test values keys) plain = absurd (no_plain plain)
 plain_in pool (op.Exists names) plain = absurd (no_plain plain)
 plain_in pool (op.Over limit) plain = absurd (no_plain plain)
 plain_in pool (op.Under limit) plain = absurd (no_plain plain)
-plain_in pool (op.Keep copy line flags) plain = absurd (no_plain plain)
-plain_in pool (op.Fileinto copy line mailbox flags) plain = absurd (no_plain plain)
-plain_in pool (op.Redirect copy line address flags) plain = absurd (no_plain plain)
+plain_in pool (op.Keep line settings) plain = absurd (no_plain plain)
+plain_in pool (op.Fileinto line mailbox settings) plain = absurd (no_plain plain)
+plain_in pool (op.Redirect line address settings) plain = absurd (no_plain plain)
 plain_in pool (op.Discard line) plain = absurd (no_plain plain)
 plain_in pool (op.Set line target value) plain = absurd (no_plain plain)
 plain_in pool (op.Flags change line variable flags) plain = absurd (no_plain plain)
-plain_in pool (op.Include place once optional line name) plain = absurd (no_plain plain)
+plain_in pool (op.Include inclusion) plain = absurd (no_plain plain)
 
 module _ (pool : Pool) (ops ops' : List Op) (stays : Stays pool ops) where
   pub stays_same : ops' ≡ ops → Stays pool ops'

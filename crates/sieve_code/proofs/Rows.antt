@@ -1,5 +1,6 @@
 -- Worked rows of what code is chosen, of what it does, and of how it is printed.
 use Rattle.std.proofs.Common.{◌≡◌, ℕ, true, false, List, [], ◌∷◌, Some, None, refl, codes}
+use Rattle.match_text.specs.declared.comparators.Collation.{Collation}
 use Rattle.match_text.specs.declared.comparators.Collation.TheVariants.{Casemap, Octet}
 use Rattle.std.specs.Fmt.{digits}
 use Rattle.sieve_base.specs.Writers.{quoted}
@@ -13,6 +14,8 @@ use Rattle.sieve_variables.specs.Variable.{local_variable, global_variable}
 use Rattle.sieve_variables.specs.declared.modifier.LetterCase.TheVariants as letter_case
 use Rattle.sieve_reading.specs.Tree.{Argument, strings, number, tag, Test, test, no_tests, one_test, test_list, tests, Node, node, Block, no_block, block, nodes}
 use Rattle.sieve_reading.specs.declared.reading.FlagChange.TheVariants.{Set, Add}
+use Rattle.sieve_reading.specs.declared.reading.Comparison.{Comparison}
+use Rattle.sieve_reading.specs.declared.reading.MatchType.{MatchType}
 use Rattle.sieve_reading.specs.declared.reading.MatchType.TheVariants.{Contains, Is, Matches}
 use Rattle.sieve_code.specs.Choice.{code_of, placed, test_before, tests_before, list_before, first_before, node_before, block_before, nodes_before}
 use Rattle.sieve_code.specs.Dump.{address_words, ask_text, changing_words, comparing_words, further_list, include_words, internal_list, line_text, list_text, modifier_words, operation_text, set_words, stored_flags, string_text, worded_text, worded_variable, source_text, leaf_text, stored_text, copy_word, worded_settings}
@@ -61,8 +64,11 @@ stop_at line = plain (codes "stop") line no_block
 abbrev worked : List Node
 worked = testing (codes "if") 1 (list_of (codes "anyof") (header_test ∷ size_test ∷ [])) (keep_at 2 ∷ []) ∷ last_branch (discard_at 4 ∷ []) ∷ []
 
+abbrev by : MatchType → Collation → Comparison
+by match_type collation = record { match_type = match_type; collation = collation }
+
 abbrev list_ask : Ask
-list_ask = compares (header_values ((literal (codes "Subject") ∷ []) ∷ [])) Contains Casemap ((literal (codes "[list]") ∷ []) ∷ [])
+list_ask = compares (header_values ((literal (codes "Subject") ∷ []) ∷ [])) (by Contains Casemap) ((literal (codes "[list]") ∷ []) ∷ [])
 
 abbrev worked_code : List Operation
 worked_code =
@@ -180,7 +186,7 @@ set_line_row : line_text 0 (act_op (set_leaf (local_variable (codes "n")) (recor
 unfolding line_text operation_text leaf_text digits worded_text set_words modifier_words worded_variable string_text quoted stored_text copy_word
 set_line_row = refl
 
-string_line_row : line_text 0 (test_op (compares (string_values ((local_part (codes "a") ∷ []) ∷ [])) Matches Octet ((literal (codes "x*") ∷ []) ∷ []))) ≡ codes "0: string matches octet [local(a)] [\"x*\"]\n"
+string_line_row : line_text 0 (test_op (compares (string_values ((local_part (codes "a") ∷ []) ∷ [])) (by Matches Octet) ((literal (codes "x*") ∷ []) ∷ []))) ≡ codes "0: string matches octet [local(a)] [\"x*\"]\n"
 unfolding line_text operation_text digits ask_text source_text comparing_words further_list list_text string_text quoted
 string_line_row = refl
 
@@ -192,11 +198,11 @@ strings_row = refl
 abbrev one_text : List ℕ → List Part
 one_text octets = literal octets ∷ []
 
-address_line_row : line_text 0 (test_op (compares (address_values part.Local (one_text (codes "from") ∷ one_text (codes "To") ∷ [])) Is Casemap (one_text (codes "jane") ∷ []))) ≡ codes "0: address is casemap localpart [\"from\", \"To\"] [\"jane\"]\n"
+address_line_row : line_text 0 (test_op (compares (address_values part.Local (one_text (codes "from") ∷ one_text (codes "To") ∷ [])) (by Is Casemap) (one_text (codes "jane") ∷ []))) ≡ codes "0: address is casemap localpart [\"from\", \"To\"] [\"jane\"]\n"
 unfolding line_text operation_text digits ask_text source_text address_words comparing_words further_list list_text string_text quoted
 address_line_row = refl
 
-envelope_line_row : line_text 4 (test_op (compares (envelope_values part.All (one_text (codes "from") ∷ [])) Is Octet (one_text [] ∷ one_text (codes "x") ∷ []))) ≡ codes "4: envelope is octet all [\"from\"] [\"\", \"x\"]\n"
+envelope_line_row : line_text 4 (test_op (compares (envelope_values part.All (one_text (codes "from") ∷ [])) (by Is Octet) (one_text [] ∷ one_text (codes "x") ∷ []))) ≡ codes "4: envelope is octet all [\"from\"] [\"\", \"x\"]\n"
 unfolding line_text operation_text digits ask_text source_text address_words comparing_words further_list list_text string_text quoted
 envelope_line_row = refl
 
@@ -235,11 +241,11 @@ unfolding line_text operation_text leaf_text digits changing_words list_text str
 addflag_line_row = refl
 
 -- hasflag :contains ["f", "G"] "a"
-variables_line_row : line_text 0 (test_op (compares (flag_values (Some ((local_part (codes "f") ∷ []) ∷ (local_part (codes "g") ∷ []) ∷ []))) Contains Casemap (one_text (codes "a") ∷ []))) ≡ codes "0: hasflag contains casemap [local(f), local(g)] [\"a\"]\n"
+variables_line_row : line_text 0 (test_op (compares (flag_values (Some ((local_part (codes "f") ∷ []) ∷ (local_part (codes "g") ∷ []) ∷ []))) (by Contains Casemap) (one_text (codes "a") ∷ []))) ≡ codes "0: hasflag contains casemap [local(f), local(g)] [\"a\"]\n"
 unfolding line_text operation_text digits ask_text source_text comparing_words internal_list further_list list_text string_text quoted
 variables_line_row = refl
 
-internal_line_row : line_text 0 (test_op (compares (flag_values None) Is Casemap (one_text (codes "a") ∷ []))) ≡ codes "0: hasflag is casemap internal [\"a\"]\n"
+internal_line_row : line_text 0 (test_op (compares (flag_values None) (by Is Casemap) (one_text (codes "a") ∷ []))) ≡ codes "0: hasflag is casemap internal [\"a\"]\n"
 unfolding line_text operation_text digits ask_text source_text comparing_words internal_list further_list list_text string_text quoted
 internal_line_row = refl
 

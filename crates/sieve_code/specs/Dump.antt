@@ -9,6 +9,7 @@ use Rattle.sieve_base.specs.declared.place.Place.{Place}
 use Rattle.message_text.specs.declared.addressing.AddressPart.{AddressPart}
 use Rattle.message_text.specs.declared.addressing.AddressPart.TheVariants as address_part
 use Rattle.sieve_reading.specs.Reading.{header_values, address_values, envelope_values, string_values, flag_values, ValueSource, Ask, compares, exists_ask, over_ask, under_ask, Settings, Leaf, keep_leaf, fileinto_leaf, redirect_leaf, discard_leaf, set_leaf, flag_leaf, include_leaf}
+use Rattle.sieve_reading.specs.declared.reading.Comparison.{Comparison}
 use Rattle.sieve_reading.specs.declared.reading.FlagChange.{FlagChange}
 use Rattle.sieve_reading.specs.declared.reading.FlagChange.TheVariants as change
 use Rattle.sieve_reading.specs.declared.reading.MatchType.{MatchType}
@@ -63,12 +64,12 @@ address_part_word address_part.Local = codes "localpart"
 address_part_word address_part.Domain = codes "domain"
 
 -- the words of a test that compares values with keys
-unfoldable pub comparing_words : List ℕ → MatchType → Collation → List ℕ
-comparing_words test match_type collation = test ++ codes " " ++ match_word match_type ++ codes " " ++ collation_word collation
+unfoldable pub comparing_words : List ℕ → Comparison → List ℕ
+comparing_words test comparison = test ++ codes " " ++ match_word comparison.match_type ++ codes " " ++ collation_word comparison.collation
 
 -- the words of a test that compares a part of addresses
-unfoldable pub address_words : List ℕ → MatchType → Collation → AddressPart → List ℕ
-address_words test match_type collation part = comparing_words test match_type collation ++ (codes " " ++ address_part_word part)
+unfoldable pub address_words : List ℕ → Comparison → AddressPart → List ℕ
+address_words test comparison part = comparing_words test comparison ++ (codes " " ++ address_part_word part)
 
 -- strings in brackets behind a space
 unfoldable pub further_list : List (List Part) → List ℕ
@@ -80,15 +81,15 @@ internal_list None = codes " internal"
 internal_list (Some variables) = further_list variables
 
 -- how a test compares, and its values
-unfoldable pub source_text : ValueSource → MatchType → Collation → List ℕ
-source_text (header_values names) match_type collation = comparing_words (codes "header") match_type collation ++ further_list names
-source_text (address_values part names) match_type collation = address_words (codes "address") match_type collation part ++ further_list names
-source_text (envelope_values part names) match_type collation = address_words (codes "envelope") match_type collation part ++ further_list names
-source_text (string_values texts) match_type collation = comparing_words (codes "string") match_type collation ++ further_list texts
-source_text (flag_values variables) match_type collation = comparing_words (codes "hasflag") match_type collation ++ internal_list variables
+unfoldable pub source_text : ValueSource → Comparison → List ℕ
+source_text (header_values names) comparison = comparing_words (codes "header") comparison ++ further_list names
+source_text (address_values part names) comparison = address_words (codes "address") comparison part ++ further_list names
+source_text (envelope_values part names) comparison = address_words (codes "envelope") comparison part ++ further_list names
+source_text (string_values texts) comparison = comparing_words (codes "string") comparison ++ further_list texts
+source_text (flag_values variables) comparison = comparing_words (codes "hasflag") comparison ++ internal_list variables
 
 unfoldable pub ask_text : Ask → List ℕ
-ask_text (compares source match_type collation keys) = source_text source match_type collation ++ further_list keys
+ask_text (compares source comparison keys) = source_text source comparison ++ further_list keys
 ask_text (exists_ask names) = codes "exists " ++ list_text names
 ask_text (over_ask limit) = codes "size over " ++ decimal limit
 ask_text (under_ask limit) = codes "size under " ++ decimal limit

@@ -1,22 +1,31 @@
 -- What operations of code say by its place.
-use Rattle.std.specs.Prelude.{◌≡◌, ℕ, List, [], ◌++◌, Option, Some, None, ◌==◌, if◌then◌else◌}
+use Rattle.std.specs.Prelude.{◌≡◌, ℕ, false, List, [], ◌++◌, Option, Some, None, ◌==◌, if◌then◌else◌, slice_index_or}
 use Rattle.std.specs.List.{slice_get}
 use Rattle.std.specs.Option.{option_map}
+use Rattle.match_text.specs.declared.comparators.Collation.TheVariants.{Octet}
+use Rattle.sieve_reading.specs.Reading.{Settings}
+use Rattle.sieve_reading.specs.declared.reading.MatchType.TheVariants.{Is}
 use Rattle.sieve_effects.specs.Joined.{Lists, list_in, lists_plus, no_lists}
 use Rattle.sieve_variables.specs.Part.{Part}
 use Rattle.sieve_variables.specs.Variable.{Variable}
+use Rattle.sieve_code.specs.declared.op.PackedSettings.{PackedSettings}
+use Rattle.sieve_code.specs.declared.op.PackedTest.{PackedTest}
+use Rattle.sieve_code.specs.declared.op.SourceKind.TheVariants as source
 use Rattle.sieve_code.specs.declared.pools.Target.{Target}
 
--- strings, each by its parts; lists of strings; lists of names of fields; what commands change; and names of scripts
+-- strings, each by its parts; lists of strings; lists of names of fields; what commands change; names of scripts; and what tests that
+-- compare and commands that store or redirect say beside
 pub record Pool : Type 0 where
   pub strings : List (List Part)
   pub lists : Lists
   pub names : Lists
   pub targets : List Target
   pub scripts : List (List ℕ)
+  pub tests : List PackedTest
+  pub settings : List PackedSettings
 
 abbrev pub no_pool : Pool
-no_pool = record { strings = []; lists = no_lists; names = no_lists; targets = []; scripts = [] }
+no_pool = record { strings = []; lists = no_lists; names = no_lists; targets = []; scripts = []; tests = []; settings = [] }
 
 -- with more behind each
 abbrev pub plus : Pool → Pool → Pool
@@ -26,6 +35,8 @@ plus pool more = record {
   names = lists_plus pool.names more.names;
   targets = pool.targets ++ more.targets;
   scripts = pool.scripts ++ more.scripts;
+  tests = pool.tests ++ more.tests;
+  settings = pool.settings ++ more.settings;
 }
 
 -- the place of what isn't given
@@ -38,6 +49,26 @@ given_list pool place = if place == nowhere then None else Some (list_in pool.li
 
 abbrev pub given_variable : Pool → ℕ → Option Variable
 given_variable pool place = if place == nowhere then None else option_map (λ target. target.variable) (slice_get pool.targets place)
+
+-- what a test that compares says beside; at no place, of which no operation of code says one, it is that of a test of strings
+abbrev pub no_test : PackedTest
+no_test = record { source = source.String; comparison = record { match_type = Is; collation = Octet } }
+
+abbrev pub test_in : Pool → ℕ → PackedTest
+test_in pool place = slice_index_or pool.tests place no_test
+
+-- what a command says beside that stores or redirects, if it says anything
+abbrev pub plain_packed : PackedSettings
+plain_packed = record { flags = nowhere; copy = false }
+
+abbrev pub packed_in : Pool → ℕ → PackedSettings
+packed_in pool place = if place == nowhere then plain_packed else slice_index_or pool.settings place plain_packed
+
+abbrev pub unpacked : Pool → PackedSettings → Settings
+unpacked pool packed = record { flags = given_list pool packed.flags; copy = packed.copy }
+
+abbrev pub settings_in : Pool → ℕ → Settings
+settings_in pool place = unpacked pool (packed_in pool place)
 
 -- A pool with more behind it, whatever stands behind that.
 abbrev pub Grows : Pool → Pool → Type 0

@@ -7,15 +7,17 @@ ghost use Rattle.sieve_effects.specs.view.Ops.{settings_op_as, source_op_as};
 ghost use Rattle.sieve_code.specs.Choice.{AllGoForward};
 ghost use Rattle.sieve_code.specs.Compiles.{IsCode};
 ghost use Rattle.sieve_code.specs.Dump.{line_at};
-ghost use Rattle.sieve_code.specs.Pool.{given_list, given_variable};
+ghost use Rattle.sieve_code.specs.Pool.{given_list, given_variable, no_test, packed_in, plain_packed, settings_in, test_in};
 ghost use Rattle.sieve_code.specs.view.Op.{ops_in, source_in};
 ghost use Rattle.sieve_code.specs.view.Pools.{pool_as};
 
 use crate::dump::write_line;
-use crate::op::{NOWHERE, Op, SourceKind};
+use crate::op::{NOWHERE, Op, PackedSettings, PackedTest, SourceKind};
 use crate::pools::{Pools, Target};
+use match_text::Collation;
 use sieve_base::{Sink, WriteFault};
 use sieve_effects::{FieldNames, SettingsOp, SourceOp, Strings};
+use sieve_reading::{Comparison, MatchType};
 use sieve_variables::{Part, Variable};
 
 /// The code of a checked script. It starts at the first operation and ends behind the last. Each jump goes forward, and at most
@@ -26,6 +28,29 @@ pub struct Code {
     pub(crate) pools: Pools,
     pub ghost forward: { AllGoForward (ops_in (pool_as pools) ops.items) },
     pub ghost compiled: { ∥ IsCode (ops_in (pool_as pools) ops.items) ∥₁ },
+}
+
+/// What lies at no place. No operation of code says such a place.
+fn no_test() -> PackedTest
+    ensures { result ≡ no_test }
+{
+    PackedTest {
+        source: SourceKind::String,
+        comparison: Comparison {
+            match_type: MatchType::Is,
+            collation: Collation::Octet,
+        },
+    }
+}
+
+/// What a command says that says nothing beside its mailbox or its address.
+fn plain_packed() -> PackedSettings
+    ensures { result ≡ plain_packed }
+{
+    PackedSettings {
+        flags: NOWHERE,
+        copy: false,
+    }
 }
 
 impl Code {
@@ -85,6 +110,16 @@ impl Code {
         self.pools.names.list(place as usize)
     }
 
+    /// What a test that compares says beside its values and its keys, by its place. Takes no memory.
+    pub fn test(&self, place: u32) -> PackedTest
+        ensures { result ≡ test_in (pool_of self.now) place }
+    {
+        match self.pools.tests.get(place as usize) {
+            Some(test) => *test,
+            None => no_test(),
+        }
+    }
+
     /// What a test takes values from, where its list lies at a place. Takes no memory.
     pub fn source(&self, kind: SourceKind, place: u32) -> SourceOp<'_>
         ensures { source_op_as result ≡ source_in (pool_of self.now) kind place }
@@ -110,13 +145,27 @@ impl Code {
         }
     }
 
-    /// What a command says beside its mailbox or its address, with the flags at a place, if any are given. Takes no memory.
-    pub fn settings(&self, flags: u32, copy: bool) -> SettingsOp<'_>
-        ensures { settings_op_as result ≡ record { flags = given_list (pool_of self.now) flags; copy = copy } }
+    /// What a command says beside its mailbox or its address, by its place, as it is kept.
+    fn packed_settings(&self, place: u32) -> PackedSettings
+        ensures { result ≡ packed_in (pool_of self.now) place }
     {
+        if place == NOWHERE {
+            return plain_packed();
+        }
+        match self.pools.settings.get(place as usize) {
+            Some(settings) => *settings,
+            None => plain_packed(),
+        }
+    }
+
+    /// What a command says beside its mailbox or its address, by its place, if it says anything. Takes no memory.
+    pub fn settings(&self, place: u32) -> SettingsOp<'_>
+        ensures { settings_op_as result ≡ settings_in (pool_of self.now) place }
+    {
+        let packed = self.packed_settings(place);
         SettingsOp {
-            flags: self.given(flags),
-            copy,
+            flags: self.given(packed.flags),
+            copy: packed.copy,
         }
     }
 

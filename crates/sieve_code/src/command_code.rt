@@ -1,8 +1,11 @@
 //! The operations of commands (RFC 5228, sections 3 and 4).
 ghost use Rattle.std.specs.Prelude.{◌≡◌, ◌≤◌, ◌∷◌, false, true, length, map, OnOk, IfOk};
+ghost use Rattle.std.specs.Option.{option_map};
+ghost use Rattle.sieve_reading.specs.CommandReading.{some_reading};
 ghost use Rattle.sieve_reading.specs.Tree.{block, nodes};
-ghost use Rattle.sieve_reading.specs.view.Reading.{leaf_as};
-ghost use Rattle.sieve_reading.specs.view.Tree.{node_of, tests_of};
+ghost use Rattle.sieve_reading.specs.view.Reading.{command_reading_as, leaf_as};
+ghost use Rattle.sieve_reading.specs.view.Tree.{argument_of, node_of, tests_of};
+ghost use Rattle.sieve_table.specs.Table.{command_named};
 ghost use Rattle.sieve_code.specs.Choice.{block_before, branch_before, first_before, no_branch, node_before, nodes_before, past_branches};
 ghost use Rattle.sieve_code.specs.view.Branches.{branches_as, last};
 ghost use Rattle.sieve_code.specs.Operation.{act_op};
@@ -11,7 +14,7 @@ ghost use Rattle.sieve_code.specs.view.Op.{is_plain, plain_as};
 use crate::op::Op;
 use crate::tail::Tail;
 use crate::test_code::put_first;
-use sieve_reading::{Command, CommandReading, Leaf, Tests, read_command};
+use sieve_reading::{Argument, Command, CommandName, CommandReading, Leaf, Tests, read_command};
 use std::alloc::{AllocError, Global};
 
 /// What stands at the front of a tail.
@@ -82,6 +85,16 @@ fn put_past(front: TailFront, tail: &mut Tail) -> Result<(), AllocError>
     }
 }
 
+/// What a command of that name and with these arguments is, where there is one of that name. Each command of a checked script is one.
+fn reading_of(alloc: Global, name: &CommandName, args: Vec<Argument>) -> Option<CommandReading>
+    ensures { option_map command_reading_as result ≡ some_reading (command_named name.now) (map argument_of args.items) }
+{
+    match name.kind() {
+        Some(kind) => Some(read_command(alloc, kind, args)),
+        None => None,
+    }
+}
+
 /// Puts commands in front of a tail.
 #[cycle(command_code)]
 pub(crate) fn put_commands(
@@ -124,7 +137,7 @@ fn put_command(
         Some(commands) => commands,
         None => Vec::new(alloc),
     };
-    match read_command(&name, args) {
+    match reading_of(alloc, &name, args) {
         Some(CommandReading::If) => {
             put_branch(alloc, commands, tests, front, tail)?;
             Ok(without_branch(tail))

@@ -1,8 +1,10 @@
 //! The lines of a dump.
 ghost use Rattle.std.specs.Prelude.{◌++◌, codes, decimal};
 ghost use Rattle.sieve_base.specs.Writers.{Writes};
-ghost use Rattle.sieve_code.specs.Dump.{line_text, operation_text};
-ghost use Rattle.sieve_code.specs.view.Code.{op_of};
+ghost use Rattle.sieve_reading.specs.Reading.{discard_leaf};
+ghost use Rattle.sieve_code.specs.Dump.{at_line, leaf_text, line_text, operation_text};
+ghost use Rattle.sieve_code.specs.declared.op.Op.TheVariants.{Compares, Fileinto, Flags, Include, Keep, Redirect, Set};
+ghost use Rattle.sieve_code.specs.view.Code.{jump_place_of, op_of};
 
 use crate::code::Code;
 use crate::dump_commands::{
@@ -11,8 +13,146 @@ use crate::dump_commands::{
 };
 use crate::dump_strings::{write_list, write_number};
 use crate::dump_tests::write_compares;
-use crate::op::Op;
+use crate::op::{Inclusion, Op};
 use sieve_base::{Piece, Sink, WriteFault, write_out, write_pieces};
+use sieve_reading::FlagChange;
+
+/// Writes a test that compares values with keys.
+#[tactic(auto, unfolding(crate::specs::Dump::operation_text, crate::specs::Dump::ask_text))]
+fn write_matching<W: Sink>(
+    code: &Code,
+    test: u32,
+    values: u32,
+    keys: u32,
+    writer: &mut W,
+) -> Result<(), WriteFault>
+    ensures { Writes W.contents W.fault_count result writer.old writer.new (operation_text (op_of code.now (Compares test values keys))) }
+{
+    let test = code.test(test);
+    let source = code.source(test.source, values);
+    write_compares(&source, test.comparison, &code.list(keys), writer)
+}
+
+/// Writes a jump of this word.
+fn write_jump<W: Sink>(
+    word: &[u8],
+    code: &Code,
+    left: usize,
+    writer: &mut W,
+) -> Result<(), WriteFault>
+    ensures { Writes W.contents W.fault_count result writer.old writer.new (word.now ++ decimal (jump_place_of code.now left)) }
+{
+    write_number(word, code.jump_place(left) as u64, writer)
+}
+
+/// Writes a `keep` and its line.
+#[tactic(auto, using(sieve_base::proofs::Writing::writing), unfolding(crate::specs::Dump::operation_text, crate::specs::Dump::leaf_text))]
+fn write_keeping<W: Sink>(
+    code: &Code,
+    settings: u32,
+    line: u32,
+    writer: &mut W,
+) -> Result<(), WriteFault>
+    ensures { Writes W.contents W.fault_count result writer.old writer.new (operation_text (op_of code.now (Keep line settings))) }
+{
+    write_worded_settings(b"keep", &code.settings(settings), writer)?;
+    write_line_number(line, writer)
+}
+
+/// Writes a `fileinto` and its line.
+#[tactic(auto, using(sieve_base::proofs::Writing::writing), unfolding(crate::specs::Dump::operation_text, crate::specs::Dump::leaf_text))]
+fn write_filing<W: Sink>(
+    code: &Code,
+    mailbox: u32,
+    settings: u32,
+    line: u32,
+    writer: &mut W,
+) -> Result<(), WriteFault>
+    ensures { Writes W.contents W.fault_count result writer.old writer.new (operation_text (op_of code.now (Fileinto line mailbox settings))) }
+{
+    write_fileinto(code.string(mailbox), &code.settings(settings), writer)?;
+    write_line_number(line, writer)
+}
+
+/// Writes a `redirect` and its line.
+#[tactic(auto, using(sieve_base::proofs::Writing::writing), unfolding(crate::specs::Dump::operation_text, crate::specs::Dump::leaf_text))]
+fn write_sending<W: Sink>(
+    code: &Code,
+    address: u32,
+    settings: u32,
+    line: u32,
+    writer: &mut W,
+) -> Result<(), WriteFault>
+    ensures { Writes W.contents W.fault_count result writer.old writer.new (operation_text (op_of code.now (Redirect line address settings))) }
+{
+    write_redirect(code.string(address), &code.settings(settings), writer)?;
+    write_line_number(line, writer)
+}
+
+/// Writes a `discard` and its line.
+#[tactic(auto, using(sieve_base::proofs::Writing::writing), unfolding(crate::specs::Dump::leaf_text))]
+fn write_discard<W: Sink>(line: u32, writer: &mut W) -> Result<(), WriteFault>
+    ensures { Writes W.contents W.fault_count result writer.old writer.new (leaf_text discard_leaf ++ at_line line) }
+{
+    write_out(b"discard", writer)?;
+    write_line_number(line, writer)
+}
+
+/// Writes a `set` and its line.
+#[tactic(auto, using(sieve_base::proofs::Writing::writing), unfolding(crate::specs::Dump::operation_text, crate::specs::Dump::leaf_text))]
+fn write_setting<W: Sink>(
+    code: &Code,
+    target: u32,
+    value: u32,
+    line: u32,
+    writer: &mut W,
+) -> Result<(), WriteFault>
+    ensures { Writes W.contents W.fault_count result writer.old writer.new (operation_text (op_of code.now (Set line target value))) }
+{
+    let Some(target) = code.target(target) else {
+        // No code has such an operation.
+        return write_out(b"false", writer);
+    };
+    let value = code.string(value);
+    write_set(&target.variable, target.modifiers, value, writer)?;
+    write_line_number(line, writer)
+}
+
+/// Writes a command that changes flags, and its line.
+#[tactic(auto, using(sieve_base::proofs::Writing::writing), unfolding(crate::specs::Dump::operation_text, crate::specs::Dump::leaf_text))]
+fn write_changing<W: Sink>(
+    code: &Code,
+    change: FlagChange,
+    variable: u32,
+    flags: u32,
+    line: u32,
+    writer: &mut W,
+) -> Result<(), WriteFault>
+    ensures { Writes W.contents W.fault_count result writer.old writer.new (operation_text (op_of code.now (Flags change line variable flags))) }
+{
+    write_flags(change, code.variable(variable), &code.list(flags), writer)?;
+    write_line_number(line, writer)
+}
+
+/// Writes an `include` and its line.
+#[tactic(auto, using(sieve_base::proofs::Writing::writing), unfolding(crate::specs::Dump::operation_text, crate::specs::Dump::leaf_text))]
+fn write_including<W: Sink>(
+    code: &Code,
+    inclusion: Inclusion,
+    writer: &mut W,
+) -> Result<(), WriteFault>
+    ensures { Writes W.contents W.fault_count result writer.old writer.new (operation_text (op_of code.now (Include inclusion))) }
+{
+    let Inclusion {
+        place,
+        once,
+        optional,
+        line,
+        name,
+    } = inclusion;
+    write_include(place, once, optional, code.script(name), writer)?;
+    write_line_number(line, writer)
+}
 
 /// Writes an operation.
 #[tactic(auto, using(sieve_base::proofs::Writing::writing), unfolding(crate::specs::Dump::operation_text, crate::specs::Dump::ask_text, crate::specs::Dump::leaf_text))]
@@ -23,92 +163,37 @@ fn write_op<W: Sink>(code: &Code, op: Op, writer: &mut W) -> Result<(), WriteFau
         Op::True => write_out(b"true", writer),
         Op::False => write_out(b"false", writer),
         Op::Not => write_out(b"not", writer),
-        Op::Compares {
-            source,
-            match_type,
-            collation,
-            values,
-            keys,
-        } => {
-            let source = code.source(source, values);
-            write_compares(&source, match_type, collation, &code.list(keys), writer)
-        }
+        Op::Compares { test, values, keys } => write_matching(code, test, values, keys, writer),
         Op::Exists { names } => write_list(b"exists ", code.names(names).strings(), writer),
         Op::Over { limit } => write_number(b"size over ", limit, writer),
         Op::Under { limit } => write_number(b"size under ", limit, writer),
-        Op::Jump(left) => write_number(b"jump ", code.jump_place(left) as u64, writer),
-        Op::JumpIfFalse(left) => write_number(
-            b"jump-if-false ",
-            code.jump_place(left) as u64,
-            writer,
-        ),
-        Op::JumpIfTrue(left) => write_number(
-            b"jump-if-true ",
-            code.jump_place(left) as u64,
-            writer,
-        ),
-        Op::Keep { copy, line, flags } => {
-            write_worded_settings(b"keep", &code.settings(flags, copy), writer)?;
-            write_line_number(line, writer)
-        }
+        Op::Jump(left) => write_jump(b"jump ", code, left, writer),
+        Op::JumpIfFalse(left) => write_jump(b"jump-if-false ", code, left, writer),
+        Op::JumpIfTrue(left) => write_jump(b"jump-if-true ", code, left, writer),
+        Op::Keep { line, settings } => write_keeping(code, settings, line, writer),
         Op::Fileinto {
-            copy,
             line,
             mailbox,
-            flags,
-        } => {
-            write_fileinto(code.string(mailbox), &code.settings(flags, copy), writer)?;
-            write_line_number(line, writer)
-        }
+            settings,
+        } => write_filing(code, mailbox, settings, line, writer),
         Op::Redirect {
-            copy,
             line,
             address,
-            flags,
-        } => {
-            write_redirect(code.string(address), &code.settings(flags, copy), writer)?;
-            write_line_number(line, writer)
-        }
-        Op::Discard { line } => {
-            write_out(b"discard", writer)?;
-            write_line_number(line, writer)
-        }
+            settings,
+        } => write_sending(code, address, settings, line, writer),
+        Op::Discard { line } => write_discard(line, writer),
         Op::Set {
             line,
             target,
             value,
-        } => match code.target(target) {
-            Some(target) => {
-                write_set(
-                    &target.variable,
-                    target.modifiers,
-                    code.string(value),
-                    writer,
-                )?;
-                write_line_number(line, writer)
-            }
-            // No code has such an operation.
-            None => write_out(b"false", writer),
-        },
+        } => write_setting(code, target, value, line, writer),
         Op::Flags {
             change,
             line,
             variable,
             flags,
-        } => {
-            write_flags(change, code.variable(variable), &code.list(flags), writer)?;
-            write_line_number(line, writer)
-        }
-        Op::Include {
-            place,
-            once,
-            optional,
-            line,
-            name,
-        } => {
-            write_include(place, once, optional, code.script(name), writer)?;
-            write_line_number(line, writer)
-        }
+        } => write_changing(code, change, variable, flags, line, writer),
+        Op::Include(inclusion) => write_including(code, inclusion, writer),
         Op::Stop => write_out(b"stop", writer),
         Op::Return => write_out(b"return", writer),
     }

@@ -9,7 +9,7 @@ use match_text::Collation;
 use message_text::AddressPart;
 use sieve_base::{Piece, Sink, WriteFault, write_out, write_pieces};
 use sieve_effects::{SourceOp, Strings};
-use sieve_reading::MatchType;
+use sieve_reading::{Comparison, MatchType};
 
 /// The word of a match type.
 fn match_word(match_type: MatchType) -> &'static [u8]
@@ -47,19 +47,18 @@ fn address_part_word(part: AddressPart) -> &'static [u8]
 #[tactic(auto, unfolding(crate::specs::Dump::comparing_words))]
 fn write_comparing<W: Sink>(
     test: &[u8],
-    match_type: MatchType,
-    collation: Collation,
+    comparison: Comparison,
     writer: &mut W,
 ) -> Result<(), WriteFault>
-    ensures { Writes W.contents W.fault_count result writer.old writer.new (comparing_words test.now match_type collation) }
+    ensures { Writes W.contents W.fault_count result writer.old writer.new (comparing_words test.now comparison) }
 {
     write_pieces(
         &[
             Piece::Raw(test),
             Piece::Raw(b" "),
-            Piece::Raw(match_word(match_type)),
+            Piece::Raw(match_word(comparison.match_type)),
             Piece::Raw(b" "),
-            Piece::Raw(collation_word(collation)),
+            Piece::Raw(collation_word(comparison.collation)),
         ],
         writer,
     )
@@ -69,14 +68,13 @@ fn write_comparing<W: Sink>(
 #[tactic(auto, using(sieve_base::proofs::Writing::writing), unfolding(crate::specs::Dump::address_words))]
 fn write_address_words<W: Sink>(
     test: &[u8],
-    match_type: MatchType,
-    collation: Collation,
+    comparison: Comparison,
     part: AddressPart,
     writer: &mut W,
 ) -> Result<(), WriteFault>
-    ensures { Writes W.contents W.fault_count result writer.old writer.new (address_words test.now match_type collation part) }
+    ensures { Writes W.contents W.fault_count result writer.old writer.new (address_words test.now comparison part) }
 {
-    write_comparing(test, match_type, collation, writer)?;
+    write_comparing(test, comparison, writer)?;
     write_pieces(
         &[Piece::Raw(b" "), Piece::Raw(address_part_word(part))],
         writer,
@@ -101,14 +99,13 @@ fn write_internal_list<W: Sink>(
 #[tactic(auto, using(sieve_base::proofs::Writing::writing))]
 fn write_values<W: Sink>(
     test: &[u8],
-    match_type: MatchType,
-    collation: Collation,
+    comparison: Comparison,
     values: &Strings<'_>,
     writer: &mut W,
 ) -> Result<(), WriteFault>
-    ensures { Writes W.contents W.fault_count result writer.old writer.new (comparing_words test.now match_type collation ++ further_list values.now) }
+    ensures { Writes W.contents W.fault_count result writer.old writer.new (comparing_words test.now comparison ++ further_list values.now) }
 {
-    write_comparing(test, match_type, collation, writer)?;
+    write_comparing(test, comparison, writer)?;
     write_further_list(values, writer)
 }
 
@@ -116,29 +113,27 @@ fn write_values<W: Sink>(
 #[tactic(auto, using(sieve_base::proofs::Writing::writing))]
 fn write_address<W: Sink>(
     test: &[u8],
-    match_type: MatchType,
-    collation: Collation,
+    comparison: Comparison,
     part: AddressPart,
     names: &Strings<'_>,
     writer: &mut W,
 ) -> Result<(), WriteFault>
-    ensures { Writes W.contents W.fault_count result writer.old writer.new (address_words test.now match_type collation part ++ further_list names.now) }
+    ensures { Writes W.contents W.fault_count result writer.old writer.new (address_words test.now comparison part ++ further_list names.now) }
 {
-    write_address_words(test, match_type, collation, part, writer)?;
+    write_address_words(test, comparison, part, writer)?;
     write_further_list(names, writer)
 }
 
 /// Writes a `hasflag` with the variables whose flags it looks at.
 #[tactic(auto, using(sieve_base::proofs::Writing::writing))]
 fn write_hasflag<W: Sink>(
-    match_type: MatchType,
-    collation: Collation,
+    comparison: Comparison,
     variables: &Option<Strings<'_>>,
     writer: &mut W,
 ) -> Result<(), WriteFault>
-    ensures { Writes W.contents W.fault_count result writer.old writer.new (comparing_words (codes "hasflag") match_type collation ++ internal_list variables.now) }
+    ensures { Writes W.contents W.fault_count result writer.old writer.new (comparing_words (codes "hasflag") comparison ++ internal_list variables.now) }
 {
-    write_comparing(b"hasflag", match_type, collation, writer)?;
+    write_comparing(b"hasflag", comparison, writer)?;
     write_internal_list(variables, writer)
 }
 
@@ -146,33 +141,23 @@ fn write_hasflag<W: Sink>(
 #[tactic(auto, unfolding(crate::specs::Dump::source_text))]
 fn write_source<W: Sink>(
     source: &SourceOp<'_>,
-    match_type: MatchType,
-    collation: Collation,
+    comparison: Comparison,
     writer: &mut W,
 ) -> Result<(), WriteFault>
-    ensures { Writes W.contents W.fault_count result writer.old writer.new (source_text (source_op_as source.now) match_type collation) }
+    ensures { Writes W.contents W.fault_count result writer.old writer.new (source_text (source_op_as source.now) comparison) }
 {
     match source {
         SourceOp::Header { names } => {
-            write_values(b"header", match_type, collation, names.strings(), writer)
+            write_values(b"header", comparison, names.strings(), writer)
         }
         SourceOp::Address { part, names } => {
-            write_address(
-                b"address",
-                match_type,
-                collation,
-                *part,
-                names.strings(),
-                writer,
-            )
+            write_address(b"address", comparison, *part, names.strings(), writer)
         }
         SourceOp::Envelope { part, names } => {
-            write_address(b"envelope", match_type, collation, *part, names, writer)
+            write_address(b"envelope", comparison, *part, names, writer)
         }
-        SourceOp::String { texts } => {
-            write_values(b"string", match_type, collation, texts, writer)
-        }
-        SourceOp::Flags { variables } => write_hasflag(match_type, collation, variables, writer),
+        SourceOp::String { texts } => { write_values(b"string", comparison, texts, writer) }
+        SourceOp::Flags { variables } => write_hasflag(comparison, variables, writer),
     }
 }
 
@@ -180,13 +165,12 @@ fn write_source<W: Sink>(
 #[tactic(auto, using(sieve_base::proofs::Writing::writing))]
 pub(crate) fn write_compares<W: Sink>(
     source: &SourceOp<'_>,
-    match_type: MatchType,
-    collation: Collation,
+    comparison: Comparison,
     keys: &Strings<'_>,
     writer: &mut W,
 ) -> Result<(), WriteFault>
-    ensures { Writes W.contents W.fault_count result writer.old writer.new (source_text (source_op_as source.now) match_type collation ++ further_list keys.now) }
+    ensures { Writes W.contents W.fault_count result writer.old writer.new (source_text (source_op_as source.now) comparison ++ further_list keys.now) }
 {
-    write_source(source, match_type, collation, writer)?;
+    write_source(source, comparison, writer)?;
     write_further_list(keys, writer)
 }

@@ -18,6 +18,6 @@ mod test_code;
 
 pub use code::Code;
 pub use compiler::compile;
-pub use op::{Op, SourceKind};
+pub use op::{Inclusion, Op, PackedTest, SourceKind};
 pub use pools::Target;
 pub use sieve_base::{Counted, Faults, Place, Sink, Source, WriteFault, write_out, write_quoted};

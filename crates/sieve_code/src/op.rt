@@ -1,8 +1,7 @@
 //! The operations of code.
-use match_text::Collation;
 use message_text::AddressPart;
 use sieve_base::Place;
-use sieve_reading::{FlagChange, MatchType};
+use sieve_reading::{Comparison, FlagChange};
 use std::mem::size_of;
 
 /// The place of what isn't given.
@@ -23,9 +22,42 @@ pub enum SourceKind {
     Flags,
 }
 
+/// What a test that compares says beside its values and its keys.
+#[derive(Clone, Copy)]
+pub struct PackedTest {
+    /// Where the values are from.
+    pub source: SourceKind,
+    /// How a value is compared with a key.
+    pub comparison: Comparison,
+}
+
+/// What a command that stores or redirects says beside its mailbox or its address.
+#[derive(Clone, Copy)]
+pub(crate) struct PackedSettings {
+    /// The place of the flags, if any are given (RFC 5232, section 5).
+    pub(crate) flags: u32,
+    /// Whether the implicit keep stays as it is (RFC 3894, section 3).
+    pub(crate) copy: bool,
+}
+
+/// What an `include` says (RFC 6609, section 3.2).
+#[derive(Clone, Copy)]
+pub struct Inclusion {
+    /// Where the script is kept.
+    pub place: Place,
+    /// Whether the script runs only where it hasn't run yet.
+    pub once: bool,
+    /// Whether the script may be missing.
+    pub optional: bool,
+    /// The command's line.
+    pub line: u32,
+    /// The place of the script's name.
+    pub name: u32,
+}
+
 /// An operation. Code has one truth register, which tests set. Where an operation has strings, a variable or the name of a script, it says
 /// their places, and the [`Code`](crate::Code) that it is one of has what lies there; it also knows the place of what isn't given, and to
-/// which place a jump goes.
+/// which place a jump goes. What a test that compares, a store or a redirect says beside its strings lies at a place too, so that it may grow.
 #[derive(Clone, Copy)]
 pub enum Op {
     /// Sets the register to true.
@@ -36,12 +68,8 @@ pub enum Op {
     Not,
     /// Sets it to whether some value matches some key (RFC 5228, section 2.7).
     Compares {
-        /// Where the values are from.
-        source: SourceKind,
-        /// How a value is compared with a key.
-        match_type: MatchType,
-        /// Which octets are equal.
-        collation: Collation,
+        /// The place of what the test says beside.
+        test: u32,
         /// The place of the source's list.
         values: u32,
         /// The place of the keys.
@@ -70,34 +98,28 @@ pub enum Op {
     JumpIfTrue(usize),
     /// Stores into the mailbox of the delivery (RFC 5228, section 4.3).
     Keep {
-        /// Whether the implicit keep stays as it is (RFC 3894, section 3).
-        copy: bool,
         /// The command's line.
         line: u32,
-        /// The place of the flags, if any are given (RFC 5232, section 5).
-        flags: u32,
+        /// The place of what the command says beside, if anything.
+        settings: u32,
     },
     /// Stores into a mailbox (RFC 5228, section 4.1).
     Fileinto {
-        /// Whether the implicit keep stays as it is (RFC 3894, section 3).
-        copy: bool,
         /// The command's line.
         line: u32,
         /// The place of the mailbox's name.
         mailbox: u32,
-        /// The place of the flags, if any are given (RFC 5232, section 5).
-        flags: u32,
+        /// The place of what the command says beside, if anything.
+        settings: u32,
     },
     /// Sends the message on (RFC 5228, section 4.2).
     Redirect {
-        /// Whether the implicit keep stays as it is (RFC 3894, section 3).
-        copy: bool,
         /// The command's line.
         line: u32,
         /// The place of the address.
         address: u32,
-        /// The place of the flags, if any are given (RFC 5232, section 5).
-        flags: u32,
+        /// The place of what the command says beside, if anything.
+        settings: u32,
     },
     /// Discards the message (RFC 5228, section 4.4).
     Discard {
@@ -125,18 +147,7 @@ pub enum Op {
         flags: u32,
     },
     /// Runs another script (RFC 6609, section 3.2).
-    Include {
-        /// Where the script is kept.
-        place: Place,
-        /// Whether the script runs only where it hasn't run yet.
-        once: bool,
-        /// Whether the script may be missing.
-        optional: bool,
-        /// The command's line.
-        line: u32,
-        /// The place of the script's name.
-        name: u32,
-    },
+    Include(Inclusion),
     /// Ends the run (RFC 5228, section 3.3).
     Stop,
     /// Ends its script (RFC 6609, section 3.3).

@@ -7,11 +7,10 @@ ghost use Rattle.sieve_code.specs.Pool.{Kept};
 ghost use Rattle.sieve_code.specs.view.Op.{op_in, source_in};
 ghost use Rattle.sieve_code.specs.view.Pools.{pool_as};
 
-use crate::op::{Op, SourceKind};
+use crate::op::{Inclusion, Op, PackedTest, SourceKind};
 use crate::pools::{Pools, Target};
-use match_text::Collation;
 use sieve_base::Place;
-use sieve_reading::{Ask, FlagChange, Leaf, MatchType, Settings, Text, ValueSource};
+use sieve_reading::{Ask, Comparison, FlagChange, Leaf, Settings, Text, ValueSource};
 use sieve_variables::{Literal, Modifiers, Parts, Variable};
 use std::alloc::AllocError;
 
@@ -66,21 +65,15 @@ impl Pools {
     fn pack_compares(
         &mut self,
         source: ValueSource,
-        match_type: MatchType,
-        collation: Collation,
+        comparison: Comparison,
         keys: Vec<Text>,
     ) -> Result<Op, AllocError>
-        ensures { IfOk result (λ op. Kept (pool_as self.old) (pool_as self.new) (λ p. op_in p op) (test_op (compares (source_as source) match_type collation (texts_as keys.items)))) }
+        ensures { IfOk result (λ op. Kept (pool_as self.old) (pool_as self.new) (λ p. op_in p op) (test_op (compares (source_as source) comparison (texts_as keys.items)))) }
     {
         let (source, values) = self.keep_source(source)?;
         let keys = self.keep_list(keys)?;
-        Ok(Op::Compares {
-            source,
-            match_type,
-            collation,
-            values,
-            keys,
-        })
+        let test = self.keep_test(PackedTest { source, comparison })?;
+        Ok(Op::Compares { test, values, keys })
     }
 
     /// The operation of a test that asks.
@@ -90,10 +83,9 @@ impl Pools {
         match ask {
             Ask::Compares {
                 source,
-                match_type,
-                collation,
+                comparison,
                 keys,
-            } => self.pack_compares(source, match_type, collation, keys),
+            } => self.pack_compares(source, comparison, keys),
             Ask::Exists { names } => self.pack_exists(names),
             Ask::Over { limit } => Ok(Op::Over { limit }),
             Ask::Under { limit } => Ok(Op::Under { limit }),
@@ -104,9 +96,8 @@ impl Pools {
     fn pack_keep(&mut self, settings: Settings, line: u32) -> Result<Op, AllocError>
         ensures { IfOk result (λ op. Kept (pool_as self.old) (pool_as self.new) (λ p. op_in p op) (act_op (keep_leaf (settings_as settings)) line)) }
     {
-        let copy = settings.copy;
-        let flags = self.keep_given(settings.flags)?;
-        Ok(Op::Keep { copy, line, flags })
+        let settings = self.keep_settings(settings)?;
+        Ok(Op::Keep { line, settings })
     }
 
     /// The operation of a `fileinto`.
@@ -118,14 +109,12 @@ impl Pools {
     ) -> Result<Op, AllocError>
         ensures { IfOk result (λ op. Kept (pool_as self.old) (pool_as self.new) (λ p. op_in p op) (act_op (fileinto_leaf mailbox (settings_as settings)) line)) }
     {
-        let copy = settings.copy;
         let mailbox = self.keep_string(mailbox)?;
-        let flags = self.keep_given(settings.flags)?;
+        let settings = self.keep_settings(settings)?;
         Ok(Op::Fileinto {
-            copy,
             line,
             mailbox,
-            flags,
+            settings,
         })
     }
 
@@ -138,14 +127,12 @@ impl Pools {
     ) -> Result<Op, AllocError>
         ensures { IfOk result (λ op. Kept (pool_as self.old) (pool_as self.new) (λ p. op_in p op) (act_op (redirect_leaf address (settings_as settings)) line)) }
     {
-        let copy = settings.copy;
         let address = self.keep_string(address)?;
-        let flags = self.keep_given(settings.flags)?;
+        let settings = self.keep_settings(settings)?;
         Ok(Op::Redirect {
-            copy,
             line,
             address,
-            flags,
+            settings,
         })
     }
 
@@ -203,13 +190,13 @@ impl Pools {
         ensures { IfOk result (λ op. Kept (pool_as self.old) (pool_as self.new) (λ p. op_in p op) (act_op (include_leaf place once optional name) line)) }
     {
         let name = self.keep_script(name)?;
-        Ok(Op::Include {
+        Ok(Op::Include(Inclusion {
             place,
             once,
             optional,
             line,
             name,
-        })
+        }))
     }
 
     /// The operation of a command that acts, with its line as it is kept.

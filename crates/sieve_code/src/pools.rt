@@ -1,15 +1,16 @@
-//! What operations of code say by its place: strings, variables and names of scripts.
-ghost use Rattle.std.specs.Prelude.{◌≡◌, ◌<◌, [], IfOk, None, Some, slice_index_or};
+//! What operations of code say by its place: strings, variables, names of scripts, and what stands beside.
+ghost use Rattle.std.specs.Prelude.{◌≡◌, ◌<◌, [], true, IfOk, None, Some, slice_index_or};
 ghost use Rattle.std.specs.List.{slice_get};
 ghost use Rattle.std.specs.Option.{option_map};
-ghost use Rattle.sieve_reading.specs.view.Reading.{texts_as};
+ghost use Rattle.sieve_reading.specs.Reading.{plain_settings};
+ghost use Rattle.sieve_reading.specs.view.Reading.{settings_as, texts_as};
 ghost use Rattle.sieve_effects.specs.Joined.{list_in};
-ghost use Rattle.sieve_code.specs.Pool.{Kept, given_list, given_variable, no_pool};
+ghost use Rattle.sieve_code.specs.Pool.{Kept, given_list, given_variable, no_pool, packed_in, settings_in, test_in};
 ghost use Rattle.sieve_code.specs.view.Pools.{pool_as};
 
-use crate::op::NOWHERE;
+use crate::op::{NOWHERE, PackedSettings, PackedTest};
 use sieve_effects::{JoinedStrings, NameLists, StringLists};
-use sieve_reading::Text;
+use sieve_reading::{Settings, Text};
 use sieve_variables::{Literal, Modifiers, Parts, Variable};
 use std::alloc::{AllocError, Global};
 
@@ -30,6 +31,8 @@ pub(crate) struct Pools {
     pub(crate) names: NameLists,
     pub(crate) targets: Vec<Target>,
     pub(crate) scripts: Vec<Literal>,
+    pub(crate) tests: Vec<PackedTest>,
+    pub(crate) settings: Vec<PackedSettings>,
 }
 
 /// The number of items as the place of the next. 4,294,967,295 and more are answered as want of memory.
@@ -53,6 +56,16 @@ fn unmodified() -> Modifiers {
     }
 }
 
+/// Whether a command says nothing beside its mailbox or its address.
+fn are_plain(settings: &Settings) -> bool
+    ensures { result ≡ true → settings_as settings.now ≡ plain_settings }
+{
+    match settings.flags {
+        Some(_) => false,
+        None => !settings.copy,
+    }
+}
+
 impl Pools {
     /// Nothing.
     pub(crate) fn new(alloc: Global) -> Pools
@@ -64,6 +77,8 @@ impl Pools {
             names: NameLists::new(alloc),
             targets: Vec::new(alloc),
             scripts: Vec::new(alloc),
+            tests: Vec::new(alloc),
+            settings: Vec::new(alloc),
         }
     }
 
@@ -76,6 +91,8 @@ impl Pools {
         self.names.shrink_to_fit();
         self.targets.shrink_to_fit();
         self.scripts.shrink_to_fit();
+        self.tests.shrink_to_fit();
+        self.settings.shrink_to_fit();
     }
 
     /// Keeps a string. Answers its place.
@@ -153,5 +170,35 @@ impl Pools {
         let place = place_of(self.scripts.len())?;
         self.scripts.push(name)?;
         Ok(place)
+    }
+
+    /// Keeps what a test that compares says beside. Answers its place.
+    pub(crate) fn keep_test(&mut self, test: PackedTest) -> Result<u32, AllocError>
+        ensures { IfOk result (λ place. Kept (pool_as self.old) (pool_as self.new) (λ p. test_in p place) test) }
+    {
+        let place = place_of(self.tests.len())?;
+        self.tests.push(test)?;
+        Ok(place)
+    }
+
+    /// Keeps what a command says beside its mailbox or its address, whose flags lie at their place. Answers its place.
+    fn put_settings(&mut self, settings: PackedSettings) -> Result<u32, AllocError>
+        ensures { IfOk result (λ place. Kept (pool_as self.old) (pool_as self.new) (λ p. packed_in p place) settings) }
+    {
+        let place = place_of(self.settings.len())?;
+        self.settings.push(settings)?;
+        Ok(place)
+    }
+
+    /// Keeps what a command says beside its mailbox or its address. Answers its place.
+    pub(crate) fn keep_settings(&mut self, settings: Settings) -> Result<u32, AllocError>
+        ensures { IfOk result (λ place. Kept (pool_as self.old) (pool_as self.new) (λ p. settings_in p place) (settings_as settings)) }
+    {
+        if are_plain(&settings) {
+            return Ok(NOWHERE);
+        }
+        let copy = settings.copy;
+        let flags = self.keep_given(settings.flags)?;
+        self.put_settings(PackedSettings { flags, copy })
     }
 }

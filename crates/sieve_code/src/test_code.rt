@@ -1,14 +1,18 @@
 //! The operations of tests (RFC 5228, section 5).
 ghost use Rattle.std.specs.Prelude.{◌≡◌, ◌∷◌, if◌then◌else◌, map, true, OnOk};
+ghost use Rattle.std.specs.Option.{option_map};
+ghost use Rattle.sieve_reading.specs.TestReading.{some_reading};
 ghost use Rattle.sieve_reading.specs.Tree.{test_list, tests};
-ghost use Rattle.sieve_reading.specs.view.Tree.{test_of, tests_of};
+ghost use Rattle.sieve_reading.specs.view.Reading.{test_reading_as};
+ghost use Rattle.sieve_reading.specs.view.Tree.{argument_of, test_of, tests_of};
+ghost use Rattle.sieve_table.specs.Table.{test_named};
 ghost use Rattle.sieve_code.specs.Choice.{first_before, test_before, tests_before};
 ghost use Rattle.sieve_code.specs.Operation.{jump_if_op, set_op};
 ghost use Rattle.sieve_code.specs.view.Op.{is_plain, plain_as};
 
 use crate::op::Op;
 use crate::tail::Tail;
-use sieve_reading::{Test, TestReading, Tests, read_test};
+use sieve_reading::{Argument, Test, TestName, TestReading, Tests, read_test};
 use std::alloc::{AllocError, Global};
 
 /// The operation that sets the register.
@@ -42,6 +46,16 @@ fn put_joint(follows: bool, truth: bool, end: usize, tail: &mut Tail) -> Result<
     }
 }
 
+/// What a test of that name and with these arguments is, where there is one of that name. Each test of a checked script is one.
+fn reading_of(alloc: Global, name: &TestName, args: Vec<Argument>) -> Option<TestReading>
+    ensures { option_map test_reading_as result ≡ some_reading (test_named name.now) (map argument_of args.items) }
+{
+    match name.kind() {
+        Some(kind) => Some(read_test(alloc, kind, args)),
+        None => None,
+    }
+}
+
 /// Puts a test in front of a tail.
 #[cycle(test_code)]
 fn put_test(alloc: Global, test: Test, tail: &mut Tail) -> Result<(), AllocError>
@@ -53,7 +67,7 @@ fn put_test(alloc: Global, test: Test, tail: &mut Tail) -> Result<(), AllocError
         tests,
         ..
     } = test;
-    match read_test(&name, args) {
+    match reading_of(alloc, &name, args) {
         Some(TestReading::Always) => tail.put(Op::True),
         Some(TestReading::Never) => tail.put(Op::False),
         None => tail.put(Op::False),

@@ -6,20 +6,18 @@ use Rattle.std.specs.Option.{option_and_then, option_map, option_or}
 use Rattle.std.proofs.Math.Bool.{or-true}
 use Rattle.std.proofs.lemmas.List.{drop_all}
 use Rattle.encoded_words.specs.Scan.{decoded_of}
-use Rattle.match_text.specs.declared.comparators.Collation.{Collation}
 use Rattle.message_text.specs.Addresses.{AddrSpec, addresses_of, envelope_address_of, part_of_address}
 use Rattle.message_text.specs.Fields.{Field, IsNextNamed, fields_of, is_field_named}
 use Rattle.message_text.specs.declared.addressing.AddressPart.{AddressPart}
 use Rattle.sieve_reading.specs.Reading.{ValueSource, address_values, envelope_values, flag_values, header_values, string_values}
 use Rattle.sieve_variables.specs.Part.{Part}
 use Rattle.sieve_variables.specs.Value.{text_value}
-use Rattle.sieve_reading.specs.declared.reading.MatchType.{MatchType}
+use Rattle.sieve_reading.specs.declared.reading.Comparison.{Comparison}
 use Rattle.sieve_table.specs.Address.{is_address_field}
 use Rattle.sieve_effects.specs.Delivery.{Delivery}
 use Rattle.match_text.specs.Flags.{flag_keys_of_texts, flag_list}
 use Rattle.sieve_effects.specs.State.{RunState}
 use Rattle.sieve_effects.specs.Matching.{envelope_named, envelope_text, first_match, first_some, match_found, match_of, pairs_with, address_parts, decoded_named, parts_named, parts_of_envelope, parts_of_value, values_named, values_of, keys_from, keys_of}
-use Rattle.match_text.specs.Comparator.{fold_of}
 use Rattle.sieve_effects.specs.view.FieldTests.{cuts_keys, field_found, field_source, name_found, part_found, path_found, path_name_found, value_found}
 
 -- a function of what is made of an element in two steps
@@ -230,12 +228,12 @@ module _ (find : List ℕ → Option (List (List ℕ))) (delivery : Delivery) (s
   held_values variables held is = ap (first_some (λ text. first_some find (flag_list text))) is ∙ sym (first_flat find flag_list (map (text_value state.values) variables))
 
 -- what a test finds is the first match of its values with the octets of its keys
-module _ (match_type : MatchType) (collation : Collation) (delivery : Delivery) (state : RunState) where
-  pub keyed_found : (source : ValueSource) (keys : List (List Part)) (keyed : List (List ℕ)) → keyed ≡ keys_of state source keys → first_some (λ value. first_match match_type (fold_of collation) (pairs_with keyed value)) (values_of delivery state source) ≡ match_found delivery state source match_type collation keys
+module _ (comparison : Comparison) (delivery : Delivery) (state : RunState) where
+  pub keyed_found : (source : ValueSource) (keys : List (List Part)) (keyed : List (List ℕ)) → keyed ≡ keys_of state source keys → first_some (λ value. first_match comparison (pairs_with keyed value)) (values_of delivery state source) ≡ match_found delivery state source comparison keys
   unfolding match_found
   keyed_found source keys keyed is =
-      ap (λ ks. first_some (λ value. first_match match_type (fold_of collation) (pairs_with ks value)) (values_of delivery state source)) is
-      ∙ sym (first_flat (λ pair. match_of match_type (fold_of collation) pair.value pair.key) (pairs_with (keys_of state source keys)) (values_of delivery state source))
+      ap (λ ks. first_some (λ value. first_match comparison (pairs_with ks value)) (values_of delivery state source)) is
+      ∙ sym (first_flat (λ pair. match_of comparison pair.value pair.key) (pairs_with (keys_of state source keys)) (values_of delivery state source))
 
 -- the keys of a test are the pieces of their texts where its source cuts keys at spaces, and else the whole texts
 pub cut_keys : (source : ValueSource) (texts : List (List ℕ)) → cuts_keys source ≡ true → flag_keys_of_texts texts ≡ keys_from source texts

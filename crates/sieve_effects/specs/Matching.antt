@@ -8,11 +8,11 @@ use Rattle.encoded_words.specs.Scan.{decoded_of}
 use Rattle.match_text.specs.Comparator.{same, is_part, fold_of}
 use Rattle.match_text.specs.Flags.{flag_keys_of_texts, flag_list}
 use Rattle.match_text.specs.Wildcard.{matched}
-use Rattle.match_text.specs.declared.comparators.Collation.{Collation}
 use Rattle.message_text.specs.Addresses.{AddrSpec, part_of_address, addresses_of, envelope_address_of}
 use Rattle.message_text.specs.Fields.{Field, fields_of, is_field_named}
 use Rattle.message_text.specs.declared.addressing.AddressPart.{AddressPart}
 use Rattle.sieve_reading.specs.Reading.{ValueSource, header_values, address_values, envelope_values, string_values, flag_values, Ask, compares, exists_ask, over_ask, under_ask}
+use Rattle.sieve_reading.specs.declared.reading.Comparison.{Comparison}
 use Rattle.sieve_reading.specs.declared.reading.MatchType.{MatchType}
 use Rattle.sieve_reading.specs.declared.reading.MatchType.TheVariants.{Is, Contains, Matches}
 use Rattle.sieve_table.specs.Address.{is_address_field}
@@ -24,10 +24,14 @@ use Rattle.sieve_variables.specs.Value.{Values, text_value, with_matched}
 
 -- Whether a value matches a key (RFC 5228, section 2.7.1), and what `${0}`, `${1}` and so on are behind it (RFC 5229, section 3.2): under `:matches` the
 -- value and what each wildcard took; the other match types set none of them.
-abbrev pub match_of : MatchType → (ℕ → ℕ) → List ℕ → List ℕ → Option (List (List ℕ))
-match_of Is fold value key = if same fold value key then Some [] else None
-match_of Contains fold value key = if is_part fold value key then Some [] else None
-match_of Matches fold value key = matched fold value key
+abbrev pub match_by : MatchType → (ℕ → ℕ) → List ℕ → List ℕ → Option (List (List ℕ))
+match_by Is fold value key = if same fold value key then Some [] else None
+match_by Contains fold value key = if is_part fold value key then Some [] else None
+match_by Matches fold value key = matched fold value key
+
+-- the same, as a test compares
+abbrev pub match_of : Comparison → List ℕ → List ℕ → Option (List (List ℕ))
+match_of comparison value key = match_by comparison.match_type (fold_of comparison.collation) value key
 
 -- a value and a key to compare
 pub record Pair : Type 0 where
@@ -107,18 +111,18 @@ first_some f [] = None
 first_some f (x ∷ xs) = option_or (f x) (first_some f xs)
 
 -- what the first pair that matches gives (RFC 5229, section 3.2)
-abbrev pub first_match : MatchType → (ℕ → ℕ) → List Pair → Option (List (List ℕ))
-first_match match_type fold pairs = first_some (λ pair. match_of match_type fold pair.value pair.key) pairs
+abbrev pub first_match : Comparison → List Pair → Option (List (List ℕ))
+first_match comparison pairs = first_some (λ pair. match_of comparison pair.value pair.key) pairs
 
 -- what a test finds that compares values with keys
-unfoldable pub match_found : Delivery → RunState → ValueSource → MatchType → Collation → List (List Part) → Option (List (List ℕ))
-match_found delivery state source match_type collation keys = first_match match_type (fold_of collation) (pairs_of (values_of delivery state source) (keys_of state source keys))
+unfoldable pub match_found : Delivery → RunState → ValueSource → Comparison → List (List Part) → Option (List (List ℕ))
+match_found delivery state source comparison keys = first_match comparison (pairs_of (values_of delivery state source) (keys_of state source keys))
 
 -- Whether what a test asks is so: header, address, envelope, string and hasflag, where some pair matches (RFC 5228, sections 5.7, 5.1
 -- and 5.4; RFC 5229, section 5; RFC 5232, section 4), exists (RFC 5228, section 5.5), size (section 5.9), where a message of exactly
 -- the limit's octets is neither over nor under it.
 unfoldable pub truth_of : Delivery → RunState → Ask → Bool
-truth_of delivery state (compares source match_type collation keys) = is_some (match_found delivery state source match_type collation keys)
+truth_of delivery state (compares source comparison keys) = is_some (match_found delivery state source comparison keys)
 truth_of delivery state (exists_ask names) = list_all (has_field (fields_of delivery.message)) (map (text_value state.values) names)
 truth_of delivery state (over_ask limit) = nat_lt limit (length delivery.message)
 truth_of delivery state (under_ask limit) = nat_lt (length delivery.message) limit
@@ -133,7 +137,7 @@ with_found Contains found values = values
 
 -- the variables behind what a test asks
 unfoldable pub values_behind : Delivery → RunState → Ask → Values
-values_behind delivery state (compares source match_type collation keys) = with_found match_type (match_found delivery state source match_type collation keys) state.values
+values_behind delivery state (compares source comparison keys) = with_found comparison.match_type (match_found delivery state source comparison keys) state.values
 values_behind delivery state (exists_ask names) = state.values
 values_behind delivery state (over_ask limit) = state.values
 values_behind delivery state (under_ask limit) = state.values

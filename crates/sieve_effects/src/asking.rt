@@ -1,7 +1,6 @@
 //! What tests ask of a delivery, and what they find (RFC 5228, sections 2.7 and 5).
 ghost use Rattle.std.specs.Prelude.{◌≡◌, IfOk, length, map, nat_lt};
 ghost use Rattle.sieve_reading.specs.Reading.{compares, exists_ask};
-ghost use Rattle.match_text.specs.Comparator.{fold_of};
 ghost use Rattle.sieve_effects.specs.Matching.{behind_test, first_match, first_some, match_found, pairs_with, truth_of, values_of};
 ghost use Rattle.sieve_effects.specs.view.Delivery.{delivery_as};
 ghost use Rattle.sieve_effects.specs.view.FieldTests.{cuts_keys, found_with, key_texts};
@@ -9,19 +8,19 @@ ghost use Rattle.sieve_effects.specs.view.Ops.{source_op_as};
 ghost use Rattle.sieve_effects.specs.view.State.{state_of};
 ghost use Rattle.sieve_variables.specs.Value.{text_value};
 
-use crate::comparison::{Comparison, Keys, MatchValues, keep_found};
 use crate::delivery::Delivery;
 use crate::field_names::FieldNames;
 use crate::field_reads::FieldReads;
 use crate::field_values::{find_in_named, has_fields};
 use crate::flag_values::find_in_held;
+use crate::matcher::{Keys, MatchValues, Matcher, keep_found};
 use crate::ops::SourceOp;
 use crate::path_values::find_in_paths;
 use crate::state::State;
 use crate::string_values::find_in_strings;
 use crate::strings::Strings;
-use match_text::{Collation, flag_keys_of_texts};
-use sieve_reading::MatchType;
+use match_text::flag_keys_of_texts;
+use sieve_reading::Comparison;
 use std::alloc::AllocError;
 
 /// What the first value of a source gives that matches some key.
@@ -30,24 +29,24 @@ fn find_in_source(
     fields: &mut FieldReads<'_>,
     state: &State,
     source: &SourceOp<'_>,
-    comparison: &Comparison<'_>,
+    matcher: &Matcher<'_>,
 ) -> Result<Option<MatchValues>, AllocError>
     requires { fields.old ≡ (delivery_as delivery.now).message }
     ensures message { fields.new ≡ fields.old }
-    ensures found { IfOk result (λ found. found ≡ first_some (found_with comparison.now) (values_of (delivery_as delivery.now) (state_of state.now) (source_op_as source.now))) }
+    ensures found { IfOk result (λ found. found ≡ first_some (found_with matcher.now) (values_of (delivery_as delivery.now) (state_of state.now) (source_op_as source.now))) }
 {
     match source {
         SourceOp::Header { names } => {
-            find_in_named(delivery, fields, state, None, names, comparison)
+            find_in_named(delivery, fields, state, None, names, matcher)
         }
         SourceOp::Address { part, names } => {
-            find_in_named(delivery, fields, state, Some(*part), names, comparison)
+            find_in_named(delivery, fields, state, Some(*part), names, matcher)
         }
         SourceOp::Envelope { part, names } => {
-            find_in_paths(delivery, state, *part, names, comparison)
+            find_in_paths(delivery, state, *part, names, matcher)
         }
-        SourceOp::String { texts } => { find_in_strings(delivery, state, texts, comparison) }
-        SourceOp::Flags { variables } => find_in_held(delivery, state, variables, comparison),
+        SourceOp::String { texts } => { find_in_strings(delivery, state, texts, matcher) }
+        SourceOp::Flags { variables } => find_in_held(delivery, state, variables, matcher),
     }
 }
 
@@ -57,20 +56,15 @@ fn find_keyed(
     fields: &mut FieldReads<'_>,
     state: &State,
     source: &SourceOp<'_>,
-    match_type: MatchType,
-    collation: Collation,
+    comparison: Comparison,
     keys: Keys<'_>,
 ) -> Result<Option<MatchValues>, AllocError>
     requires { fields.old ≡ (delivery_as delivery.now).message }
     ensures message { fields.new ≡ fields.old }
-    ensures found { IfOk result (λ found. found ≡ first_some (λ value. first_match match_type (fold_of collation) (pairs_with (key_texts keys.entry) value)) (values_of (delivery_as delivery.now) (state_of state.now) (source_op_as source.now))) }
+    ensures found { IfOk result (λ found. found ≡ first_some (λ value. first_match comparison (pairs_with (key_texts keys.entry) value)) (values_of (delivery_as delivery.now) (state_of state.now) (source_op_as source.now))) }
 {
-    let comparison = Comparison {
-        match_type,
-        collation,
-        keys,
-    };
-    find_in_source(delivery, fields, state, source, &comparison)
+    let matcher = Matcher { comparison, keys };
+    find_in_source(delivery, fields, state, source, &matcher)
 }
 
 /// Whether the keys of a test are cut at spaces (RFC 5232, section 4).
@@ -103,27 +97,22 @@ fn find_whole(
     fields: &mut FieldReads<'_>,
     state: &State,
     source: &SourceOp<'_>,
-    match_type: MatchType,
-    collation: Collation,
+    comparison: Comparison,
     keys: &Strings<'_>,
 ) -> Result<Option<MatchValues>, AllocError>
     requires { fields.old ≡ (delivery_as delivery.now).message }
     ensures message { fields.new ≡ fields.old }
-    ensures found { IfOk result (λ found. found ≡ first_some (λ value. first_match match_type (fold_of collation) (pairs_with (map (text_value (state_of state.now).values) keys.now) value)) (values_of (delivery_as delivery.now) (state_of state.now) (source_op_as source.now))) }
+    ensures found { IfOk result (λ found. found ≡ first_some (λ value. first_match comparison (pairs_with (map (text_value (state_of state.now).values) keys.now) value)) (values_of (delivery_as delivery.now) (state_of state.now) (source_op_as source.now))) }
 {
     let values = &state.values;
     if are_borrowed(keys) {
         let strings = keys;
         let whole = Keys::Strings { values, strings };
-        return find_keyed(
-            delivery, fields, state, source, match_type, collation, whole,
-        );
+        return find_keyed(delivery, fields, state, source, comparison, whole);
     }
     let texts = keys.expanded(delivery.alloc, values)?;
     let whole = Keys::Texts(&texts);
-    find_keyed(
-        delivery, fields, state, source, match_type, collation, whole,
-    )
+    find_keyed(delivery, fields, state, source, comparison, whole)
 }
 
 /// What a test finds that compares values with keys.
@@ -132,21 +121,20 @@ fn find_match(
     fields: &mut FieldReads<'_>,
     state: &State,
     source: &SourceOp<'_>,
-    match_type: MatchType,
-    collation: Collation,
+    comparison: Comparison,
     keys: &Strings<'_>,
 ) -> Result<Option<MatchValues>, AllocError>
     requires { fields.old ≡ (delivery_as delivery.now).message }
     ensures message { fields.new ≡ fields.old }
-    ensures found { IfOk result (λ found. found ≡ match_found (delivery_as delivery.now) (state_of state.now) (source_op_as source.now) match_type collation keys.now) }
+    ensures found { IfOk result (λ found. found ≡ match_found (delivery_as delivery.now) (state_of state.now) (source_op_as source.now) comparison keys.now) }
 {
     if !cuts_keys(source) {
-        return find_whole(delivery, fields, state, source, match_type, collation, keys);
+        return find_whole(delivery, fields, state, source, comparison, keys);
     }
     let texts = keys.expanded(delivery.alloc, &state.values)?;
     let cut = flag_keys_of_texts(delivery.alloc, &texts)?;
     let keys = Keys::Texts(&cut);
-    find_keyed(delivery, fields, state, source, match_type, collation, keys)
+    find_keyed(delivery, fields, state, source, comparison, keys)
 }
 
 /// Whether some value of a source matches some key (RFC 5228, sections 5.1, 5.4 and 5.7; RFC 5229, section 5; RFC 5232, section 4). Under
@@ -156,21 +144,18 @@ fn find_match(
 pub fn compare(
     delivery: &Delivery<'_>,
     source: &SourceOp<'_>,
-    match_type: MatchType,
-    collation: Collation,
+    comparison: Comparison,
     keys: &Strings<'_>,
     fields: &mut FieldReads<'_>,
     state: &mut State,
 ) -> Result<bool, AllocError>
     requires { fields.old ≡ (delivery_as delivery.now).message }
     ensures message { fields.new ≡ fields.old }
-    ensures truth { IfOk result (λ truth. truth ≡ truth_of (delivery_as delivery.now) (state_of state.old) (compares (source_op_as source.now) match_type collation keys.now)) }
-    ensures behind { IfOk result (λ truth. state_of state.new ≡ behind_test (delivery_as delivery.now) (compares (source_op_as source.now) match_type collation keys.now) (state_of state.old)) }
+    ensures truth { IfOk result (λ truth. truth ≡ truth_of (delivery_as delivery.now) (state_of state.old) (compares (source_op_as source.now) comparison keys.now)) }
+    ensures behind { IfOk result (λ truth. state_of state.new ≡ behind_test (delivery_as delivery.now) (compares (source_op_as source.now) comparison keys.now) (state_of state.old)) }
 {
-    let found = find_match(
-        delivery, fields, &*state, source, match_type, collation, keys,
-    )?;
-    Ok(keep_found(match_type, found, state))
+    let found = find_match(delivery, fields, &*state, source, comparison, keys)?;
+    Ok(keep_found(comparison.match_type, found, state))
 }
 
 /// Whether all named fields are there (RFC 5228, section 5.5). Fails where memory is refused.

@@ -9,10 +9,10 @@ ghost use Rattle.sieve_effects.specs.view.FieldTests.{field_found, field_source,
 ghost use Rattle.sieve_effects.specs.view.State.{state_of};
 ghost use Rattle.sieve_variables.specs.Value.{text_value};
 
-use crate::comparison::{Comparison, MatchValues};
 use crate::delivery::Delivery;
 use crate::field_names::FieldNames;
 use crate::field_reads::FieldReads;
+use crate::matcher::{MatchValues, Matcher};
 use crate::state::State;
 use message_text::{Address, AddressPart, FieldName, Message};
 use sieve_table::is_address_field;
@@ -50,12 +50,12 @@ fn find_in_addresses(
     alloc: Global,
     part: AddressPart,
     addresses: &[Address],
-    comparison: &Comparison<'_>,
+    matcher: &Matcher<'_>,
 ) -> Result<Option<MatchValues>, AllocError>
-    ensures { IfOk result (λ found. found ≡ first_some (part_found (found_with comparison.now) part) addresses.now) }
+    ensures { IfOk result (λ found. found ≡ first_some (part_found (found_with matcher.now) part) addresses.now) }
 {
     for address in addresses {
-        if let Some(values) = find_in_part(alloc, address.part(part), comparison)? {
+        if let Some(values) = find_in_part(alloc, address.part(part), matcher)? {
             return Ok(Some(values));
         }
     }
@@ -66,12 +66,12 @@ fn find_in_addresses(
 pub(crate) fn find_in_part(
     alloc: Global,
     part: Option<&[u8]>,
-    comparison: &Comparison<'_>,
+    matcher: &Matcher<'_>,
 ) -> Result<Option<MatchValues>, AllocError>
-    ensures { IfOk result (λ found. found ≡ option_and_then (found_with comparison.now) (option_map (λ octets. octets.now) part.entry)) }
+    ensures { IfOk result (λ found. found ≡ option_and_then (found_with matcher.now) (option_map (λ octets. octets.now) part.entry)) }
 {
     match part {
-        Some(octets) => comparison.first_match(alloc, octets),
+        Some(octets) => matcher.first_match(alloc, octets),
         None => Ok(None),
     }
 }
@@ -81,14 +81,14 @@ fn find_in_decoded(
     alloc: Global,
     fields: &mut FieldReads<'_>,
     i: usize,
-    comparison: &Comparison<'_>,
+    matcher: &Matcher<'_>,
 ) -> Result<Option<MatchValues>, AllocError>
     requires { i < length (fields_of fields.old) }
     ensures message { fields.new ≡ fields.old }
-    ensures found { IfOk result (λ found. slice_get (map (λ field. value_found (found_with comparison.now) None field.value) (fields_of fields.old)) i ≡ Some found) }
+    ensures found { IfOk result (λ found. slice_get (map (λ field. value_found (found_with matcher.now) None field.value) (fields_of fields.old)) i ≡ Some found) }
 {
     let value = fields.take_decoded(alloc, i)?;
-    let found = comparison.first_match(alloc, value.as_slice())?;
+    let found = matcher.first_match(alloc, value.as_slice())?;
     fields.keep_decoded(i, value)?;
     Ok(found)
 }
@@ -99,14 +99,14 @@ fn find_in_listed(
     fields: &mut FieldReads<'_>,
     i: usize,
     part: AddressPart,
-    comparison: &Comparison<'_>,
+    matcher: &Matcher<'_>,
 ) -> Result<Option<MatchValues>, AllocError>
     requires { i < length (fields_of fields.old) }
     ensures message { fields.new ≡ fields.old }
-    ensures found { IfOk result (λ found. slice_get (map (λ field. value_found (found_with comparison.now) (Some part) field.value) (fields_of fields.old)) i ≡ Some found) }
+    ensures found { IfOk result (λ found. slice_get (map (λ field. value_found (found_with matcher.now) (Some part) field.value) (fields_of fields.old)) i ≡ Some found) }
 {
     let listed = fields.take_addresses(alloc, i)?;
-    let found = find_in_addresses(alloc, part, &listed, comparison)?;
+    let found = find_in_addresses(alloc, part, &listed, matcher)?;
     fields.keep_addresses(i, listed)?;
     Ok(found)
 }
@@ -117,15 +117,15 @@ fn find_in_value(
     fields: &mut FieldReads<'_>,
     i: usize,
     part: Option<AddressPart>,
-    comparison: &Comparison<'_>,
+    matcher: &Matcher<'_>,
 ) -> Result<Option<MatchValues>, AllocError>
     requires { i < length (fields_of fields.old) }
     ensures message { fields.new ≡ fields.old }
-    ensures found { IfOk result (λ found. slice_get (map (λ field. value_found (found_with comparison.now) part field.value) (fields_of fields.old)) i ≡ Some found) }
+    ensures found { IfOk result (λ found. slice_get (map (λ field. value_found (found_with matcher.now) part field.value) (fields_of fields.old)) i ≡ Some found) }
 {
     match part {
-        None => find_in_decoded(alloc, fields, i, comparison),
-        Some(part) => find_in_listed(alloc, fields, i, part, comparison),
+        None => find_in_decoded(alloc, fields, i, matcher),
+        Some(part) => find_in_listed(alloc, fields, i, part, matcher),
     }
 }
 
@@ -135,10 +135,10 @@ fn find_in_fields(
     fields: &mut FieldReads<'_>,
     part: Option<AddressPart>,
     name: &FieldName<'_>,
-    comparison: &Comparison<'_>,
+    matcher: &Matcher<'_>,
 ) -> Result<Option<MatchValues>, AllocError>
     ensures message { fields.new ≡ fields.old }
-    ensures found { IfOk result (λ found. found ≡ first_some (field_found (found_with comparison.now) part name.now) (fields_of fields.old)) }
+    ensures found { IfOk result (λ found. found ≡ first_some (field_found (found_with matcher.now) part name.now) (fields_of fields.old)) }
 {
     let message = fields.message();
     let mut start = 0;
@@ -146,7 +146,7 @@ fn find_in_fields(
         let Some(i) = message.next_named(name, start) else {
             return Ok(None);
         };
-        if let Some(values) = find_in_value(alloc, &mut *fields, i, part, comparison)? {
+        if let Some(values) = find_in_value(alloc, &mut *fields, i, part, matcher)? {
             return Ok(Some(values));
         }
         start = i + 1;
@@ -170,13 +170,13 @@ fn find_by_name(
     fields: &mut FieldReads<'_>,
     part: Option<AddressPart>,
     name: &FieldName<'_>,
-    comparison: &Comparison<'_>,
+    matcher: &Matcher<'_>,
 ) -> Result<Option<MatchValues>, AllocError>
     ensures message { fields.new ≡ fields.old }
-    ensures found { IfOk result (λ found. found ≡ name_found (found_with comparison.now) part (fields_of fields.old) name.now) }
+    ensures found { IfOk result (λ found. found ≡ name_found (found_with matcher.now) part (fields_of fields.old) name.now) }
 {
     if is_looked_at(part, name.octets()) {
-        find_in_fields(alloc, fields, part, name, comparison)
+        find_in_fields(alloc, fields, part, name, matcher)
     } else {
         Ok(None)
     }
@@ -189,15 +189,15 @@ fn find_by_names(
     part: Option<AddressPart>,
     values: &Values,
     names: &FieldNames<'_>,
-    comparison: &Comparison<'_>,
+    matcher: &Matcher<'_>,
 ) -> Result<Option<MatchValues>, AllocError>
     ensures message { fields.new ≡ fields.old }
-    ensures found { IfOk result (λ found. found ≡ first_some (name_found (found_with comparison.now) part (fields_of fields.old)) (map (text_value values.now) names.now)) }
+    ensures found { IfOk result (λ found. found ≡ first_some (name_found (found_with matcher.now) part (fields_of fields.old)) (map (text_value values.now) names.now)) }
 {
     let mut buffer = Vec::new(alloc);
     for i in 0..names.len() {
         let name = names.name_in(i, values, &mut buffer)?;
-        if let Some(found) = find_by_name(alloc, &mut *fields, part, &name, comparison)? {
+        if let Some(found) = find_by_name(alloc, &mut *fields, part, &name, matcher)? {
             return Ok(Some(found));
         }
     }
@@ -211,18 +211,11 @@ pub(crate) fn find_in_named(
     state: &State,
     part: Option<AddressPart>,
     names: &FieldNames<'_>,
-    comparison: &Comparison<'_>,
+    matcher: &Matcher<'_>,
 ) -> Result<Option<MatchValues>, AllocError>
     requires { fields.old ≡ (delivery_as delivery.now).message }
     ensures message { fields.new ≡ fields.old }
-    ensures found { IfOk result (λ found. found ≡ first_some (found_with comparison.now) (values_of (delivery_as delivery.now) (state_of state.now) (field_source part names.now))) }
+    ensures found { IfOk result (λ found. found ≡ first_some (found_with matcher.now) (values_of (delivery_as delivery.now) (state_of state.now) (field_source part names.now))) }
 {
-    find_by_names(
-        delivery.alloc,
-        fields,
-        part,
-        &state.values,
-        names,
-        comparison,
-    )
+    find_by_names(delivery.alloc, fields, part, &state.values, names, matcher)
 }

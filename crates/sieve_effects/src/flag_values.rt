@@ -10,8 +10,8 @@ ghost use Rattle.sieve_effects.specs.view.FieldTests.{found_with};
 ghost use Rattle.sieve_effects.specs.view.State.{state_of};
 ghost use Rattle.sieve_base.specs.view.Texts.{octets_of_each};
 
-use crate::comparison::{Comparison, Keys, MatchValues, plain_match};
 use crate::delivery::Delivery;
+use crate::matcher::{Keys, MatchValues, Matcher, plain_match};
 use crate::state::State;
 use crate::strings::Strings;
 use match_text::{Collation, FlagList, flags_of};
@@ -35,16 +35,16 @@ fn has_some(flags: &FlagList, collation: Collation, keys: &[CowSlice<'_, u8>]) -
 fn find_in_flags(
     alloc: Global,
     flags: &FlagList,
-    comparison: &Comparison<'_>,
+    matcher: &Matcher<'_>,
 ) -> Result<Option<MatchValues>, AllocError>
-    ensures { IfOk result (λ found. found ≡ first_some (found_with comparison.now) flags.now) }
+    ensures { IfOk result (λ found. found ≡ first_some (found_with matcher.now) flags.now) }
 {
-    match (comparison.match_type, comparison.keys) {
+    match (matcher.comparison.match_type, matcher.keys) {
         (MatchType::Is, Keys::Texts(keys)) => {
-            let is_match = has_some(flags, comparison.collation, keys);
+            let is_match = has_some(flags, matcher.comparison.collation, keys);
             Ok(plain_match(alloc, is_match))
         }
-        _ => find_in_each(alloc, flags, comparison),
+        _ => find_in_each(alloc, flags, matcher),
     }
 }
 
@@ -52,12 +52,12 @@ fn find_in_flags(
 fn find_in_each(
     alloc: Global,
     flags: &FlagList,
-    comparison: &Comparison<'_>,
+    matcher: &Matcher<'_>,
 ) -> Result<Option<MatchValues>, AllocError>
-    ensures { IfOk result (λ found. found ≡ first_some (found_with comparison.now) flags.now) }
+    ensures { IfOk result (λ found. found ≡ first_some (found_with matcher.now) flags.now) }
 {
     for i in 0..flags.len() {
-        if let Some(values) = comparison.first_match(alloc, flags.get(i))? {
+        if let Some(values) = matcher.first_match(alloc, flags.get(i))? {
             return Ok(Some(values));
         }
     }
@@ -68,24 +68,24 @@ fn find_in_each(
 fn find_in_text(
     alloc: Global,
     text: &[u8],
-    comparison: &Comparison<'_>,
+    matcher: &Matcher<'_>,
 ) -> Result<Option<MatchValues>, AllocError>
-    ensures { IfOk result (λ found. found ≡ first_some (found_with comparison.now) (flag_list text.now)) }
+    ensures { IfOk result (λ found. found ≡ first_some (found_with matcher.now) (flag_list text.now)) }
 {
     let flags = flags_of(alloc, text)?;
-    find_in_flags(alloc, &flags, comparison)
+    find_in_flags(alloc, &flags, matcher)
 }
 
 /// What the first flag of some texts gives that matches some key.
 fn find_in_texts(
     alloc: Global,
     texts: &[CowSlice<'_, u8>],
-    comparison: &Comparison<'_>,
+    matcher: &Matcher<'_>,
 ) -> Result<Option<MatchValues>, AllocError>
-    ensures { IfOk result (λ found. found ≡ first_some (λ text. first_some (found_with comparison.now) (flag_list text)) (octets_of_each texts.now)) }
+    ensures { IfOk result (λ found. found ≡ first_some (λ text. first_some (found_with matcher.now) (flag_list text)) (octets_of_each texts.now)) }
 {
     for text in texts {
-        if let Some(values) = find_in_text(alloc, text.as_slice(), comparison)? {
+        if let Some(values) = find_in_text(alloc, text.as_slice(), matcher)? {
             return Ok(Some(values));
         }
     }
@@ -97,12 +97,12 @@ fn find_in_variables(
     delivery: &Delivery<'_>,
     state: &State,
     variables: &Strings<'_>,
-    comparison: &Comparison<'_>,
+    matcher: &Matcher<'_>,
 ) -> Result<Option<MatchValues>, AllocError>
-    ensures { IfOk result (λ found. found ≡ first_some (found_with comparison.now) (values_of (delivery_as delivery.now) (state_of state.now) (flag_values (Some variables.now)))) }
+    ensures { IfOk result (λ found. found ≡ first_some (found_with matcher.now) (values_of (delivery_as delivery.now) (state_of state.now) (flag_values (Some variables.now)))) }
 {
     let held = variables.expanded(delivery.alloc, &state.values)?;
-    find_in_texts(delivery.alloc, &held, comparison)
+    find_in_texts(delivery.alloc, &held, matcher)
 }
 
 /// What the flags of variables give, or the internal ones where none are named.
@@ -110,12 +110,12 @@ pub(crate) fn find_in_held(
     delivery: &Delivery<'_>,
     state: &State,
     variables: &Option<Strings<'_>>,
-    comparison: &Comparison<'_>,
+    matcher: &Matcher<'_>,
 ) -> Result<Option<MatchValues>, AllocError>
-    ensures { IfOk result (λ found. found ≡ first_some (found_with comparison.now) (values_of (delivery_as delivery.now) (state_of state.now) (flag_values variables.now))) }
+    ensures { IfOk result (λ found. found ≡ first_some (found_with matcher.now) (values_of (delivery_as delivery.now) (state_of state.now) (flag_values variables.now))) }
 {
     match variables {
-        Some(variables) => find_in_variables(delivery, state, variables, comparison),
-        None => find_in_flags(delivery.alloc, state.actions.flags(), comparison),
+        Some(variables) => find_in_variables(delivery, state, variables, matcher),
+        None => find_in_flags(delivery.alloc, state.actions.flags(), matcher),
     }
 }

@@ -9,10 +9,10 @@ ghost use Rattle.sieve_effects.specs.view.FieldTests.{found_with, path_found, pa
 ghost use Rattle.sieve_effects.specs.view.State.{state_of};
 ghost use Rattle.sieve_variables.specs.Value.{text_value};
 
-use crate::comparison::{Comparison, MatchValues};
 use crate::delivery::Delivery;
 use crate::envelope::Envelope;
 use crate::field_values::find_in_part;
+use crate::matcher::{MatchValues, Matcher};
 use crate::state::State;
 use crate::strings::Strings;
 use message_text::{AddressPart, addresses};
@@ -56,17 +56,17 @@ fn find_in_path(
     alloc: Global,
     part: AddressPart,
     text: &[u8],
-    comparison: &Comparison<'_>,
+    matcher: &Matcher<'_>,
 ) -> Result<Option<MatchValues>, AllocError>
-    ensures { IfOk result (λ found. found ≡ path_found (found_with comparison.now) part text.now) }
+    ensures { IfOk result (λ found. found ≡ path_found (found_with matcher.now) part text.now) }
 {
     if is_null_path(text) {
-        return comparison.first_match(alloc, b"");
+        return matcher.first_match(alloc, b"");
     }
     let listed = addresses(alloc, text)?;
     match listed.as_slice() {
-        [one] => find_in_part(alloc, one.part(part), comparison),
-        _ => find_in_part(alloc, seen_part(part, text), comparison),
+        [one] => find_in_part(alloc, one.part(part), matcher),
+        _ => find_in_part(alloc, seen_part(part, text), matcher),
     }
 }
 
@@ -76,12 +76,12 @@ fn find_by_path_name(
     envelope: &Envelope,
     part: AddressPart,
     name: &[u8],
-    comparison: &Comparison<'_>,
+    matcher: &Matcher<'_>,
 ) -> Result<Option<MatchValues>, AllocError>
-    ensures { IfOk result (λ found. found ≡ path_name_found (found_with comparison.now) part envelope.now name.now) }
+    ensures { IfOk result (λ found. found ≡ path_name_found (found_with matcher.now) part envelope.now name.now) }
 {
     match envelope_text(envelope, name) {
-        Some(text) => find_in_path(alloc, part, text, comparison),
+        Some(text) => find_in_path(alloc, part, text, matcher),
         None => Ok(None),
     }
 }
@@ -93,14 +93,14 @@ fn find_by_path_names(
     part: AddressPart,
     values: &Values,
     names: &Strings<'_>,
-    comparison: &Comparison<'_>,
+    matcher: &Matcher<'_>,
 ) -> Result<Option<MatchValues>, AllocError>
-    ensures { IfOk result (λ found. found ≡ first_some (path_name_found (found_with comparison.now) part envelope.now) (map (text_value values.now) names.now)) }
+    ensures { IfOk result (λ found. found ≡ first_some (path_name_found (found_with matcher.now) part envelope.now) (map (text_value values.now) names.now)) }
 {
     let mut buffer = Vec::new(alloc);
     for i in 0..names.len() {
         let name = names.text_in(i, values, &mut buffer)?;
-        if let Some(found) = find_by_path_name(alloc, envelope, part, name, comparison)? {
+        if let Some(found) = find_by_path_name(alloc, envelope, part, name, matcher)? {
             return Ok(Some(found));
         }
     }
@@ -113,9 +113,9 @@ pub(crate) fn find_in_paths(
     state: &State,
     part: AddressPart,
     names: &Strings<'_>,
-    comparison: &Comparison<'_>,
+    matcher: &Matcher<'_>,
 ) -> Result<Option<MatchValues>, AllocError>
-    ensures { IfOk result (λ found. found ≡ first_some (found_with comparison.now) (values_of (delivery_as delivery.now) (state_of state.now) (envelope_values part names.now))) }
+    ensures { IfOk result (λ found. found ≡ first_some (found_with matcher.now) (values_of (delivery_as delivery.now) (state_of state.now) (envelope_values part names.now))) }
 {
     find_by_path_names(
         delivery.alloc,
@@ -123,6 +123,6 @@ pub(crate) fn find_in_paths(
         part,
         &state.values,
         names,
-        comparison,
+        matcher,
     )
 }

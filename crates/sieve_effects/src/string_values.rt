@@ -7,8 +7,8 @@ ghost use Rattle.sieve_effects.specs.view.FieldTests.{found_with};
 ghost use Rattle.sieve_effects.specs.view.State.{state_of};
 ghost use Rattle.sieve_variables.specs.Value.{text_value};
 
-use crate::comparison::{Comparison, MatchValues};
 use crate::delivery::Delivery;
+use crate::matcher::{MatchValues, Matcher};
 use crate::state::State;
 use crate::strings::Strings;
 use sieve_variables::Values;
@@ -19,14 +19,14 @@ fn find_in_texts(
     alloc: Global,
     values: &Values,
     texts: &Strings<'_>,
-    comparison: &Comparison<'_>,
+    matcher: &Matcher<'_>,
 ) -> Result<Option<MatchValues>, AllocError>
-    ensures { IfOk result (λ found. found ≡ first_some (found_with comparison.now) (map (text_value values.now) texts.now)) }
+    ensures { IfOk result (λ found. found ≡ first_some (found_with matcher.now) (map (text_value values.now) texts.now)) }
 {
     let mut buffer = Vec::new(alloc);
     for i in 0..texts.len() {
         let text = texts.text_in(i, values, &mut buffer)?;
-        if let Some(found) = comparison.first_match(alloc, text)? {
+        if let Some(found) = matcher.first_match(alloc, text)? {
             return Ok(Some(found));
         }
     }
@@ -38,9 +38,9 @@ pub(crate) fn find_in_strings(
     delivery: &Delivery<'_>,
     state: &State,
     texts: &Strings<'_>,
-    comparison: &Comparison<'_>,
+    matcher: &Matcher<'_>,
 ) -> Result<Option<MatchValues>, AllocError>
-    ensures { IfOk result (λ found. found ≡ first_some (found_with comparison.now) (values_of (delivery_as delivery.now) (state_of state.now) (string_values texts.now))) }
+    ensures { IfOk result (λ found. found ≡ first_some (found_with matcher.now) (values_of (delivery_as delivery.now) (state_of state.now) (string_values texts.now))) }
 {
-    find_in_texts(delivery.alloc, &state.values, texts, comparison)
+    find_in_texts(delivery.alloc, &state.values, texts, matcher)
 }

@@ -1,3 +1,3 @@
+mod ByKind
 mod Labelling
 mod PositionalRows
-mod Tags

@@ -1,8 +1,6 @@
--- What the arguments of a command or a test give, by their labels, by which the rules and the cut of strings go too. What no row allows
--- gives nothing.
-use Rattle.std.specs.Prelude.{ℕ, Bool, false, List, [], ◌∷◌, Option, Some, None, map, drop, if◌then◌else◌}
-use Rattle.std.specs.List.{list_any}
-use Rattle.std.specs.Option.{option_and_then, option_map}
+-- What the arguments of a command or a test give, by their labels, by which the rules and the cut of strings go too. All of it is there
+-- whatever stands there: what isn't given is empty, or what counts by default.
+use Rattle.std.specs.Prelude.{ℕ, Bool, false, List, [], ◌∷◌, Option, Some, None, is_some, map, drop, if◌then◌else◌}
 use Rattle.match_text.specs.Comparator.{collation_named}
 use Rattle.match_text.specs.declared.comparators.Collation.{Collation}
 use Rattle.match_text.specs.declared.comparators.Collation.TheVariants.{Casemap}
@@ -10,17 +8,22 @@ use Rattle.message_text.specs.declared.addressing.AddressPart.{AddressPart}
 use Rattle.message_text.specs.declared.addressing.AddressPart.TheVariants as part
 use Rattle.sieve_reading.specs.Role.{first_role}
 use Rattle.sieve_table.specs.Role.{has_role}
-use Rattle.sieve_table.specs.Table.{same_tag}
+use Rattle.sieve_table.specs.Table.{same_kind, tag_row}
 use Rattle.sieve_reading.specs.Tree.{Argument, strings, number, tag}
 use Rattle.sieve_reading.specs.declared.label.Label.{Label}
 use Rattle.sieve_reading.specs.declared.label.Label.TheVariants.{Tagged, OtherTag, Own, InSlot, Unfit}
 use Rattle.sieve_reading.specs.declared.reading.MatchType.{MatchType}
 use Rattle.sieve_reading.specs.declared.reading.MatchType.TheVariants.{Is, Contains, Matches}
+use Rattle.sieve_syntax.specs.view.Tree.{octets_of}
 use Rattle.sieve_table.specs.declared.row.Role.{Role}
+use Rattle.sieve_table.specs.declared.row.TagKind.{TagKind}
+use Rattle.sieve_table.specs.declared.row.TagKind.TheVariants as kind
 use Rattle.sieve_table.specs.declared.table.Tag.{Tag}
 use Rattle.sieve_table.specs.declared.table.Tag.TheVariants as tag
 use Rattle.sieve_variables.specs.Part.{Part, literal, variable_part, match_part}
-use Rattle.sieve_variables.specs.Variable.{Variable}
+use Rattle.sieve_variables.specs.Variable.{Variable, local_variable}
+
+-- ARGUMENTS
 
 -- the first argument in a role
 abbrev pub in_role : Role → List Label → List Argument → Option Argument
@@ -28,49 +31,44 @@ in_role wanted labels [] = None
 in_role wanted labels (a ∷ args) = if has_role wanted (first_role labels) then Some a else in_role wanted (drop 1 labels) args
 
 -- the strings of an argument, each as its parts
-abbrev pub texts_in : Option Argument → Option (List (List Part))
-texts_in None = None
-texts_in (Some (strings items bracketed)) = Some (map (λ t. t.string) items)
-texts_in (Some (number value line)) = None
-texts_in (Some (tag name line)) = None
+abbrev pub texts_in : Option Argument → List (List Part)
+texts_in None = []
+texts_in (Some (strings items bracketed)) = map (λ t. t.string) items
+texts_in (Some (number value line)) = []
+texts_in (Some (tag name line)) = []
 
 -- the strings of an argument that may be left out
-abbrev pub given_texts : Option Argument → Option (Option (List (List Part)))
-given_texts None = Some None
-given_texts (Some a) = option_map Some (texts_in (Some a))
+abbrev pub given_texts : Option Argument → Option (List (List Part))
+given_texts None = None
+given_texts (Some a) = Some (texts_in (Some a))
 
--- the one string that an argument is
-abbrev pub text_in : Option Argument → Option (List Part)
-text_in None = None
-text_in (Some (strings [] bracketed)) = None
-text_in (Some (strings (t ∷ []) bracketed)) = Some t.string
-text_in (Some (strings (t ∷ s ∷ ts) bracketed)) = None
-text_in (Some (number value line)) = None
-text_in (Some (tag name line)) = None
+-- the string of an argument, which is the first where it has several
+abbrev pub first_text : List (List Part) → List Part
+first_text [] = []
+first_text (text ∷ texts) = text
 
--- The variable that parts name. What is set is such a variable, and no match variable (RFC 5229, section 4; RFC 5232, section 3).
-abbrev pub variable_in_parts : List Part → Option Variable
-variable_in_parts [] = None
-variable_in_parts (literal octets ∷ parts) = None
-variable_in_parts (variable_part variable ∷ []) = Some variable
-variable_in_parts (variable_part variable ∷ part ∷ parts) = None
-variable_in_parts (match_part index ∷ parts) = None
+abbrev pub text_in : Option Argument → List Part
+text_in argument = first_text (texts_in argument)
+
+-- The variable that parts name. What is set is such a variable, and no match variable (RFC 5229, section 4; RFC 5232, section 3). Other
+-- parts name the one without a name, which no script has.
+abbrev pub variable_in_parts : List Part → Variable
+variable_in_parts [] = local_variable []
+variable_in_parts (literal octets ∷ parts) = local_variable []
+variable_in_parts (variable_part variable ∷ []) = variable
+variable_in_parts (variable_part variable ∷ part ∷ parts) = local_variable []
+variable_in_parts (match_part index ∷ parts) = local_variable []
 
 -- the variable that an argument names
-abbrev pub variable_in : Option Argument → Option Variable
-variable_in None = None
-variable_in (Some (strings [] bracketed)) = None
-variable_in (Some (strings (t ∷ []) bracketed)) = variable_in_parts t.string
-variable_in (Some (strings (t ∷ s ∷ ts) bracketed)) = None
-variable_in (Some (number value line)) = None
-variable_in (Some (tag name line)) = None
+abbrev pub variable_in : Option Argument → Variable
+variable_in argument = variable_in_parts (text_in argument)
 
 -- the variable that an argument names that may be left out
-abbrev pub given_variable : Option Argument → Option (Option Variable)
-given_variable None = Some None
-given_variable (Some a) = option_map Some (variable_in (Some a))
+abbrev pub given_variable : Option Argument → Option Variable
+given_variable None = None
+given_variable (Some a) = Some (variable_in (Some a))
 
--- the octets of parts that are one literal
+-- the octets of parts that are one literal, where they are
 abbrev pub literal_in_parts : List Part → Option (List ℕ)
 literal_in_parts [] = None
 literal_in_parts (literal octets ∷ []) = Some octets
@@ -78,42 +76,79 @@ literal_in_parts (literal octets ∷ part ∷ parts) = None
 literal_in_parts (variable_part variable ∷ parts) = None
 literal_in_parts (match_part index ∷ parts) = None
 
--- the octets of an argument that is one string, which stands for itself
-abbrev pub literal_in : Option Argument → Option (List ℕ)
-literal_in None = None
-literal_in (Some (strings [] bracketed)) = None
-literal_in (Some (strings (t ∷ []) bracketed)) = literal_in_parts t.string
-literal_in (Some (strings (t ∷ s ∷ ts) bracketed)) = None
-literal_in (Some (number value line)) = None
-literal_in (Some (tag name line)) = None
+-- the octets of an argument whose string stands for itself
+abbrev pub literal_in : Option Argument → List ℕ
+literal_in argument = octets_of (text_in argument)
 
 -- the number that an argument is
-abbrev pub number_in : Option Argument → Option ℕ
-number_in None = None
-number_in (Some (strings items bracketed)) = None
-number_in (Some (number value line)) = value
-number_in (Some (tag name line)) = None
-
--- a tag that is taken
-abbrev pub is_tagged : Tag → Label → Bool
-is_tagged wanted (Tagged taken) = same_tag wanted taken
-is_tagged wanted OtherTag = false
-is_tagged wanted (Own slot) = false
-is_tagged wanted (InSlot slot) = false
-is_tagged wanted Unfit = false
-
-abbrev pub has_tag : Tag → List Label → Bool
-has_tag wanted labels = list_any (is_tagged wanted) labels
+abbrev pub number_in : Option Argument → ℕ
+number_in None = 0
+number_in (Some (strings items bracketed)) = 0
+number_in (Some (number None line)) = 0
+number_in (Some (number (Some value) line)) = value
+number_in (Some (tag name line)) = 0
 
 -- the comparator, which is `i;ascii-casemap` where none is named (RFC 5228, section 2.7.3)
-abbrev pub collation_by : Option Argument → Option Collation
-collation_by None = Some Casemap
-collation_by (Some a) = option_and_then collation_named (literal_in (Some a))
+abbrev pub collation_or_casemap : Option Collation → Collation
+collation_or_casemap None = Casemap
+collation_or_casemap (Some collation) = collation
+
+abbrev pub collation_by : Option Argument → Collation
+collation_by argument = collation_or_casemap (collation_named (literal_in argument))
+
+-- TAGS
+
+-- a tag of that kind
+abbrev pub is_of_kind : TagKind → Label → Bool
+is_of_kind k (Tagged taken) = same_kind k (tag_row taken).kind
+is_of_kind k OtherTag = false
+is_of_kind k (Own slot) = false
+is_of_kind k (InSlot slot) = false
+is_of_kind k Unfit = false
+
+-- the tag that a label is, where it is of that kind
+abbrev pub tag_at : TagKind → Label → Option Tag
+tag_at k (Tagged taken) = if same_kind k (tag_row taken).kind then Some taken else None
+tag_at k OtherTag = None
+tag_at k (Own slot) = None
+tag_at k (InSlot slot) = None
+tag_at k Unfit = None
+
+-- the one that is there, or the other
+abbrev pub first_or : {A : Type 0} → Option A → Option A → Option A
+first_or None other = other
+first_or (Some first) other = Some first
+
+-- the first tag of that kind
+abbrev pub tag_given : TagKind → List Label → Option Tag
+tag_given k [] = None
+tag_given k (label ∷ labels) = first_or (tag_at k label) (tag_given k labels)
+
+-- the tags among arguments: of each kind the first, if there is one
+abbrev pub Tags : Type 0
+Tags = TagKind → Option Tag
+
+abbrev pub tags_of : List Label → Tags
+tags_of labels = λ k. tag_given k labels
 
 -- the match type, which is `:is` where none is given (RFC 5228, section 2.7.1)
-abbrev pub match_type_of : List Label → MatchType
-match_type_of labels = if has_tag tag.Matches labels then Matches else if has_tag tag.Contains labels then Contains else Is
+abbrev pub match_type_by : Option Tag → MatchType
+match_type_by (Some tag.Contains) = Contains
+match_type_by (Some tag.Matches) = Matches
+match_type_by other = Is
+
+unfoldable pub match_type_of : Tags → MatchType
+match_type_of tags = match_type_by (tags kind.MatchType)
 
 -- the part of an address, which is all of it where none is named (RFC 5228, section 2.7.4)
-abbrev pub address_part_of : List Label → AddressPart
-address_part_of labels = if has_tag tag.LocalPart labels then part.Local else if has_tag tag.Domain labels then part.Domain else part.All
+abbrev pub address_part_by : Option Tag → AddressPart
+address_part_by (Some tag.LocalPart) = part.Local
+address_part_by (Some tag.Domain) = part.Domain
+address_part_by other = part.All
+
+unfoldable pub address_part_of : Tags → AddressPart
+address_part_of tags = address_part_by (tags kind.AddressPart)
+
+-- whether a tag of that kind is given
+unfoldable pub has_tag : TagKind → Tags → Bool
+has_tag k tags = is_some (tags k)

@@ -1,10 +1,9 @@
 -- What the commands and tests of a checked tree are (RFC 5228, sections 3, 4 and 5), with defaults filled in.
 use Rattle.std.specs.Prelude.{ℕ, Bool, false, List, Option, None}
-use Rattle.match_text.specs.declared.comparators.Collation.{Collation}
 use Rattle.message_text.specs.declared.addressing.AddressPart.{AddressPart}
 use Rattle.sieve_base.specs.declared.place.Place.{Place}
 use Rattle.sieve_reading.specs.declared.reading.FlagChange.{FlagChange}
-use Rattle.sieve_reading.specs.declared.reading.MatchType.{MatchType}
+use Rattle.sieve_reading.specs.declared.reading.Comparison.{Comparison}
 use Rattle.sieve_variables.specs.Part.{Part}
 use Rattle.sieve_variables.specs.Variable.{Variable}
 use Rattle.sieve_variables.specs.declared.modifier.Modifiers.{Modifiers}
@@ -21,7 +20,7 @@ pub data ValueSource : Type 0 where
 
 -- a test without tests in it (RFC 5228, section 5): it compares values with keys (section 2.7), or looks at the message
 pub data Ask : Type 0 where
-  compares : (source : ValueSource) (match_type : MatchType) (collation : Collation) (keys : List (List Part)) → Ask
+  compares : (source : ValueSource) (comparison : Comparison) (keys : List (List Part)) → Ask
   exists_ask : (names : List (List Part)) → Ask
   over_ask : (limit : ℕ) → Ask
   under_ask : (limit : ℕ) → Ask

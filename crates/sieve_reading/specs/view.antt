@@ -2,4 +2,5 @@
 pub mod Expected
 pub mod Labels
 pub mod Reading
+pub mod Tags
 pub mod Tree

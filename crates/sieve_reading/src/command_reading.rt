@@ -1,195 +1,184 @@
 //! How a command is read (RFC 5228, sections 3 and 4; RFC 5229, section 4; RFC 5232, section 3; RFC 6609, section 3).
-ghost use Rattle.std.specs.Prelude.{◌≡◌, true, false, length, Some, None, map};
+ghost use Rattle.std.specs.Prelude.{◌≡◌, false, map};
 ghost use Rattle.std.specs.Option.{option_map};
-ghost use Rattle.sieve_reading.specs.Reading.{reads_act};
 ghost use Rattle.sieve_reading.specs.CommandReading as spec;
-ghost use Rattle.sieve_reading.specs.Given.{in_role, given_texts, given_variable, has_tag, text_in, texts_in, variable_in};
+ghost use Rattle.sieve_reading.specs.Given.{in_role};
 ghost use Rattle.sieve_reading.specs.view.Labels.{labels_in};
-ghost use Rattle.sieve_reading.specs.view.Reading.{command_reading_as, settings_as};
+ghost use Rattle.sieve_reading.specs.view.Reading.{command_reading_as, leaf_as, settings_as};
+ghost use Rattle.sieve_reading.specs.view.Tags.{tags_as};
 ghost use Rattle.sieve_reading.specs.view.Tree.{argument_of};
 ghost use Rattle.sieve_table.specs.Role.{same_role};
-ghost use Rattle.sieve_table.specs.Table.{command_named};
 ghost use Rattle.sieve_table.specs.declared.row.Role.TheVariants as role;
 
 use crate::given::{given_texts, given_variable, name_in, text_in, texts_in, variable_in};
-use crate::labelled::{has_tag, into_argument, into_arguments};
+use crate::labelled::{into_argument, into_arguments};
 use crate::reading::{CommandReading, FlagChange, Leaf, Settings};
+use crate::tags::Tags;
 use sieve_base::Place;
-use sieve_syntax::{Argument, CommandName};
-use sieve_table::{CommandKind, Role, Row, Tag};
+use sieve_syntax::Argument;
+use sieve_table::{CommandKind, Role, Row, Tag, TagKind};
 use sieve_variables::{LetterCase, Modifiers};
+use std::alloc::Global;
 
 /// The first argument in a role, and what the command says beside it.
 fn with_settings(
+    alloc: Global,
     row: &Row,
     wanted: Role,
     args: Vec<Argument>,
-) -> (Option<Argument>, Option<Settings>)
+) -> (Option<Argument>, Settings)
     requires { same_role role.Flags wanted ≡ false }
     ensures argument { option_map argument_of result.0 ≡ in_role wanted (labels_in row.now args.items) (map argument_of args.items) }
-    ensures settings { option_map settings_as result.1 ≡ spec.settings_by (labels_in row.now args.items) (map argument_of args.items) }
+    ensures settings { settings_as result.1 ≡ spec.settings_by (labels_in row.now args.items) (map argument_of args.items) }
 {
-    let copy = has_tag(row, Tag::Copy, &args);
+    let copy = Tags::among(row, &args).has(TagKind::Copy);
     let (argument, flags) = into_arguments(row, wanted, Role::Flags, args);
-    match given_texts(flags) {
-        Some(flags) => (argument, Some(Settings { flags, copy })),
-        None => (argument, None),
-    }
+    let flags = given_texts(alloc, flags);
+    (argument, Settings { flags, copy })
 }
 
 /// What a `keep` does, none of whose arguments names a mailbox.
-fn keep_leaf(row: &Row, args: Vec<Argument>) -> Option<CommandReading>
-    ensures { option_map command_reading_as result ≡ option_map reads_act (spec.keep_by (labels_in row.now args.items) (map argument_of args.items)) }
+fn keep_leaf(alloc: Global, row: &Row, args: Vec<Argument>) -> Leaf
+    ensures { leaf_as result ≡ spec.keep_by (labels_in row.now args.items) (map argument_of args.items) }
 {
-    // Most say nothing.
-    if args.is_empty() {
-        return Some(CommandReading::Act(Leaf::Keep {
-            settings: Settings {
-                flags: None,
-                copy: false,
-            },
-        }));
-    }
-    let (_, settings) = with_settings(row, Role::Mailbox, args);
-    let settings = settings?;
-    Some(CommandReading::Act(Leaf::Keep { settings }))
+    let (_, settings) = with_settings(alloc, row, Role::Mailbox, args);
+    Leaf::Keep { settings }
 }
 
 /// What a `fileinto` does.
-fn fileinto_leaf(row: &Row, args: Vec<Argument>) -> Option<CommandReading>
-    ensures { option_map command_reading_as result ≡ option_map reads_act (spec.fileinto_by (labels_in row.now args.items) (map argument_of args.items)) }
+fn fileinto_leaf(alloc: Global, row: &Row, args: Vec<Argument>) -> Leaf
+    ensures { leaf_as result ≡ spec.fileinto_by (labels_in row.now args.items) (map argument_of args.items) }
 {
-    let (mailbox, settings) = with_settings(row, Role::Mailbox, args);
-    let mailbox = text_in(mailbox)?;
-    let settings = settings?;
-    Some(CommandReading::Act(Leaf::Fileinto { mailbox, settings }))
+    let (mailbox, settings) = with_settings(alloc, row, Role::Mailbox, args);
+    let mailbox = text_in(mailbox);
+    Leaf::Fileinto { mailbox, settings }
 }
 
 /// What a `redirect` does.
-fn redirect_leaf(row: &Row, args: Vec<Argument>) -> Option<CommandReading>
-    ensures { option_map command_reading_as result ≡ option_map reads_act (spec.redirect_by (labels_in row.now args.items) (map argument_of args.items)) }
+fn redirect_leaf(alloc: Global, row: &Row, args: Vec<Argument>) -> Leaf
+    ensures { leaf_as result ≡ spec.redirect_by (labels_in row.now args.items) (map argument_of args.items) }
 {
-    let (address, settings) = with_settings(row, Role::Address, args);
-    let address = text_in(address)?;
-    let settings = settings?;
-    Some(CommandReading::Act(Leaf::Redirect { address, settings }))
+    let (address, settings) = with_settings(alloc, row, Role::Address, args);
+    let address = text_in(address);
+    Leaf::Redirect { address, settings }
 }
 
-/// The case that one of two tags asks for.
-fn case_of(lower: bool, upper: bool) -> Option<LetterCase>
-    ensures { result ≡ spec.case_of lower upper }
+/// The case that a tag asks for.
+fn case_by(tag: Option<Tag>) -> Option<LetterCase>
+    ensures { result ≡ spec.case_by tag }
 {
-    match (lower, upper) {
-        (true, _) => Some(LetterCase::Lower),
-        (false, true) => Some(LetterCase::Upper),
-        (false, false) => None,
+    match tag {
+        Some(Tag::Lower) => Some(LetterCase::Lower),
+        Some(Tag::Upper) => Some(LetterCase::Upper),
+        Some(Tag::LowerFirst) => Some(LetterCase::Lower),
+        Some(Tag::UpperFirst) => Some(LetterCase::Upper),
+        _ => None,
     }
 }
 
 /// The modifiers of a `set`.
-fn modifiers_of(row: &Row, args: &[Argument]) -> Modifiers
-    ensures { result ≡ spec.modifiers_of (labels_in row.now args.now) }
+#[tactic(auto, unfolding(crate::specs::CommandReading::modifiers_of))]
+fn modifiers_of(tags: Tags) -> Modifiers
+    ensures { result ≡ spec.modifiers_of (tags_as tags) }
 {
-    let lower = has_tag(row, Tag::Lower, args);
-    let upper = has_tag(row, Tag::Upper, args);
-    let lower_first = has_tag(row, Tag::LowerFirst, args);
-    let upper_first = has_tag(row, Tag::UpperFirst, args);
     Modifiers {
-        letter_case: case_of(lower, upper),
-        first_letter: case_of(lower_first, upper_first),
-        quote_wildcard: has_tag(row, Tag::QuoteWildcard, args),
-        length: has_tag(row, Tag::Length, args),
+        letter_case: case_by(tags.of(TagKind::Case)),
+        first_letter: case_by(tags.of(TagKind::FirstLetter)),
+        quote_wildcard: tags.has(TagKind::QuoteWildcard),
+        length: tags.has(TagKind::Length),
     }
 }
 
 /// What a `set` does.
-fn set_by(row: &Row, args: Vec<Argument>) -> Option<CommandReading>
-    ensures { option_map command_reading_as result ≡ option_map reads_act (spec.set_by (labels_in row.now args.items) (map argument_of args.items)) }
+fn set_leaf(row: &Row, args: Vec<Argument>) -> Leaf
+    ensures { leaf_as result ≡ spec.set_by (labels_in row.now args.items) (map argument_of args.items) }
 {
-    let modifiers = modifiers_of(row, &args);
+    let modifiers = modifiers_of(Tags::among(row, &args));
     let (name, value) = into_arguments(row, Role::NameToSet, Role::Text, args);
-    let variable = variable_in(name)?;
-    let value = text_in(value)?;
-    Some(CommandReading::Act(Leaf::Set {
+    let variable = variable_in(name);
+    let value = text_in(value);
+    Leaf::Set {
         variable,
         modifiers,
         value,
-    }))
+    }
 }
 
 /// What a command does that changes flags.
-fn flags_by(change: FlagChange, row: &Row, args: Vec<Argument>) -> Option<CommandReading>
-    ensures { option_map command_reading_as result ≡ option_map reads_act (spec.flags_by change (labels_in row.now args.items) (map argument_of args.items)) }
+fn flags_leaf(alloc: Global, change: FlagChange, row: &Row, args: Vec<Argument>) -> Leaf
+    ensures { leaf_as result ≡ spec.flags_by change (labels_in row.now args.items) (map argument_of args.items) }
 {
     let (name, flags) = into_arguments(row, Role::NameToSet, Role::Flags, args);
-    let variable = given_variable(name)?;
-    let flags = texts_in(flags)?;
-    Some(CommandReading::Act(Leaf::Flags {
+    let variable = given_variable(name);
+    let flags = texts_in(alloc, flags);
+    Leaf::Flags {
         change,
         variable,
         flags,
-    }))
+    }
 }
 
-/// The place of a script that is included, which is the personal one where none is named.
-fn place_of(row: &Row, args: &[Argument]) -> Place
-    ensures { result ≡ spec.place_of (labels_in row.now args.now) }
+/// The place that a tag names, which is the personal one where none does.
+fn place_by(tag: Option<Tag>) -> Place
+    ensures { result ≡ spec.place_by tag }
 {
-    if has_tag(row, Tag::Global, args) {
-        Place::Global
-    } else {
-        Place::Personal
+    match tag {
+        Some(Tag::Global) => Place::Global,
+        _ => Place::Personal,
     }
+}
+
+/// The place of a script that is included.
+#[tactic(auto, unfolding(crate::specs::CommandReading::place_of))]
+fn place_of(tags: Tags) -> Place
+    ensures { result ≡ spec.place_of (tags_as tags) }
+{
+    place_by(tags.of(TagKind::Location))
 }
 
 /// What an `include` does.
-fn include_by(row: &Row, args: Vec<Argument>) -> Option<CommandReading>
-    ensures { option_map command_reading_as result ≡ option_map reads_act (spec.include_by (labels_in row.now args.items) (map argument_of args.items)) }
+fn include_leaf(row: &Row, args: Vec<Argument>) -> Leaf
+    ensures { leaf_as result ≡ spec.include_by (labels_in row.now args.items) (map argument_of args.items) }
 {
-    let place = place_of(row, &args);
-    let once = has_tag(row, Tag::Once, &args);
-    let optional = has_tag(row, Tag::Optional, &args);
-    let name = name_in(into_argument(row, Role::ScriptName, args))?;
-    Some(CommandReading::Act(Leaf::Include {
-        place,
-        once,
-        optional,
+    let tags = Tags::among(row, &args);
+    let name = name_in(into_argument(row, Role::ScriptName, args));
+    Leaf::Include {
+        place: place_of(tags),
+        once: tags.has(TagKind::Once),
+        optional: tags.has(TagKind::Optional),
         name,
-    }))
-}
-
-/// What a command of a kind is.
-fn command_reading_by(kind: CommandKind, args: Vec<Argument>) -> Option<CommandReading>
-    ensures { option_map command_reading_as result ≡ spec.command_reading_by (Some kind) (map argument_of args.items) }
-{
-    let row = &kind.row();
-    match kind {
-        CommandKind::Require => Some(CommandReading::Nothing),
-        CommandKind::If => Some(CommandReading::If),
-        CommandKind::Elsif => Some(CommandReading::Elsif),
-        CommandKind::Else => Some(CommandReading::Else),
-        CommandKind::Keep => keep_leaf(row, args),
-        CommandKind::Fileinto => fileinto_leaf(row, args),
-        CommandKind::Redirect => redirect_leaf(row, args),
-        CommandKind::Discard => Some(CommandReading::Act(Leaf::Discard)),
-        CommandKind::Stop => Some(CommandReading::Stop),
-        CommandKind::Set => set_by(row, args),
-        CommandKind::SetFlag => flags_by(FlagChange::Set, row, args),
-        CommandKind::AddFlag => flags_by(FlagChange::Add, row, args),
-        CommandKind::RemoveFlag => flags_by(FlagChange::Remove, row, args),
-        CommandKind::Include => include_by(row, args),
-        CommandKind::Return => Some(CommandReading::Return),
-        CommandKind::Global => Some(CommandReading::Nothing),
     }
 }
 
-/// What a command of that name and with these arguments is, apart from its test and its block. Each command of a checked script is read
-/// as something. What is read has the strings of the arguments. Takes no memory.
-pub fn read_command(name: &CommandName, args: Vec<Argument>) -> Option<CommandReading>
-    ensures { option_map command_reading_as result ≡ spec.command_reading_by (command_named name.now) (map argument_of args.items) }
+/// What a command of a kind is, by its row.
+fn reading_by(alloc: Global, kind: CommandKind, row: &Row, args: Vec<Argument>) -> CommandReading
+    ensures { command_reading_as result ≡ spec.command_reading_by kind (labels_in row.now args.items) (map argument_of args.items) }
 {
-    match name.kind() {
-        Some(kind) => command_reading_by(kind, args),
-        None => None,
-    }
+    let leaf = match kind {
+        CommandKind::Require => return CommandReading::Nothing,
+        CommandKind::If => return CommandReading::If,
+        CommandKind::Elsif => return CommandReading::Elsif,
+        CommandKind::Else => return CommandReading::Else,
+        CommandKind::Keep => keep_leaf(alloc, row, args),
+        CommandKind::Fileinto => fileinto_leaf(alloc, row, args),
+        CommandKind::Redirect => redirect_leaf(alloc, row, args),
+        CommandKind::Discard => Leaf::Discard,
+        CommandKind::Stop => return CommandReading::Stop,
+        CommandKind::Set => set_leaf(row, args),
+        CommandKind::SetFlag => flags_leaf(alloc, FlagChange::Set, row, args),
+        CommandKind::AddFlag => flags_leaf(alloc, FlagChange::Add, row, args),
+        CommandKind::RemoveFlag => flags_leaf(alloc, FlagChange::Remove, row, args),
+        CommandKind::Include => include_leaf(row, args),
+        CommandKind::Return => return CommandReading::Return,
+        CommandKind::Global => return CommandReading::Nothing,
+    };
+    CommandReading::Act(leaf)
+}
+
+/// What a command of that kind and with these arguments is, apart from its test and its block. What is read has the strings of the
+/// arguments. Takes no memory.
+pub fn read_command(alloc: Global, kind: CommandKind, args: Vec<Argument>) -> CommandReading
+    ensures { command_reading_as result ≡ spec.kind_reading kind (map argument_of args.items) }
+{
+    reading_by(alloc, kind, &kind.row(), args)
 }

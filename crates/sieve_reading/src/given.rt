@@ -1,94 +1,89 @@
-//! What the arguments of a command or a test give, by their labels. None of it takes memory.
-ghost use Rattle.std.specs.Prelude.{◌≡◌, Bool, Some, None, map};
+//! What the arguments of a command or a test give. None of it takes memory.
+ghost use Rattle.std.specs.Prelude.{◌≡◌, map};
 ghost use Rattle.std.specs.Option.{option_map};
 ghost use Rattle.sieve_reading.specs.Given as spec;
-ghost use Rattle.sieve_reading.specs.view.Labels.{labels_in};
-ghost use Rattle.match_text.specs.Comparator.{collation_named};
 ghost use Rattle.sieve_reading.specs.view.Reading.{texts_as};
-ghost use Rattle.sieve_reading.specs.Tree.{strings};
+ghost use Rattle.sieve_reading.specs.view.Tags.{tags_as};
 ghost use Rattle.sieve_reading.specs.view.Tree.{argument_of, text_of};
+ghost use Rattle.sieve_syntax.specs.view.Tree.{octets_of};
 
-use crate::labelled::has_tag;
 use crate::reading::MatchType;
+use crate::tags::Tags;
 use match_text::{Collation, collation_named};
 use message_text::AddressPart;
-use sieve_syntax::{Argument, Text};
-use sieve_table::{Row, Tag};
+use sieve_syntax::{Argument, Text, octets_in};
+use sieve_table::{Tag, TagKind};
 use sieve_variables::{Literal, Part, PartRef, Parts, Variable};
+use std::alloc::Global;
 
 /// The strings of an argument.
-pub(crate) fn texts_in(argument: Option<Argument>) -> Option<Vec<Text>>
-    ensures { option_map (λ texts. texts_as texts.items) result ≡ spec.texts_in (option_map argument_of argument) }
+pub(crate) fn texts_in(alloc: Global, argument: Option<Argument>) -> Vec<Text>
+    ensures { texts_as result.items ≡ spec.texts_in (option_map argument_of argument) }
 {
     match argument {
-        Some(Argument::Strings { items, .. }) => Some(items),
-        Some(Argument::Number { .. }) => None,
-        Some(Argument::Tag { .. }) => None,
-        None => None,
+        Some(Argument::Strings { items, .. }) => items,
+        Some(Argument::Number { .. }) => Vec::new(alloc),
+        Some(Argument::Tag { .. }) => Vec::new(alloc),
+        None => Vec::new(alloc),
     }
 }
 
 /// The strings of an argument that may be left out.
-pub(crate) fn given_texts(argument: Option<Argument>) -> Option<Option<Vec<Text>>>
-    ensures { option_map (option_map (λ texts. texts_as texts.items)) result ≡ spec.given_texts (option_map argument_of argument) }
+pub(crate) fn given_texts(alloc: Global, argument: Option<Argument>) -> Option<Vec<Text>>
+    ensures { option_map (λ texts. texts_as texts.items) result ≡ spec.given_texts (option_map argument_of argument) }
 {
     match argument {
-        Some(argument) => Some(Some(texts_in(Some(argument))?)),
-        None => Some(None),
+        Some(argument) => Some(texts_in(alloc, Some(argument))),
+        None => None,
     }
 }
 
-/// The one string that strings are.
-fn one_text(texts: Vec<Text>) -> Option<Parts>
-    ensures { (bracketed : Bool) → result ≡ spec.text_in (Some (strings (map text_of texts.items) bracketed)) }
+/// The first of some strings.
+fn first_text(texts: Vec<Text>) -> Parts
+    ensures { result ≡ spec.first_text (texts_as texts.items) }
 {
-    let mut texts = texts.into_iter();
-    let text = texts.next()?;
-    match texts.next() {
-        None => Some(text.string),
-        Some(_) => None,
+    match texts.into_iter().next() {
+        Some(text) => text.string,
+        None => Parts::none(),
     }
 }
 
-/// The one string that an argument is.
-pub(crate) fn text_in(argument: Option<Argument>) -> Option<Parts>
+/// The string of an argument.
+pub(crate) fn text_in(argument: Option<Argument>) -> Parts
     ensures { result ≡ spec.text_in (option_map argument_of argument) }
 {
     match argument {
-        Some(Argument::Strings { items, .. }) => one_text(items),
-        Some(Argument::Number { .. }) => None,
-        Some(Argument::Tag { .. }) => None,
-        None => None,
+        Some(Argument::Strings { items, .. }) => first_text(items),
+        Some(Argument::Number { .. }) => Parts::none(),
+        Some(Argument::Tag { .. }) => Parts::none(),
+        None => Parts::none(),
     }
 }
 
 /// The variable that parts name.
-fn variable_in_parts(parts: Parts) -> Option<Variable>
+fn variable_in_parts(parts: Parts) -> Variable
     ensures { result ≡ spec.variable_in_parts parts }
 {
     match parts.into_one() {
         Some(part) => part.into_variable(),
-        None => None,
+        None => Part::nothing().into_variable(),
     }
 }
 
 /// The variable that an argument names (RFC 5229, section 4).
-pub(crate) fn variable_in(argument: Option<Argument>) -> Option<Variable>
+pub(crate) fn variable_in(argument: Option<Argument>) -> Variable
     ensures { result ≡ spec.variable_in (option_map argument_of argument) }
 {
-    match text_in(argument) {
-        Some(parts) => variable_in_parts(parts),
-        None => None,
-    }
+    variable_in_parts(text_in(argument))
 }
 
 /// The variable that an argument names that may be left out.
-pub(crate) fn given_variable(argument: Option<Argument>) -> Option<Option<Variable>>
+pub(crate) fn given_variable(argument: Option<Argument>) -> Option<Variable>
     ensures { result ≡ spec.given_variable (option_map argument_of argument) }
 {
     match argument {
-        Some(argument) => Some(Some(variable_in(Some(argument))?)),
-        None => Some(None),
+        Some(argument) => Some(variable_in(Some(argument))),
+        None => None,
     }
 }
 
@@ -106,85 +101,95 @@ pub fn literal_in_parts(parts: &[Part]) -> Option<&[u8]>
     }
 }
 
-/// The octets of an argument that is one string, which stands for itself.
-pub(crate) fn literal_in(argument: Option<&Argument>) -> Option<&[u8]>
-    ensures { option_map (λ octets. octets.now) result ≡ spec.literal_in (option_map (λ a. argument_of a.now) argument.entry) }
+/// The octets of an argument whose string stands for itself.
+pub(crate) fn literal_in(argument: Option<&Argument>) -> &[u8]
+    ensures { result.now ≡ spec.literal_in (option_map (λ a. argument_of a.now) argument.entry) }
 {
     match argument {
-        Some(Argument::Strings { items, .. }) => match items.as_slice() {
-            [text] => literal_in_parts(text.string.as_slice()),
-            _ => None,
+        Some(Argument::Strings { items, .. }) => match items.first() {
+            Some(text) => octets_in(text.string.as_slice()),
+            None => b"",
         },
-        Some(Argument::Number { .. }) => None,
-        Some(Argument::Tag { .. }) => None,
-        None => None,
+        Some(Argument::Number { .. }) => b"",
+        Some(Argument::Tag { .. }) => b"",
+        None => b"",
     }
 }
 
-/// The one literal that parts are.
-fn into_literal(parts: Parts) -> Option<Literal>
-    ensures { result ≡ spec.literal_in_parts parts }
+/// The octets of parts that are one literal.
+fn into_literal(parts: Parts) -> Literal
+    ensures { result ≡ octets_of parts }
 {
     match parts.into_one() {
         Some(part) => part.into_literal(),
-        None => None,
+        None => Part::nothing().into_literal(),
     }
 }
 
-/// The literal that an argument is that is one string, which stands for itself.
-pub(crate) fn name_in(argument: Option<Argument>) -> Option<Literal>
+/// The octets of an argument whose string stands for itself, to be kept.
+pub(crate) fn name_in(argument: Option<Argument>) -> Literal
     ensures { result ≡ spec.literal_in (option_map argument_of argument) }
 {
-    match text_in(argument) {
-        Some(parts) => into_literal(parts),
-        None => None,
-    }
+    into_literal(text_in(argument))
 }
 
 /// The number that an argument is.
-pub(crate) fn number_in(argument: Option<&Argument>) -> Option<u64>
+pub(crate) fn number_in(argument: Option<&Argument>) -> u64
     ensures { result ≡ spec.number_in (option_map (λ a. argument_of a.now) argument.entry) }
 {
     match argument {
-        Some(Argument::Number { value, .. }) => *value,
-        Some(Argument::Strings { .. }) => None,
-        Some(Argument::Tag { .. }) => None,
-        None => None,
-    }
-}
-
-/// The match type of a test, which is `:is` where no other is given.
-pub(crate) fn match_type_of(row: &Row, args: &[Argument]) -> MatchType
-    ensures { result ≡ spec.match_type_of (labels_in row.now args.now) }
-{
-    if has_tag(row, Tag::Matches, args) {
-        MatchType::Matches
-    } else if has_tag(row, Tag::Contains, args) {
-        MatchType::Contains
-    } else {
-        MatchType::Is
+        Some(Argument::Number { value: Some(value), .. }) => *value,
+        Some(Argument::Number { value: None, .. }) => 0,
+        Some(Argument::Strings { .. }) => 0,
+        Some(Argument::Tag { .. }) => 0,
+        None => 0,
     }
 }
 
 /// The comparator of a test, which is `i;ascii-casemap` where none is named.
-pub(crate) fn collation_by(argument: Option<&Argument>) -> Option<Collation>
+pub(crate) fn collation_by(argument: Option<&Argument>) -> Collation
     ensures { result ≡ spec.collation_by (option_map (λ a. argument_of a.now) argument.entry) }
 {
-    match argument {
-        Some(argument) => collation_named(literal_in(Some(argument))?),
-        None => Some(Collation::Casemap),
+    match collation_named(literal_in(argument)) {
+        Some(collation) => collation,
+        None => Collation::Casemap,
     }
 }
 
-/// The part of an address that a test names, which is all of it where none is named.
-pub(crate) fn address_part_of(row: &Row, args: &[Argument]) -> AddressPart
-    ensures { result ≡ spec.address_part_of (labels_in row.now args.now) }
+/// The match type that a tag names, which is `:is` where none does.
+fn match_type_by(tag: Option<Tag>) -> MatchType
+    ensures { result ≡ spec.match_type_by tag }
 {
-    if has_tag(row, Tag::LocalPart, args) {
-        AddressPart::Local
-    } else if has_tag(row, Tag::Domain, args) {
-        AddressPart::Domain
-    } else {
-        AddressPart::All
+    match tag {
+        Some(Tag::Contains) => MatchType::Contains,
+        Some(Tag::Matches) => MatchType::Matches,
+        _ => MatchType::Is,
     }
+}
+
+/// The match type of a test.
+#[tactic(auto, unfolding(crate::specs::Given::match_type_of))]
+pub(crate) fn match_type_of(tags: Tags) -> MatchType
+    ensures { result ≡ spec.match_type_of (tags_as tags) }
+{
+    match_type_by(tags.of(TagKind::MatchType))
+}
+
+/// The part of an address that a tag names, which is all of it where none does.
+fn address_part_by(tag: Option<Tag>) -> AddressPart
+    ensures { result ≡ spec.address_part_by tag }
+{
+    match tag {
+        Some(Tag::LocalPart) => AddressPart::Local,
+        Some(Tag::Domain) => AddressPart::Domain,
+        _ => AddressPart::All,
+    }
+}
+
+/// The part of an address that a test names.
+#[tactic(auto, unfolding(crate::specs::Given::address_part_of))]
+pub(crate) fn address_part_of(tags: Tags) -> AddressPart
+    ensures { result ≡ spec.address_part_of (tags_as tags) }
+{
+    address_part_by(tags.of(TagKind::AddressPart))
 }

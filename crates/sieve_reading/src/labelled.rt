@@ -1,18 +1,15 @@
 //! The arguments of a checked tree by their labels. None of it takes memory.
 ghost use Rattle.std.specs.Prelude.{◌≡◌, Some, false, map};
 ghost use Rattle.std.specs.Option.{option_map};
-ghost use Rattle.sieve_reading.specs.Given.{has_tag, in_role};
-ghost use Rattle.sieve_reading.specs.Shape.{shape_of};
+ghost use Rattle.sieve_reading.specs.Given.{first_or, in_role};
 ghost use Rattle.sieve_reading.specs.view.Labels.{labels_in};
-ghost use Rattle.sieve_reading.specs.view.Expected.{shows_tag};
-ghost use Rattle.sieve_reading.specs.view.Reading.{first_or};
 ghost use Rattle.sieve_table.specs.Role.{same_role};
 ghost use Rattle.sieve_reading.specs.view.Tree.{argument_of};
 
 use crate::role::role_of;
 use crate::shape::{AsParts, row_expected, shape_of};
 use sieve_syntax::Argument;
-use sieve_table::{Role, Row, Tag, has_role, same_tag, tag_named};
+use sieve_table::{Role, Row, has_role};
 
 /// The first argument in a role.
 pub(crate) fn argument_in<'a>(row: &Row, wanted: Role, args: &'a [Argument]) -> Option<&'a Argument>
@@ -79,29 +76,4 @@ pub(crate) fn into_arguments(
         }
     }
     (in_wanted, in_other)
-}
-
-/// Whether an argument is this tag, where these are taken.
-fn shows_tag(taken: &[Tag], wanted: Tag, argument: &Argument) -> bool
-    ensures { result ≡ shows_tag wanted (shape_of taken.now (argument_of argument.now)) }
-{
-    match argument {
-        Argument::Tag { name, .. } => match tag_named(taken, name) {
-            Some(tag) => same_tag(wanted, tag),
-            None => false,
-        },
-        Argument::Strings { .. } | Argument::Number { .. } => false,
-    }
-}
-
-/// Whether this tag is among the arguments. It is one whatever stands before it, so no labels are made.
-pub(crate) fn has_tag(row: &Row, wanted: Tag, args: &[Argument]) -> bool
-    ensures { result ≡ has_tag wanted (labels_in row.now args.now) }
-{
-    for argument in args {
-        if shows_tag(row.tags, wanted, argument) {
-            return true;
-        }
-    }
-    false
 }

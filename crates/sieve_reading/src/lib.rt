@@ -10,13 +10,15 @@ pub mod laws;
 mod reading;
 mod role;
 mod shape;
+mod tags;
 mod test_reading;
 
 pub use command_reading::read_command;
 pub use given::literal_in_parts;
 pub use label::{Expected, Label, Shape};
 pub use reading::{
-    Ask, CommandReading, FlagChange, Leaf, MatchType, Settings, TestReading, ValueSource,
+    Ask, CommandReading, Comparison, FlagChange, Leaf, MatchType, Settings, TestReading,
+    ValueSource,
 };
 pub use role::role_of;
 pub use shape::{AsOctets, AsParts, RowLabels, StringView, row_expected, row_labels, shape_of};

@@ -18,6 +18,15 @@ pub enum MatchType {
     Matches,
 }
 
+/// How a test compares a value with a key (RFC 5228, section 2.7).
+#[derive(Clone, Copy, PartialEq, Eq)]
+pub struct Comparison {
+    /// What makes a value match a key (RFC 5228, section 2.7.1).
+    pub match_type: MatchType,
+    /// Which octets are equal (RFC 5228, section 2.7.3).
+    pub collation: Collation,
+}
+
 /// Where a test takes values from.
 #[derive(Drop)]
 pub enum ValueSource {
@@ -60,9 +69,7 @@ pub enum Ask {
         /// Where the values are from.
         source: ValueSource,
         /// How a value is compared with a key.
-        match_type: MatchType,
-        /// Which octets are equal.
-        collation: Collation,
+        comparison: Comparison,
         /// The keys.
         keys: Vec<Text>,
     },

@@ -1,205 +1,171 @@
 //! How a test is read (RFC 5228, section 5; RFC 5229, section 5; RFC 5232, section 4).
-ghost use Rattle.std.specs.Prelude.{◌≡◌, true, false, Some, None, map};
-ghost use Rattle.std.specs.Option.{option_map};
-ghost use Rattle.sieve_reading.specs.Reading.{address_values, envelope_values, flag_values, header_values, reads_ask, string_values};
+ghost use Rattle.std.specs.Prelude.{◌≡◌, map};
+ghost use Rattle.sieve_reading.specs.Given.{tags_of};
 ghost use Rattle.sieve_reading.specs.TestReading as spec;
-ghost use Rattle.sieve_reading.specs.Given.{address_part_of, collation_by, given_texts, has_tag, in_role, match_type_of, number_in, texts_in};
-ghost use Rattle.sieve_table.specs.Table.{test_named};
-ghost use Rattle.sieve_table.specs.declared.row.Role.TheVariants as role;
 ghost use Rattle.sieve_reading.specs.view.Labels.{labels_in};
 ghost use Rattle.sieve_reading.specs.view.Reading.{ask_as, source_as, test_reading_as};
+ghost use Rattle.sieve_reading.specs.view.Tags.{tags_as};
 ghost use Rattle.sieve_reading.specs.view.Tree.{argument_of};
 
 use crate::given::{
     address_part_of, collation_by, given_texts, match_type_of, number_in, texts_in,
 };
-use crate::labelled::{argument_in, has_tag, into_argument, into_arguments};
-use crate::reading::{Ask, MatchType, TestReading, ValueSource};
-use match_text::Collation;
-use message_text::AddressPart;
-use sieve_syntax::{Argument, TestName};
-use sieve_table::{Role, Row, Tag, TestKind};
+use crate::labelled::{argument_in, into_argument, into_arguments};
+use crate::reading::{Ask, Comparison, TestReading, ValueSource};
+use crate::tags::Tags;
+use sieve_syntax::Argument;
+use sieve_table::{Role, Row, Tag, TagKind, TestKind};
+use std::alloc::Global;
 
-/// From where a `header` test takes its values, by the argument that names fields.
-fn header_source(names: Option<Argument>) -> Option<ValueSource>
-    ensures { option_map source_as result ≡ option_map header_values (texts_in (option_map argument_of names)) }
+/// How a test compares.
+fn comparison_of(tags: Tags, row: &Row, args: &[Argument]) -> Comparison
+    requires { tags_as tags ≡ tags_of (labels_in row.now args.now) }
+    ensures { result ≡ spec.comparison_by (labels_in row.now args.now) (map argument_of args.now) }
 {
-    let names = texts_in(names)?;
-    Some(ValueSource::Header { names })
-}
-
-/// From where an `address` test takes its values, by the argument that names fields.
-fn address_source(part: AddressPart, names: Option<Argument>) -> Option<ValueSource>
-    ensures { option_map source_as result ≡ option_map (address_values part) (texts_in (option_map argument_of names)) }
-{
-    let names = texts_in(names)?;
-    Some(ValueSource::Address { part, names })
-}
-
-/// From where an `envelope` test takes its values, by the argument that names its parts.
-fn envelope_source(part: AddressPart, names: Option<Argument>) -> Option<ValueSource>
-    ensures { option_map source_as result ≡ option_map (envelope_values part) (texts_in (option_map argument_of names)) }
-{
-    let names = texts_in(names)?;
-    Some(ValueSource::Envelope { part, names })
-}
-
-/// From where a `string` test takes its values, by the argument that has the strings.
-fn string_source(texts: Option<Argument>) -> Option<ValueSource>
-    ensures { option_map source_as result ≡ option_map string_values (texts_in (option_map argument_of texts)) }
-{
-    let texts = texts_in(texts)?;
-    Some(ValueSource::String { texts })
-}
-
-/// From where a `hasflag` test takes its values, by the argument that names variables, if it has one.
-fn flag_source(variables: Option<Argument>) -> Option<ValueSource>
-    ensures { option_map source_as result ≡ option_map flag_values (given_texts (option_map argument_of variables)) }
-{
-    let variables = given_texts(variables)?;
-    Some(ValueSource::Flags { variables })
-}
-
-/// How a test compares: its match type, and its comparator where it names one that there is.
-fn comparison_of(row: &Row, args: &[Argument]) -> (MatchType, Option<Collation>)
-    ensures match_type { result.0 ≡ match_type_of (labels_in row.now args.now) }
-    ensures collation { result.1 ≡ collation_by (in_role role.ComparatorName (labels_in row.now args.now) (map argument_of args.now)) }
-{
-    (
-        match_type_of(row, args),
-        collation_by(argument_in(row, Role::ComparatorName, args)),
-    )
-}
-
-/// What a test asks that compares values with keys.
-fn compares_from(
-    source: Option<ValueSource>,
-    comparison: (MatchType, Option<Collation>),
-    keys: Option<Argument>,
-) -> Option<Ask>
-    ensures { option_map ask_as result ≡ spec.compares_from (option_map source_as source) comparison.0 comparison.1 (texts_in (option_map argument_of keys)) }
-{
-    let (match_type, collation) = comparison;
-    let source = source?;
-    let collation = collation?;
-    let keys = texts_in(keys)?;
-    Some(Ask::Compares {
-        source,
-        match_type,
-        collation,
-        keys,
-    })
+    Comparison {
+        match_type: match_type_of(tags),
+        collation: collation_by(argument_in(row, Role::ComparatorName, args)),
+    }
 }
 
 /// What a `header` test asks.
-fn header_ask(row: &Row, args: Vec<Argument>) -> Option<Ask>
-    ensures { option_map ask_as result ≡ (let labels = labels_in row.now args.items in spec.compares_by (spec.header_source labels (map argument_of args.items)) labels (map argument_of args.items)) }
+fn header_ask(alloc: Global, row: &Row, args: Vec<Argument>) -> Ask
+    ensures { ask_as result ≡ (let labels = labels_in row.now args.items in spec.compares_by (spec.header_source labels (map argument_of args.items)) labels (map argument_of args.items)) }
 {
-    let comparison = comparison_of(row, &args);
+    let comparison = comparison_of(Tags::among(row, &args), row, &args);
     let (names, keys) = into_arguments(row, Role::FieldNames, Role::Keys, args);
-    compares_from(header_source(names), comparison, keys)
+    Ask::Compares {
+        source: ValueSource::Header {
+            names: texts_in(alloc, names),
+        },
+        comparison,
+        keys: texts_in(alloc, keys),
+    }
 }
 
 /// What an `address` test asks.
-fn address_ask(row: &Row, args: Vec<Argument>) -> Option<Ask>
-    ensures { option_map ask_as result ≡ (let labels = labels_in row.now args.items in spec.compares_by (spec.address_source labels (map argument_of args.items)) labels (map argument_of args.items)) }
+fn address_ask(alloc: Global, row: &Row, args: Vec<Argument>) -> Ask
+    ensures { ask_as result ≡ (let labels = labels_in row.now args.items in spec.compares_by (spec.address_source labels (map argument_of args.items)) labels (map argument_of args.items)) }
 {
-    let comparison = comparison_of(row, &args);
-    let part = address_part_of(row, &args);
+    let tags = Tags::among(row, &args);
+    let comparison = comparison_of(tags, row, &args);
     let (names, keys) = into_arguments(row, Role::AddressFields, Role::Keys, args);
-    compares_from(address_source(part, names), comparison, keys)
+    Ask::Compares {
+        source: ValueSource::Address {
+            part: address_part_of(tags),
+            names: texts_in(alloc, names),
+        },
+        comparison,
+        keys: texts_in(alloc, keys),
+    }
 }
 
 /// What an `envelope` test asks.
-fn envelope_ask(row: &Row, args: Vec<Argument>) -> Option<Ask>
-    ensures { option_map ask_as result ≡ (let labels = labels_in row.now args.items in spec.compares_by (spec.envelope_source labels (map argument_of args.items)) labels (map argument_of args.items)) }
+fn envelope_ask(alloc: Global, row: &Row, args: Vec<Argument>) -> Ask
+    ensures { ask_as result ≡ (let labels = labels_in row.now args.items in spec.compares_by (spec.envelope_source labels (map argument_of args.items)) labels (map argument_of args.items)) }
 {
-    let comparison = comparison_of(row, &args);
-    let part = address_part_of(row, &args);
+    let tags = Tags::among(row, &args);
+    let comparison = comparison_of(tags, row, &args);
     let (names, keys) = into_arguments(row, Role::EnvelopeParts, Role::Keys, args);
-    compares_from(envelope_source(part, names), comparison, keys)
+    Ask::Compares {
+        source: ValueSource::Envelope {
+            part: address_part_of(tags),
+            names: texts_in(alloc, names),
+        },
+        comparison,
+        keys: texts_in(alloc, keys),
+    }
 }
 
 /// What a `string` test asks.
-fn string_ask(row: &Row, args: Vec<Argument>) -> Option<Ask>
-    ensures { option_map ask_as result ≡ (let labels = labels_in row.now args.items in spec.compares_by (spec.string_source labels (map argument_of args.items)) labels (map argument_of args.items)) }
+fn string_ask(alloc: Global, row: &Row, args: Vec<Argument>) -> Ask
+    ensures { ask_as result ≡ (let labels = labels_in row.now args.items in spec.compares_by (spec.string_source labels (map argument_of args.items)) labels (map argument_of args.items)) }
 {
-    let comparison = comparison_of(row, &args);
+    let comparison = comparison_of(Tags::among(row, &args), row, &args);
     let (texts, keys) = into_arguments(row, Role::Text, Role::Keys, args);
-    compares_from(string_source(texts), comparison, keys)
+    Ask::Compares {
+        source: ValueSource::String {
+            texts: texts_in(alloc, texts),
+        },
+        comparison,
+        keys: texts_in(alloc, keys),
+    }
 }
 
 /// What a `hasflag` test asks.
-fn flag_ask(row: &Row, args: Vec<Argument>) -> Option<Ask>
-    ensures { option_map ask_as result ≡ (let labels = labels_in row.now args.items in spec.compares_by (spec.flag_source labels (map argument_of args.items)) labels (map argument_of args.items)) }
+fn flag_ask(alloc: Global, row: &Row, args: Vec<Argument>) -> Ask
+    ensures { ask_as result ≡ (let labels = labels_in row.now args.items in spec.compares_by (spec.flag_source labels (map argument_of args.items)) labels (map argument_of args.items)) }
 {
-    let comparison = comparison_of(row, &args);
+    let comparison = comparison_of(Tags::among(row, &args), row, &args);
     let (variables, keys) = into_arguments(row, Role::NamesToRead, Role::Keys, args);
-    compares_from(flag_source(variables), comparison, keys)
+    Ask::Compares {
+        source: ValueSource::Flags {
+            variables: given_texts(alloc, variables),
+        },
+        comparison,
+        keys: texts_in(alloc, keys),
+    }
 }
 
 /// What an `exists` test asks.
-fn exists_ask(row: &Row, args: Vec<Argument>) -> Option<Ask>
-    ensures { option_map ask_as result ≡ spec.exists_by (labels_in row.now args.items) (map argument_of args.items) }
+fn exists_ask(alloc: Global, row: &Row, args: Vec<Argument>) -> Ask
+    ensures { ask_as result ≡ spec.exists_by (labels_in row.now args.items) (map argument_of args.items) }
 {
-    let names = texts_in(into_argument(row, Role::FieldNames, args))?;
-    Some(Ask::Exists { names })
+    let names = texts_in(alloc, into_argument(row, Role::FieldNames, args));
+    Ask::Exists { names }
+}
+
+/// What a test asks of the message's size, by a tag.
+fn bound_by(tag: Option<Tag>, limit: u64) -> Ask
+    ensures { ask_as result ≡ spec.bound_by tag limit }
+{
+    match tag {
+        Some(Tag::Under) => Ask::Under { limit },
+        _ => Ask::Over { limit },
+    }
+}
+
+/// What a test asks of the message's size.
+#[tactic(auto, unfolding(crate::specs::TestReading::bound_ask))]
+fn bound_ask(tags: Tags, limit: u64) -> Ask
+    ensures { ask_as result ≡ spec.bound_ask (tags_as tags) limit }
+{
+    bound_by(tags.of(TagKind::Bound), limit)
 }
 
 /// What a `size` test asks.
-fn size_ask(row: &Row, args: Vec<Argument>) -> Option<Ask>
-    ensures { option_map ask_as result ≡ spec.size_by (labels_in row.now args.items) (map argument_of args.items) }
+fn size_ask(row: &Row, args: Vec<Argument>) -> Ask
+    ensures { ask_as result ≡ spec.size_by (labels_in row.now args.items) (map argument_of args.items) }
 {
     let limit = number_in(argument_in(row, Role::Limit, &args));
-    match (
-        has_tag(row, Tag::Over, &args),
-        has_tag(row, Tag::Under, &args),
-    ) {
-        (true, false) => Some(Ask::Over { limit: limit? }),
-        (false, true) => Some(Ask::Under { limit: limit? }),
-        (true, true) => None,
-        (false, false) => None,
-    }
+    bound_ask(Tags::among(row, &args), limit)
 }
 
-/// A test that asks, where its arguments are there.
-fn asking(ask: Option<Ask>) -> Option<TestReading>
-    ensures { option_map test_reading_as result ≡ option_map reads_ask (option_map ask_as ask) }
+/// What a test of a kind is, by its row.
+fn reading_by(alloc: Global, kind: TestKind, row: &Row, args: Vec<Argument>) -> TestReading
+    ensures { test_reading_as result ≡ spec.test_reading_by kind (labels_in row.now args.items) (map argument_of args.items) }
 {
-    match ask {
-        Some(ask) => Some(TestReading::Asks(ask)),
-        None => None,
-    }
+    let ask = match kind {
+        TestKind::Header => header_ask(alloc, row, args),
+        TestKind::Address => address_ask(alloc, row, args),
+        TestKind::Envelope => envelope_ask(alloc, row, args),
+        TestKind::Exists => exists_ask(alloc, row, args),
+        TestKind::Size => size_ask(row, args),
+        TestKind::AllOf => return TestReading::AllOf,
+        TestKind::AnyOf => return TestReading::AnyOf,
+        TestKind::Not => return TestReading::Not,
+        TestKind::True => return TestReading::Always,
+        TestKind::False => return TestReading::Never,
+        TestKind::String => string_ask(alloc, row, args),
+        TestKind::HasFlag => flag_ask(alloc, row, args),
+    };
+    TestReading::Asks(ask)
 }
 
-/// What a test of a kind is.
-fn test_reading_by(kind: TestKind, args: Vec<Argument>) -> Option<TestReading>
-    ensures { option_map test_reading_as result ≡ spec.test_reading_by (Some kind) (map argument_of args.items) }
+/// What a test of that kind and with these arguments is, apart from the tests in it. What is read has the strings of the arguments.
+/// Takes no memory.
+pub fn read_test(alloc: Global, kind: TestKind, args: Vec<Argument>) -> TestReading
+    ensures { test_reading_as result ≡ spec.kind_reading kind (map argument_of args.items) }
 {
-    let row = &kind.row();
-    match kind {
-        TestKind::Header => asking(header_ask(row, args)),
-        TestKind::Address => asking(address_ask(row, args)),
-        TestKind::Envelope => asking(envelope_ask(row, args)),
-        TestKind::Exists => asking(exists_ask(row, args)),
-        TestKind::Size => asking(size_ask(row, args)),
-        TestKind::AllOf => Some(TestReading::AllOf),
-        TestKind::AnyOf => Some(TestReading::AnyOf),
-        TestKind::Not => Some(TestReading::Not),
-        TestKind::True => Some(TestReading::Always),
-        TestKind::False => Some(TestReading::Never),
-        TestKind::String => asking(string_ask(row, args)),
-        TestKind::HasFlag => asking(flag_ask(row, args)),
-    }
-}
-
-/// What a test of that name and with these arguments is, apart from the tests in it, by the labels of its arguments. Each test of a checked
-/// script is read as something. What is read has the strings of the arguments. Takes no memory.
-pub fn read_test(name: &TestName, args: Vec<Argument>) -> Option<TestReading>
-    ensures { option_map test_reading_as result ≡ spec.test_reading_by (test_named name.now) (map argument_of args.items) }
-{
-    match name.kind() {
-        Some(kind) => test_reading_by(kind, args),
-        None => None,
-    }
+    reading_by(alloc, kind, &kind.row(), args)
 }

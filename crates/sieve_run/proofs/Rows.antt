@@ -10,6 +10,7 @@ use Rattle.message_text.specs.Fields.{fields_of, field_groups}
 use Rattle.sieve_reading.specs.Reading.{Ask, header_values, address_values, envelope_values, compares, exists_ask, over_ask, under_ask}
 use Rattle.sieve_reading.specs.Script.{Condition, always, never, asks, negated, both, either}
 use Rattle.sieve_variables.specs.Part.{Part, literal}
+use Rattle.sieve_reading.specs.declared.reading.Comparison.{Comparison}
 use Rattle.sieve_reading.specs.declared.reading.MatchType.{MatchType}
 use Rattle.sieve_reading.specs.declared.reading.MatchType.TheVariants.{Is, Contains, Matches}
 use Rattle.sieve_base.specs.declared.place.Place.TheVariants.{Personal}
@@ -52,9 +53,13 @@ headed_twice line other = line ++ (codes "\n" ++ (other ++ codes "\n\n"))
 abbrev pub text : List ℕ → List Part
 text octets = literal octets ∷ []
 
+-- how a test compares
+abbrev pub by : MatchType → Collation → Comparison
+by match_type collation = record { match_type = match_type; collation = collation }
+
 -- header with one name and one key
 abbrev header : MatchType → Collation → List ℕ → List ℕ → Ask
-header match_type collation name key = compares (header_values (text name ∷ [])) match_type collation (text key ∷ [])
+header match_type collation name key = compares (header_values (text name ∷ [])) (by match_type collation) (text key ∷ [])
 
 -- an absent field contains nothing, not even the empty key
 absent_row : truth_of (delivered (headed (codes "Subject: a"))) (begun main) (header Contains Casemap (codes "X-None") []) ≡ false
@@ -99,11 +104,11 @@ unfolding truth_of match_found matched least_fit fields_of field_groups pieces_f
 front_row = refl
 
 -- what the first pair that matches gives: under `:matches` the value and what each wildcard took, and under `:is` nothing
-first_row : match_found (delivered (headed_twice (codes "A: x1") (codes "A: y2"))) (begun main) (header_values (text (codes "A") ∷ [])) Matches Octet (text (codes "y*") ∷ text (codes "*1") ∷ []) ≡ Some (codes "x1" ∷ codes "x" ∷ [])
+first_row : match_found (delivered (headed_twice (codes "A: x1") (codes "A: y2"))) (begun main) (header_values (text (codes "A") ∷ [])) (by Matches Octet) (text (codes "y*") ∷ text (codes "*1") ∷ []) ≡ Some (codes "x1" ∷ codes "x" ∷ [])
 unfolding match_found matched least_fit fields_of field_groups pieces_from word_at
 first_row = refl
 
-plain_match_row : match_found (delivered (headed (codes "A: x"))) (begun main) (header_values (text (codes "A") ∷ [])) Is Octet (text (codes "x") ∷ []) ≡ Some []
+plain_match_row : match_found (delivered (headed (codes "A: x"))) (begun main) (header_values (text (codes "A") ∷ [])) (by Is Octet) (text (codes "x") ∷ []) ≡ Some []
 unfolding match_found fields_of field_groups pieces_from word_at
 plain_match_row = refl
 
@@ -145,7 +150,7 @@ unfolding truth_of match_found fields_of field_groups pieces_from word_at meanin
 as_written_row = refl
 
 -- match variables hold of the decoded value
-decoded_match_row : match_found (delivered (headed (codes "A: =?us-ascii?Q?a_b?= c"))) (begun main) (header_values (text (codes "A") ∷ [])) Matches Octet (text (codes "* c") ∷ []) ≡ Some (codes "a b c" ∷ codes "a b" ∷ [])
+decoded_match_row : match_found (delivered (headed (codes "A: =?us-ascii?Q?a_b?= c"))) (begun main) (header_values (text (codes "A") ∷ [])) (by Matches Octet) (text (codes "* c") ∷ []) ≡ Some (codes "a b c" ∷ codes "a b" ∷ [])
 unfolding match_found matched least_fit fields_of field_groups pieces_from word_at meaning in_utf8 q_octets
 decoded_match_row = refl
 
@@ -168,11 +173,11 @@ unfolding fields_of field_groups addresses_of marks_from is_address_field
 no_part_row = refl
 
 -- no sender is the empty string, whatever part is asked for
-no_sender_row : truth_of (sent_by []) (begun main) (compares (envelope_values part.Domain (text (codes "from") ∷ [])) Is Casemap (text [] ∷ [])) ≡ true
+no_sender_row : truth_of (sent_by []) (begun main) (compares (envelope_values part.Domain (text (codes "from") ∷ [])) (by Is Casemap) (text [] ∷ [])) ≡ true
 unfolding truth_of match_found envelope_address_of
 no_sender_row = refl
 
-sender_row : truth_of (sent_by (codes "a@example.org")) (begun main) (compares (envelope_values part.Domain (text (codes "from") ∷ [])) Is Casemap (text [] ∷ [])) ≡ false
+sender_row : truth_of (sent_by (codes "a@example.org")) (begun main) (compares (envelope_values part.Domain (text (codes "from") ∷ [])) (by Is Casemap) (text [] ∷ [])) ≡ false
 unfolding truth_of match_found envelope_address_of addresses_of marks_from
 sender_row = refl
 

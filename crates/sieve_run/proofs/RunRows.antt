@@ -32,7 +32,7 @@ use Rattle.sieve_effects.specs.declared.action.Action.{Action}
 use Rattle.sieve_effects.specs.declared.action.Action.TheVariants.{Store, Redirect, Discard}
 use Rattle.sieve_effects.specs.declared.error.RunError.{RunError}
 use Rattle.sieve_effects.specs.declared.error.ErrorKind.TheVariants.{MissingScript, InvalidScript, RecursiveInclude, IncludeDepth, IncludeCount, BadAddress, BadMailbox}
-use Rattle.sieve_run.proofs.Rows.{main, envelope, delivered, text}
+use Rattle.sieve_run.proofs.Rows.{main, envelope, delivered, text, by}
 
 -- COMMANDS
 
@@ -139,7 +139,7 @@ holding values = record { actions = []; cancelled = false; reads = (main, true) 
 
 -- string :matches :comparator "i;octet" ["ab", "b"] ["b*", "?b"]
 abbrev matches_second : Ask
-matches_second = compares (string_values (text (codes "ab") ∷ text (codes "b") ∷ [])) Matches Octet (text (codes "b*") ∷ text (codes "?b") ∷ [])
+matches_second = compares (string_values (text (codes "ab") ∷ text (codes "b") ∷ [])) (by Matches Octet) (text (codes "b*") ∷ text (codes "?b") ∷ [])
 
 -- the first pair that matches sets the match variables: the first string with the second key
 matched_row : answer_of (delivered []) matches_second (begun main) ≡ record { truth = true; state = holding (with_matched (codes "ab" ∷ codes "a" ∷ []) no_values) }
@@ -147,12 +147,12 @@ unfolding truth_of values_behind match_found matched least_fit
 matched_row = refl
 
 -- the match variables stay where no pair matches
-unmatched_row : (matched : List (List ℕ)) → values_behind (delivered []) (holding (with_matched matched no_values)) (compares (string_values (text (codes "x") ∷ [])) Matches Octet (text (codes "y*") ∷ [])) ≡ with_matched matched no_values
+unmatched_row : (matched : List (List ℕ)) → values_behind (delivered []) (holding (with_matched matched no_values)) (compares (string_values (text (codes "x") ∷ [])) (by Matches Octet) (text (codes "y*") ∷ [])) ≡ with_matched matched no_values
 unfolding values_behind match_found matched least_fit
 unmatched_row matched = refl
 
 -- the match variables stay under another match type
-plain_row : (matched : List (List ℕ)) → values_behind (delivered []) (holding (with_matched matched no_values)) (compares (string_values (text (codes "x") ∷ [])) Is Octet (text (codes "x") ∷ [])) ≡ with_matched matched no_values
+plain_row : (matched : List (List ℕ)) → values_behind (delivered []) (holding (with_matched matched no_values)) (compares (string_values (text (codes "x") ∷ [])) (by Is Octet) (text (codes "x") ∷ [])) ≡ with_matched matched no_values
 unfolding values_behind match_found
 plain_row matched = refl
 
@@ -194,16 +194,16 @@ unfolding exec flags_of_texts flag_list flag_text flag_union distinct flags_with
 variable_row = refl
 
 -- hasflag "B" where the flags are "A b", and hasflag :contains "" where there are none
-hasflag_row : truth_of (delivered []) (flagged (codes "A" ∷ codes "b" ∷ [])) (compares (flag_values None) Is Casemap (text (codes "B") ∷ [])) ≡ true
+hasflag_row : truth_of (delivered []) (flagged (codes "A" ∷ codes "b" ∷ [])) (compares (flag_values None) (by Is Casemap) (text (codes "B") ∷ [])) ≡ true
 unfolding truth_of match_found flag_keys_of_texts flag_keys
 hasflag_row = refl
 
-no_flag_row : truth_of (delivered []) (begun main) (compares (flag_values None) Contains Casemap (text [] ∷ [])) ≡ false
+no_flag_row : truth_of (delivered []) (begun main) (compares (flag_values None) (by Contains Casemap) (text [] ∷ [])) ≡ false
 unfolding truth_of match_found flag_keys_of_texts flag_keys
 no_flag_row = refl
 
 -- hasflag :comparator "i;octet" "a" where the flag is "A"
-octet_flag_row : truth_of (delivered []) (flagged (codes "A" ∷ [])) (compares (flag_values None) Is Octet (text (codes "a") ∷ [])) ≡ false
+octet_flag_row : truth_of (delivered []) (flagged (codes "A" ∷ [])) (compares (flag_values None) (by Is Octet) (text (codes "a") ∷ [])) ≡ false
 unfolding truth_of match_found flag_keys_of_texts flag_keys
 octet_flag_row = refl
 

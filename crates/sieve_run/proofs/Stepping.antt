@@ -17,8 +17,8 @@ use Rattle.sieve_effects.specs.State.{RunState}
 use Rattle.sieve_effects.specs.declared.flow.Flow.{Flow}
 use Rattle.sieve_effects.specs.declared.flow.Flow.TheVariants as flow
 use Rattle.sieve_effects.specs.declared.flow.Flow.TheVariants.{GoesOn}
-use Rattle.sieve_run.specs.declared.steps.Step.{Step}
-use Rattle.sieve_run.specs.declared.steps.Step.TheVariants.{Next, Ended}
+use Rattle.sieve_run.specs.declared.turn.Step.{Step}
+use Rattle.sieve_run.specs.declared.turn.Step.TheVariants.{Next, Ended}
 use Rattle.sieve_effects.specs.view.Flow.{ending_by}
 use Rattle.sieve_run.specs.view.Step.{step_after, Acts, Follows, StepsTo, doing, doing_after}
 

@@ -34,7 +34,7 @@ found_keeps Contains found state = (state.values.matched, refl)
 
 ask_keeps : (delivery : Delivery) (ask : Ask) (state : RunState) → SetsMatched state (behind_test delivery ask state)
 unfolding values_behind
-ask_keeps delivery (compares source match_type collation keys) state = found_keeps match_type (match_found delivery state source match_type collation keys) state
+ask_keeps delivery (compares source comparison keys) state = found_keeps comparison.match_type (match_found delivery state source comparison keys) state
 ask_keeps delivery (exists_ask names) state = (state.values.matched, refl)
 ask_keeps delivery (over_ask limit) state = (state.values.matched, refl)
 ask_keeps delivery (under_ask limit) state = (state.values.matched, refl)

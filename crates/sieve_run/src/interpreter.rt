@@ -15,7 +15,7 @@ use crate::including::find;
 use crate::library::{Found, Library};
 use crate::meter::Meter;
 use crate::outcome::Outcome;
-use crate::steps::execute;
+use crate::steps::{Running, execute};
 use indexmap::IndexMap;
 use match_text::FlagList;
 use message_text::Message;
@@ -120,32 +120,6 @@ fn begun(alloc: Global, main: &ScriptName) -> Result<State, AllocError>
     })
 }
 
-/// Runs the main script's code in a state.
-fn execute_main<L: Library>(
-    alloc: Global,
-    lib: &L,
-    main: &ScriptName,
-    code: &Code,
-    envelope: &Envelope,
-    message: &Message,
-    fields: &mut FieldReads<'_>,
-    state: &mut State,
-) -> Result<Flow, AllocError>
-    requires { fields.old ≡ message.now }
-    ensures { IfOk result (λ flow.
-        doing (act_of (library_of (L.texts lib.now)) include_depth (delivery_to envelope.now message.now main.now)) (delivery_to envelope.now message.now main.now) (code_walk (ops_of code.now) (length (ops_of code.now))) (state_of state.old)
-        ≡ ending_by flow (state_of state.new)) }
-{
-    let delivery = Delivery {
-        alloc,
-        message,
-        envelope,
-        script: main,
-        including: &[],
-    };
-    execute(lib, MAX_INCLUDE_DEPTH, &delivery, code, fields, state)
-}
-
 /// Runs the main script's code from the start.
 fn run_main<L: Library>(
     alloc: Global,
@@ -159,16 +133,20 @@ fn run_main<L: Library>(
 {
     let mut state = begun(alloc, main)?;
     let mut fields = FieldReads::new(alloc, message);
-    let flow = execute_main(
+    let delivery = Delivery {
         alloc,
-        lib,
-        main,
-        code,
-        envelope,
         message,
-        &mut fields,
-        &mut state,
-    )?;
+        envelope,
+        script: main,
+        including: &[],
+    };
+    let running = Running {
+        lib,
+        depth: MAX_INCLUDE_DEPTH,
+        delivery: &delivery,
+        code,
+    };
+    let flow = execute(&running, &mut fields, &mut state)?;
     Ok(ended(alloc, flow, state))
 }
 

@@ -9,11 +9,13 @@ pub mod laws;
 mod library;
 mod lines;
 mod meter;
+mod operations;
 mod outcome;
 mod reads;
 mod script;
 mod shelf;
 mod steps;
+mod turn;
 
 pub use including::find;
 pub use interpreter::run;

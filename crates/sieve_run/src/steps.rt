@@ -1,57 +1,59 @@
-//! Carries out the operations of code.
-ghost use Rattle.std.specs.Prelude.{◌≡◌, Bool, if◌then◌else◌, length, true, IfOk};
+//! Carries out code.
+ghost use Rattle.std.specs.Prelude.{◌≡◌, [], if◌then◌else◌, length, slice_index_or, IfOk};
 ghost use Rattle.sieve_code.specs.Walk.{code_walk};
-ghost use Rattle.sieve_code.specs.view.Code.{op_of, ops_of};
+ghost use Rattle.sieve_code.specs.view.Code.{op_of, ops_of, pool_of};
 ghost use Rattle.sieve_run.specs.Library.{library_of};
 ghost use Rattle.sieve_run.specs.Run.{act_of, included};
 ghost use Rattle.sieve_effects.specs.Delivery.{inside};
 ghost use Rattle.sieve_effects.specs.view.Delivery.{delivery_as};
 ghost use Rattle.sieve_effects.specs.view.Flow.{ending_by};
-ghost use Rattle.sieve_run.specs.view.Step.{step_after, Acts, Follows, StepsTo, acts, asks, doing};
+ghost use Rattle.sieve_run.specs.view.Step.{StepsTo, doing};
 ghost use Rattle.sieve_run.specs.view.Include.{enters, looks_up};
 ghost use Rattle.sieve_effects.specs.view.State.{state_of};
-ghost use Rattle.sieve_run.specs.declared.steps.Step.TheVariants.{Next};
 
 use crate::including::{
     begin_included, find, including_next, is_running, is_script, is_there, resumed,
 };
 use crate::library::{Found, Library};
+use crate::operations::{
+    act_discard, act_fileinto, act_flags, act_keep, act_redirect, act_set, ask_compares,
+    ask_exists, ask_over, ask_under,
+};
 use crate::reads::note_read;
+use crate::turn::{Step, Turn, proceed};
 use sieve_base::limits::MAX_INCLUDES;
 use sieve_base::{Octets, ScriptName};
-use sieve_code::{Code, Op};
-use sieve_effects::{
-    Delivery, ErrorKind, FieldReads, Flow, State, change, compare, discard, exists, fail,
-    file_into, is_over, is_under, keep, redirect, set,
-};
+use sieve_code::{Code, Inclusion, Op};
+use sieve_effects::{Delivery, ErrorKind, FieldReads, Flow, State, fail};
 use std::alloc::AllocError;
 
-/// How an operation ended.
+/// A script that runs.
 #[derive(Drop)]
-enum Step {
-    /// The script goes on at a place, with a truth in the register.
-    Next { place: usize, register: bool },
-    /// The script ended so.
-    Ended(Flow),
+pub(crate) struct Running<'a, L: Library> {
+    /// Where scripts are looked up that it includes.
+    pub(crate) lib: &'a L,
+    /// How deep scripts may still include one another.
+    pub(crate) depth: usize,
+    /// What its tests and commands know.
+    pub(crate) delivery: &'a Delivery<'a>,
+    /// Its code.
+    pub(crate) code: &'a Code,
 }
 
-/// Carries out code, where scripts may include one another so deep. Its jumps go forward, so it takes no more turns than there
-/// are operations.
+/// Carries out the code of a script. Its jumps go forward, so it takes no more turns than there are operations.
 #[cycle(execute)]
 pub(crate) fn execute<L: Library>(
-    lib: &L,
-    depth: usize,
-    delivery: &Delivery<'_>,
-    code: &Code,
+    running: &Running<'_, L>,
     fields: &mut FieldReads<'_>,
     state: &mut State,
 ) -> Result<Flow, AllocError>
-    requires { fields.old ≡ (delivery_as delivery.now).message }
+    requires { fields.old ≡ (delivery_as running.now.delivery.now).message }
     ensures message { fields.new ≡ fields.old }
     ensures ending { IfOk result (λ flow.
-        doing (act_of (library_of (L.texts lib.now)) depth (delivery_as delivery.now)) (delivery_as delivery.now) (code_walk (ops_of code.now) (length (ops_of code.now))) (state_of state.old)
+        doing (act_of (library_of (L.texts running.now.lib.now)) running.now.depth (delivery_as running.now.delivery.now)) (delivery_as running.now.delivery.now) (code_walk (ops_of running.now.code.now) (length (ops_of running.now.code.now))) (state_of state.old)
         ≡ ending_by flow (state_of state.new)) }
 {
+    let code = running.code;
     let mut place = 0;
     let mut register = false;
     for _turn in 0..code.len() {
@@ -59,10 +61,7 @@ pub(crate) fn execute<L: Library>(
             return Ok(Flow::GoesOn);
         }
         match carry_out(
-            lib,
-            depth,
-            delivery,
-            code,
+            running,
             code.op(place),
             place + 1,
             register,
@@ -86,28 +85,35 @@ pub(crate) fn execute<L: Library>(
 #[cycle(execute)]
 #[tactic(auto, using(crate::proofs::Stepping::stop_steps, crate::proofs::Stepping::return_steps))]
 fn carry_out<L: Library>(
-    lib: &L,
-    depth: usize,
-    delivery: &Delivery<'_>,
-    code: &Code,
+    running: &Running<'_, L>,
     op: Op,
     behind: usize,
     register: bool,
     fields: &mut FieldReads<'_>,
     state: &mut State,
 ) -> Result<Step, AllocError>
-    requires { fields.old ≡ (delivery_as delivery.now).message }
+    requires { fields.old ≡ (delivery_as running.now.delivery.now).message }
     ensures message { fields.new ≡ fields.old }
     ensures step { IfOk result (λ step.
-        StepsTo (act_of (library_of (L.texts lib.now)) depth (delivery_as delivery.now)) (delivery_as delivery.now) (op_of code.now op) behind register (state_of state.old) step (state_of state.new)) }
+        StepsTo (act_of (library_of (L.texts running.now.lib.now)) running.now.depth (delivery_as running.now.delivery.now)) (delivery_as running.now.delivery.now) (op_of running.now.code.now op) behind register (state_of state.old) step (state_of state.new)) }
 {
+    let code = running.code;
+    let turn = &Turn {
+        delivery: running.delivery,
+        code,
+        behind,
+        register,
+    };
     match op {
         Op::True => Ok(proceed(true, behind)),
         Op::False => Ok(proceed(false, behind)),
         Op::Not => Ok(proceed(!register, behind)),
-        Op::Compares { .. } | Op::Exists { .. } | Op::Over { .. } | Op::Under { .. } => {
-            ask(delivery, code, op, behind, fields, state)
-        }
+        Op::Compares { test, values, keys } => ask_compares(
+            turn, test, values, keys, fields, state,
+        ),
+        Op::Exists { names } => ask_exists(turn, names, state),
+        Op::Over { limit } => Ok(ask_over(turn, limit)),
+        Op::Under { limit } => Ok(ask_under(turn, limit)),
         Op::Jump(left) => Ok(proceed(register, code.jump_place(left))),
         Op::JumpIfFalse(left) => {
             Ok(proceed(register, chosen(register, behind, code.jump_place(left))))
@@ -115,189 +121,70 @@ fn carry_out<L: Library>(
         Op::JumpIfTrue(left) => {
             Ok(proceed(register, chosen(register, code.jump_place(left), behind)))
         }
-        Op::Keep { .. }
-        | Op::Fileinto { .. }
-        | Op::Redirect { .. }
-        | Op::Discard { .. }
-        | Op::Set { .. }
-        | Op::Flags { .. }
-        | Op::Include { .. } => act(
-            lib, depth, delivery, code, op, behind, register, fields, state,
-        ),
+        Op::Keep { line, settings } => act_keep(turn, line, settings, state),
+        Op::Fileinto {
+            line,
+            mailbox,
+            settings,
+        } => act_fileinto(turn, line, mailbox, settings, state),
+        Op::Redirect {
+            line,
+            address,
+            settings,
+        } => act_redirect(turn, line, address, settings, state),
+        Op::Discard { line } => act_discard(turn, line, state),
+        Op::Set {
+            line,
+            target,
+            value,
+        } => act_set(turn, line, target, value, state),
+        Op::Flags {
+            change,
+            line,
+            variable,
+            flags,
+        } => act_flags(turn, change, line, variable, flags, state),
+        Op::Include(inclusion) => turn.acted(include_named(running, inclusion, fields, state)),
         Op::Stop => Ok(Step::Ended(Flow::Stopped)),
         Op::Return => Ok(Step::Ended(Flow::Returned)),
     }
 }
 
-/// Asks what a test asks of the delivery, where this is the place behind its operation.
-fn ask(
-    delivery: &Delivery<'_>,
-    code: &Code,
-    op: Op,
-    behind: usize,
-    fields: &mut FieldReads<'_>,
-    state: &mut State,
-) -> Result<Step, AllocError>
-    requires message { fields.old ≡ (delivery_as delivery.now).message }
-    requires asks { asks op ≡ true }
-    ensures message { fields.new ≡ fields.old }
-    ensures step { (act : Acts) (register : Bool) → IfOk result (λ step.
-        StepsTo act (delivery_as delivery.now) (op_of code.now op) behind register (state_of state.old) step (state_of state.new)) }
-{
-    match op {
-        Op::Compares {
-            source,
-            match_type,
-            collation,
-            values,
-            keys,
-        } => {
-            let source = code.source(source, values);
-            let keys = code.list(keys);
-            let truth = compare(
-                delivery, &source, match_type, collation, &keys, fields, state,
-            );
-            tested(truth, behind)
-        }
-        Op::Exists { names } => {
-            let truth = exists(delivery, &code.names(names), &*state);
-            tested(truth, behind)
-        }
-        Op::Over { limit } => Ok(proceed(is_over(delivery, limit), behind)),
-        Op::Under { limit } => Ok(proceed(is_under(delivery, limit), behind)),
-        // No other operation asks.
-        _ => Ok(proceed(false, behind)),
-    }
-}
-
-/// Does what a command does that acts, where this is the place behind its operation.
+/// Includes the script that an operation names.
 #[cycle(execute)]
-fn act<L: Library>(
-    lib: &L,
-    depth: usize,
-    delivery: &Delivery<'_>,
-    code: &Code,
-    op: Op,
-    behind: usize,
-    register: bool,
+fn include_named<L: Library>(
+    running: &Running<'_, L>,
+    inclusion: Inclusion,
     fields: &mut FieldReads<'_>,
     state: &mut State,
-) -> Result<Step, AllocError>
-    requires message { fields.old ≡ (delivery_as delivery.now).message }
-    requires acts { acts op ≡ true }
+) -> Result<Flow, AllocError>
+    requires { fields.old ≡ (delivery_as running.now.delivery.now).message }
     ensures message { fields.new ≡ fields.old }
-    ensures step { IfOk result (λ step.
-        StepsTo (act_of (library_of (L.texts lib.now)) depth (delivery_as delivery.now)) (delivery_as delivery.now) (op_of code.now op) behind register (state_of state.old) step (state_of state.new)) }
+    ensures ending { IfOk result (λ flow. ending_by flow (state_of state.new) ≡ included (library_of (L.texts running.now.lib.now)) running.now.depth (delivery_as running.now.delivery.now) (record { place = inclusion.place; name = slice_index_or (pool_of running.now.code.now).scripts inclusion.name [] }) inclusion.once inclusion.optional inclusion.line (state_of state.old)) }
 {
-    match op {
-        Op::Keep { copy, line, flags } => {
-            let settings = code.settings(flags, copy);
-            let flow = keep(delivery, &settings, line as u64, state);
-            acted(flow, behind, register)
-        }
-        Op::Fileinto {
-            copy,
-            line,
-            mailbox,
-            flags,
-        } => {
-            let mailbox = code.string(mailbox);
-            let settings = code.settings(flags, copy);
-            let flow = file_into(delivery, mailbox, &settings, line as u64, state);
-            acted(flow, behind, register)
-        }
-        Op::Redirect {
-            copy,
-            line,
-            address,
-            flags,
-        } => {
-            let address = code.string(address);
-            let settings = code.settings(flags, copy);
-            let flow = redirect(delivery, address, &settings, line as u64, state);
-            acted(flow, behind, register)
-        }
-        Op::Discard { line } => {
-            let flow = discard(delivery, line as u64, state);
-            acted(flow, behind, register)
-        }
-        Op::Set {
-            line,
-            target,
-            value,
-        } => match code.target(target) {
-            Some(target) => {
-                let value = code.string(value);
-                let flow = set(
-                    delivery,
-                    &target.variable,
-                    target.modifiers,
-                    value,
-                    line as u64,
-                    state,
-                );
-                acted(flow, behind, register)
-            }
-            // No code has such an operation.
-            None => Ok(proceed(false, behind)),
-        },
-        Op::Flags {
-            change: how,
-            line,
-            variable,
-            flags,
-        } => {
-            let variable = code.variable(variable);
-            let flags = code.list(flags);
-            let flow = change(delivery, how, variable, &flags, line as u64, state);
-            acted(flow, behind, register)
-        }
-        Op::Include {
-            place,
-            once,
-            optional,
-            line,
-            name,
-        } => {
-            let name = ScriptName {
-                place,
-                name: Octets::copied(delivery.alloc, code.script(name))?,
-            };
-            let flow = include(
-                lib,
-                depth,
-                delivery,
-                &name,
-                once,
-                optional,
-                line as u64,
-                fields,
-                state,
-            );
-            acted(flow, behind, register)
-        }
-        // No other operation acts.
-        _ => Ok(proceed(register, behind)),
-    }
+    let name = ScriptName {
+        place: inclusion.place,
+        name: Octets::copied(running.delivery.alloc, running.code.script(inclusion.name))?,
+    };
+    include(running, &name, inclusion, fields, state)
 }
 
 /// Runs code in a script that the running one includes.
 #[cycle(execute)]
 fn execute_inside<L: Library>(
-    lib: &L,
-    depth: usize,
-    delivery: &Delivery<'_>,
+    running: &Running<'_, L>,
     name: &ScriptName,
     code: &Code,
     fields: &mut FieldReads<'_>,
     state: &mut State,
 ) -> Result<Flow, AllocError>
-    requires { fields.old ≡ (delivery_as delivery.now).message }
+    requires { fields.old ≡ (delivery_as running.now.delivery.now).message }
     ensures message { fields.new ≡ fields.old }
     ensures ending { IfOk result (λ flow.
-        doing (act_of (library_of (L.texts lib.now)) depth (inside name.now (delivery_as delivery.now))) (inside name.now (delivery_as delivery.now)) (code_walk (ops_of code.now) (length (ops_of code.now))) (state_of state.old)
+        doing (act_of (library_of (L.texts running.now.lib.now)) running.now.depth (inside name.now (delivery_as running.now.delivery.now))) (inside name.now (delivery_as running.now.delivery.now)) (code_walk (ops_of code.now) (length (ops_of code.now))) (state_of state.old)
         ≡ ending_by flow (state_of state.new)) }
 {
+    let delivery = running.delivery;
     let including = including_next(delivery)?;
     let inner = Delivery {
         alloc: delivery.alloc,
@@ -306,26 +193,30 @@ fn execute_inside<L: Library>(
         script: name,
         including: including.as_slice(),
     };
-    execute(lib, depth, &inner, code, fields, state)
+    let inside = Running {
+        lib: running.lib,
+        depth: running.depth,
+        delivery: &inner,
+        code,
+    };
+    execute(&inside, fields, state)
 }
 
 /// Runs the code of a script that is included.
 #[cycle(execute)]
 fn enter<L: Library>(
-    lib: &L,
-    depth: usize,
-    delivery: &Delivery<'_>,
+    running: &Running<'_, L>,
     name: &ScriptName,
     code: &Code,
     fields: &mut FieldReads<'_>,
     state: &mut State,
 ) -> Result<Flow, AllocError>
-    requires { fields.old ≡ (delivery_as delivery.now).message }
+    requires { fields.old ≡ (delivery_as running.now.delivery.now).message }
     ensures message { fields.new ≡ fields.old }
-    ensures ending { IfOk result (λ flow. ending_by flow (state_of state.new) ≡ enters (library_of (L.texts lib.now)) depth (delivery_as delivery.now) name.now (ops_of code.now) (state_of state.old)) }
+    ensures ending { IfOk result (λ flow. ending_by flow (state_of state.new) ≡ enters (library_of (L.texts running.now.lib.now)) running.now.depth (delivery_as running.now.delivery.now) name.now (ops_of code.now) (state_of state.old)) }
 {
-    let own = begin_included(delivery.alloc, name, state)?;
-    let flow = execute_inside(lib, depth, delivery, name, code, fields, state)?;
+    let own = begin_included(running.delivery.alloc, name, state)?;
+    let flow = execute_inside(running, name, code, fields, state)?;
     state.values.resume(own);
     Ok(resumed(flow))
 }
@@ -333,73 +224,67 @@ fn enter<L: Library>(
 /// Looks a script up, and does what an include does with what is found.
 #[cycle(execute)]
 fn look_up<L: Library>(
-    lib: &L,
-    depth: usize,
-    delivery: &Delivery<'_>,
+    running: &Running<'_, L>,
     name: &ScriptName,
-    optional: bool,
-    line: u64,
+    inclusion: Inclusion,
     fields: &mut FieldReads<'_>,
     state: &mut State,
 ) -> Result<Flow, AllocError>
-    requires { fields.old ≡ (delivery_as delivery.now).message }
+    requires { fields.old ≡ (delivery_as running.now.delivery.now).message }
     ensures message { fields.new ≡ fields.old }
-    ensures ending { IfOk result (λ flow. ending_by flow (state_of state.new) ≡ looks_up (library_of (L.texts lib.now)) depth (delivery_as delivery.now) name.now optional line (state_of state.old)) }
+    ensures ending { IfOk result (λ flow. ending_by flow (state_of state.new) ≡ looks_up (library_of (L.texts running.now.lib.now)) running.now.depth (delivery_as running.now.delivery.now) name.now inclusion.optional inclusion.line (state_of state.old)) }
 {
-    let found = find(lib, name);
+    let delivery = running.delivery;
+    let line = inclusion.line as u64;
+    let found = find(running.lib, name);
     note_read(delivery.alloc, &mut state.reads, name, is_there(&found))?;
     match found {
         Found::Missing => {
-            if optional {
+            if inclusion.optional {
                 Ok(Flow::GoesOn)
             } else {
                 fail(delivery, line, ErrorKind::MissingScript)
             }
         }
         Found::Invalid => fail(delivery, line, ErrorKind::InvalidScript),
-        Found::Present(code) => enter(lib, depth, delivery, name, code, fields, state),
+        Found::Present(code) => enter(running, name, code, fields, state),
     }
 }
 
-/// Includes a script, where scripts may still include one another so deep (RFC 6609, section 3.2).
+/// Includes a script (RFC 6609, section 3.2).
 #[cycle(execute)]
 fn include<L: Library>(
-    lib: &L,
-    depth: usize,
-    delivery: &Delivery<'_>,
+    running: &Running<'_, L>,
     name: &ScriptName,
-    once: bool,
-    optional: bool,
-    line: u64,
+    inclusion: Inclusion,
     fields: &mut FieldReads<'_>,
     state: &mut State,
 ) -> Result<Flow, AllocError>
-    requires { fields.old ≡ (delivery_as delivery.now).message }
+    requires { fields.old ≡ (delivery_as running.now.delivery.now).message }
     ensures message { fields.new ≡ fields.old }
-    ensures ending { IfOk result (λ flow. ending_by flow (state_of state.new) ≡ included (library_of (L.texts lib.now)) depth (delivery_as delivery.now) name.now once optional line (state_of state.old)) }
+    ensures ending { IfOk result (λ flow. ending_by flow (state_of state.new) ≡ included (library_of (L.texts running.now.lib.now)) running.now.depth (delivery_as running.now.delivery.now) name.now inclusion.once inclusion.optional inclusion.line (state_of state.old)) }
 {
-    if once && is_script(name, state.entered.as_slice()) {
+    let delivery = running.delivery;
+    let line = inclusion.line as u64;
+    if inclusion.once && is_script(name, state.entered.as_slice()) {
         return Ok(Flow::GoesOn);
     }
     if is_running(name, delivery) {
         return fail(delivery, line, ErrorKind::RecursiveInclude);
     }
-    if depth == 0 {
+    if running.depth == 0 {
         return fail(delivery, line, ErrorKind::IncludeDepth);
     }
     if state.entered.len() > MAX_INCLUDES {
         return fail(delivery, line, ErrorKind::IncludeCount);
     }
-    look_up(
-        lib,
-        depth - 1,
+    let below = Running {
+        lib: running.lib,
+        depth: running.depth - 1,
         delivery,
-        name,
-        optional,
-        line,
-        fields,
-        state,
-    )
+        code: running.code,
+    };
+    look_up(&below, name, inclusion, fields, state)
 }
 
 /// One of two places.
@@ -407,37 +292,4 @@ fn chosen(truth: bool, there: usize, otherwise: usize) -> usize
     ensures { result ≡ if truth then there else otherwise }
 {
     if truth { there } else { otherwise }
-}
-
-/// On at a place, with a truth in the register.
-fn proceed(register: bool, place: usize) -> Step
-    ensures { result ≡ Next place register }
-{
-    Step::Next { place, register }
-}
-
-/// The step after a test, where its call gave its truth.
-fn tested(truth: Result<bool, AllocError>, behind: usize) -> Result<Step, AllocError>
-    ensures { IfOk result (Follows truth (λ truth. Next behind truth)) }
-{
-    Ok(proceed(truth?, behind))
-}
-
-/// The step after a command, where its call says how it ended.
-fn acted(flow: Result<Flow, AllocError>, behind: usize, register: bool) -> Result<Step, AllocError>
-    ensures { IfOk result (Follows flow (λ flow. step_after flow behind register)) }
-{
-    Ok(step_after(flow?, behind, register))
-}
-
-/// The step after a command that ended so, where this is the place behind its operation's.
-fn step_after(flow: Flow, behind: usize, register: bool) -> Step
-    ensures { result ≡ step_after flow behind register }
-{
-    match flow {
-        Flow::GoesOn => proceed(register, behind),
-        Flow::Returned => Step::Ended(Flow::Returned),
-        Flow::Stopped => Step::Ended(Flow::Stopped),
-        Flow::Failed(error) => Step::Ended(Flow::Failed(error)),
-    }
 }

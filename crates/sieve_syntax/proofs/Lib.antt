@@ -9,7 +9,6 @@ pub mod Meaning
 pub mod Opening
 pub mod Parsing
 pub mod Reading
-mod Rows
 pub mod Running
 pub mod Scanning
 pub mod Spelling

@@ -1,7 +1,7 @@
 //! The parts of strings (RFC 5229, section 3).
 ghost use Rattle.std.specs.Prelude.{◌≡◌, ◌≤◌, [], IfOk, IsOk, length};
 ghost use Rattle.sieve_variables.specs.Part.{literal, match_part, scoped_part, variable_part};
-ghost use Rattle.sieve_variables.specs.view.Part.{literal_in, part_ref_as, plain_octets, variable_in};
+ghost use Rattle.sieve_variables.specs.view.Part.{part_ref_as, plain_octets, variable_in};
 
 use crate::labelled::Labelled;
 use crate::variable::{Names, Scope, Variable, VariableRef};
@@ -142,33 +142,30 @@ impl Part {
         }
     }
 
-    /// The octets, where the part stands for itself. Takes no memory.
-    pub fn into_literal(self) -> Option<Literal>
-        ensures { result ≡ literal_in self }
+    /// The octets of a part that stands for itself; no others have any. Takes no memory.
+    pub fn into_literal(self) -> Literal
+        ensures { result ≡ plain_octets self }
     {
-        match self.octets.label() {
-            PartKind::Literal => Some(Literal {
-                octets: self.octets.with_label(()),
-            }),
-            PartKind::Local => None,
-            PartKind::Global => None,
-            PartKind::Match(_) => None,
-        }
+        let octets = match self.octets.label() {
+            PartKind::Literal => self.octets.with_label(()),
+            PartKind::Local => Labelled::none(()),
+            PartKind::Global => Labelled::none(()),
+            PartKind::Match(_) => Labelled::none(()),
+        };
+        Literal { octets }
     }
 
-    /// The variable whose value the part is. Takes no memory.
-    pub fn into_variable(self) -> Option<Variable>
+    /// The variable whose value the part is; any other part names the one without a name, which no script has. Takes no memory.
+    pub fn into_variable(self) -> Variable
         ensures { result ≡ variable_in self }
     {
-        let scope = match self.octets.label() {
-            PartKind::Local => Scope::Local,
-            PartKind::Global => Scope::Global,
-            PartKind::Literal => return None,
-            PartKind::Match(_) => return None,
+        let name = match self.octets.label() {
+            PartKind::Local => self.octets.with_label(Scope::Local),
+            PartKind::Global => self.octets.with_label(Scope::Global),
+            PartKind::Literal => Labelled::none(Scope::Local),
+            PartKind::Match(_) => Labelled::none(Scope::Local),
         };
-        Some(Variable {
-            name: self.octets.with_label(scope),
-        })
+        Variable { name }
     }
 
     /// The part where these names are declared to be those of variables that scripts share (RFC 6609, section 3.4.1). Takes no

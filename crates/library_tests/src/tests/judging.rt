@@ -3,8 +3,9 @@
 use super::{holds, same};
 use sieve_check::{CheckFault, Checked, Rule, check};
 use sieve_reading::{
-    Argument, Ask, Command, CommandKind, CommandName, CommandReading, Leaf, MatchType, PartRef,
-    Test, TestKind, TestReading, Tests, Text, ValueSource, read_command, read_test,
+    Argument, Ask, Command, CommandKind, CommandName, CommandReading, Comparison, Leaf, MatchType,
+    PartRef, Test, TestKind, TestName, TestReading, Tests, Text, ValueSource, read_command,
+    read_test,
 };
 use sieve_syntax::{ParsedScript, parse};
 use std::alloc::Global;
@@ -18,9 +19,25 @@ fn check_named(rt: &impl Abort, command: &Command, name: &[u8], line: u64, kind:
     holds(rt, "its kind", command.name.kind() == Some(kind));
 }
 
+/// What a command of that name and with these arguments is read as.
+fn read_by(alloc: Global, name: &CommandName, args: Vec<Argument>) -> Option<CommandReading> {
+    match name.kind() {
+        Some(kind) => Some(read_command(alloc, kind, args)),
+        None => None,
+    }
+}
+
+/// What a test of that name and with these arguments is read as.
+fn test_by(alloc: Global, name: &TestName, args: Vec<Argument>) -> Option<TestReading> {
+    match name.kind() {
+        Some(kind) => Some(read_test(alloc, kind, args)),
+        None => None,
+    }
+}
+
 /// Whether a command of that name and with these arguments reads as `keep` without flags.
-fn is_plain_keep(name: &CommandName, args: Vec<Argument>) -> bool {
-    match read_command(name, args) {
+fn is_plain_keep(alloc: Global, name: &CommandName, args: Vec<Argument>) -> bool {
+    match read_by(alloc, name, args) {
         Some(CommandReading::Act(Leaf::Keep { settings })) => {
             settings.flags.is_none() && !settings.copy
         }
@@ -29,7 +46,7 @@ fn is_plain_keep(name: &CommandName, args: Vec<Argument>) -> bool {
 }
 
 /// The first command of `keep;\nif NOT size :over 2K {\nStop; }`.
-fn check_keep(rt: &impl Abort, keep: Command) {
+fn check_keep(rt: &impl Abort, alloc: Global, keep: Command) {
     check_named(rt, &keep, b"keep", 1, CommandKind::Keep);
     holds(
         rt,
@@ -37,11 +54,11 @@ fn check_keep(rt: &impl Abort, keep: Command) {
         keep.args.is_empty() && keep.block.is_none(),
     );
     let Command { name, args, .. } = keep;
-    holds(rt, "the reading of keep", is_plain_keep(&name, args));
+    holds(rt, "the reading of keep", is_plain_keep(alloc, &name, args));
 }
 
 /// The test of the `if`.
-fn check_negation(rt: &impl Abort, negation: Test) {
+fn check_negation(rt: &impl Abort, alloc: Global, negation: Test) {
     let Test {
         name,
         args,
@@ -50,31 +67,35 @@ fn check_negation(rt: &impl Abort, negation: Test) {
     } = negation;
     same(rt, "the name of the test", name.as_slice(), b"NOT");
     holds(rt, "its kind", name.kind() == Some(TestKind::Not));
-    let negates = matches!(read_test(&name, args), Some(TestReading::Not));
+    let negates = matches!(test_by(alloc, &name, args), Some(TestReading::Not));
     holds(rt, "the reading of not", negates);
     match tests {
-        Tests::One(size) => holds(rt, "the reading of size", is_over(Box::into_inner(size))),
+        Tests::One(size) => holds(
+            rt,
+            "the reading of size",
+            is_over(alloc, Box::into_inner(size)),
+        ),
         _ => panic!(rt; "not one test"),
     }
 }
 
 /// Whether a test asks for more than 2,048 octets.
-fn is_over(test: Test) -> bool {
+fn is_over(alloc: Global, test: Test) -> bool {
     let Test { name, args, .. } = test;
-    match read_test(&name, args) {
+    match test_by(alloc, &name, args) {
         Some(TestReading::Asks(Ask::Over { limit })) => limit == 2048,
         _ => false,
     }
 }
 
 /// The block of the `if`.
-fn check_stop(rt: &impl Abort, block: Vec<Command>) {
+fn check_stop(rt: &impl Abort, alloc: Global, block: Vec<Command>) {
     let mut commands = block.into_iter();
     match (commands.next(), commands.next()) {
         (Some(stop), None) => {
             check_named(rt, &stop, b"Stop", 3, CommandKind::Stop);
             let Command { name, args, .. } = stop;
-            let stops = matches!(read_command(&name, args), Some(CommandReading::Stop));
+            let stops = matches!(read_by(alloc, &name, args), Some(CommandReading::Stop));
             holds(rt, "the reading of stop", stops);
         }
         _ => panic!(rt; "not one command"),
@@ -82,7 +103,7 @@ fn check_stop(rt: &impl Abort, block: Vec<Command>) {
 }
 
 /// The second command, an `if`.
-fn check_choice(rt: &impl Abort, choice: Command) {
+fn check_choice(rt: &impl Abort, alloc: Global, choice: Command) {
     check_named(rt, &choice, b"if", 2, CommandKind::If);
     let Command {
         name,
@@ -91,23 +112,23 @@ fn check_choice(rt: &impl Abort, choice: Command) {
         block,
         ..
     } = choice;
-    let opens = matches!(read_command(&name, args), Some(CommandReading::If));
+    let opens = matches!(read_by(alloc, &name, args), Some(CommandReading::If));
     holds(rt, "the reading of if", opens);
     match (tests, block) {
         (Tests::One(negation), Some(block)) => {
-            check_negation(rt, Box::into_inner(negation));
-            check_stop(rt, block);
+            check_negation(rt, alloc, Box::into_inner(negation));
+            check_stop(rt, alloc, block);
         }
         _ => panic!(rt; "another tree"),
     }
 }
 
-fn check_both(rt: &impl Abort, checked: Checked) {
+fn check_both(rt: &impl Abort, alloc: Global, checked: Checked) {
     let mut commands = checked.into_commands().into_iter();
     match (commands.next(), commands.next(), commands.next()) {
         (Some(keep), Some(choice), None) => {
-            check_keep(rt, keep);
-            check_choice(rt, choice);
+            check_keep(rt, alloc, keep);
+            check_choice(rt, alloc, choice);
         }
         _ => panic!(rt; "another tree"),
     }
@@ -122,7 +143,7 @@ fn checked_text(alloc: Global, text: &[u8]) -> Result<Checked, Fail> {
 fn a_sound_script_has_its_tree(rt: HostRuntime) -> Result<(), Fail> {
     let checked = checked_text(rt.alloc(), b"keep;\nif NOT size :over 2K {\nStop; }")?;
     holds(&rt, "how many commands", checked.commands().len() == 2);
-    check_both(&rt, checked);
+    check_both(&rt, rt.alloc(), checked);
     Ok(())
 }
 
@@ -152,15 +173,17 @@ fn check_strings(rt: &impl Abort, names: &[Text], keys: &[Text]) {
 }
 
 /// The test of `if header :comparator "i;octet" "a"\n["b", "c"] {}`.
-fn check_header(rt: &impl Abort, test: Test) {
+fn check_header(rt: &impl Abort, alloc: Global, test: Test) {
     let Test { name, args, .. } = test;
-    match read_test(&name, args) {
+    match test_by(alloc, &name, args) {
         Some(
             TestReading::Asks(
                 Ask::Compares {
                     source,
-                    match_type: MatchType::Is,
-                    collation: match_text::Collation::Octet,
+                    comparison: Comparison {
+                        match_type: MatchType::Is,
+                        collation: match_text::Collation::Octet,
+                    },
                     keys,
                 },
             ),
@@ -177,18 +200,18 @@ fn check_source(rt: &impl Abort, source: ValueSource, keys: Vec<Text>) {
     }
 }
 
-fn check_choice_of_header(rt: &impl Abort, checked: Checked) {
+fn check_choice_of_header(rt: &impl Abort, alloc: Global, checked: Checked) {
     let mut commands = checked.into_commands().into_iter();
     match (commands.next(), commands.next()) {
-        (Some(choice), None) => check_one_test(rt, choice),
+        (Some(choice), None) => check_one_test(rt, alloc, choice),
         _ => panic!(rt; "another tree"),
     }
 }
 
-fn check_one_test(rt: &impl Abort, choice: Command) {
+fn check_one_test(rt: &impl Abort, alloc: Global, choice: Command) {
     let Command { tests, .. } = choice;
     match tests {
-        Tests::One(test) => check_header(rt, Box::into_inner(test)),
+        Tests::One(test) => check_header(rt, alloc, Box::into_inner(test)),
         _ => panic!(rt; "not one test"),
     }
 }
@@ -199,7 +222,7 @@ fn a_header_test_has_its_strings(rt: HostRuntime) -> Result<(), Fail> {
         rt.alloc(),
         b"if header :comparator \"i;octet\" \"a\"\n[\"b\", \"c\"] {}",
     )?;
-    check_choice_of_header(&rt, checked);
+    check_choice_of_header(&rt, rt.alloc(), checked);
     Ok(())
 }
 

@@ -1,6 +1,5 @@
 -- The program's context.
 use Rattle.sieve_check.specs.Context.{Context}
-use Rattle.sieve_table.specs.Required.{Required}
 use Rattle.sieve_check.specs.Scope.{Scope}
 use Rattle.sieve_check.specs.declared.context.Context as contexts
 use Rattle.sieve_table.specs.view.Required.{required_as}

@@ -5,8 +5,8 @@ use Rattle.sieve_syntax.specs.declared.tree.Command as commands
 use Rattle.sieve_syntax.specs.declared.tree.Test as one_tests
 use Rattle.sieve_check.specs.Breach.{Breach, breaches_by, breaches_in, command_breaks}
 use Rattle.sieve_table.specs.Rule.{all_rules}
-use Rattle.sieve_check.specs.Context.{Context, behind_kind}
-use Rattle.sieve_check.specs.Element.{Element, the_command, the_test, command_arguments, test_arguments, tests_elements}
+use Rattle.sieve_check.specs.Context.{Context}
+use Rattle.sieve_check.specs.Element.{Element, the_command, the_test, command_arguments, test_arguments}
 use Rattle.sieve_table.specs.Table.{command_named, test_named}
 use Rattle.sieve_table.specs.declared.table.CommandKind.{CommandKind}
 

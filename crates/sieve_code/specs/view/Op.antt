@@ -3,10 +3,11 @@ use Rattle.sieve_variables.specs.Part.{Part}
 use Rattle.std.specs.Prelude.{ℕ, ◌-◌, Bool, true, false, List, [], map, length, Option, Some, None, slice_index_or}
 use Rattle.std.specs.List.{slice_get}
 use Rattle.sieve_effects.specs.Joined.{list_in}
-use Rattle.sieve_reading.specs.Reading.{ValueSource, compares, exists_ask, over_ask, under_ask, header_values, address_values, envelope_values, string_values, flag_values, keep_leaf, fileinto_leaf, redirect_leaf, discard_leaf, set_leaf, flag_leaf, include_leaf}
+use Rattle.sieve_reading.specs.Reading.{ValueSource, Ask, compares, exists_ask, over_ask, under_ask, header_values, address_values, envelope_values, string_values, flag_values, keep_leaf, fileinto_leaf, redirect_leaf, discard_leaf, set_leaf, flag_leaf, include_leaf}
 use Rattle.sieve_code.specs.Operation.{Operation, set_op, invert_op, test_op, jump_op, jump_if_op, act_op, stop_op, return_op, targeting}
-use Rattle.sieve_code.specs.Pool.{Pool, no_pool, given_list, given_variable}
+use Rattle.sieve_code.specs.Pool.{Pool, no_pool, given_list, given_variable, settings_in, test_in}
 use Rattle.sieve_code.specs.declared.pools.Target.{Target}
+use Rattle.sieve_code.specs.declared.op.PackedTest.{PackedTest}
 use Rattle.sieve_code.specs.declared.op.SourceKind.{SourceKind}
 use Rattle.sieve_code.specs.declared.op.SourceKind.TheVariants as source
 use Rattle.sieve_code.specs.declared.op.Op.{Op}
@@ -20,6 +21,10 @@ source_in pool (source.Envelope part) place = envelope_values part (list_in pool
 source_in pool source.String place = string_values (list_in pool.lists place)
 source_in pool source.Flags place = flag_values (given_list pool place)
 
+-- what a test asks that compares
+abbrev pub compares_in : Pool → PackedTest → (values keys : ℕ) → Ask
+compares_in pool test values keys = compares (source_in pool test.source values) test.comparison (list_in pool.lists keys)
+
 -- a `set` of the target that lies at its place; false where none lies there, and code always has one
 abbrev pub set_in : Option Target → ℕ → List Part → Operation
 set_in None line value = set_op false
@@ -30,20 +35,20 @@ abbrev pub op_in : Pool → Op → Operation
 op_in pool op.True = set_op true
 op_in pool op.False = set_op false
 op_in pool op.Not = invert_op
-op_in pool (op.Compares source match_type collation values keys) = test_op (compares (source_in pool source values) match_type collation (list_in pool.lists keys))
+op_in pool (op.Compares test values keys) = test_op (compares_in pool (test_in pool test) values keys)
 op_in pool (op.Exists names) = test_op (exists_ask (list_in pool.names names))
 op_in pool (op.Over limit) = test_op (over_ask limit)
 op_in pool (op.Under limit) = test_op (under_ask limit)
 op_in pool (op.Jump left) = jump_op left
 op_in pool (op.JumpIfFalse left) = jump_if_op false left
 op_in pool (op.JumpIfTrue left) = jump_if_op true left
-op_in pool (op.Keep copy line flags) = act_op (keep_leaf (record { flags = given_list pool flags; copy = copy })) line
-op_in pool (op.Fileinto copy line mailbox flags) = act_op (fileinto_leaf (slice_index_or pool.strings mailbox []) (record { flags = given_list pool flags; copy = copy })) line
-op_in pool (op.Redirect copy line address flags) = act_op (redirect_leaf (slice_index_or pool.strings address []) (record { flags = given_list pool flags; copy = copy })) line
+op_in pool (op.Keep line settings) = act_op (keep_leaf (settings_in pool settings)) line
+op_in pool (op.Fileinto line mailbox settings) = act_op (fileinto_leaf (slice_index_or pool.strings mailbox []) (settings_in pool settings)) line
+op_in pool (op.Redirect line address settings) = act_op (redirect_leaf (slice_index_or pool.strings address []) (settings_in pool settings)) line
 op_in pool (op.Discard line) = act_op discard_leaf line
 op_in pool (op.Set line target value) = set_in (slice_get pool.targets target) line (slice_index_or pool.strings value [])
 op_in pool (op.Flags change line variable flags) = act_op (flag_leaf change (given_variable pool variable) (list_in pool.lists flags)) line
-op_in pool (op.Include place once optional line name) = act_op (include_leaf place once optional (slice_index_or pool.scripts name [])) line
+op_in pool (op.Include i) = act_op (include_leaf i.place i.once i.optional (slice_index_or pool.scripts i.name [])) i.line
 op_in pool op.Stop = stop_op
 op_in pool op.Return = return_op
 

@@ -11,10 +11,9 @@ use Rattle.sieve_variables.specs.Value.{text_value}
 use Rattle.sieve_base.specs.view.Texts.{octets_of_each}
 use Rattle.sieve_table.specs.Address.{is_address_field}
 use Rattle.sieve_effects.specs.Matching.{envelope_text, first_match, first_some, pairs_with}
-use Rattle.match_text.specs.Comparator.{fold_of}
-use Rattle.sieve_effects.specs.declared.comparison.Comparison.{Comparison}
-use Rattle.sieve_effects.specs.declared.comparison.Keys.{Keys}
-use Rattle.sieve_effects.specs.declared.comparison.Keys.TheVariants.{Strings, Texts}
+use Rattle.sieve_effects.specs.declared.matcher.Matcher.{Matcher}
+use Rattle.sieve_effects.specs.declared.matcher.Keys.{Keys}
+use Rattle.sieve_effects.specs.declared.matcher.Keys.TheVariants.{Strings, Texts}
 use Rattle.sieve_effects.specs.declared.envelope.Envelope.{Envelope}
 
 -- the keys that a value is compared with
@@ -23,8 +22,8 @@ key_texts (Strings values strings) = map (text_value values.now) strings.now
 key_texts (Texts texts) = octets_of_each texts.now
 
 -- what the first key gives that a value matches
-abbrev pub found_with : Comparison → List ℕ → Option (List (List ℕ))
-found_with comparison value = first_match comparison.match_type (fold_of comparison.collation) (pairs_with (key_texts comparison.keys) value)
+abbrev pub found_with : Matcher → List ℕ → Option (List (List ℕ))
+found_with matcher value = first_match matcher.comparison (pairs_with (key_texts matcher.keys) value)
 
 -- where values are taken from: the values of fields, or a part of the addresses in them
 abbrev pub field_source : Option AddressPart → List (List Part) → ValueSource

@@ -1,12 +1,9 @@
 -- What the program expects at an argument.
-use Rattle.std.specs.Prelude.{Bool, false, List, ◌∷◌, Option, Some, None, if◌then◌else◌}
+use Rattle.std.specs.Prelude.{List, ◌∷◌, Option, Some, None, if◌then◌else◌}
 use Rattle.sieve_reading.specs.Label.{Expected, fits}
 use Rattle.sieve_reading.specs.declared.label.Expected as expected
 use Rattle.sieve_reading.specs.declared.label.Shape.{Shape}
-use Rattle.sieve_reading.specs.declared.label.Shape.TheVariants as shape
-use Rattle.sieve_table.specs.Table.{same_tag}
 use Rattle.sieve_table.specs.declared.row.Slot.{Slot}
-use Rattle.sieve_table.specs.declared.table.Tag.{Tag}
 
 abbrev pub in_front : Option Slot → List Slot → List Slot
 in_front None slots = slots
@@ -19,11 +16,3 @@ expected_as e = record { awaited = e.awaited; slots = in_front e.front e.slots.n
 abbrev pub own_slot : Option Slot → Shape → Option Slot
 own_slot None s = None
 own_slot (Some own) s = if fits own.form s then Some own else None
-
--- an argument of that shape is this tag
-abbrev pub shows_tag : Tag → Shape → Bool
-shows_tag wanted (shape.Tag None) = false
-shows_tag wanted (shape.Tag (Some taken)) = same_tag wanted taken
-shows_tag wanted shape.Text = false
-shows_tag wanted shape.Texts = false
-shows_tag wanted shape.Number = false

@@ -17,11 +17,6 @@ use Rattle.sieve_reading.specs.declared.reading.TestReading.{TestReading}
 use Rattle.sieve_reading.specs.declared.reading.TestReading.TheVariants.{Always, Never, Asks, AllOf, AnyOf, Not}
 use Rattle.sieve_syntax.specs.declared.tree.Text.{Text}
 
--- the one that is there, or the other
-abbrev pub first_or : {A : Type 0} → Option A → Option A → Option A
-first_or None other = other
-first_or (Some first) other = Some first
-
 -- strings, each as its parts
 abbrev pub texts_as : List Text → List (List Part)
 texts_as texts = map (λ t. t.string) (map text_of texts)
@@ -34,7 +29,7 @@ source_as (source.String texts) = reading.string_values (texts_as texts.items)
 source_as (source.Flags variables) = reading.flag_values (option_map (λ texts. texts_as texts.items) variables)
 
 abbrev pub ask_as : Ask → reading.Ask
-ask_as (Compares source match_type collation keys) = reading.compares (source_as source) match_type collation (texts_as keys.items)
+ask_as (Compares source comparison keys) = reading.compares (source_as source) comparison (texts_as keys.items)
 ask_as (Exists names) = reading.exists_ask (texts_as names.items)
 ask_as (Over limit) = reading.over_ask limit
 ask_as (Under limit) = reading.under_ask limit

@@ -3,7 +3,7 @@ use Rattle.std.specs.Prelude.{ℕ, List, [], ◌∷◌, ◌++◌, if◌then◌el
 use Rattle.sieve_variables.specs.Part.{Part, literal, local_part, global_part, variable_part, match_part, part_of_words}
 use Rattle.sieve_variables.specs.Reference.{reference}
 use Rattle.sieve_variables.specs.Scan.{is_foreign, words_of}
-use Rattle.sieve_variables.specs.Variable.{Variable}
+use Rattle.sieve_variables.specs.Variable.{Variable, local_variable}
 use Rattle.sieve_variables.specs.declared.part.PartKind as kinds
 use Rattle.sieve_variables.specs.declared.part.PartKind.TheVariants as kind
 use Rattle.sieve_variables.specs.declared.part.PartRef as part_refs
@@ -28,17 +28,11 @@ plain_octets (literal octets) = octets
 plain_octets (variable_part variable) = []
 plain_octets (match_part index) = []
 
--- the octets of a part that stands for itself, where it does
-abbrev pub literal_in : Part → Option (List ℕ)
-literal_in (literal octets) = Some octets
-literal_in (variable_part variable) = None
-literal_in (match_part index) = None
-
--- the variable whose value a part is
-abbrev pub variable_in : Part → Option Variable
-variable_in (literal octets) = None
-variable_in (variable_part variable) = Some variable
-variable_in (match_part index) = None
+-- the variable whose value a part is; any other part names the one without a name, which no script has
+abbrev pub variable_in : Part → Variable
+variable_in (literal octets) = local_variable []
+variable_in (variable_part variable) = variable
+variable_in (match_part index) = local_variable []
 
 -- octets as a literal, if there are any
 abbrev pub literal_part : List ℕ → List Part

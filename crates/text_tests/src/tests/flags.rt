@@ -177,7 +177,7 @@ fn keys_are_not_judged(rt: HostRuntime) -> Result<(), AllocError> {
     check_key(&rt, b"", b"|")?;
     check_key(&rt, b" ", b"")?;
     check_key(&rt, b"a  b", b"a|b|")?;
-    check_key(&rt, b" \\Recent (* a A", b"\\Recent|(*|a|A|")
+    check_key(&rt, b" \\Recent (* a A a", b"\\Recent|(*|a|A|a|")
 }
 
 /// Compares the keys of several texts.

@@ -1,10 +1,8 @@
-use Rattle.std.proofs.Common.{◌≡◌, ℕ, List, map, ap, ◌∙◌}
+use Rattle.std.proofs.Common.{ℕ, List, map, ap, ◌∙◌}
 use Rattle.std.proofs.lemmas.Result.{on_ok_weaker}
 use Rattle.sieve_syntax.specs.view.Tree as seen
-use Rattle.sieve_check.specs.Parted.{parted_labelled}
 use Rattle.sieve_check.specs.Scope.{Scope, assigning_arguments, declaring_arguments}
 use Rattle.sieve_check.specs.view.Context.{at_spot}
-use Rattle.sieve_reading.specs.view.Tree.{argument_of}
 use Rattle.sieve_check.proofs.NamedAndCut.{cut_alike, declared_alike}
 use Rattle.sieve_check.proofs.command_rules.cut_and_name.Goals as goal
 

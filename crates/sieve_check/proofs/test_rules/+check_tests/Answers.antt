@@ -1,4 +1,4 @@
-use Rattle.std.proofs.Common.{◌≡◌, ◌+◌, ◌<◌, ◌≤◌, [], ◌∷◌, length, rules, arith, List, map, drop, refl, sym, ap, ◌∙◌, subst}
+use Rattle.std.proofs.Common.{◌+◌, ◌<◌, ◌≤◌, ◌∷◌, length, rules, arith, List, map, drop, sym, ap, ◌∙◌, subst}
 use Rattle.std.proofs.lemmas.List.{at_drop_all}
 use Rattle.sieve_syntax.specs.Tree.{tests}
 use Rattle.sieve_syntax.specs.view.Tree as seen

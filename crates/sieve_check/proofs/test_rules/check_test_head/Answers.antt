@@ -4,7 +4,7 @@ use Rattle.sieve_syntax.specs.declared.tree.Test.{out-Test}
 use Rattle.sieve_check.specs.Parted.{test_labels}
 use Rattle.sieve_check.specs.view.Context.{context_as}
 use Rattle.sieve_reading.specs.Shape.{row_labels}
-use Rattle.sieve_table.specs.Table.{test_named, test_row}
+use Rattle.sieve_table.specs.Table.{test_named}
 use Rattle.sieve_table.specs.view.Row.{row_as}
 use Rattle.sieve_check.proofs.Heads.{test_known}
 use Rattle.sieve_check.proofs.test_rules.check_test_head.Goals as goal

@@ -127,8 +127,8 @@ put_command-returns-in-Some-Nothing-clause-value t c =
 
 pub put_command-returns-clause-value : goal.put_command-returns-clause-value
 put_command-returns-clause-value t c =
-    c.drop_branches-in-None-read_command.ensures.value
-    ∙ command_put (node_of c.args.command) None (branches_as c.args.front c.args.tail.now) (c.in-None-read_command.ensures ∙ reading_seen c.args.command)
+    c.drop_branches-in-None-reading_of.ensures.value
+    ∙ command_put (node_of c.args.command) None (branches_as c.args.front c.args.tail.now) (c.in-None-reading_of.ensures ∙ reading_seen c.args.command)
 
 pub put_commands-loop-command-init : goal.put_commands-loop-command-init
 put_commands-loop-command-init t c =

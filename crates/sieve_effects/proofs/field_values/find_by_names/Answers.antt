@@ -7,13 +7,13 @@ use Rattle.sieve_effects.proofs.field_values.find_by_names.Goals as goal
 
 pub returns-in-Some-clause-found : goal.returns-in-Some-clause-found
 returns-in-Some-clause-found c =
-    let find = found_with c.args.comparison.now in
+    let find = found_with c.args.matcher.now in
     let found = subst (λ (m : List ℕ). c.in_ok-found.field-0 ≡ name_found find c.args.part (fields_of m) c.in_ok-name.name) c.loop-i.invariant.0 c.in_ok-found.ensures.found in
     name_gives (name_found find c.args.part (fields_of c.args.fields.now)) (map (text_value c.args.values.now) c.args.names.now) c.loop-i.i c.in_ok-name.name _ c.loop-i.invariant.1 c.in_ok-name.ensures _ (sym found ∙ c.in-Some.is)
 
 pub loop-i-preserved : goal.loop-i-preserved
 loop-i-preserved c =
-    let find = found_with c.args.comparison.now in
+    let find = found_with c.args.matcher.now in
     let found = subst (λ (m : List ℕ). c.in_ok-found.field-0 ≡ name_found find c.args.part (fields_of m) c.in_ok-name.name) c.loop-i.invariant.0 c.in_ok-found.ensures.found in (
       c.find_by_name.ensures.message ∙ c.loop-i.invariant.0,
       name_gives_none (name_found find c.args.part (fields_of c.args.fields.now)) (map (text_value c.args.values.now) c.args.names.now) c.loop-i.i c.in_ok-name.name _ c.loop-i.invariant.1 c.in_ok-name.ensures (sym found ∙ c.in_default.is),

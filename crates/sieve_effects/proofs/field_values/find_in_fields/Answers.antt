@@ -13,7 +13,7 @@ overflow_add-start c =
 
 pub returns-in-Some-2-clause-found : goal.returns-in-Some-2-clause-found
 returns-in-Some-2-clause-found c =
-    let find = found_with c.args.comparison.now in
+    let find = found_with c.args.matcher.now in
     let fields = fields_of c.args.fields.now in
     let name = c.args.name.now in
     let next = subst (λ (m : List ℕ). IsNextNamed (fields_of m) name c.loop-start.start c.in-Some.i) c.message-message.ensures c.in-Some.ensures.some in
@@ -23,7 +23,7 @@ returns-in-Some-2-clause-found c =
 
 pub loop-start-preserved : goal.loop-start-preserved
 loop-start-preserved c =
-    let find = found_with c.args.comparison.now in
+    let find = found_with c.args.matcher.now in
     let fields = fields_of c.args.fields.now in
     let name = c.args.name.now in
     let next = subst (λ (m : List ℕ). IsNextNamed (fields_of m) name c.loop-start.start c.in-Some.i) c.message-message.ensures c.in-Some.ensures.some in
@@ -35,7 +35,7 @@ loop-start-preserved c =
 
 pub returns-in_default-clause-found : goal.returns-in_default-clause-found
 returns-in_default-clause-found c =
-    let find = found_with c.args.comparison.now in
+    let find = found_with c.args.matcher.now in
     let fields = fields_of c.args.fields.now in
     let name = c.args.name.now in
     let counted : c.fields.result ≡ length fields = c.fields.ensures ∙ ap (λ (m : List ℕ). length (fields_of m)) c.message-message.ensures in
@@ -44,7 +44,7 @@ returns-in_default-clause-found c =
 
 pub returns-clause-found : goal.returns-clause-found
 returns-clause-found c =
-    let find = found_with c.args.comparison.now in
+    let find = found_with c.args.matcher.now in
     let fields = fields_of c.args.fields.now in
     let name = c.args.name.now in
     let counted : c.fields.result ≡ length fields = c.fields.ensures ∙ ap (λ (m : List ℕ). length (fields_of m)) c.message-message.ensures in

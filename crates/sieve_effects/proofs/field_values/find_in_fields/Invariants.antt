@@ -7,7 +7,7 @@ use Rattle.sieve_effects.proofs.field_values.find_in_fields.Given as goal
 -- the message stays, and what the fields that are left give is what all fields give
 abbrev pub invariant-loop-start : goal.invariant-loop-start
 invariant-loop-start l =
-    let find = field_found (found_with l.comparison) l.part l.name in
+    let find = field_found (found_with l.matcher) l.part l.name in
     (l.fields ≡ l.initial.fields) × (first_some find (drop l.start (fields_of l.initial.fields)) ≡ first_some find (fields_of l.initial.fields))
 
 abbrev pub decreases-loop-start : goal.decreases-loop-start

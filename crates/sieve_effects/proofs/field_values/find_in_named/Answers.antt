@@ -10,7 +10,7 @@ use Rattle.sieve_effects.proofs.field_values.find_in_named.Goals as goal
 
 pub returns-clause-found : goal.returns-clause-found
 returns-clause-found c =
-    let find = found_with c.args.comparison.now in
+    let find = found_with c.args.matcher.now in
     let state = state_of c.args.state.now in
     let names = c.args.names.now in
     answers_so c.find_by_names.result _ _

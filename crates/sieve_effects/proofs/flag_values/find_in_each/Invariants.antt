@@ -5,4 +5,4 @@ use Rattle.sieve_effects.proofs.flag_values.find_in_each.Given as goal
 
 -- what the flags that are left give is what all give
 abbrev pub invariant-loop-i : goal.invariant-loop-i
-invariant-loop-i l = first_some (found_with l.comparison) (drop l.i l.flags) ≡ first_some (found_with l.comparison) l.flags
+invariant-loop-i l = first_some (found_with l.matcher) (drop l.i l.flags) ≡ first_some (found_with l.matcher) l.flags

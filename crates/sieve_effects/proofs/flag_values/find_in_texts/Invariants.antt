@@ -7,4 +7,4 @@ use Rattle.sieve_effects.proofs.flag_values.find_in_texts.Given as goal
 
 -- what the texts that are left give is what all give
 abbrev pub invariant-loop-text : goal.invariant-loop-text
-invariant-loop-text l = first_some (λ text. first_some (found_with l.comparison) (flag_list text)) (octets_of_each (drop l.text-index l.texts)) ≡ first_some (λ text. first_some (found_with l.comparison) (flag_list text)) (octets_of_each l.texts)
+invariant-loop-text l = first_some (λ text. first_some (found_with l.matcher) (flag_list text)) (octets_of_each (drop l.text-index l.texts)) ≡ first_some (λ text. first_some (found_with l.matcher) (flag_list text)) (octets_of_each l.texts)

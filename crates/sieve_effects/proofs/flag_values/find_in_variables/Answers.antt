@@ -9,6 +9,6 @@ use Rattle.sieve_effects.proofs.flag_values.find_in_variables.Goals as goal
 pub returns : goal.returns
 returns c =
     answers_so c.find_in_texts.result _ _
-    (held_values (found_with c.args.comparison.now) (delivery_as c.args.delivery.now) (state_of c.args.state.now) c.args.variables.now (octets_of_each c.deref.result.now)
+    (held_values (found_with c.args.matcher.now) (delivery_as c.args.delivery.now) (state_of c.args.state.now) c.args.variables.now (octets_of_each c.deref.result.now)
     (ap octets_of_each c.deref.ensures.value ∙ c.in_ok-held.ensures))
     c.find_in_texts.ensures

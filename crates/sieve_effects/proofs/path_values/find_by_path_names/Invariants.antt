@@ -7,5 +7,5 @@ use Rattle.sieve_effects.proofs.path_values.find_by_path_names.Given as goal
 -- what the names that are left give is what all names give
 abbrev pub invariant-loop-i : goal.invariant-loop-i
 invariant-loop-i l =
-    let find = path_name_found (found_with l.comparison) l.part l.envelope in
+    let find = path_name_found (found_with l.matcher) l.part l.envelope in
     first_some find (drop l.i (map (text_value l.values) l.names)) ≡ first_some find (map (text_value l.values) l.names)

@@ -8,5 +8,5 @@ use Rattle.sieve_effects.proofs.path_values.find_in_paths.Goals as goal
 pub returns : goal.returns
 returns c =
     answers_so c.find_by_path_names.result _ _
-    (sym (first_of_paths (found_with c.args.comparison.now) c.args.part (delivery_as c.args.delivery.now) (state_of c.args.state.now) c.args.names.now))
+    (sym (first_of_paths (found_with c.args.matcher.now) c.args.part (delivery_as c.args.delivery.now) (state_of c.args.state.now) c.args.names.now))
     c.find_by_path_names.ensures

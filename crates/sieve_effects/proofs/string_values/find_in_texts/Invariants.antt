@@ -7,5 +7,5 @@ use Rattle.sieve_effects.proofs.string_values.find_in_texts.Given as goal
 -- what the strings that are left give is what all give
 abbrev pub invariant-loop-i : goal.invariant-loop-i
 invariant-loop-i l =
-    let find = found_with l.comparison in
+    let find = found_with l.matcher in
     first_some find (drop l.i (map (text_value l.values) l.texts)) ≡ first_some find (map (text_value l.values) l.texts)

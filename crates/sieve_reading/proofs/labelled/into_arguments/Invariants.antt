@@ -1,11 +1,10 @@
 use Rattle.std.proofs.Common.{◌≡◌, map}
 use Rattle.std.specs.Option.{option_map}
 use Rattle.sieve_reading.specs.Label.{labels_from}
-use Rattle.sieve_reading.specs.Given.{in_role}
+use Rattle.sieve_reading.specs.Given.{first_or, in_role}
 use Rattle.sieve_reading.specs.Shape.{shape_of}
 use Rattle.sieve_reading.specs.view.Labels.{labels_in}
 use Rattle.sieve_reading.specs.view.Expected.{expected_as}
-use Rattle.sieve_reading.specs.view.Reading.{first_or}
 use Rattle.sieve_reading.specs.view.Tree.{argument_of}
 use Rattle.sieve_reading.proofs.labelled.into_arguments.Given as goal
 

@@ -16,11 +16,11 @@ ended-requires g c =
     let find : ScriptName → Lookup = library_of (g.L.Library.texts c.args.lib.now) in
     let d = delivery_to c.args.envelope.now c.args.message.now c.args.main.now in
     let ops = ops_of c.args.code.now in
-    run_bounded find include_depth d (code_walk ops (length ops)) c.in_ok-flow.flow (state_of c.in_ok-state.state) (state_of c.execute_main.new.state) (ap (λ (s : RunState). s.actions) c.in_ok-state.ensures) c.in_ok-flow.ensures
+    run_bounded find include_depth d (code_walk ops (length ops)) c.in_ok-flow.flow (state_of c.in_ok-state.state) (state_of c.execute.new.state) (ap (λ (s : RunState). s.actions) c.in_ok-state.ensures) c.in_ok-flow.ensures.ending
 
 pub returns : goal.returns
 returns g c =
     let find : ScriptName → Lookup = library_of (g.L.Library.texts c.args.lib.now) in
     let d = delivery_to c.args.envelope.now c.args.message.now c.args.main.now in
     let ops = ops_of c.args.code.now in
-    c.ended.ensures ∙ ap verdict_of (sym c.in_ok-flow.ensures ∙ ap (doing (act_of find include_depth d) d (code_walk ops (length ops))) c.in_ok-state.ensures)
+    c.ended.ensures ∙ ap verdict_of (sym c.in_ok-flow.ensures.ending ∙ ap (doing (act_of find include_depth d) d (code_walk ops (length ops))) c.in_ok-state.ensures)

@@ -1,17 +1,10 @@
-use Rattle.std.proofs.Common.{◌≡◌, ◌&&◌, ◌∙◌, ◌<◌, ◌≤◌, ◌+◌, ◌-◌, true, false, IfOk, List, length, map, nat_lt, sym, ap, subst, arith, Bor, Option, [], slice_index_or}
-use Rattle.std.specs.Option.{option_copied}
+use Rattle.std.proofs.Common.{◌≡◌, ◌&&◌, ◌∙◌, ◌<◌, ◌≤◌, ◌+◌, ◌-◌, true, false, IfOk, List, length, map, nat_lt, sym, ap, subst, arith, Bor, [], slice_index_or}
 use Rattle.std.proofs.lemmas.Bool.Decides.{nat_tests}
 use Rattle.std.proofs.lemmas.Result.{IfOk-weaker}
 use Rattle.sieve_code.specs.Walk.{code_walk, walk_from}
-use Rattle.sieve_code.specs.Operation.{act_op, targeting}
-use Rattle.sieve_code.specs.declared.pools.Target.{Target}
-use Rattle.sieve_code.specs.view.Op.{set_in}
-use Rattle.sieve_code.specs.Pool.{given_list}
-use Rattle.sieve_code.specs.view.Code.{jump_place_of, op_of, ops_of, pool_of}
-use Rattle.sieve_effects.specs.Joined.{list_in}
-use Rattle.sieve_effects.specs.view.Ops.{settings_op_as}
+use Rattle.sieve_code.specs.view.Code.{op_of, ops_of, pool_of}
 use Rattle.sieve_base.specs.Limits.{include_limit}
-use Rattle.sieve_reading.specs.Reading.{discard_leaf, fileinto_leaf, flag_leaf, include_leaf, keep_leaf, redirect_leaf, set_leaf}
+use Rattle.sieve_reading.specs.Reading.{include_leaf}
 use Rattle.sieve_run.specs.Library.{Lookup, found_at, library_of}
 use Rattle.sieve_run.specs.Run.{act_of, included, is_script}
 use Rattle.sieve_effects.specs.declared.flow.Flow.{Flow}
@@ -31,99 +24,31 @@ use Rattle.sieve_run.proofs.Stepping.{acts_follow, past_end, runs_out, turns}
 use Rattle.sieve_run.proofs.steps.+execute.Goals as goal
 use Rattle.sieve_run.proofs.steps.+execute.Goals.{include-else-once-via-then-once+else-is_script, include-else-once-via-else-once}
 
-pub act-returns-in-Keep-clause-step : goal.act-returns-in-Keep-clause-step
-act-returns-in-Keep-clause-step g t c =
-    let find : ScriptName → Lookup = library_of (g.L.Library.texts c.args.lib.now) in
-    let d = delivery_as c.args.delivery.now in
-    let settings = c.settings-settings in
-    acts_follow (act_of find c.args.depth d) d (keep_leaf (settings_op_as settings.result)) c.in-Keep.line _ _ _ _ _ _ _
-    (ap (op_of c.args.code.now) c.in-Keep.is ∙ ap (λ s. act_op (keep_leaf s) c.in-Keep.line) (sym settings.ensures))
-    c.keep-flow.ensures c.acted.ensures
-
-pub act-returns-in-Fileinto-clause-step : goal.act-returns-in-Fileinto-clause-step
-act-returns-in-Fileinto-clause-step g t c =
-    let find : ScriptName → Lookup = library_of (g.L.Library.texts c.args.lib.now) in
-    let d = delivery_as c.args.delivery.now in
-    let mailbox = c.string-mailbox in
-    let settings = c.settings-settings-in-Fileinto in
-    let i = c.in-Fileinto in
-    acts_follow (act_of find c.args.depth d) d (fileinto_leaf mailbox.result.now (settings_op_as settings.result)) i.line _ _ _ _ _ _ _
-    (ap (op_of c.args.code.now) i.is
-    ∙ ap (λ m. act_op (fileinto_leaf m (record { flags = given_list (pool_of c.args.code.now) i.flags; copy = i.copy })) i.line) (sym mailbox.ensures)
-    ∙ ap (λ s. act_op (fileinto_leaf mailbox.result.now s) i.line) (sym settings.ensures))
-    c.file_into-flow.ensures c.acted-in-Fileinto.ensures
-
-pub act-returns-in-Redirect-clause-step : goal.act-returns-in-Redirect-clause-step
-act-returns-in-Redirect-clause-step g t c =
-    let find : ScriptName → Lookup = library_of (g.L.Library.texts c.args.lib.now) in
-    let d = delivery_as c.args.delivery.now in
-    let address = c.string-address in
-    let settings = c.settings-settings-in-Redirect in
-    let i = c.in-Redirect in
-    acts_follow (act_of find c.args.depth d) d (redirect_leaf address.result.now (settings_op_as settings.result)) i.line _ _ _ _ _ _ _
-    (ap (op_of c.args.code.now) i.is
-    ∙ ap (λ a. act_op (redirect_leaf a (record { flags = given_list (pool_of c.args.code.now) i.flags; copy = i.copy })) i.line) (sym address.ensures)
-    ∙ ap (λ s. act_op (redirect_leaf address.result.now s) i.line) (sym settings.ensures))
-    c.redirect-flow.ensures c.acted-in-Redirect.ensures
-
-pub act-returns-in-Discard-clause-step : goal.act-returns-in-Discard-clause-step
-act-returns-in-Discard-clause-step g t c =
-    let find : ScriptName → Lookup = library_of (g.L.Library.texts c.args.lib.now) in
-    let d = delivery_as c.args.delivery.now in
-    acts_follow (act_of find c.args.depth d) d discard_leaf c.in-Discard.line _ _ _ _ _ _ _ (ap (op_of c.args.code.now) c.in-Discard.is) c.discard-flow.ensures c.acted-in-Discard.ensures
-
-pub act-returns-in-Some-clause-step : goal.act-returns-in-Some-clause-step
-act-returns-in-Some-clause-step g t c =
-    let find : ScriptName → Lookup = library_of (g.L.Library.texts c.args.lib.now) in
-    let d = delivery_as c.args.delivery.now in
-    let value = c.string-value in
-    let i = c.in-Set in
-    let target = c.in-Some.target in
-    acts_follow (act_of find c.args.depth d) d (set_leaf target.now.variable target.now.modifiers value.result.now) i.line _ _ _ _ _ _ _
-    (ap (op_of c.args.code.now) i.is
-    ∙ ap (λ (t : Option Target). targeting (jump_place_of c.args.code.now) (set_in t i.line (slice_index_or (pool_of c.args.code.now).strings i.value []))) (sym c.target.ensures ∙ ap option_copied c.in-Some.is)
-    ∙ ap (λ v. act_op (set_leaf target.now.variable target.now.modifiers v) i.line) (sym value.ensures))
-    c.set-flow.ensures c.acted-in-Some.ensures
-
-pub act-returns-in-Flags-clause-step : goal.act-returns-in-Flags-clause-step
-act-returns-in-Flags-clause-step g t c =
-    let find : ScriptName → Lookup = library_of (g.L.Library.texts c.args.lib.now) in
-    let d = delivery_as c.args.delivery.now in
-    let variable = c.variable-variable in
-    let flags = c.list-flags in
-    let i = c.in-Flags in
-    acts_follow (act_of find c.args.depth d) d (flag_leaf i.how (option_copied variable.result) flags.result) i.line _ _ _ _ _ _ _
-    (ap (op_of c.args.code.now) i.is
-    ∙ ap (λ v. act_op (flag_leaf i.how v (list_in (pool_of c.args.code.now).lists i.flags)) i.line) (sym variable.ensures)
-    ∙ ap (λ f. act_op (flag_leaf i.how (option_copied variable.result) f) i.line) (sym flags.ensures))
-    c.change-flow.ensures c.acted-in-Flags.ensures
-
-pub act-returns-in_ok-copied-in-Include-clause-step : goal.act-returns-in_ok-copied-in-Include-clause-step
-act-returns-in_ok-copied-in-Include-clause-step g t c =
-    let find : ScriptName → Lookup = library_of (g.L.Library.texts c.args.lib.now) in
-    let d = delivery_as c.args.delivery.now in
-    let i = c.in-Include in
-    let name = c.in_ok-copied-in-Include in
-    acts_follow (act_of find c.args.depth d) d (include_leaf i.place i.once i.optional name.field-0) i.line _ _ _ _ _ _ _
-    (ap (op_of c.args.code.now) i.is ∙ ap (λ n. act_op (include_leaf i.place i.once i.optional n) i.line) (sym (name.ensures ∙ c.script.ensures)))
-    c.include-flow.ensures.ending c.acted-in-Include.ensures
+pub carry_out-returns-in-Include-clause-step : goal.carry_out-returns-in-Include-clause-step
+carry_out-returns-in-Include-clause-step g t c =
+    let find : ScriptName → Lookup = library_of (g.L.Library.texts c.args.running.now.lib.now) in
+    let d = delivery_as c.args.running.now.delivery.now in
+    let i = c.in-Include.inclusion in
+    acts_follow (act_of find c.args.running.now.depth d) d (include_leaf i.place i.once i.optional (slice_index_or (pool_of c.args.running.now.code.now).scripts i.name [])) i.line _ _ _ _ _ _ _
+    (ap (op_of c.args.running.now.code.now) c.in-Include.is)
+    c.include_named.ensures.ending c.acted.ensures
 
 pub execute_inside-returns-clause-ending : goal.execute_inside-returns-clause-ending
 execute_inside-returns-clause-ending g t c =
-    let find : ScriptName → Lookup = library_of (g.L.Library.texts c.args.lib.now) in
-    let d = delivery_as c.args.delivery.now in
+    let find : ScriptName → Lookup = library_of (g.L.Library.texts c.args.running.now.lib.now) in
+    let d = delivery_as c.args.running.now.delivery.now in
     let ops = ops_of c.args.code.now in
-    subst (λ (inner : Delivery). IfOk c.execute.result (λ (flow : Flow). doing (act_of find c.args.depth inner) inner (code_walk ops (length ops)) (state_of c.args.state.now) ≡ ending_by flow (state_of c.execute.new.state)))
+    subst (λ (inner : Delivery). IfOk c.execute.result (λ (flow : Flow). doing (act_of find c.args.running.now.depth inner) inner (code_walk ops (length ops)) (state_of c.args.state.now) ≡ ending_by flow (state_of c.execute.new.state)))
     (ap (λ (names : List ScriptName). record d { script = c.args.name.now; including = names }) (ap (map (λ (name : Bor ScriptName). name.now)) c.as_slice.ensures.value ∙ c.in_ok-including.ensures))
     c.execute.ensures.ending
 
 pub enter-returns-clause-ending : goal.enter-returns-clause-ending
 enter-returns-clause-ending g t c =
-    let find : ScriptName → Lookup = library_of (g.L.Library.texts c.args.lib.now) in
-    let d = delivery_as c.args.delivery.now in
+    let find : ScriptName → Lookup = library_of (g.L.Library.texts c.args.running.now.lib.now) in
+    let d = delivery_as c.args.running.now.delivery.now in
     let s = state_of c.args.state.now in
     let ended = state_of c.execute_inside.new.state in
-    enters_by find c.args.depth d c.args.name.now (ops_of c.args.code.now) s _ ended _ c.in_ok-flow.flow c.resumed.result
+    enters_by find c.args.running.now.depth d c.args.name.now (ops_of c.args.code.now) s _ ended _ c.in_ok-flow.flow c.resumed.result
     c.in_ok-own.ensures.state
     c.in_ok-flow.ensures.ending
     c.resumed.ensures
@@ -131,112 +56,112 @@ enter-returns-clause-ending g t c =
 
 pub execute-returns-then-place-len-clause-ending : goal.execute-returns-then-place-len-clause-ending
 execute-returns-then-place-len-clause-ending g t c =
-    let d = delivery_as c.args.delivery.now in
-    let act = act_of (library_of (g.L.Library.texts c.args.lib.now)) c.args.depth d in
-    let ops = ops_of c.args.code.now in
+    let d = delivery_as c.args.running.now.delivery.now in
+    let act = act_of (library_of (g.L.Library.texts c.args.running.now.lib.now)) c.args.running.now.depth d in
+    let ops = ops_of c.args.running.now.code.now in
     sym c.loop-turn.invariant.1
     ∙ past_end act d ops (length ops - c.loop-turn._turn) c.loop-turn.place c.loop-turn.register (state_of c.loop-turn.state) (subst (λ n. n ≤ c.loop-turn.place) c.len.ensures c.if-place-len.true)
 
 pub execute-returns-in-Ended-clause-ending : goal.execute-returns-in-Ended-clause-ending
 execute-returns-in-Ended-clause-ending g t c =
-    let d = delivery_as c.args.delivery.now in
-    let act = act_of (library_of (g.L.Library.texts c.args.lib.now)) c.args.depth d in
-    let ops = ops_of c.args.code.now in
+    let d = delivery_as c.args.running.now.delivery.now in
+    let act = act_of (library_of (g.L.Library.texts c.args.running.now.lib.now)) c.args.running.now.depth d in
+    let ops = ops_of c.args.running.now.code.now in
     sym c.loop-turn.invariant.1
-    ∙ turns act d ops c.loop-turn._turn c.loop-turn.place c.loop-turn.register (op_of c.args.code.now c.op.result) (state_of c.loop-turn.state) c.in_ok-next.field-0 (state_of c.carry_out.new.state) (subst (λ n. c.loop-turn._turn < n) c.len-turn-end.ensures c.loop-turn-test.true) c.op.ensures c.in_ok-next.ensures.step
+    ∙ turns act d ops c.loop-turn._turn c.loop-turn.place c.loop-turn.register (op_of c.args.running.now.code.now c.op.result) (state_of c.loop-turn.state) c.in_ok-next.field-0 (state_of c.carry_out.new.state) (subst (λ n. c.loop-turn._turn < n) c.len-turn-end.ensures c.loop-turn-test.true) c.op.ensures c.in_ok-next.ensures.step
     ∙ ap (λ step. doing_after act d (walk_from ops (length ops - (c.loop-turn._turn + 1))) step (state_of c.carry_out.new.state)) c.in-Ended.is
 
 pub execute-loop-turn-preserved : goal.execute-loop-turn-preserved
 execute-loop-turn-preserved g t c =
-    let d = delivery_as c.args.delivery.now in
-    let act = act_of (library_of (g.L.Library.texts c.args.lib.now)) c.args.depth d in
-    let ops = ops_of c.args.code.now in (
+    let d = delivery_as c.args.running.now.delivery.now in
+    let act = act_of (library_of (g.L.Library.texts c.args.running.now.lib.now)) c.args.running.now.depth d in
+    let ops = ops_of c.args.running.now.code.now in (
       c.carry_out.ensures.message ∙ c.loop-turn.invariant.0,
-      sym (turns act d ops c.loop-turn._turn c.loop-turn.place c.loop-turn.register (op_of c.args.code.now c.op.result) (state_of c.loop-turn.state) c.in_ok-next.field-0 (state_of c.carry_out.new.state) (subst (λ n. c.loop-turn._turn < n) c.len-turn-end.ensures c.loop-turn-test.true) c.op.ensures c.in_ok-next.ensures.step
+      sym (turns act d ops c.loop-turn._turn c.loop-turn.place c.loop-turn.register (op_of c.args.running.now.code.now c.op.result) (state_of c.loop-turn.state) c.in_ok-next.field-0 (state_of c.carry_out.new.state) (subst (λ n. c.loop-turn._turn < n) c.len-turn-end.ensures c.loop-turn-test.true) c.op.ensures c.in_ok-next.ensures.step
           ∙ ap (λ step. doing_after act d (walk_from ops (length ops - (c.loop-turn._turn + 1))) step (state_of c.carry_out.new.state)) c.in-Next.is)
           ∙ c.loop-turn.invariant.1,
     )
 
 pub execute-returns-clause-ending : goal.execute-returns-clause-ending
 execute-returns-clause-ending g t c =
-    let d = delivery_as c.args.delivery.now in
-    let act = act_of (library_of (g.L.Library.texts c.args.lib.now)) c.args.depth d in
+    let d = delivery_as c.args.running.now.delivery.now in
+    let act = act_of (library_of (g.L.Library.texts c.args.running.now.lib.now)) c.args.running.now.depth d in
     sym c.loop-turn.invariant.1
-    ∙ runs_out act d (ops_of c.args.code.now) c.loop-turn._turn c.loop-turn.place c.loop-turn.register (state_of c.loop-turn.state) (subst (λ n. n ≤ c.loop-turn._turn) c.len-turn-end.ensures c.loop-turn-test.false)
+    ∙ runs_out act d (ops_of c.args.running.now.code.now) c.loop-turn._turn c.loop-turn.place c.loop-turn.register (state_of c.loop-turn.state) (subst (λ n. n ≤ c.loop-turn._turn) c.len-turn-end.ensures c.loop-turn-test.false)
 
 pub include-returns-then-is_script-clause-ending : goal.include-returns-then-is_script-clause-ending
 include-returns-then-is_script-clause-ending g t c =
-    let find : ScriptName → Lookup = library_of (g.L.Library.texts c.args.lib.now) in
-    skips_included find (delivery_as c.args.delivery.now) c.args.name.now c.args.once c.args.optional c.args.line (state_of c.args.state.now) c.args.depth c.if-once.true
+    let find : ScriptName → Lookup = library_of (g.L.Library.texts c.args.running.now.lib.now) in
+    skips_included find (delivery_as c.args.running.now.delivery.now) c.args.name.now c.args.inclusion.once c.args.inclusion.optional c.args.inclusion.line (state_of c.args.state.now) c.args.running.now.depth c.if-once.true
     (sym (c.is_script.ensures ∙ ap (is_script c.args.name.now) c.as_slice.ensures.value) ∙ c.if-is_script.true)
 
 pub include-returns-then-is_running-clause-ending : goal.include-returns-then-is_running-clause-ending
 include-returns-then-is_running-clause-ending g t c =
-    let find : ScriptName → Lookup = library_of (g.L.Library.texts c.args.lib.now) in
-    let d = delivery_as c.args.delivery.now in
+    let find : ScriptName → Lookup = library_of (g.L.Library.texts c.args.running.now.lib.now) in
+    let d = delivery_as c.args.running.now.delivery.now in
     let s = state_of c.args.state.now in
-    let first : (c.args.once && is_script c.args.name.now s.entered) ≡ false = elim c.else-once.branch [
-      | include-else-once-via-then-once+else-is_script w ↦ not_entered c.args.once w.is_script.result c.args.name.now s.entered w.as_slice.result.now w.as_slice.ensures.value w.is_script.ensures w.if-is_script.false
-      | include-else-once-via-else-once w ↦ not_once c.args.once c.args.name.now s.entered w.if-once.false
+    let first : (c.args.inclusion.once && is_script c.args.name.now s.entered) ≡ false = elim c.else-once.branch [
+      | include-else-once-via-then-once+else-is_script w ↦ not_entered c.args.inclusion.once w.is_script.result c.args.name.now s.entered w.as_slice.result.now w.as_slice.ensures.value w.is_script.ensures w.if-is_script.false
+      | include-else-once-via-else-once w ↦ not_once c.args.inclusion.once c.args.name.now s.entered w.if-once.false
     ] in
-    IfOk-weaker c.fail.result (λ (flow : Flow). flow ≡ Failed (record { script = d.script; line = c.args.line; kind = RecursiveInclude }))
-    (λ (flow : Flow). ending_by flow s ≡ included find c.args.depth d c.args.name.now c.args.once c.args.optional c.args.line s)
-    (λ flow is. ap (λ f. ending_by f s) is ∙ fails_running find d c.args.name.now c.args.once c.args.optional c.args.line s c.args.depth first (sym c.is_running.ensures ∙ c.if-is_running.true))
+    IfOk-weaker c.fail.result (λ (flow : Flow). flow ≡ Failed (record { script = d.script; line = c.args.inclusion.line; kind = RecursiveInclude }))
+    (λ (flow : Flow). ending_by flow s ≡ included find c.args.running.now.depth d c.args.name.now c.args.inclusion.once c.args.inclusion.optional c.args.inclusion.line s)
+    (λ flow is. ap (λ f. ending_by f s) is ∙ fails_running find d c.args.name.now c.args.inclusion.once c.args.inclusion.optional c.args.inclusion.line s c.args.running.now.depth first (sym c.is_running.ensures ∙ c.if-is_running.true))
     c.fail.ensures
 
 pub include-returns-then-depth-eq0-clause-ending : goal.include-returns-then-depth-eq0-clause-ending
 include-returns-then-depth-eq0-clause-ending g t c =
-    let find : ScriptName → Lookup = library_of (g.L.Library.texts c.args.lib.now) in
-    let d = delivery_as c.args.delivery.now in
+    let find : ScriptName → Lookup = library_of (g.L.Library.texts c.args.running.now.lib.now) in
+    let d = delivery_as c.args.running.now.delivery.now in
     let s = state_of c.args.state.now in
-    let first : (c.args.once && is_script c.args.name.now s.entered) ≡ false = elim c.else-once.branch [
-      | include-else-once-via-then-once+else-is_script w ↦ not_entered c.args.once w.is_script.result c.args.name.now s.entered w.as_slice.result.now w.as_slice.ensures.value w.is_script.ensures w.if-is_script.false
-      | include-else-once-via-else-once w ↦ not_once c.args.once c.args.name.now s.entered w.if-once.false
+    let first : (c.args.inclusion.once && is_script c.args.name.now s.entered) ≡ false = elim c.else-once.branch [
+      | include-else-once-via-then-once+else-is_script w ↦ not_entered c.args.inclusion.once w.is_script.result c.args.name.now s.entered w.as_slice.result.now w.as_slice.ensures.value w.is_script.ensures w.if-is_script.false
+      | include-else-once-via-else-once w ↦ not_once c.args.inclusion.once c.args.name.now s.entered w.if-once.false
     ] in
-    IfOk-weaker c.fail-then-depth-eq0.result (λ (flow : Flow). flow ≡ Failed (record { script = d.script; line = c.args.line; kind = IncludeDepth }))
-    (λ (flow : Flow). ending_by flow s ≡ included find c.args.depth d c.args.name.now c.args.once c.args.optional c.args.line s)
-    (λ flow is. ap (λ f. ending_by f s) is ∙ fails_deep find d c.args.name.now c.args.once c.args.optional c.args.line s c.args.depth first (sym c.is_running.ensures ∙ c.if-is_running.false) c.if-depth-eq0.true)
+    IfOk-weaker c.fail-then-depth-eq0.result (λ (flow : Flow). flow ≡ Failed (record { script = d.script; line = c.args.inclusion.line; kind = IncludeDepth }))
+    (λ (flow : Flow). ending_by flow s ≡ included find c.args.running.now.depth d c.args.name.now c.args.inclusion.once c.args.inclusion.optional c.args.inclusion.line s)
+    (λ flow is. ap (λ f. ending_by f s) is ∙ fails_deep find d c.args.name.now c.args.inclusion.once c.args.inclusion.optional c.args.inclusion.line s c.args.running.now.depth first (sym c.is_running.ensures ∙ c.if-is_running.false) c.if-depth-eq0.true)
     c.fail-then-depth-eq0.ensures
 
 pub include-returns-then-len-gt-MAX_INCLUDES-clause-ending : goal.include-returns-then-len-gt-MAX_INCLUDES-clause-ending
 include-returns-then-len-gt-MAX_INCLUDES-clause-ending g t c =
-    let find : ScriptName → Lookup = library_of (g.L.Library.texts c.args.lib.now) in
-    let d = delivery_as c.args.delivery.now in
+    let find : ScriptName → Lookup = library_of (g.L.Library.texts c.args.running.now.lib.now) in
+    let d = delivery_as c.args.running.now.delivery.now in
     let s = state_of c.args.state.now in
-    let first : (c.args.once && is_script c.args.name.now s.entered) ≡ false = elim c.else-once.branch [
-      | include-else-once-via-then-once+else-is_script w ↦ not_entered c.args.once w.is_script.result c.args.name.now s.entered w.as_slice.result.now w.as_slice.ensures.value w.is_script.ensures w.if-is_script.false
-      | include-else-once-via-else-once w ↦ not_once c.args.once c.args.name.now s.entered w.if-once.false
+    let first : (c.args.inclusion.once && is_script c.args.name.now s.entered) ≡ false = elim c.else-once.branch [
+      | include-else-once-via-then-once+else-is_script w ↦ not_entered c.args.inclusion.once w.is_script.result c.args.name.now s.entered w.as_slice.result.now w.as_slice.ensures.value w.is_script.ensures w.if-is_script.false
+      | include-else-once-via-else-once w ↦ not_once c.args.inclusion.once c.args.name.now s.entered w.if-once.false
     ] in
     let many : nat_lt include_limit (length s.entered) ≡ true = grind (arith, nat_tests, c.len.ensures, c.if-len-gt-MAX_INCLUDES.true) in
-    IfOk-weaker c.fail-then-len-gt-MAX_INCLUDES.result (λ (flow : Flow). flow ≡ Failed (record { script = d.script; line = c.args.line; kind = IncludeCount }))
-    (λ (flow : Flow). ending_by flow s ≡ included find c.args.depth d c.args.name.now c.args.once c.args.optional c.args.line s)
-    (λ flow is. ap (λ f. ending_by f s) is ∙ fails_many find d c.args.name.now c.args.once c.args.optional c.args.line s c.args.depth first (sym c.is_running.ensures ∙ c.if-is_running.false) c.if-depth-eq0.false many)
+    IfOk-weaker c.fail-then-len-gt-MAX_INCLUDES.result (λ (flow : Flow). flow ≡ Failed (record { script = d.script; line = c.args.inclusion.line; kind = IncludeCount }))
+    (λ (flow : Flow). ending_by flow s ≡ included find c.args.running.now.depth d c.args.name.now c.args.inclusion.once c.args.inclusion.optional c.args.inclusion.line s)
+    (λ flow is. ap (λ f. ending_by f s) is ∙ fails_many find d c.args.name.now c.args.inclusion.once c.args.inclusion.optional c.args.inclusion.line s c.args.running.now.depth first (sym c.is_running.ensures ∙ c.if-is_running.false) c.if-depth-eq0.false many)
     c.fail-then-len-gt-MAX_INCLUDES.ensures
 
 pub include-returns-clause-ending : goal.include-returns-clause-ending
 include-returns-clause-ending g t c =
-    let find : ScriptName → Lookup = library_of (g.L.Library.texts c.args.lib.now) in
-    let d = delivery_as c.args.delivery.now in
+    let find : ScriptName → Lookup = library_of (g.L.Library.texts c.args.running.now.lib.now) in
+    let d = delivery_as c.args.running.now.delivery.now in
     let s = state_of c.args.state.now in
-    let first : (c.args.once && is_script c.args.name.now s.entered) ≡ false = elim c.else-once.branch [
-      | include-else-once-via-then-once+else-is_script w ↦ not_entered c.args.once w.is_script.result c.args.name.now s.entered w.as_slice.result.now w.as_slice.ensures.value w.is_script.ensures w.if-is_script.false
-      | include-else-once-via-else-once w ↦ not_once c.args.once c.args.name.now s.entered w.if-once.false
+    let first : (c.args.inclusion.once && is_script c.args.name.now s.entered) ≡ false = elim c.else-once.branch [
+      | include-else-once-via-then-once+else-is_script w ↦ not_entered c.args.inclusion.once w.is_script.result c.args.name.now s.entered w.as_slice.result.now w.as_slice.ensures.value w.is_script.ensures w.if-is_script.false
+      | include-else-once-via-else-once w ↦ not_once c.args.inclusion.once c.args.name.now s.entered w.if-once.false
     ] in
     let few : nat_lt include_limit (length s.entered) ≡ false = grind (arith, nat_tests, c.len.ensures, c.if-len-gt-MAX_INCLUDES.false) in
-    IfOk-weaker c.look_up.result (λ (flow : Flow). ending_by flow (state_of c.look_up.new.state) ≡ looks_up find (c.args.depth - 1) d c.args.name.now c.args.optional c.args.line s)
-    (λ (flow : Flow). ending_by flow (state_of c.look_up.new.state) ≡ included find c.args.depth d c.args.name.now c.args.once c.args.optional c.args.line s)
-    (λ flow is. is ∙ looks_included find d c.args.name.now c.args.once c.args.optional c.args.line s c.args.depth first (sym c.is_running.ensures ∙ c.if-is_running.false) c.if-depth-eq0.false few)
+    IfOk-weaker c.look_up.result (λ (flow : Flow). ending_by flow (state_of c.look_up.new.state) ≡ looks_up find (c.args.running.now.depth - 1) d c.args.name.now c.args.inclusion.optional c.args.inclusion.line s)
+    (λ (flow : Flow). ending_by flow (state_of c.look_up.new.state) ≡ included find c.args.running.now.depth d c.args.name.now c.args.inclusion.once c.args.inclusion.optional c.args.inclusion.line s)
+    (λ flow is. is ∙ looks_included find d c.args.name.now c.args.inclusion.once c.args.inclusion.optional c.args.inclusion.line s c.args.running.now.depth first (sym c.is_running.ensures ∙ c.if-is_running.false) c.if-depth-eq0.false few)
     c.look_up.ensures.ending
 
 pub look_up-returns-in-Present-clause-ending : goal.look_up-returns-in-Present-clause-ending
 look_up-returns-in-Present-clause-ending g t c =
-    let find : ScriptName → Lookup = library_of (g.L.Library.texts c.args.lib.now) in
-    let d = delivery_as c.args.delivery.now in
+    let find : ScriptName → Lookup = library_of (g.L.Library.texts c.args.running.now.lib.now) in
+    let d = delivery_as c.args.running.now.delivery.now in
     let s = state_of c.args.state.now in
     let ops = ops_of c.in-Present.code.now in
     let has = subst (λ found. FoundAs found (found_at find c.args.name.now)) c.in-Present.is c.find-found.ensures in
     let there : c.is_there.result ≡ true = c.is_there.ensures ∙ ap there_as c.in-Present.is in
     IfOk-weaker c.enter.result _
-    (λ (flow : Flow). ending_by flow (state_of c.enter.new.state) ≡ looks_up find c.args.depth d c.args.name.now c.args.optional c.args.line s)
-    (λ flow is. is ∙ looks_present find c.args.depth d c.args.name.now c.args.optional c.args.line ops s _ c.is_there.result has there (ap (λ reads. record s { reads = reads }) c.in_ok-note_read.ensures))
+    (λ (flow : Flow). ending_by flow (state_of c.enter.new.state) ≡ looks_up find c.args.running.now.depth d c.args.name.now c.args.inclusion.optional c.args.inclusion.line s)
+    (λ flow is. is ∙ looks_present find c.args.running.now.depth d c.args.name.now c.args.inclusion.optional c.args.inclusion.line ops s _ c.is_there.result has there (ap (λ reads. record s { reads = reads }) c.in_ok-note_read.ensures))
     c.enter.ensures.ending

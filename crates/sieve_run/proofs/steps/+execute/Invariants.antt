@@ -11,29 +11,30 @@ use Rattle.sieve_run.proofs.steps.+execute.Given as goal
 -- the message stays, and what is left to do from the place, in the turns that are left, gives what all of it gives
 abbrev pub invariant-execute-loop-turn : goal.invariant-execute-loop-turn
 invariant-execute-loop-turn g l =
-    let ops = ops_of l.code in
-    let d = delivery_as l.delivery in
-    let act = act_of (library_of (g.L.Library.texts l.lib)) l.depth d in
+    let running = l.running in
+    let ops = ops_of running.code.now in
+    let d = delivery_as running.delivery.now in
+    let act = act_of (library_of (g.L.Library.texts running.lib.now)) running.depth d in
     (l.fields ≡ l.initial.fields) × (doing act d (walk_from ops (length ops - l._turn) l.place l.register) (state_of l.state) ≡ doing act d (code_walk ops (length ops)) (state_of l.fn.state))
 
 -- how deep scripts may still be included, and within one depth the way from a script's code to the script that it includes
 abbrev pub decreases-execute : goal.decreases-execute
-decreases-execute g l = 7 * l.depth + 4
+decreases-execute g l = 7 * l.running.depth + 4
 
 abbrev pub decreases-carry_out : goal.decreases-carry_out
-decreases-carry_out g l = 7 * l.depth + 3
+decreases-carry_out g l = 7 * l.running.depth + 3
 
-abbrev pub decreases-act : goal.decreases-act
-decreases-act g l = 7 * l.depth + 2
+abbrev pub decreases-include_named : goal.decreases-include_named
+decreases-include_named g l = 7 * l.running.depth + 2
 
 abbrev pub decreases-include : goal.decreases-include
-decreases-include g l = 7 * l.depth + 1
+decreases-include g l = 7 * l.running.depth + 1
 
 abbrev pub decreases-look_up : goal.decreases-look_up
-decreases-look_up g l = 7 * l.depth + 7
+decreases-look_up g l = 7 * l.running.depth + 7
 
 abbrev pub decreases-enter : goal.decreases-enter
-decreases-enter g l = 7 * l.depth + 6
+decreases-enter g l = 7 * l.running.depth + 6
 
 abbrev pub decreases-execute_inside : goal.decreases-execute_inside
-decreases-execute_inside g l = 7 * l.depth + 5
+decreases-execute_inside g l = 7 * l.running.depth + 5

@@ -1,0 +1,26 @@
+use Rattle.std.proofs.Common.{List, Option, sym, subst}
+use Rattle.std.proofs.lemmas.Result.{IfOk-weaker}
+use Rattle.std.specs.Option.{option_map}
+use Rattle.sieve_reading.specs.Reading.{Settings}
+use Rattle.sieve_reading.specs.view.Reading.{settings_as, texts_as}
+use Rattle.sieve_variables.specs.Part.{Part}
+use Rattle.sieve_code.specs.Pool.{Kept, Pool, given_list, nowhere, packed_in, settings_in, unpacked}
+use Rattle.sieve_code.specs.declared.op.PackedSettings.{PackedSettings}
+use Rattle.sieve_code.specs.view.Pools.{pool_as}
+use Rattle.sieve_code.proofs.Keeping.{kept_as, kept_by, kept_still}
+use Rattle.sieve_code.proofs.pools.Pools.keep_settings.Goals as goal
+
+pub returns-then-are_plain : goal.returns-then-are_plain
+returns-then-are_plain c =
+    let p = pool_as c.args.self.now in
+    subst (λ (s : Settings). Kept p p (λ q. settings_in q nowhere) s) (sym (c.are_plain.ensures c.if-are_plain.true)) (kept_still p _)
+
+pub returns : goal.returns
+returns c =
+    let copy = c.args.settings.copy in
+    let flags = option_map (λ given. texts_as given.items) c.args.settings.flags in
+    let place = c.in_ok-flags.flags in
+    IfOk-weaker c.put_settings.result _ _
+    (λ at kept. kept_by (λ (s : PackedSettings) (p : Pool). unpacked p s) _ _ _ (λ (p : Pool). packed_in p at) (settings_as c.args.settings) (record { flags = place; copy = copy })
+    (kept_as (λ (f : Option (List (List Part))). record { flags = f; copy = copy }) _ _ (λ (p : Pool). given_list p place) flags c.in_ok-flags.ensures) kept)
+    c.put_settings.ensures

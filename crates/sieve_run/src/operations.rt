@@ -1,0 +1,162 @@
+//! Carries out the operations of tests, and of commands that include nothing.
+ghost use Rattle.std.specs.Prelude.{◌≡◌, IfOk};
+ghost use Rattle.sieve_code.specs.declared.op.Op.TheVariants.{Compares, Discard, Exists, Fileinto, Flags, Keep, Over, Redirect, Set, Under};
+ghost use Rattle.sieve_effects.specs.Act.{act_by};
+ghost use Rattle.sieve_effects.specs.State.{RunState};
+ghost use Rattle.sieve_effects.specs.view.Delivery.{delivery_as};
+ghost use Rattle.sieve_effects.specs.view.State.{state_of};
+ghost use Rattle.sieve_run.specs.view.Step.{Acts, Carries, Includes};
+
+use crate::turn::{Step, Turn, proceed};
+use sieve_effects::{
+    FieldReads, State, change, compare, discard, exists, file_into, is_over, is_under, keep,
+    redirect, set,
+};
+use sieve_reading::FlagChange;
+use std::alloc::AllocError;
+
+/// Asks whether some value matches some key.
+pub(crate) fn ask_compares(
+    turn: &Turn<'_>,
+    test: u32,
+    values: u32,
+    keys: u32,
+    fields: &mut FieldReads<'_>,
+    state: &mut State,
+) -> Result<Step, AllocError>
+    requires { fields.old ≡ (delivery_as turn.now.delivery.now).message }
+    ensures message { fields.new ≡ fields.old }
+    ensures step { (act : Acts) → IfOk result (λ step. Carries act turn.now (Compares test values keys) (state_of state.old) step (state_of state.new)) }
+{
+    let test = turn.code.test(test);
+    let source = turn.code.source(test.source, values);
+    let keys = turn.code.list(keys);
+    let truth = compare(
+        turn.delivery,
+        &source,
+        test.comparison,
+        &keys,
+        fields,
+        state,
+    );
+    turn.tested(truth)
+}
+
+/// Asks whether all named fields are there.
+pub(crate) fn ask_exists(turn: &Turn<'_>, names: u32, state: &State) -> Result<Step, AllocError>
+    ensures { (act : Acts) → IfOk result (λ step. Carries act turn.now (Exists names) (state_of state.now) step (state_of state.now)) }
+{
+    let truth = exists(turn.delivery, &turn.code.names(names), state);
+    turn.tested(truth)
+}
+
+/// Asks whether the message has more octets.
+pub(crate) fn ask_over(turn: &Turn<'_>, limit: u64) -> Step
+    ensures { (act : Acts) (state : RunState) → Carries act turn.now (Over limit) state result state }
+{
+    proceed(is_over(turn.delivery, limit), turn.behind)
+}
+
+/// Asks whether the message has fewer octets.
+pub(crate) fn ask_under(turn: &Turn<'_>, limit: u64) -> Step
+    ensures { (act : Acts) (state : RunState) → Carries act turn.now (Under limit) state result state }
+{
+    proceed(is_under(turn.delivery, limit), turn.behind)
+}
+
+/// Stores into the mailbox of the delivery.
+pub(crate) fn act_keep(
+    turn: &Turn<'_>,
+    line: u32,
+    settings: u32,
+    state: &mut State,
+) -> Result<Step, AllocError>
+    ensures { (include : Includes) → IfOk result (λ step. Carries (act_by include (delivery_as turn.now.delivery.now)) turn.now (Keep line settings) (state_of state.old) step (state_of state.new)) }
+{
+    let settings = turn.code.settings(settings);
+    let flow = keep(turn.delivery, &settings, line as u64, state);
+    turn.acted(flow)
+}
+
+/// Stores into a mailbox.
+pub(crate) fn act_fileinto(
+    turn: &Turn<'_>,
+    line: u32,
+    mailbox: u32,
+    settings: u32,
+    state: &mut State,
+) -> Result<Step, AllocError>
+    ensures { (include : Includes) → IfOk result (λ step. Carries (act_by include (delivery_as turn.now.delivery.now)) turn.now (Fileinto line mailbox settings) (state_of state.old) step (state_of state.new)) }
+{
+    let mailbox = turn.code.string(mailbox);
+    let settings = turn.code.settings(settings);
+    let flow = file_into(turn.delivery, mailbox, &settings, line as u64, state);
+    turn.acted(flow)
+}
+
+/// Sends the message on.
+pub(crate) fn act_redirect(
+    turn: &Turn<'_>,
+    line: u32,
+    address: u32,
+    settings: u32,
+    state: &mut State,
+) -> Result<Step, AllocError>
+    ensures { (include : Includes) → IfOk result (λ step. Carries (act_by include (delivery_as turn.now.delivery.now)) turn.now (Redirect line address settings) (state_of state.old) step (state_of state.new)) }
+{
+    let address = turn.code.string(address);
+    let settings = turn.code.settings(settings);
+    let flow = redirect(turn.delivery, address, &settings, line as u64, state);
+    turn.acted(flow)
+}
+
+/// Discards the message.
+pub(crate) fn act_discard(turn: &Turn<'_>, line: u32, state: &mut State) -> Result<Step, AllocError>
+    ensures { (include : Includes) → IfOk result (λ step. Carries (act_by include (delivery_as turn.now.delivery.now)) turn.now (Discard line) (state_of state.old) step (state_of state.new)) }
+{
+    let flow = discard(turn.delivery, line as u64, state);
+    turn.acted(flow)
+}
+
+/// Gives a variable a value.
+pub(crate) fn act_set(
+    turn: &Turn<'_>,
+    line: u32,
+    target: u32,
+    value: u32,
+    state: &mut State,
+) -> Result<Step, AllocError>
+    ensures { (include : Includes) → IfOk result (λ step. Carries (act_by include (delivery_as turn.now.delivery.now)) turn.now (Set line target value) (state_of state.old) step (state_of state.new)) }
+{
+    let Some(target) = turn.code.target(target) else {
+        // No code has such an operation.
+        return Ok(proceed(false, turn.behind));
+    };
+    let value = turn.code.string(value);
+    let flow = set(
+        turn.delivery,
+        &target.variable,
+        target.modifiers,
+        value,
+        line as u64,
+        state,
+    );
+    turn.acted(flow)
+}
+
+/// Changes flags.
+pub(crate) fn act_flags(
+    turn: &Turn<'_>,
+    how: FlagChange,
+    line: u32,
+    variable: u32,
+    flags: u32,
+    state: &mut State,
+) -> Result<Step, AllocError>
+    ensures { (include : Includes) → IfOk result (λ step. Carries (act_by include (delivery_as turn.now.delivery.now)) turn.now (Flags how line variable flags) (state_of state.old) step (state_of state.new)) }
+{
+    let variable = turn.code.variable(variable);
+    let flags = turn.code.list(flags);
+    let flow = change(turn.delivery, how, variable, &flags, line as u64, state);
+    turn.acted(flow)
+}
