@@ -148,7 +148,7 @@ module _ (context : Context) where
   -- a command of some kind or none that breaks no rule is of a kind, takes its arguments, and stands where it may
   command_is_read : (within : Context) (k : Option CommandKind) (args : List syntax.Argument) (ts : syntax.Tests) (ending : syntax.Block) → ((rule : Rule) → command_breaks context k args ts ending rule ≡ false)
       → let cut = parted_labelled context (command_labels k args) args in
-        (command_takes k cut (parted_tests context ts) (parted_block within ending) ≡ true) × Stands context.follows_if (option_map (λ kind. commands.kind_reading kind cut) k) (parted_tests context ts) (parted_block within ending)
+      (command_takes k cut (parted_tests context ts) (parted_block within ending) ≡ true) × Stands context.follows_if (option_map (λ kind. commands.kind_reading kind cut) k) (parted_tests context ts) (parted_block within ending)
   command_is_read within None args ts ending unbroken = absurd (never_both (unbroken UnknownCommand))
   command_is_read within (Some k) args ts ending unbroken =
       let row = command_row k in

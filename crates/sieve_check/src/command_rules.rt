@@ -100,8 +100,8 @@ fn check_command_head(
     }
 }
 
-/// Cuts the strings of arguments by what stands before their command, and goes on behind them. A name that is set is none once it is cut,
-/// and a name that is declared stays what it is.
+/// Cuts the strings of arguments by what stands before their command, and goes on behind them. Names that are set are read before the
+/// cut, which makes variables of them; names that are declared count behind it, and stay literals.
 fn cut_and_name(
     alloc: Global,
     spot: Spot,

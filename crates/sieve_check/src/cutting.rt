@@ -67,7 +67,11 @@ fn parts_in(
     ensures { IfOk result (λ parts. parts ≡ spec.parts_in (context_as context.entry) role (seen.octets_of string)) }
 {
     if names_variable(role) {
-        return variable_parts(alloc, context.scope.declared(), octets_in(string.as_slice()));
+        return variable_parts(
+            alloc,
+            context.scope.declared(),
+            octets_in(string.as_slice()),
+        );
     }
     if takes_references(context.spot.required, role) {
         reference_parts(alloc, context.scope.declared(), string)

@@ -39,7 +39,16 @@ fn check_test_head(
         }),
         Some(kind) => {
             let row = kind.row();
-            check_use(alloc, context, line, &row, &test.args, &test.tests, false, false)
+            check_use(
+                alloc,
+                context,
+                line,
+                &row,
+                &test.args,
+                &test.tests,
+                false,
+                false,
+            )
         }
     }
 }
