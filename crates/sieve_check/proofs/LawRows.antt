@@ -1,17 +1,16 @@
 -- Worked rows of what the laws speak of.
-use Rattle.std.proofs.Common.{◌≡◌, ℕ, Bool, true, false, List, [], ◌∷◌, map, Some, refl, codes}
+use Rattle.std.proofs.Common.{◌≡◌, ℕ, false, List, [], ◌∷◌, map, Some, refl, codes}
 use Rattle.sieve_syntax.specs.Tree as syntax
 use Rattle.sieve_syntax.specs.Symbol.{identifier, number_symbol, string_symbol}
 use Rattle.sieve_check.specs.Bare.{bare_node}
 use Rattle.sieve_check.specs.Context.{behind}
-use Rattle.sieve_check.specs.Element.{Element, the_command, the_number, the_test, the_text, block_elements, elements_of, node_elements, nodes_elements, test_elements, tests_elements}
+use Rattle.sieve_check.specs.Element.{block_elements, elements_of, node_elements, nodes_elements, test_elements, tests_elements}
 use Rattle.sieve_check.specs.Naming.{declares, nodes_mentions, set_by, sets}
 use Rattle.sieve_check.specs.Order.{written_by}
-use Rattle.sieve_check.specs.Parted.{cutting_at_start, parted}
+use Rattle.sieve_check.specs.Parted.{parted}
 use Rattle.sieve_check.specs.Readable.{IsReadable, ReadsBlock, ReadsNode, ReadsNodes, act_mark, choice_mark, marks, return_mark, stop_mark}
 use Rattle.sieve_reading.specs.Given.{has_tag}
 use Rattle.sieve_reading.specs.Reading.{plain_settings, discard_leaf, keep_leaf}
-use Rattle.sieve_check.specs.Requirement.{leading_requires}
 use Rattle.sieve_reading.specs.Script.{always, block_commands, chain_of, condition_of, conditions_in, never, chain_with, script_of}
 use Rattle.sieve_table.specs.Table.{command_named, test_named}
 use Rattle.sieve_reading.specs.Tree.{node, no_block, no_tests, nodes, strings}
@@ -32,12 +31,12 @@ abbrev branches : List syntax.Node
 branches = branch (codes "if") 1 (codes "true") (plain (codes "keep") 1) ∷ branch (codes "elsif") 2 (codes "false") (plain (codes "stop") 2) ∷ last 3 (plain (codes "discard") 3) ∷ plain (codes "keep") 4 ∷ []
 
 marks_row : marks (script_of (parted branches)) ≡ choice_mark always ∷ act_mark (keep_leaf plain_settings) 1 ∷ choice_mark never ∷ stop_mark ∷ act_mark discard_leaf 3 ∷ act_mark (keep_leaf plain_settings) 4 ∷ []
-unfolding marks chain_of chain_with block_commands condition_of conditions_in command_named test_named has_tag
+unfolding marks chain_of chain_with block_commands condition_of conditions_in command_named test_named behind has_tag
 marks_row = refl
 
 -- return; keep;
 return_marks_row : marks (script_of (parted (plain (codes "return") 1 ∷ plain (codes "keep") 2 ∷ []))) ≡ return_mark ∷ act_mark (keep_leaf plain_settings) 2 ∷ []
-unfolding marks chain_of chain_with block_commands condition_of conditions_in command_named test_named has_tag
+unfolding marks chain_of chain_with block_commands condition_of conditions_in command_named test_named behind has_tag
 return_marks_row = refl
 
 -- elsif true { keep; }
@@ -56,17 +55,6 @@ order_row = refl
 
 abbrev string : List ℕ → ℕ → syntax.Argument
 string octets line = syntax.strings (record { string = octets; line = line } ∷ []) false
-
-abbrev requiring_one : List ℕ → ℕ → syntax.Node
-requiring_one name line = syntax.node (codes "require") line (string name line ∷ []) syntax.no_tests syntax.no_block
-
--- require "variables"; keep; require "fileinto";
-abbrev late_require : List syntax.Node
-late_require = requiring_one (codes "variables") 1 ∷ plain (codes "keep") 2 ∷ requiring_one (codes "fileinto") 3 ∷ []
-
-leading_row : leading_requires late_require ≡ requiring_one (codes "variables") 1 ∷ []
-unfolding command_named
-leading_row = refl
 
 -- A TREE WITHOUT WHAT ITS STRINGS ARE
 

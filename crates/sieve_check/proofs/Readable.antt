@@ -1,5 +1,5 @@
 -- Of a tree without a breach each command and each test is read as something: nothing of it vanishes.
-use Rattle.std.proofs.Common.{◌≡◌, ℕ, suc, Bool, true, false, not, ◌&&◌, ◌||◌, List, [], ◌∷◌, ◌++◌, map, length, drop, Option, None, Some, refl, sym, ap, ◌∙◌, subst}
+use Rattle.std.proofs.Common.{◌≡◌, suc, Bool, true, false, not, ◌&&◌, ◌||◌, List, [], ◌∷◌, ◌++◌, map, length, drop, Option, None, Some, refl, sym, ap, ◌∙◌, subst}
 use Rattle.std.proofs.lemmas.Bool.{and_parts, or_parts}
 use Rattle.std.specs.Option.{option_map}
 use denote.Enum.Bare.{sameb, same_true}
@@ -7,16 +7,16 @@ use Rattle.sieve_syntax.specs.Tree as syntax
 use Rattle.sieve_check.specs.Breach.{breaches_in, breaches_of, command_breaks, test_breaks}
 use Rattle.sieve_check.specs.Context.{Context, allows_else, behind, behind_block, behind_kind, continues_if, inside, script_start}
 use Rattle.sieve_check.specs.Element.{block_elements, command_arguments, node_elements, nodes_elements, test_arguments, test_elements, test_list_elements, tests_elements, the_command, the_test}
-use Rattle.sieve_check.specs.Parted.{Cutting, command_labels, cutting_at_start, declared_behind, declaring_command, parted, parted_argument, parted_block, parted_labelled, parted_node, parted_nodes, parted_test, parted_test_list, parted_tests, parted_text, test_labels}
-use Rattle.sieve_check.specs.Readable.{IsReadable, Joins, Needs, ReadsBlock, ReadsNode, ReadsNodes, ReadsTest, ReadsTestList, ReadsTests, Stands, command_takes, may_go_on, needs_of, test_takes, tests_of_reading}
+use Rattle.sieve_check.specs.Parted.{command_labels, parted, parted_argument, parted_block, parted_labelled, parted_node, parted_nodes, parted_test, parted_test_list, parted_tests, parted_text, test_labels}
+use Rattle.sieve_check.specs.Readable.{IsReadable, Joins, ReadsBlock, ReadsNode, ReadsNodes, ReadsTest, ReadsTestList, ReadsTests, Stands, command_takes, may_go_on, needs_of, test_takes, tests_of_reading}
 use Rattle.sieve_check.specs.Use.{block_fits, has_bad_arguments, has_bad_tag, has_block, is_well_used, lacks_kind, lacks_own, tests_fit, tests_there}
 use Rattle.sieve_reading.specs.CommandReading as commands
 use Rattle.sieve_reading.specs.Label.{labels_of, row_is_filled}
-use Rattle.sieve_reading.specs.Reading.{CommandReading, TestReading}
+use Rattle.sieve_reading.specs.Reading.{CommandReading}
 use Rattle.sieve_reading.specs.Role.{first_role}
 use Rattle.sieve_reading.specs.Shape.{row_labels, shape_of, shapes_of, texts_shape}
 use Rattle.sieve_reading.specs.TestReading as tests
-use Rattle.sieve_reading.specs.Tree.{Argument, Block, Tests, Nodes, end_nodes, more_nodes, items, nodes}
+use Rattle.sieve_reading.specs.Tree.{Argument, Nodes, end_nodes, more_nodes, items, nodes}
 use Rattle.sieve_reading.specs.declared.label.Label.{Label}
 use Rattle.sieve_reading.specs.declared.label.Shape.{Shape}
 use Rattle.sieve_table.proofs.Each.{of_each}
@@ -40,25 +40,25 @@ length-map : {X Y : Type 0} (f : X → Y) (xs : List X) → length (map f xs) �
 length-map f [] = refl
 length-map f (x ∷ xs) = ap suc (length-map f xs)
 
-module _ (cutting : Cutting) where
+module _ (context : Context) where
   -- a parted argument has the shape of the argument
-  same_shape : (tags : List Tag) (r : Option Role) (a : syntax.Argument) → shape_of tags (parted_argument cutting r a) ≡ shape_of tags a
-  same_shape tags r (syntax.strings items bracketed) = ap (λ n. texts_shape n bracketed) (length-map (parted_text cutting r) items)
+  same_shape : (tags : List Tag) (r : Option Role) (a : syntax.Argument) → shape_of tags (parted_argument context r a) ≡ shape_of tags a
+  same_shape tags r (syntax.strings items bracketed) = ap (λ n. texts_shape n bracketed) (length-map (parted_text context r) items)
   same_shape tags r (syntax.number value line) = refl
   same_shape tags r (syntax.tag name line) = refl
 
-  same_shapes : (tags : List Tag) (labels : List Label) (args : List syntax.Argument) → shapes_of tags (parted_labelled cutting labels args) ≡ shapes_of tags args
+  same_shapes : (tags : List Tag) (labels : List Label) (args : List syntax.Argument) → shapes_of tags (parted_labelled context labels args) ≡ shapes_of tags args
   same_shapes tags labels [] = refl
   same_shapes tags labels (a ∷ args) =
-      ap (λ s. s ∷ shapes_of tags (parted_labelled cutting (drop 1 labels) args)) (same_shape tags (first_role labels) a)
+      ap (λ s. s ∷ shapes_of tags (parted_labelled context (drop 1 labels) args)) (same_shape tags (first_role labels) a)
       ∙ ap (λ l. shape_of tags a ∷ l) (same_shapes tags (drop 1 labels) args)
 
-  same_tests : (ts : syntax.Tests) → tests_there (parted_tests cutting ts) ≡ tests_there ts
+  same_tests : (ts : syntax.Tests) → tests_there (parted_tests context ts) ≡ tests_there ts
   same_tests syntax.no_tests = refl
   same_tests (syntax.one_test t) = refl
   same_tests (syntax.test_list ts) = refl
 
-  same_block : (ending : syntax.Block) → has_block (parted_block cutting ending) ≡ has_block ending
+  same_block : (ending : syntax.Block) → has_block (parted_block context ending) ≡ has_block ending
   same_block syntax.no_block = refl
   same_block (syntax.block ns) = refl
 
@@ -72,11 +72,11 @@ well_used : (bad_tag bad_arguments : Bool) → bad_tag ≡ false → bad_argumen
 well_used bad_tag bad_arguments tags arguments = ap (λ b. not b && not bad_arguments) tags ∙ ap not arguments
 
 -- what is as its row says still is when its strings are cut
-still_used : (cutting within : Cutting) (row : Row) (args : List syntax.Argument) (ts : syntax.Tests) (ending : syntax.Block) → has_bad_tag (row_labels row args) ≡ false → has_bad_arguments row (shapes_of row.tags args) ts (has_block ending) ≡ false
-    → is_well_used row (shapes_of row.tags (parted_labelled cutting (row_labels row args) args)) (parted_tests cutting ts) (has_block (parted_block within ending)) ≡ true
-still_used cutting within row args ts ending tags arguments =
-    ap (λ shapes. used_by row shapes (tests_there (parted_tests cutting ts)) (has_block (parted_block within ending))) (same_shapes cutting row.tags (row_labels row args) args)
-    ∙ ap (λ there. used_by row (shapes_of row.tags args) there (has_block (parted_block within ending))) (same_tests cutting ts)
+still_used : (context within : Context) (row : Row) (args : List syntax.Argument) (ts : syntax.Tests) (ending : syntax.Block) → has_bad_tag (row_labels row args) ≡ false → has_bad_arguments row (shapes_of row.tags args) ts (has_block ending) ≡ false
+    → is_well_used row (shapes_of row.tags (parted_labelled context (row_labels row args) args)) (parted_tests context ts) (has_block (parted_block within ending)) ≡ true
+still_used context within row args ts ending tags arguments =
+    ap (λ shapes. used_by row shapes (tests_there (parted_tests context ts)) (has_block (parted_block within ending))) (same_shapes context row.tags (row_labels row args) args)
+    ∙ ap (λ there. used_by row (shapes_of row.tags args) there (has_block (parted_block within ending))) (same_tests context ts)
     ∙ ap (used_by row (shapes_of row.tags args) (tests_there ts)) (same_block within ending)
     ∙ well_used (has_bad_tag (row_labels row args)) (has_bad_arguments row (shapes_of row.tags args) ts (has_block ending)) tags arguments
 
@@ -133,30 +133,30 @@ command_says_so k labels args =
 
 -- A TEST AND A COMMAND
 
-module _ (cutting : Cutting) (context : Context) where
+module _ (context : Context) where
   -- a test of some kind or none that breaks no rule is of a kind, takes its arguments, and is read
   test_is_read : (k : Option TestKind) (args : List syntax.Argument) (ts : syntax.Tests) → ((rule : Rule) → test_breaks context k args ts rule ≡ false)
-      → let cut = parted_labelled cutting (test_labels k args) args in (test_takes k cut (parted_tests cutting ts) ≡ true) × Joins (option_map (λ kind. tests.kind_reading kind cut) k) (parted_tests cutting ts)
+      → let cut = parted_labelled context (test_labels k args) args in (test_takes k cut (parted_tests context ts) ≡ true) × Joins (option_map (λ kind. tests.kind_reading kind cut) k) (parted_tests context ts)
   test_is_read None args ts unbroken = absurd (never_both (unbroken UnknownCommand))
   test_is_read (Some k) args ts unbroken =
       let row = test_row k in
-      let cut = parted_labelled cutting (row_labels row args) args in
-      let used = still_used cutting cutting row args ts syntax.no_block (unbroken BadTag) (unbroken BadArguments) in
-      let ends = ends_well row (shapes_of row.tags cut) (tests_there (parted_tests cutting ts)) false used in
-      (used, subst (λ i. tests_fit i (parted_tests cutting ts) ≡ true) (sym (tests_read_of k (row_labels row cut) cut)) ends.0)
+      let cut = parted_labelled context (row_labels row args) args in
+      let used = still_used context context row args ts syntax.no_block (unbroken BadTag) (unbroken BadArguments) in
+      let ends = ends_well row (shapes_of row.tags cut) (tests_there (parted_tests context ts)) false used in
+      (used, subst (λ i. tests_fit i (parted_tests context ts) ≡ true) (sym (tests_read_of k (row_labels row cut) cut)) ends.0)
 
   -- a command of some kind or none that breaks no rule is of a kind, takes its arguments, and stands where it may
-  command_is_read : (within : Cutting) (k : Option CommandKind) (args : List syntax.Argument) (ts : syntax.Tests) (ending : syntax.Block) → ((rule : Rule) → command_breaks context k args ts ending rule ≡ false)
-      → let cut = parted_labelled cutting (command_labels k args) args in
-        (command_takes k cut (parted_tests cutting ts) (parted_block within ending) ≡ true) × Stands context.follows_if (option_map (λ kind. commands.kind_reading kind cut) k) (parted_tests cutting ts) (parted_block within ending)
+  command_is_read : (within : Context) (k : Option CommandKind) (args : List syntax.Argument) (ts : syntax.Tests) (ending : syntax.Block) → ((rule : Rule) → command_breaks context k args ts ending rule ≡ false)
+      → let cut = parted_labelled context (command_labels k args) args in
+      (command_takes k cut (parted_tests context ts) (parted_block within ending) ≡ true) × Stands context.follows_if (option_map (λ kind. commands.kind_reading kind cut) k) (parted_tests context ts) (parted_block within ending)
   command_is_read within None args ts ending unbroken = absurd (never_both (unbroken UnknownCommand))
   command_is_read within (Some k) args ts ending unbroken =
       let row = command_row k in
-      let cut = parted_labelled cutting (row_labels row args) args in
-      let used = still_used cutting within row args ts ending (unbroken BadTag) (unbroken BadArguments) in
-      let ends = ends_well row (shapes_of row.tags cut) (tests_there (parted_tests cutting ts)) (has_block (parted_block within ending)) used in
+      let cut = parted_labelled context (row_labels row args) args in
+      let used = still_used context within row args ts ending (unbroken BadTag) (unbroken BadArguments) in
+      let ends = ends_well row (shapes_of row.tags cut) (tests_there (parted_tests context ts)) (has_block (parted_block within ending)) used in
       let says = command_says_so k (row_labels row cut) cut in
-      let fit : tests_fit (needs_of (commands.kind_reading k cut)).tests (parted_tests cutting ts) ≡ true = subst (λ i. tests_fit i (parted_tests cutting ts) ≡ true) (sym says.tests) ends.0 in
+      let fit : tests_fit (needs_of (commands.kind_reading k cut)).tests (parted_tests context ts) ≡ true = subst (λ i. tests_fit i (parted_tests context ts) ≡ true) (sym says.tests) ends.0 in
       let fits : block_fits (needs_of (commands.kind_reading k cut)).block (has_block (parted_block within ending)) ≡ true = subst (λ b. block_fits b (has_block (parted_block within ending)) ≡ true) (sym says.block) ends.1 in
       (used, (fit, fits, λ needs. follows (continues_if k) context.follows_if (sym says.behind_if ∙ needs) (unbroken ElsePlace)))
     where
@@ -174,7 +174,7 @@ module _ (cutting : Cutting) (context : Context) where
   block_keeps before syntax.no_block = refl
   block_keeps before (syntax.block ns) = refl
 
-  goes_on : (n : syntax.Node) → (behind context n).follows_if ≡ may_go_on (commands.command_reading (parted_node cutting n))
+  goes_on : (n : syntax.Node) → (behind context n).follows_if ≡ may_go_on (commands.command_reading (parted_node context n))
   unfolding behind
   goes_on (syntax.node name line args ts ending) = block_keeps (behind_kind context (command_named name) args) ending ∙ kind_goes_on (command_named name) args _
 
@@ -183,49 +183,49 @@ module _ (cutting : Cutting) (context : Context) where
 mutual
   unfolding ReadsTest ReadsTests ReadsTestList test_elements tests_elements test_list_elements
 
-  test_reads : (cutting : Cutting) (t : syntax.Test) (context : Context) → breaches_in (test_elements context t) ≡ [] → ReadsTest (parted_test cutting t)
-  test_reads cutting (syntax.test name line args ts) context none =
+  test_reads : (t : syntax.Test) (context : Context) → breaches_in (test_elements context t) ≡ [] → ReadsTest (parted_test context t)
+  test_reads (syntax.test name line args ts) context none =
       let parts = none_in_front (the_test context name line args ts) (test_arguments context (test_named name) args ts ++ tests_elements context ts) none in
       let rest = none_in_both (test_arguments context (test_named name) args ts) (tests_elements context ts) parts.1 in
-      let read = test_is_read cutting context (test_named name) args ts (keeps (the_test context name line args ts) parts.0) in
-      (read.0, read.1, tests_read cutting ts context rest.1)
+      let read = test_is_read context (test_named name) args ts (keeps (the_test context name line args ts) parts.0) in
+      (read.0, read.1, tests_read ts context rest.1)
 
-  tests_read : (cutting : Cutting) (ts : syntax.Tests) (context : Context) → breaches_in (tests_elements context ts) ≡ [] → ReadsTests (parted_tests cutting ts)
-  tests_read cutting syntax.no_tests context none = tt
-  tests_read cutting (syntax.one_test t) context none = test_reads cutting t context none
-  tests_read cutting (syntax.test_list ts) context none = test_list_reads cutting ts context none
+  tests_read : (ts : syntax.Tests) (context : Context) → breaches_in (tests_elements context ts) ≡ [] → ReadsTests (parted_tests context ts)
+  tests_read syntax.no_tests context none = tt
+  tests_read (syntax.one_test t) context none = test_reads t context none
+  tests_read (syntax.test_list ts) context none = test_list_reads ts context none
 
-  test_list_reads : (cutting : Cutting) (ts : syntax.TestList) (context : Context) → breaches_in (test_list_elements context ts) ≡ [] → ReadsTestList (parted_test_list cutting ts)
-  test_list_reads cutting syntax.end_tests context none = tt
-  test_list_reads cutting (syntax.more_tests t ts) context none =
+  test_list_reads : (ts : syntax.TestList) (context : Context) → breaches_in (test_list_elements context ts) ≡ [] → ReadsTestList (parted_test_list context ts)
+  test_list_reads syntax.end_tests context none = tt
+  test_list_reads (syntax.more_tests t ts) context none =
       let parts = none_in_both (test_elements context t) (test_list_elements context ts) none in
-      (test_reads cutting t context parts.0, test_list_reads cutting ts context parts.1)
+      (test_reads t context parts.0, test_list_reads ts context parts.1)
 
 -- COMMANDS
 
 mutual
   unfolding ReadsNode ReadsBlock ReadsNodes node_elements block_elements nodes_elements
 
-  node_reads : (n : syntax.Node) (cutting : Cutting) (context : Context) → breaches_in (node_elements context n) ≡ [] → ReadsNode context.follows_if (parted_node cutting n)
-  node_reads (syntax.node name line args ts ending) cutting context none =
+  node_reads : (n : syntax.Node) (context : Context) → breaches_in (node_elements context n) ≡ [] → ReadsNode context.follows_if (parted_node context n)
+  node_reads (syntax.node name line args ts ending) context none =
       let inside_it = tests_elements context ts ++ block_elements (behind_kind context (command_named name) args) ending in
       let parts = none_in_front (the_command context name line args ts ending) (command_arguments context (command_named name) args ts ending ++ inside_it) none in
       let rest = none_in_both (command_arguments context (command_named name) args ts ending) inside_it parts.1 in
       let inner = none_in_both (tests_elements context ts) (block_elements (behind_kind context (command_named name) args) ending) rest.1 in
-      let within = record cutting { declared = declaring_command cutting.declared name args } in
-      let read = command_is_read cutting context within (command_named name) args ts ending (keeps (the_command context name line args ts ending) parts.0) in
-      (read.0, read.1, tests_read cutting ts context inner.0, block_reads ending within (behind_kind context (command_named name) args) inner.1)
+      let within = behind_kind context (command_named name) args in
+      let read = command_is_read context within (command_named name) args ts ending (keeps (the_command context name line args ts ending) parts.0) in
+      (read.0, read.1, tests_read ts context inner.0, block_reads ending within inner.1)
 
-  block_reads : (b : syntax.Block) (cutting : Cutting) (context : Context) → breaches_in (block_elements context b) ≡ [] → ReadsBlock (parted_block cutting b)
-  block_reads syntax.no_block cutting context none = tt
-  block_reads (syntax.block ns) cutting context none = nodes_read ns cutting (inside context) none
+  block_reads : (b : syntax.Block) (context : Context) → breaches_in (block_elements context b) ≡ [] → ReadsBlock (parted_block context b)
+  block_reads syntax.no_block context none = tt
+  block_reads (syntax.block ns) context none = nodes_read ns (inside context) none
 
-  nodes_read : (ns : syntax.Nodes) (cutting : Cutting) (context : Context) → breaches_in (nodes_elements context ns) ≡ [] → ReadsNodes context.follows_if (parted_nodes cutting ns)
-  nodes_read syntax.end_nodes cutting context none = tt
-  nodes_read (syntax.more_nodes n ns) cutting context none =
+  nodes_read : (ns : syntax.Nodes) (context : Context) → breaches_in (nodes_elements context ns) ≡ [] → ReadsNodes context.follows_if (parted_nodes context ns)
+  nodes_read syntax.end_nodes context none = tt
+  nodes_read (syntax.more_nodes n ns) context none =
       let parts = none_in_both (node_elements context n) (nodes_elements (behind context n) ns) none in
-      let next = record cutting { declared = declared_behind cutting.declared n } in
-      (node_reads n cutting context parts.0, subst (λ b. ReadsNodes b (parted_nodes next ns)) (goes_on cutting context n) (nodes_read ns next (behind context n) parts.1))
+      let next = behind context n in
+      (node_reads n context parts.0, subst (λ b. ReadsNodes b (parted_nodes next ns)) (goes_on context n) (nodes_read ns next parts.1))
 
 -- THE TREE
 
@@ -235,7 +235,6 @@ as_items (more_nodes n ns) = ap (λ l. more_nodes n l) (as_items ns)
 
 pub is_readable : (tree : List syntax.Node) → breaches_of tree ≡ [] → IsReadable (parted tree)
 is_readable tree none =
-    let cutting = cutting_at_start tree in
-    subst (λ ns. ReadsNodes false ns) (sym (as_items (parted_nodes cutting (syntax.nodes tree)))) (nodes_read (syntax.nodes tree) cutting script_start none)
+    subst (λ ns. ReadsNodes false ns) (sym (as_items (parted_nodes script_start (syntax.nodes tree)))) (nodes_read (syntax.nodes tree) script_start none)
 
 pub ruleset readable = (is_readable)

@@ -1,5 +1,5 @@
 -- What stands before a command in its text, as far as rules ask.
-use Rattle.std.specs.Prelude.{ℕ, Bool, true, false, ◌&&◌, ◌||◌, List, [], ◌∷◌, Option, Some, None, if◌then◌else◌}
+use Rattle.std.specs.Prelude.{Bool, true, false, ◌&&◌, ◌||◌, List, [], ◌∷◌, Option, Some, None, if◌then◌else◌}
 use Rattle.sieve_syntax.specs.Tree.{Node, node, Nodes, end_nodes, more_nodes, Block, no_block, block, Text, Argument, strings, number, tag}
 use Rattle.sieve_table.specs.Role.{is_expanded}
 use Rattle.sieve_check.specs.Scope.{Scope, naming_arguments, no_names}
@@ -88,13 +88,3 @@ unfoldable mutual
   pub behind_nodes : Context → Nodes → Context
   behind_nodes context end_nodes = context
   behind_nodes context (more_nodes n ns) = behind_nodes (behind context n) ns
-
--- whether a command is a `require`
-abbrev pub requires_kind : Option CommandKind → Bool
-requires_kind None = false
-requires_kind (Some kind) = is_require kind
-
--- what is required with what the requires at the top of a script name, which is all that is required in it (RFC 5228, section 3.2)
-abbrev pub required_from : Required → Nodes → Required
-required_from required end_nodes = required
-required_from required (more_nodes (node name line args ts ending) ns) = if requires_kind (command_named name) then required_from (requiring_arguments required args) ns else required

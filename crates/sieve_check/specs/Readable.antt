@@ -1,6 +1,6 @@
 -- A tree of which each command and each test is read as something: it has a row, its arguments are what the row says, and it
 -- stands where it may. Nothing of such a tree vanishes from the abstract script.
-use Rattle.std.specs.Prelude.{◌≡◌, ℕ, Bool, true, false, not, ◌&&◌, List, [], ◌∷◌, ◌++◌, map, Option, Some, None}
+use Rattle.std.specs.Prelude.{◌≡◌, ℕ, Bool, true, false, List, [], ◌∷◌, ◌++◌, Option, Some, None}
 use Rattle.sieve_reading.specs.Reading as reading
 use Rattle.sieve_reading.specs.Reading.{TestReading, reads_always, reads_never, reads_ask, reads_all, reads_any, reads_not, CommandReading, Leaf}
 use Rattle.sieve_reading.specs.CommandReading.{command_reading}

@@ -1,7 +1,6 @@
 -- What the program's types stand for in contracts, and facts of one function alone. The other files of specs/ restate the subject.
 pub mod Checked
 pub mod Context
-pub mod Cutting
 pub mod Finds
 pub mod Head
 pub mod Judged

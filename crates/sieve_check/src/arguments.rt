@@ -270,20 +270,3 @@ pub(crate) fn check_use(
     check_arguments(alloc, context, &labels, args)?;
     Ok(labels)
 }
-
-/// Checks a test of a row, apart from the tests in it.
-pub(crate) fn check_test_use(
-    alloc: Global,
-    context: Context<'_>,
-    line: u64,
-    row: &Row,
-    args: &[Argument],
-    tests: &Tests,
-) -> Result<(), CheckFault>
-    ensures { Finds (row_found false (context_as context.entry) line (row_as row.now) (map argument_of args.now) (tests_of tests.now) false) result }
-{
-    match check_use(alloc, context, line, row, args, tests, false, false) {
-        Ok(_) => Ok(()),
-        Err(fault) => Err(fault),
-    }
-}

@@ -1,25 +1,31 @@
-//! The breaches in commands.
-ghost use Rattle.std.specs.Prelude.{◌≡◌, ◌&&◌, not, map, Some, IfOk};
+//! The breaches in commands, whose strings are cut where they break no rule.
+ghost use Rattle.std.specs.Prelude.{◌≡◌, ◌&&◌, not, map, Some, IfOk, OnOk};
 ghost use Rattle.sieve_syntax.specs.Tree.{nodes};
-ghost use Rattle.sieve_syntax.specs.view.Tree.{argument_of, node_of};
+ghost use Rattle.sieve_syntax.specs.view.Tree as seen;
 ghost use Rattle.sieve_syntax.specs.declared.tree.Command.{out-Command};
-ghost use Rattle.sieve_check.specs.Context.{behind, behind_nodes, continues_if, is_require};
-ghost use Rattle.sieve_check.specs.Element.{node_elements, nodes_elements};
+ghost use Rattle.sieve_check.specs.Context.{behind, behind_kind, behind_nodes, continues_if, is_require};
+ghost use Rattle.sieve_check.specs.Element.{node_elements, nodes_elements, tests_elements};
+ghost use Rattle.sieve_check.specs.Parted.{parted_labelled, parted_node, parted_nodes, parted_tests};
+ghost use Rattle.sieve_check.specs.Scope.{naming_arguments};
 ghost use Rattle.sieve_reading.specs.Shape.{row_labels};
+ghost use Rattle.sieve_reading.specs.Tree.{items};
+ghost use Rattle.sieve_reading.specs.view.Tree.{argument_of, node_of, tests_of};
 ghost use Rattle.sieve_table.specs.Table.{command_named, command_row};
 ghost use Rattle.sieve_check.specs.view.Context.{at_spot, context_as};
 ghost use Rattle.sieve_check.specs.view.Finds.{Finds, FindsIn};
-ghost use Rattle.sieve_check.specs.view.Head.{behind_front, command_front, command_head, kind_found};
+ghost use Rattle.sieve_check.specs.view.Head.{command_head, kind_found};
 
 use crate::arguments::check_use;
 use crate::context::{Context, Spot, continues_if, is_require};
+use crate::cutting::cut_arguments;
 use crate::scope::Scope;
 use crate::test_rules::check_tests;
 use crate::validator::CheckFault;
 use sieve_reading::Label;
-use sieve_syntax::Command;
+use sieve_syntax::{Argument, Command, Tests};
 use sieve_table::{CommandKind, Rule};
-use std::alloc::Global;
+use std::alloc::{AllocError, Global};
+use std::mem;
 
 /// Whether a `require` of this kind stands where none may.
 fn is_misplaced(context: Context<'_>, kind: CommandKind) -> bool
@@ -43,7 +49,7 @@ fn check_kind(
     kind: CommandKind,
     command: &Command,
 ) -> Result<Vec<Label>, CheckFault>
-    ensures labels { IfOk result (λ labels. labels.items ≡ row_labels (command_row kind) (map argument_of (out-Command command.now).args.items)) }
+    ensures labels { IfOk result (λ labels. labels.items ≡ row_labels (command_row kind) (map seen.argument_of (out-Command command.now).args.items)) }
     ensures found { Finds (kind_found (context_as context.entry) kind command.now) result }
 {
     let line = command.line;
@@ -64,16 +70,23 @@ fn check_kind(
     )
 }
 
-/// Checks a command of some kind apart from its tests and its block. Answers its kind and the labels of its arguments.
+/// A command's kind, and the labels of its arguments.
+#[derive(Drop)]
+struct Head {
+    kind: CommandKind,
+    labels: Vec<Label>,
+}
+
+/// Checks a command of some kind apart from its tests and its block.
 #[tactic(auto, using(crate::proofs::Heads::command_head_steps))]
 fn check_command_head(
     alloc: Global,
     context: Context<'_>,
     command: &Command,
-) -> Result<(CommandKind, Vec<Label>), CheckFault>
+) -> Result<Head, CheckFault>
     ensures found { FindsIn (command_head (context_as context.entry) command.now) result }
-    ensures kind { IfOk result (λ head. command_named (out-Command command.now).name ≡ Some head.0) }
-    ensures labels { IfOk result (λ head. head.1.items ≡ row_labels (command_row head.0) (map argument_of (out-Command command.now).args.items)) }
+    ensures kind { IfOk result (λ head. command_named (out-Command command.now).name ≡ Some head.kind) }
+    ensures labels { IfOk result (λ head. head.labels.items ≡ row_labels (command_row head.kind) (map seen.argument_of (out-Command command.now).args.items)) }
 {
     match command.name.kind() {
         None => Err(CheckFault::Breach {
@@ -82,46 +95,85 @@ fn check_command_head(
         }),
         Some(kind) => {
             let labels = check_kind(alloc, context, kind, command)?;
-            Ok((kind, labels))
+            Ok(Head { kind, labels })
         }
     }
 }
 
-/// Checks a command apart from its block, and answers what stands before its block.
-#[tactic(auto, using(crate::proofs::Heads::front_steps))]
+/// Cuts the strings of arguments by what stands before their command, and goes on behind them. Names that are set are read before the
+/// cut, which makes variables of them; names that are declared count behind it, and stay literals.
+fn cut_and_name(
+    alloc: Global,
+    spot: Spot,
+    scope: &mut Scope,
+    labels: &[Label],
+    args: &mut Vec<Argument>,
+) -> Result<(), AllocError>
+    ensures cut { OnOk result (map argument_of args.new.items ≡ parted_labelled (at_spot spot scope.old) labels.now (map seen.argument_of args.old.items)) }
+    ensures goes { OnOk result (scope.new ≡ naming_arguments scope.old labels.now (map seen.argument_of args.old.items)) }
+{
+    scope.assign_arguments(alloc, labels, args)?;
+    let context = Context {
+        spot,
+        scope: &*scope,
+    };
+    cut_arguments(alloc, context, labels, args)?;
+    scope.declare(alloc, labels, args)
+}
+
+/// Checks the tests of a command of a kind whose arguments are checked, cuts its strings but for those of its block, and answers what
+/// stands before that.
 fn check_front(
     alloc: Global,
     spot: Spot,
     scope: &mut Scope,
-    command: &Command,
+    head: &Head,
+    args: &mut Vec<Argument>,
+    tests: &mut Tests,
 ) -> Result<Spot, CheckFault>
-    ensures found { FindsIn (command_front (at_spot spot scope.old) command.now) result }
-    ensures goes { IfOk result (λ next. at_spot next scope.new ≡ behind_front (at_spot spot scope.old) command.now) }
+    requires { head.now.labels.items ≡ row_labels (command_row head.now.kind) (map seen.argument_of args.old.items) }
+    ensures found { FindsIn (tests_elements (at_spot spot scope.old) (seen.tests_of tests.old)) result }
+    ensures goes { IfOk result (λ next. at_spot next scope.new ≡ behind_kind (at_spot spot scope.old) (Some head.now.kind) (map seen.argument_of args.old.items)) }
+    ensures args { OnOk result (map argument_of args.new.items ≡ parted_labelled (at_spot spot scope.old) head.now.labels.items (map seen.argument_of args.old.items)) }
+    ensures tests { OnOk result (tests_of tests.new ≡ parted_tests (at_spot spot scope.old) (seen.tests_of tests.old)) }
 {
     let context = Context {
         spot,
         scope: &*scope,
     };
-    let (kind, labels) = check_command_head(alloc, context, command)?;
-    check_tests(alloc, context, &command.tests)?;
-    scope.name_arguments(alloc, &labels, &command.args)?;
-    Ok(spot.behind_kind(kind, &command.args))
+    *tests = check_tests(alloc, context, mem::replace(tests, Tests::None))?;
+    let next = spot.behind_kind(head.kind, args);
+    cut_and_name(alloc, spot, scope, &head.labels, args)?;
+    Ok(next)
 }
 
-/// Checks a command with its tests and its block, and answers what stands before the next one.
+/// Checks a command with its tests and its block, cuts its strings, and answers what stands before the next one.
 #[cycle(check_commands)]
-#[tactic(auto, using(crate::proofs::Heads::command_steps))]
+#[tactic(auto, using(crate::proofs::Walk::command_steps))]
 fn check_command(
     alloc: Global,
     spot: Spot,
     scope: &mut Scope,
-    command: &Command,
+    command: &mut Command,
 ) -> Result<Spot, CheckFault>
-    ensures found { FindsIn (node_elements (at_spot spot scope.old) (node_of command.now)) result }
-    ensures goes { IfOk result (λ next. at_spot next scope.new ≡ behind (at_spot spot scope.old) (node_of command.now)) }
+    ensures found { FindsIn (node_elements (at_spot spot scope.old) (seen.node_of command.old)) result }
+    ensures goes { IfOk result (λ next. at_spot next scope.new ≡ behind (at_spot spot scope.old) (seen.node_of command.old)) }
+    ensures cut { OnOk result (node_of command.new ≡ parted_node (at_spot spot scope.old) (seen.node_of command.old)) }
 {
-    let next = check_front(alloc, spot, &mut *scope, command)?;
-    match &command.block {
+    let context = Context {
+        spot,
+        scope: &*scope,
+    };
+    let head = check_command_head(alloc, context, &*command)?;
+    let next = check_front(
+        alloc,
+        spot,
+        &mut *scope,
+        &head,
+        &mut command.args,
+        &mut command.tests,
+    )?;
+    match &mut command.block {
         None => Ok(next),
         Some(commands) => {
             match check_commands(alloc, next.inside(), &mut *scope, commands) {
@@ -132,21 +184,21 @@ fn check_command(
     }
 }
 
-/// Checks commands, before the first of which this stands.
+/// Checks commands, before the first of which this stands, and cuts their strings.
 #[cycle(check_commands)]
-#[tactic(auto, using(crate::proofs::Heads::commands_steps))]
 pub(crate) fn check_commands(
     alloc: Global,
     start: Spot,
     scope: &mut Scope,
-    commands: &[Command],
+    commands: &mut Vec<Command>,
 ) -> Result<(), CheckFault>
-    ensures found { FindsIn (nodes_elements (at_spot start scope.old) (nodes (map node_of commands.now))) result }
-    ensures goes { IfOk result (λ done. scope.new ≡ (behind_nodes (at_spot start scope.old) (nodes (map node_of commands.now))).scope) }
+    ensures found { FindsIn (nodes_elements (at_spot start scope.old) (nodes (map seen.node_of commands.old.items))) result }
+    ensures goes { OnOk result (scope.new ≡ (behind_nodes (at_spot start scope.old) (nodes (map seen.node_of commands.old.items))).scope) }
+    ensures cut { OnOk result (map node_of commands.new.items ≡ items (parted_nodes (at_spot start scope.old) (nodes (map seen.node_of commands.old.items)))) }
 {
     let mut spot = start;
-    for command in commands {
-        spot = check_command(alloc, spot, &mut *scope, command)?;
+    for i in 0..commands.len() {
+        spot = check_command(alloc, spot, &mut *scope, &mut commands[i])?;
     }
     Ok(())
 }

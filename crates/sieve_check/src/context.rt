@@ -1,18 +1,16 @@
 //! What stands before a command in its text, as far as rules ask.
 ghost use Rattle.std.specs.Prelude.{◌≡◌, ◌&&◌, Some, map};
-ghost use Rattle.sieve_syntax.specs.Tree.{nodes};
-ghost use Rattle.sieve_syntax.specs.view.Tree.{argument_of, node_of, text_of};
+ghost use Rattle.sieve_syntax.specs.view.Tree.{argument_of, text_of};
 ghost use Rattle.sieve_check.specs.Context as spec;
 ghost use Rattle.sieve_check.specs.Scope.{naming_arguments, no_names};
 ghost use Rattle.sieve_reading.specs.Shape.{row_labels};
 ghost use Rattle.sieve_check.specs.view.Context.{at_spot};
 ghost use Rattle.sieve_table.specs.view.Required.{required_as};
 ghost use Rattle.sieve_check.specs.view.Scope.{ScopeState};
-ghost use Rattle.sieve_table.specs.Required.{nothing_required};
 ghost use Rattle.sieve_table.specs.Table.{command_row};
 
 use crate::scope::Scope;
-use sieve_syntax::{Argument, Command, Text};
+use sieve_syntax::{Argument, Text};
 use sieve_table::{Capability, CommandKind, Required, Role, is_expanded};
 
 /// What is required with what strings name.
@@ -149,18 +147,4 @@ impl Spot {
             required: self.required_behind(kind, args),
         }
     }
-}
-
-/// What the requires at the top of a script name, which is all that is required in it.
-pub(crate) fn required_in(commands: &[Command]) -> Required
-    ensures { required_as result ≡ spec.required_from nothing_required (nodes (map node_of commands.now)) }
-{
-    let mut required = Required::nothing();
-    for command in commands {
-        match command.name.kind() {
-            Some(CommandKind::Require) => required = requiring_arguments(required, &command.args),
-            _ => return required,
-        }
-    }
-    required
 }

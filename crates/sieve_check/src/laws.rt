@@ -13,9 +13,8 @@ ghost use Rattle.sieve_check.specs.Context.{Context, behind_nodes, script_start,
 ghost use Rattle.sieve_check.specs.Element.{Element, elements_of};
 ghost use Rattle.sieve_check.specs.Naming.{HasSetBefore, nodes_mentions, set_by};
 ghost use Rattle.sieve_check.specs.Order.{IsInTextOrder};
-ghost use Rattle.sieve_check.specs.Parted.{Cutting, cutting_at_start, declared_behind_nodes, parted, parts_in};
+ghost use Rattle.sieve_check.specs.Parted.{parted, parts_in};
 ghost use Rattle.sieve_check.specs.Readable.{IsReadable, DoesAll};
-ghost use Rattle.sieve_check.specs.Requirement.{IsTextJudgedUnder, JudgesBehindRequires};
 ghost use Rattle.sieve_table.specs.Role.{names_variable};
 ghost use Rattle.sieve_reading.specs.Tree as checked;
 ghost use Rattle.sieve_table.specs.declared.row.Role.{Role};
@@ -37,29 +36,15 @@ pub fn first_breach_is_least()
 /// name of a variable is that variable alone (RFC 5229, section 4; RFC 5232, sections 3 and 4); and any other stands for
 /// itself.
 pub fn parts_go_by_the_role()
-    ensures expanded { (cutting : Cutting) (role : Option Role) (octets : List ℕ) → takes_references cutting.required role ≡ true → (pieces : List TextPiece) × Cuts pieces octets × (parts_in cutting role octets ≡ map (scoped_part cutting.declared) (grouped pieces)) }
-    ensures name { (cutting : Cutting) (role : Option Role) (octets : List ℕ) → names_variable role ≡ true → parts_in cutting role octets ≡ variable_part (scoped cutting.declared (variable_named octets)) ∷ [] }
-    ensures plain { (cutting : Cutting) (role : Option Role) (octets : List ℕ) → names_variable role ≡ false → takes_references cutting.required role ≡ false → parts_in cutting role octets ≡ literal octets ∷ [] }
+    ensures expanded { (context : Context) (role : Option Role) (octets : List ℕ) → takes_references context.required role ≡ true → (pieces : List TextPiece) × Cuts pieces octets × (parts_in context role octets ≡ map (scoped_part context.scope.declared) (grouped pieces)) }
+    ensures name { (context : Context) (role : Option Role) (octets : List ℕ) → names_variable role ≡ true → parts_in context role octets ≡ variable_part (scoped context.scope.declared (variable_named octets)) ∷ [] }
+    ensures plain { (context : Context) (role : Option Role) (octets : List ℕ) → names_variable role ≡ false → takes_references context.required role ≡ false → parts_in context role octets ≡ literal octets ∷ [] }
 {}
 
 /// Cutting strings into parts changes nothing else of a tree (RFC 5229, section 3): the checked tree has the names, lines, tags, numbers,
 /// tests and blocks of the text's tree, and in each argument as many strings, on the same lines, in brackets or not.
 pub fn parting_changes_strings_alone()
     ensures { (tree : List Node) → map bare_node (parted tree) ≡ map bare_node tree }
-{}
-
-/// The rules judge under the requirements by which strings are cut. Behind the `require` commands at the top of a script all that these
-/// name is required for each command, test and string, and nothing else is (RFC 5228, section 3.2). In a script without a breach that holds
-/// of each string but those of the `require` commands; and a reference in a string stands for a value where the string is judged exactly if
-/// it does where the string is cut (RFC 5229, section 3).
-pub fn strings_are_judged_as_they_are_cut()
-    ensures behind { (tree : List Node) → JudgesBehindRequires (cutting_at_start tree).required tree }
-    ensures strings { (tree : List Node) → breaches_of tree ≡ [] → All (IsTextJudgedUnder (cutting_at_start tree).required) (elements_of tree) }
-{}
-
-/// The names declared behind commands are the same for the cut of strings and for the rules.
-pub fn declared_names_are_one()
-    ensures { (context : Context) (commands : Nodes) → declared_behind_nodes context.scope.declared commands ≡ (behind_nodes context commands).scope.declared }
 {}
 
 /// The variables that a text sets are the identifiers that it writes to set them, each once and as it is first written, but for those that

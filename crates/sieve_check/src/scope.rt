@@ -60,7 +60,7 @@ fn declare_texts(alloc: Global, declared: &mut Names, texts: &[Text]) -> Result<
 }
 
 /// Declares those that an argument in a role names.
-pub(crate) fn declare_argument(
+fn declare_argument(
     alloc: Global,
     declared: &mut Names,
     role: Option<Role>,
@@ -185,7 +185,7 @@ impl Scope {
     }
 
     /// Adds those that arguments name, each by its label.
-    fn assign_arguments(
+    pub(crate) fn assign_arguments(
         &mut self,
         alloc: Global,
         labels: &[Label],
@@ -201,16 +201,22 @@ impl Scope {
         Ok(())
     }
 
-    /// Goes on behind arguments, each with its label.
-    pub(crate) fn name_arguments(
+    /// The names that are declared. Takes no memory.
+    pub(crate) fn declared(&self) -> &Names
+        ensures { result.now ≡ self.now.declared }
+    {
+        &self.declared
+    }
+
+    /// Declares those that arguments name, each by its label.
+    pub(crate) fn declare(
         &mut self,
         alloc: Global,
         labels: &[Label],
         args: &[Argument],
     ) -> Result<(), AllocError>
-        ensures { OnOk result (self.new ≡ spec.naming_arguments self.old labels.now (map argument_of args.now)) }
+        ensures { OnOk result (self.new ≡ spec.with_declared self.old labels.now (map argument_of args.now)) }
     {
-        self.assign_arguments(alloc, labels, args)?;
         declare_arguments(alloc, &mut self.declared, labels, args)
     }
 }

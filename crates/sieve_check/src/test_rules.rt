@@ -1,23 +1,35 @@
-//! The breaches in tests.
-ghost use Rattle.std.specs.Prelude.{map};
+//! The breaches in tests, whose strings are cut where they break no rule.
+ghost use Rattle.std.specs.Prelude.{◌≡◌, map, IfOk, OnOk};
 ghost use Rattle.sieve_syntax.specs.Tree.{tests};
-ghost use Rattle.sieve_syntax.specs.view.Tree.{test_of, tests_of};
+ghost use Rattle.sieve_syntax.specs.view.Tree as seen;
+ghost use Rattle.sieve_syntax.specs.declared.tree.Test.{out-Test};
 ghost use Rattle.sieve_check.specs.Element.{test_elements, test_list_elements, tests_elements};
+ghost use Rattle.sieve_check.specs.Parted.{parted_test, parted_tests, test_labels};
 ghost use Rattle.sieve_check.specs.view.Context.{context_as};
 ghost use Rattle.sieve_check.specs.view.Finds.{FindsIn};
 ghost use Rattle.sieve_check.specs.view.Head.{test_head};
+ghost use Rattle.sieve_reading.specs.view.Tree.{test_of, tests_of};
+ghost use Rattle.sieve_table.specs.Table.{test_named};
 
-use crate::arguments::check_test_use;
+use crate::arguments::check_use;
 use crate::context::Context;
+use crate::cutting::cut_arguments;
 use crate::validator::CheckFault;
+use sieve_reading::Label;
 use sieve_syntax::{Test, Tests};
 use sieve_table::Rule;
 use std::alloc::Global;
+use std::mem;
 
-/// Checks a test apart from the tests in it.
+/// Checks a test apart from the tests in it. Answers the labels of its arguments.
 #[tactic(auto, using(crate::proofs::Heads::test_unknown))]
-fn check_test_head(alloc: Global, context: Context<'_>, test: &Test) -> Result<(), CheckFault>
-    ensures { FindsIn (test_head (context_as context.entry) test.now) result }
+fn check_test_head(
+    alloc: Global,
+    context: Context<'_>,
+    test: &Test,
+) -> Result<Vec<Label>, CheckFault>
+    ensures found { FindsIn (test_head (context_as context.entry) test.now) result }
+    ensures labels { IfOk result (λ labels. labels.items ≡ test_labels (test_named (out-Test test.now).name) (map seen.argument_of (out-Test test.now).args.items)) }
 {
     let line = test.line;
     match test.name.kind() {
@@ -25,45 +37,74 @@ fn check_test_head(alloc: Global, context: Context<'_>, test: &Test) -> Result<(
             line,
             rule: Rule::UnknownCommand,
         }),
-        Some(kind) => check_test_use(alloc, context, line, &kind.row(), &test.args, &test.tests),
+        Some(kind) => {
+            let row = kind.row();
+            check_use(
+                alloc,
+                context,
+                line,
+                &row,
+                &test.args,
+                &test.tests,
+                false,
+                false,
+            )
+        }
     }
 }
 
-/// Checks a test and the tests in it.
+/// Checks a test and the tests in it, and cuts its strings.
 #[cycle(check_tests)]
-#[tactic(auto, using(crate::proofs::Heads::test_steps))]
-fn check_test(alloc: Global, context: Context<'_>, test: &Test) -> Result<(), CheckFault>
-    ensures { FindsIn (test_elements (context_as context.entry) (test_of test.now)) result }
+#[tactic(auto, using(crate::proofs::Walk::test_steps))]
+fn check_test(alloc: Global, context: Context<'_>, test: &mut Test) -> Result<(), CheckFault>
+    ensures found { FindsIn (test_elements (context_as context.entry) (seen.test_of test.old)) result }
+    ensures cut { OnOk result (test_of test.new ≡ parted_test (context_as context.entry) (seen.test_of test.old)) }
 {
-    check_test_head(alloc, context, test)?;
-    check_tests(alloc, context, &test.tests)
+    let labels = check_test_head(alloc, context, &*test)?;
+    cut_arguments(alloc, context, &labels, &mut test.args)?;
+    let tests = mem::replace(&mut test.tests, Tests::None);
+    test.tests = check_tests(alloc, context, tests)?;
+    Ok(())
 }
 
-/// Checks the tests behind arguments.
+/// Checks the tests behind arguments. Answers them with their strings cut.
 #[cycle(check_tests)]
 #[tactic(auto, unfolding(crate::specs::Element::tests_elements))]
 pub(crate) fn check_tests(
     alloc: Global,
     context: Context<'_>,
-    tests: &Tests,
-) -> Result<(), CheckFault>
-    ensures { FindsIn (tests_elements (context_as context.entry) (tests_of tests.now)) result }
+    tests: Tests,
+) -> Result<Tests, CheckFault>
+    ensures found { FindsIn (tests_elements (context_as context.entry) (seen.tests_of tests)) result }
+    ensures cut { IfOk result (λ cut. tests_of cut ≡ parted_tests (context_as context.entry) (seen.tests_of tests)) }
 {
     match tests {
-        Tests::None => Ok(()),
-        Tests::One(test) => check_test(alloc, context, test),
-        Tests::List(list) => check_test_list(alloc, context, list),
+        Tests::None => Ok(Tests::None),
+        Tests::One(test) => {
+            let mut test = test;
+            check_test(alloc, context, &mut test)?;
+            Ok(Tests::One(test))
+        }
+        Tests::List(list) => {
+            let mut list = list;
+            check_test_list(alloc, context, &mut list)?;
+            Ok(Tests::List(list))
+        }
     }
 }
 
-/// Checks a list of tests.
+/// Checks a list of tests, and cuts their strings.
 #[cycle(check_tests)]
-#[tactic(auto, using(crate::proofs::Heads::list_steps))]
-fn check_test_list(alloc: Global, context: Context<'_>, list: &[Test]) -> Result<(), CheckFault>
-    ensures { FindsIn (test_list_elements (context_as context.entry) (tests (map test_of list.now))) result }
+fn check_test_list(
+    alloc: Global,
+    context: Context<'_>,
+    list: &mut Vec<Test>,
+) -> Result<(), CheckFault>
+    ensures found { FindsIn (test_list_elements (context_as context.entry) (tests (map seen.test_of list.old.items))) result }
+    ensures cut { OnOk result (map test_of list.new.items ≡ map (parted_test (context_as context.entry)) (map seen.test_of list.old.items)) }
 {
-    for test in list {
-        check_test(alloc, context, test)?;
+    for i in 0..list.len() {
+        check_test(alloc, context, &mut list[i])?;
     }
     Ok(())
 }

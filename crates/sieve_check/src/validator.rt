@@ -10,7 +10,6 @@ ghost use Rattle.sieve_check.specs.declared.validator.CheckFault.TheVariants.{No
 use crate::checked::Checked;
 use crate::command_rules::check_commands;
 use crate::context::Spot;
-use crate::cutting::parted;
 use crate::scope::Scope;
 use sieve_syntax::ParsedScript;
 use sieve_table::Rule;
@@ -37,14 +36,15 @@ impl From<AllocError> for CheckFault {
     }
 }
 
-/// Checks a script: the least breach of a rule, or, where there is none, the checked script, which is made of the same tree.
+/// Checks a script: the least breach of a rule, or, where there is none, the checked script, which is the same tree with its
+/// strings cut into parts.
 pub fn check(alloc: Global, script: ParsedScript) -> Result<Checked, CheckFault>
     ensures { MatchResult result
         (λ checked. (breaches_of (nodes_of script) ≡ []) × (tree_of checked ≡ parted (nodes_of script)))
         (IsFirst (breaches_of (nodes_of script))) }
 {
+    let mut commands = script.commands;
     let mut scope = Scope::new(alloc);
-    check_commands(alloc, Spot::script_start(), &mut scope, &script.commands)?;
-    let commands = parted(alloc, script)?;
+    check_commands(alloc, Spot::script_start(), &mut scope, &mut commands)?;
     Ok(Checked { commands })
 }

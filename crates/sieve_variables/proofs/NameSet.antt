@@ -1,14 +1,14 @@
 -- What is done to the keys of a set of names is done to the names.
 use Rattle.sieve_base.specs.Octet.{is_among}
-use Rattle.std.proofs.Common.{◌≡◌, ℕ, ◌+◌, ◌<◌, ◌≤◌, List, [], ◌∷◌, ◌++◌, length, get_or, drop, Bool, true, false, ◌||◌, if◌then◌else◌, nat_eq, refl, sym, ap, ◌∙◌}
-use Rattle.std.proofs.lemmas.List.{at_drop_all, at_drop_more, map-append}
+use Rattle.std.proofs.Common.{◌≡◌, ℕ, List, [], ◌∷◌, ◌++◌, Bool, true, false, ◌||◌, if◌then◌else◌, nat_eq, refl, sym, ap, ◌∙◌}
+use Rattle.std.proofs.lemmas.List.{map-append}
 use Rattle.std.specs.declared.alloc.Global.{Global}
 use Rattle.std.specs.declared.vec.Vec.{Vec}
 use Rattle.std.specs.List.{list_any}
 use Rattle.indexmap.specs.IndexSet.{insert_key}
 use lib.Pointwise.{pointwise}
 use Rattle.sieve_variables.specs.view.Names.{names_of}
-use Rattle.sieve_variables.specs.Variable.{with_name, with_names}
+use Rattle.sieve_variables.specs.Variable.{with_name}
 
 -- a name is among the names where its key is among the keys
 among_names : (name : List ℕ) (keys : List (Vec ℕ Global)) → is_among name (names_of keys) ≡ list_any (λ k. pointwise nat_eq name k.items) keys
@@ -34,15 +34,3 @@ has_name names keys name found is says = says ∙ sym (among_names name keys) �
 pub put_name : (names : List (List ℕ)) (keys new : List (Vec ℕ Global)) (key : Vec ℕ Global) (name : List ℕ) → names_of keys ≡ names → key.items ≡ name → new ≡ insert_key (λ x y. pointwise nat_eq x.items y.items) keys key → names_of new ≡ with_name name names
 put_name names keys new key name is named made =
     ap names_of made ∙ names-insert keys key ∙ ap (λ n. with_name n (names_of keys)) named ∙ ap (with_name name) is
-
--- with one of the others added, what is left of them makes of the names what it made of them with that one in front
-pub names_go_on : (keys : List (Vec ℕ Global)) (i : ℕ) (key : Vec ℕ Global) (name : List ℕ) (names new : List (List ℕ)) → i < length keys → key ≡ get_or keys i key → name ≡ key.items → new ≡ with_name name names → with_names (names_of (drop (i + 1) keys)) new ≡ with_names (names_of (drop i keys)) names
-unfolding names_of
-names_go_on keys i key name names new below is text made =
-    ap (with_names (names_of (drop (i + 1) keys))) (made ∙ ap (λ n. with_name n names) text)
-    ∙ sym (at_drop_more (λ l. with_names (names_of l) names) keys i key below ∙ ap (λ x. with_names (names_of (x ∷ drop (i + 1) keys)) names) (sym is))
-
--- behind the last of the others none is left to be added
-pub names_end : (keys : List (Vec ℕ Global)) (i : ℕ) (names : List (List ℕ)) → length keys ≤ i → with_names (names_of (drop i keys)) names ≡ names
-unfolding names_of
-names_end keys i names ended = at_drop_all (λ l. with_names (names_of l) names) keys i ended

@@ -16,11 +16,6 @@ variable_named name = if is_global_name name then global_variable (folded_name (
 abbrev pub with_name : List ℕ → List (List ℕ) → List (List ℕ)
 with_name name names = if is_among name names then names else names ++ name ∷ []
 
--- names and several more, each once
-abbrev pub with_names : List (List ℕ) → List (List ℕ) → List (List ℕ)
-with_names [] names = names
-with_names (name ∷ others) names = with_names others (with_name name names)
-
 -- the variable where these names, in lower case, are declared to be those of variables that scripts share (RFC 6609, section 3.4.1)
 abbrev pub scoped : (declared : List (List ℕ)) → Variable → Variable
 scoped declared (local_variable name) = if is_among name declared then global_variable name else local_variable name

@@ -2,7 +2,7 @@
 ghost use Rattle.sieve_base.specs.Octet.{is_among};
 ghost use Rattle.std.specs.Prelude.{◌≡◌, [], IfOk, IsOk, OnErr, OnOk, true};
 ghost use Rattle.sieve_variables.specs.Name.{folded_name};
-ghost use Rattle.sieve_variables.specs.Variable.{global_variable, local_variable, scoped, variable_named, with_name, with_names};
+ghost use Rattle.sieve_variables.specs.Variable.{global_variable, local_variable, scoped, variable_named, with_name};
 ghost use Rattle.sieve_variables.specs.view.Variable.{variable_ref_as};
 
 use crate::labelled::Labelled;
@@ -153,15 +153,5 @@ impl Names {
             Ok(_) => Ok(()),
             Err(_) => Err(AllocError),
         }
-    }
-
-    /// Adds other names, in their order.
-    pub fn add_all(&mut self, alloc: Global, others: &Names) -> Result<(), AllocError>
-        ensures { OnOk result (self.new ≡ with_names others.now self.old) }
-    {
-        for name in others.names.as_slice() {
-            self.add(alloc, name.as_slice())?;
-        }
-        Ok(())
     }
 }

@@ -1,18 +1,12 @@
 -- The program's context.
 use Rattle.sieve_check.specs.Context.{Context}
-use Rattle.sieve_table.specs.Required.{Required}
-use Rattle.sieve_check.specs.Parted.{Cutting}
 use Rattle.sieve_check.specs.Scope.{Scope}
 use Rattle.sieve_check.specs.declared.context.Context as contexts
 use Rattle.sieve_table.specs.view.Required.{required_as}
 use Rattle.sieve_check.specs.declared.context.Spot as spots
-use Rattle.sieve_check.specs.declared.cutting.Cutting as cuttings
 
 abbrev pub at_spot : spots.Spot → Scope → Context
 at_spot s scope = record { leads = s.leads; follows_if = s.follows_if; required = required_as s.required; scope = scope }
 
 abbrev pub context_as : contexts.Context → Context
 context_as c = at_spot c.spot c.scope.now
-
-abbrev pub cutting_as : cuttings.Cutting → Cutting
-cutting_as c = record { required = required_as c.required; declared = c.declared.now }

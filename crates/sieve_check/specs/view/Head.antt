@@ -5,8 +5,8 @@ use Rattle.sieve_syntax.specs.declared.tree.Command as commands
 use Rattle.sieve_syntax.specs.declared.tree.Test as one_tests
 use Rattle.sieve_check.specs.Breach.{Breach, breaches_by, breaches_in, command_breaks}
 use Rattle.sieve_table.specs.Rule.{all_rules}
-use Rattle.sieve_check.specs.Context.{Context, behind_kind}
-use Rattle.sieve_check.specs.Element.{Element, the_command, the_test, command_arguments, test_arguments, tests_elements}
+use Rattle.sieve_check.specs.Context.{Context}
+use Rattle.sieve_check.specs.Element.{Element, the_command, the_test, command_arguments, test_arguments}
 use Rattle.sieve_table.specs.Table.{command_named, test_named}
 use Rattle.sieve_table.specs.declared.table.CommandKind.{CommandKind}
 
@@ -17,14 +17,6 @@ test_head context t = let o = one_tests.out-Test t in the_test context o.name o.
 -- a command and its arguments
 abbrev pub command_head : Context → commands.Command → List Element
 command_head context c = let o = commands.out-Command c in the_command context o.name o.line (map argument_of o.args.items) (tests_of o.tests) (block_of o.block) ∷ command_arguments context (command_named o.name) (map argument_of o.args.items) (tests_of o.tests) (block_of o.block)
-
--- a command, its arguments and its tests
-abbrev pub command_front : Context → commands.Command → List Element
-command_front context c = command_head context c ++ tests_elements context (tests_of (commands.out-Command c).tests)
-
--- the context behind a command and before its block
-abbrev pub behind_front : Context → commands.Command → Context
-behind_front context c = let o = commands.out-Command c in behind_kind context (command_named o.name) (map argument_of o.args.items)
 
 -- the rules that a command of a kind breaks itself, and then those of its arguments
 abbrev pub kind_found : Context → CommandKind → commands.Command → List Breach

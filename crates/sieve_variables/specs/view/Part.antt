@@ -1,5 +1,5 @@
 -- The program's parts.
-use Rattle.std.specs.Prelude.{ℕ, List, [], ◌∷◌, ◌++◌, if◌then◌else◌, Option, Some, None}
+use Rattle.std.specs.Prelude.{ℕ, List, [], ◌∷◌, ◌++◌, if◌then◌else◌}
 use Rattle.sieve_variables.specs.Part.{Part, literal, local_part, global_part, variable_part, match_part, part_of_words}
 use Rattle.sieve_variables.specs.Reference.{reference}
 use Rattle.sieve_variables.specs.Scan.{is_foreign, words_of}
