@@ -69,7 +69,7 @@ pub(crate) fn read(rt: &impl Host, text: &[u8]) -> io::Result<()> {
 
 /// Tells each command, and each of its block.
 fn tell_script(rt: &impl Print, script: &ParsedScript) -> io::Result<()> {
-    for command in &script.commands {
+    for command in script.commands() {
         tell_command(rt, command)?;
         if let Some(block) = &command.block {
             for inner in block {

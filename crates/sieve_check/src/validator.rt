@@ -1,6 +1,6 @@
 //! The validator.
 ghost use Rattle.std.specs.Prelude.{◌≡◌, [], MatchResult};
-ghost use Rattle.sieve_syntax.specs.view.Tree.{nodes_of};
+ghost use Rattle.sieve_syntax.specs.view.Script.{nodes_of};
 ghost use Rattle.sieve_check.specs.Breach.{breaches_of};
 ghost use Rattle.sieve_check.specs.view.Checked.{tree_of};
 ghost use Rattle.sieve_check.specs.CheckFault.{IsFirst};
@@ -43,7 +43,7 @@ pub fn check(alloc: Global, script: ParsedScript) -> Result<Checked, CheckFault>
         (λ checked. (breaches_of (nodes_of script) ≡ []) × (tree_of checked ≡ parted (nodes_of script)))
         (IsFirst (breaches_of (nodes_of script))) }
 {
-    let mut commands = script.commands;
+    let mut commands = script.into_commands();
     let mut scope = Scope::new(alloc);
     check_commands(alloc, Spot::script_start(), &mut scope, &mut commands)?;
     Ok(Checked { commands })

@@ -138,7 +138,12 @@ pub(crate) fn number_in(argument: Option<&Argument>) -> u64
     ensures { result ≡ spec.number_in (option_map (λ a. argument_of a.now) argument.entry) }
 {
     match argument {
-        Some(Argument::Number { value: Some(value), .. }) => *value,
+        Some(
+            Argument::Number {
+                value: Some(value),
+                ..
+            },
+        ) => *value,
         Some(Argument::Number { value: None, .. }) => 0,
         Some(Argument::Strings { .. }) => 0,
         Some(Argument::Tag { .. }) => 0,

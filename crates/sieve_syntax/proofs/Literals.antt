@@ -1,15 +1,15 @@
 -- Views of strings that see one literal as its octets.
-use Rattle.std.proofs.Common.{◌≡◌, ℕ, List, [], ◌∷◌, Result, Ok, Err, map, refl, ap}
-use Rattle.std.specs.Result.{IfOk}
+use Rattle.std.proofs.Common.{◌≡◌, ℕ, List, [], ◌∷◌, Result, Ok, map, refl, ap}
 use Rattle.sieve_syntax.specs.EachString.{EachString}
 use Rattle.sieve_syntax.specs.Tree.{Node}
 use Rattle.sieve_syntax.specs.view.Literals.{IsOneLiteral, SeesLiterals, View}
 use Rattle.sieve_syntax.specs.view.Parsed.{ParsesAs}
 use Rattle.sieve_syntax.specs.view.Tree.{octets_of}
-use Rattle.sieve_syntax.specs.view.TreeOf.{node_of, nodes_of, as_parts}
+use Rattle.sieve_syntax.specs.view.TreeOf.{node_of, as_parts}
 use Rattle.sieve_variables.specs.Part.{Part, literal, variable_part, match_part}
-use Rattle.sieve_syntax.specs.declared.parser.SyntaxFault.{SyntaxFault}
-use Rattle.sieve_syntax.specs.declared.tree.ParsedScript as scripts
+use Rattle.std.specs.declared.alloc.Global.{Global}
+use Rattle.std.specs.declared.vec.Vec.{Vec}
+use Rattle.sieve_syntax.specs.declared.tree.Command as command_views
 use Rattle.sieve_syntax.proofs.EachString.{in_commands}
 
 pub octets_see_literals : SeesLiterals octets_of
@@ -38,10 +38,9 @@ seen_alike (variable_part variable ∷ parts) e = cc
 seen_alike (match_part index ∷ parts) e = cc
 
 -- where each view that sees literals sees one tree, each string of it is one literal
-pub each_literal : (r : Result scripts.ParsedScript SyntaxFault) (meaning : Result (List Node) ℕ) → ((view : View) → SeesLiterals view → ParsesAs view r meaning) → IfOk r (λ script. EachString IsOneLiteral (nodes_of as_parts script))
-each_literal (Ok script) meaning h =
+pub each_literal : (v : Vec command_views.Command Global) (meaning : Result (List Node) ℕ) → ((view : View) → SeesLiterals view → ParsesAs view (Ok v) meaning) → EachString IsOneLiteral (map (node_of as_parts) v.items)
+each_literal v meaning h =
     let some = h (view_or []) (view_or_sees []) in
     let others = h (view_or (0 ∷ [])) (view_or_sees (0 ∷ [])) in
-    let same : map (node_of (view_or [])) script.commands.items ≡ map (node_of (view_or (0 ∷ []))) script.commands.items = cc in
-    in_commands (view_or []) (view_or (0 ∷ [])) as_parts IsOneLiteral seen_alike script.commands.items same
-each_literal (Err fault) meaning h = tt
+    let same : map (node_of (view_or [])) v.items ≡ map (node_of (view_or (0 ∷ []))) v.items = cc in
+    in_commands (view_or []) (view_or (0 ∷ [])) as_parts IsOneLiteral seen_alike v.items same

@@ -15,7 +15,9 @@ use Rattle.sieve_syntax.specs.declared.parser.SyntaxFault.{SyntaxFault}
 use Rattle.sieve_syntax.specs.declared.parser.SyntaxFault.TheVariants.{Syntax, TooLarge, NoMemory}
 use Rattle.sieve_syntax.specs.declared.token.Token.{Token}
 use Rattle.sieve_syntax.specs.declared.reader.Outer as outers
-use Rattle.sieve_syntax.specs.declared.tree.ParsedScript as scripts
+use Rattle.std.specs.declared.alloc.Global.{Global}
+use Rattle.std.specs.declared.vec.Vec.{Vec}
+use Rattle.sieve_syntax.specs.declared.tree.Command as command_views
 use Rattle.sieve_syntax.proofs.Spelling.{tokens_of_spell, some_tokens, unique}
 
 -- whatever tokens spell the rest of the text, from this state they give what the text means
@@ -57,14 +59,14 @@ goes_small view o TooLarge next line h e = absurd h
 goes_small view o NoMemory next line h e = cc
 
 -- at the end of the text, what the state gives is what the text means
-pub end_means : (view : View) (text : List ℕ) (s : ParserState) (place : ℕ) (r : Result scripts.ParsedScript SyntaxFault) → SpellsFrom text place [] → Means text s place → Finishes view r (whole s) (line_at text (length text)) → ParsesAs view r (syntax_of text)
+pub end_means : (view : View) (text : List ℕ) (s : ParserState) (place : ℕ) (r : Result (Vec command_views.Command Global) SyntaxFault) → SpellsFrom text place [] → Means text s place → Finishes view r (whole s) (line_at text (length text)) → ParsesAs view r (syntax_of text)
 end_means view text s place (Ok script) h so e = sym (so [] h) ∙ read-end text s _ e
 end_means view text s place (Err (Syntax line)) h so e = sym (so [] h) ∙ read-end text s None e.0 ∙ ap (λ n. Err n) (sym e.1)
 end_means view text s place (Err TooLarge) h so e = absurd e
 end_means view text s place (Err NoMemory) h so e = absurd e
 
 -- the end of a text is never refused as a text that is too large
-pub finishes_small : (view : View) (r : Result scripts.ParsedScript SyntaxFault) (tree : Option (List Node)) (line : ℕ) → Finishes view r tree line → r ≡ Err TooLarge → ⊥
+pub finishes_small : (view : View) (r : Result (Vec command_views.Command Global) SyntaxFault) (tree : Option (List Node)) (line : ℕ) → Finishes view r tree line → r ≡ Err TooLarge → ⊥
 finishes_small view (Ok script) tree line h e = cc
 finishes_small view (Err (Syntax at)) tree line h e = cc
 finishes_small view (Err TooLarge) tree line h e = absurd h

@@ -3,5 +3,6 @@ pub mod Cursor
 pub mod Literals
 pub mod Parsed
 pub mod Reader
+pub mod Script
 pub mod Tree
 pub mod TreeOf

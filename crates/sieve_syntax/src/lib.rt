@@ -10,6 +10,7 @@ mod octet;
 mod parser;
 mod reader;
 mod scan;
+mod script;
 mod step;
 mod symbol;
 mod test_name;
@@ -20,6 +21,7 @@ mod white;
 
 pub use command_name::CommandName;
 pub use parser::{SyntaxFault, parse};
+pub use script::ParsedScript;
 pub use test_name::TestName;
 pub use token::{Token, TokenKind, tokens};
-pub use tree::{Argument, Command, ParsedScript, Test, Tests, Text, octets_in};
+pub use tree::{Argument, Command, Test, Tests, Text, octets_in};

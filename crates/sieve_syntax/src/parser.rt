@@ -7,21 +7,22 @@ ghost use Rattle.sieve_syntax.specs.Machine.{whole};
 ghost use Rattle.sieve_syntax.specs.view.Literals.{IsOneLiteral, SeesLiterals, View};
 ghost use Rattle.sieve_syntax.specs.view.Parsed.{Finishes, Goes, Parses, ParsesAs};
 ghost use Rattle.sieve_syntax.specs.view.Reader.{state_value};
-ghost use Rattle.sieve_syntax.specs.view.TreeOf as by;
+ghost use Rattle.sieve_syntax.specs.view.TreeOf.{as_parts};
 ghost use Rattle.sieve_syntax.specs.EachString.{EachString};
 ghost use Rattle.sieve_syntax.specs.Syntax.{IsFaultLine, WritesText, syntax_of};
 ghost use Rattle.sieve_syntax.specs.Token.{IsInside, line_at};
 ghost use Rattle.sieve_syntax.specs.Tree.{Node};
-ghost use Rattle.sieve_syntax.specs.view.Tree.{nodes_of};
+ghost use Rattle.sieve_syntax.specs.view.Script.{nodes_by, nodes_of};
 ghost use Rattle.sieve_syntax.specs.Symbol.{symbol_of};
 ghost use Rattle.sieve_syntax.specs.declared.parser.SyntaxFault.TheVariants.{NoMemory};
 
 use crate::cursor::{Cursor, next_token};
 use crate::reader::{Outer, ParserState};
+use crate::script::ParsedScript;
 use crate::step::{Stop, step};
 use crate::symbol::read_symbol;
 use crate::token::{Token, last_line};
-use crate::tree::ParsedScript;
+use crate::tree::Command;
 use sieve_base::limits::MAX_TEXT;
 use std::alloc::{AllocError, Global};
 use thiserror::Error;
@@ -64,16 +65,19 @@ pub fn parse(alloc: Global, text: &[u8]) -> Result<ParsedScript, SyntaxFault>
     // The tree or the line is what `syntax_of` says.
     ensures exact { Parses result (syntax_of text.now) }
     // Each string of the tree is one literal.
-    ensures literal { IfOk result (λ script. EachString IsOneLiteral (by.nodes_of by.as_parts script)) }
+    ensures literal { IfOk result (λ script. EachString IsOneLiteral (nodes_by as_parts script)) }
 {
     if text.len() > MAX_TEXT {
         return Err(SyntaxFault::TooLarge);
     }
-    read_script(alloc, text)
+    match read_commands(alloc, text) {
+        Ok(commands) => Ok(ParsedScript { commands }),
+        Err(fault) => Err(fault),
+    }
 }
 
-/// The tree of a text, which is read token by token.
-fn read_script(alloc: Global, text: &[u8]) -> Result<ParsedScript, SyntaxFault>
+/// The commands of a text, which is read token by token.
+fn read_commands(alloc: Global, text: &[u8]) -> Result<Vec<Command>, SyntaxFault>
     requires { length text.now ≤ text_limit }
     ensures small { IsErrOf result SyntaxFault.TooLarge → ⊥ }
     ensures exact { (view : View) → SeesLiterals view → ParsesAs view result (syntax_of text.now) }
@@ -117,17 +121,15 @@ fn read_token(
     }
 }
 
-/// The script, where all that was begun is ended.
+/// The commands, where all that was begun is ended.
 #[tactic(auto, unfolding(crate::specs::Machine::whole))]
-fn finish(text: &[u8], outer: Outer, state: ParserState) -> Result<ParsedScript, SyntaxFault>
+fn finish(text: &[u8], outer: Outer, state: ParserState) -> Result<Vec<Command>, SyntaxFault>
     requires { length text.now ≤ text_limit }
     ensures { (view : View) → Finishes view result (whole (state_value view outer state)) (line_at text.now (length text.now)) }
 {
     if let ParserState::Between = state {
         if outer.blocks.is_empty() {
-            return Ok(ParsedScript {
-                commands: outer.done,
-            });
+            return Ok(outer.done);
         }
     }
     Err(SyntaxFault::Syntax {

@@ -13,12 +13,6 @@ use sieve_variables::{Part, Parts};
 use std::alloc::{AllocError, Global};
 use std::mem::size_of;
 
-/// A whole script of a text: its commands in the order of the text.
-#[derive(Drop)]
-pub struct ParsedScript {
-    pub commands: Vec<Command>,
-}
-
 /// A command, with its arguments, its tests and its block (RFC 5228, section 2.9).
 #[derive(Drop)]
 pub struct Command {

@@ -7,7 +7,6 @@ use lib.Pointwise.{pointwise}
 use denote.Enum.Bare.{Bare, same_true, sameb}
 use denote.Enum.Declared.{Record, declared}
 use Rattle.sieve_table.specs.Capability.{capabilities, capability_name, capability_named, is_capability, is_name_of, same_capability}
-use Rattle.sieve_table.specs.Every.{every}
 use Rattle.sieve_table.specs.Table.{all_tags, command_named, command_row, tag_named, tag_row, test_named, test_row}
 use Rattle.sieve_table.specs.contracts.capability.Capability as every_capability
 use Rattle.sieve_table.specs.contracts.table.CommandKind as every_command

@@ -1,5 +1,5 @@
 -- The program's readings of commands and tests.
-use Rattle.std.specs.Prelude.{List, Option, Some, None, map}
+use Rattle.std.specs.Prelude.{List, map}
 use Rattle.std.specs.Option.{option_map}
 use Rattle.sieve_reading.specs.Reading as reading
 use Rattle.sieve_reading.specs.view.Tree.{text_of}

@@ -1,27 +1,33 @@
 -- What the parser returned, against what the text means.
-use Rattle.std.specs.Prelude.{◌≡◌, ℕ, List, Option, Some, None, Result, Ok, Err}
+use Rattle.std.specs.Prelude.{◌≡◌, ℕ, List, map, Option, Some, None, Result, Ok, Err}
 use Rattle.sieve_syntax.specs.view.Literals.{View}
 use Rattle.sieve_syntax.specs.Machine.{ParserState}
 use Rattle.sieve_syntax.specs.view.Reader.{state_value}
 use Rattle.sieve_syntax.specs.Tree.{Node}
-use Rattle.sieve_syntax.specs.view.Tree.{octets_of}
-use Rattle.sieve_syntax.specs.view.TreeOf.{nodes_of}
+use Rattle.sieve_syntax.specs.view.Script.{nodes_of}
+use Rattle.sieve_syntax.specs.view.TreeOf.{node_of}
 use Rattle.sieve_syntax.specs.declared.parser.SyntaxFault.{SyntaxFault}
 use Rattle.sieve_syntax.specs.declared.parser.SyntaxFault.TheVariants.{Syntax, TooLarge, NoMemory}
-use Rattle.sieve_syntax.specs.declared.tree.ParsedScript as scripts
+use Rattle.std.specs.declared.alloc.Global.{Global}
+use Rattle.std.specs.declared.vec.Vec.{Vec}
+use Rattle.sieve_syntax.specs.declared.script.ParsedScript as scripts
+use Rattle.sieve_syntax.specs.declared.tree.Command as commands
 use Rattle.sieve_syntax.specs.declared.reader.Outer as outers
 use Rattle.sieve_syntax.specs.declared.reader.ParserState as states
 
--- the tree, by what its strings are seen as, is what the text means, or the line of the fault is
-abbrev pub ParsesAs : View → Result scripts.ParsedScript SyntaxFault → Result (List Node) ℕ → Type 0
-ParsesAs view (Ok script) meaning = meaning ≡ Ok (nodes_of view script)
+-- the commands, by what their strings are seen as, are what the text means, or the line of the fault is
+abbrev pub ParsesAs : View → Result (Vec commands.Command Global) SyntaxFault → Result (List Node) ℕ → Type 0
+ParsesAs view (Ok v) meaning = meaning ≡ Ok (map (node_of view) v.items)
 ParsesAs view (Err (Syntax line)) meaning = meaning ≡ Err line
 ParsesAs view (Err TooLarge) meaning = Unit {0}
 ParsesAs view (Err NoMemory) meaning = Unit {0}
 
 -- the tree is what the text means, or the line of the fault is
 abbrev pub Parses : Result scripts.ParsedScript SyntaxFault → Result (List Node) ℕ → Type 0
-Parses = ParsesAs octets_of
+Parses (Ok script) meaning = meaning ≡ Ok (nodes_of script)
+Parses (Err (Syntax line)) meaning = meaning ≡ Err line
+Parses (Err TooLarge) meaning = Unit {0}
+Parses (Err NoMemory) meaning = Unit {0}
 
 -- the state is the next one, or there is none and the line is the token's
 abbrev pub Goes : View → outers.Outer → Result states.ParserState SyntaxFault → Option ParserState → ℕ → Type 0
@@ -30,9 +36,9 @@ Goes view o (Err (Syntax at)) next line = (next ≡ None) × (at ≡ line)
 Goes view o (Err TooLarge) next line = ⊥
 Goes view o (Err NoMemory) next line = Unit {0}
 
--- the script is the whole tree, or there is none and the line is that of the end
-abbrev pub Finishes : View → Result scripts.ParsedScript SyntaxFault → Option (List Node) → ℕ → Type 0
-Finishes view (Ok script) tree line = tree ≡ Some (nodes_of view script)
+-- the commands are the whole tree, or there is none and the line is that of the end
+abbrev pub Finishes : View → Result (Vec commands.Command Global) SyntaxFault → Option (List Node) → ℕ → Type 0
+Finishes view (Ok v) tree line = tree ≡ Some (map (node_of view) v.items)
 Finishes view (Err (Syntax at)) tree line = (tree ≡ None) × (at ≡ line)
 Finishes view (Err TooLarge) tree line = ⊥
 Finishes view (Err NoMemory) tree line = ⊥

@@ -5,7 +5,6 @@ use Rattle.std.specs.declared.vec.Vec.{Vec}
 use Rattle.sieve_syntax.specs.Tree.{Text, Argument, Test, Tests, Node, Block}
 use Rattle.sieve_syntax.specs.declared.tree.Argument as arguments
 use Rattle.sieve_syntax.specs.declared.tree.Command as commands
-use Rattle.sieve_syntax.specs.declared.tree.ParsedScript as scripts
 use Rattle.sieve_syntax.specs.declared.tree.Test as one_tests
 use Rattle.sieve_syntax.specs.declared.tree.Tests as some_tests
 use Rattle.sieve_syntax.specs.declared.tree.Text as texts
@@ -34,9 +33,6 @@ test_of = by.test_of octets_of
 
 abbrev pub node_of : commands.Command → Node
 node_of = by.node_of octets_of
-
-abbrev pub nodes_of : scripts.ParsedScript → List Node
-nodes_of = by.nodes_of octets_of
 
 abbrev pub block_of : Option (Vec commands.Command Global) → Block
 block_of = by.block_of octets_of

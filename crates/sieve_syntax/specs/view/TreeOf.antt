@@ -6,7 +6,6 @@ use Rattle.sieve_variables.specs.Part.{Part}
 use Rattle.sieve_syntax.specs.TreeOf.{Text, Argument, strings, number, tag, Test, test, Tests, no_tests, one_test, test_list, tests, Node, node, Block, no_block, block, nodes}
 use Rattle.sieve_syntax.specs.declared.tree.Argument as arguments
 use Rattle.sieve_syntax.specs.declared.tree.Command as commands
-use Rattle.sieve_syntax.specs.declared.tree.ParsedScript as scripts
 use Rattle.sieve_syntax.specs.declared.tree.Test as one_tests
 use Rattle.sieve_syntax.specs.declared.tree.Tests as some_tests
 use Rattle.sieve_syntax.specs.declared.tree.Text as texts
@@ -50,9 +49,6 @@ command_step view c = node c.name c.line (map (argument_of view) c.args.items) (
 
 abbrev pub node_of : {V : Type 0} → (List Part → V) → commands.Command → Node V
 node_of {V} view = commands.fold-Command (Node V) (command_step view)
-
-abbrev pub nodes_of : {V : Type 0} → (List Part → V) → scripts.ParsedScript → List (Node V)
-nodes_of view s = map (node_of view) s.commands.items
 
 abbrev pub block_of : {V : Type 0} → (List Part → V) → Option (Vec commands.Command Global) → Block V
 block_of view None = no_block

@@ -22,7 +22,7 @@ fn texts_have_their_limit(rt: HostRuntime) -> Result<(), AllocError> {
 
 /// How many commands and tokens a text has.
 fn counts_of(alloc: Global, text: &[u8]) -> Result<(usize, usize), Fail> {
-    let commands = parse(alloc, text)?.commands.len();
+    let commands = parse(alloc, text)?.commands().len();
     Ok((commands, tokens(alloc, text)?.len()))
 }
 

@@ -156,7 +156,7 @@ fn print_commands(out: &mut String, alloc: Global, commands: &[Command]) -> Resu
 /// Prints the tree of a text, or its fault.
 fn print_tree(out: &mut String, alloc: Global, text: &[u8]) -> Result<(), AllocError> {
     match parse(alloc, text) {
-        Ok(script) => print_commands(out, alloc, &script.commands),
+        Ok(script) => print_commands(out, alloc, script.commands()),
         Err(_) => out.push_str("a fault"),
     }
 }

@@ -1,4 +1,4 @@
-use Rattle.std.proofs.Common.{◌≡◌, ◌+◌, ◌-◌, ℕ, Some, slice_get, subst, sym, arith}
+use Rattle.std.proofs.Common.{◌≡◌, ◌+◌, ◌-◌, ℕ, Some, slice_get, subst, arith}
 use denote.Enum.Declared.{tag_of}
 use Rattle.sieve_table.specs.Rule.{all_rules}
 use Rattle.sieve_table.specs.contracts.rule.Rule.{enum, the_type}

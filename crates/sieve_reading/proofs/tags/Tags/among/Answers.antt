@@ -1,4 +1,4 @@
-use Rattle.std.proofs.Common.{◌≡◌, ◌∙◌, ap, map}
+use Rattle.std.proofs.Common.{◌∙◌, ap, map}
 use Rattle.sieve_reading.specs.Given.{first_or}
 use Rattle.sieve_reading.specs.Label.{expecting, slots_of}
 use Rattle.sieve_reading.specs.Shape.{shapes_of}

@@ -1,11 +1,8 @@
 use Rattle.std.proofs.Common.{Some, None, ◌≡◌, ◌∙◌, sym, ap}
-use Rattle.sieve_reading.specs.Given.{first_or, tag_at}
-use Rattle.sieve_reading.specs.declared.label.Label.TheVariants.{Tagged}
 use Rattle.sieve_reading.specs.view.Tags.{tags_as}
 use Rattle.sieve_reading.proofs.ByKind.{kept, noted}
 use Rattle.std.specs.Prelude.{if◌then◌else◌}
 use Rattle.sieve_table.specs.Table.{same_kind, tag_row}
-use Rattle.sieve_table.specs.declared.row.TagKind.{TagKind}
 use Rattle.sieve_reading.proofs.tags.Tags.with.Goals as goal
 
 pub returns-in-Some : goal.returns-in-Some

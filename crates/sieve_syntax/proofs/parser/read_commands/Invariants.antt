@@ -3,7 +3,7 @@ use Rattle.sieve_syntax.specs.view.Cursor.{IsCursor}
 use Rattle.sieve_syntax.specs.view.Literals.{SeesLiterals, View}
 use Rattle.sieve_syntax.specs.view.Reader.{state_value}
 use Rattle.sieve_syntax.proofs.Running.{Means}
-use Rattle.sieve_syntax.proofs.parser.read_script.Given as goal
+use Rattle.sieve_syntax.proofs.parser.read_commands.Given as goal
 
 abbrev pub invariant-loop-token : goal.invariant-loop-token
 invariant-loop-token l = record {

@@ -7,7 +7,7 @@ use Rattle.sieve_syntax.specs.view.Tree.{octets_of}
 use Rattle.sieve_syntax.proofs.Literals.{octets_see_literals}
 use Rattle.sieve_syntax.proofs.Running.{Means, start_means, next_means, stop_means, end_means, goes_small, finishes_small}
 use Rattle.sieve_syntax.specs.declared.parser.SyntaxFault.TheVariants.{TooLarge}
-use Rattle.sieve_syntax.proofs.parser.read_script.Goals as goal
+use Rattle.sieve_syntax.proofs.parser.read_commands.Goals as goal
 
 pub loop-token-init : goal.loop-token-init
 loop-token-init c = record {
