@@ -113,7 +113,8 @@ impl Scripts {
     pub(crate) fn remove(&mut self, name: &ScriptName)
         ensures { self.new ≡ without_script name.now self.old }
     {
-        self.by_name.remove(name);
+        let removed = self.by_name.remove(name);
+        drop(removed);
     }
 }
 
