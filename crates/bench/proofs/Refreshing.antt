@@ -150,7 +150,7 @@ same_length : (old new : List (List ℕ × Entry)) → messages_of new ≡ messa
 unfolding messages_of
 same_length old new same = sym (length-map new _) ∙ ap length same ∙ length-map old _
 
-keys-messages : (es : List (List ℕ × Entry)) → keys_of (messages_of es) ≡ keys_of es
+pub keys-messages : (es : List (List ℕ × Entry)) → keys_of (messages_of es) ≡ keys_of es
 unfolding messages_of
 keys-messages [] = refl
 keys-messages (e ∷ es) = ap (λ l. e.0 ∷ l) (keys-messages es)

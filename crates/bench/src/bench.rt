@@ -1,8 +1,10 @@
 //! The bench: its edits, its report and the verdicts that it keeps.
 ghost use Rattle.sieve_base.specs.Octet.{is_among};
 ghost use Rattle.std.specs.Prelude.{◌≡◌, ⊤, [], IfOk, OnOk, OnErr, IfErr, None, Ok, length};
+ghost use Rattle.std.specs.Map as map;
 ghost use Rattle.std.specs.Option.{option_copied};
 ghost use Rattle.bench.specs.Bench.{RefusedAmong, verdict_at};
+ghost use Rattle.bench.specs.Edits.{AreDistinct};
 ghost use Rattle.bench.specs.Stale.{ids_where, stale_after};
 ghost use Rattle.sieve_base.specs.Writers.{Wrote, WroteFront};
 ghost use Rattle.sieve_run.specs.Library.{found_at, library_of};
@@ -337,7 +339,9 @@ impl Bench {
     /// memory.
     pub fn verdict(&self, id: &Octets) -> Option<&Outcome>
         ensures due { option_copied result ≡ verdict_at self.now id.now }
-        // The stale messages are some of those that are there, each once and in the list's order.
+        // No two messages have one id.
+        ensures ids { AreDistinct (map.keys_of self.now.content.messages) }
+        // The stale messages are some of those that are there, in the list's order; so each is listed once.
         ensures listed { self.now.stale ≡ ids_where (λ message. is_among message.0 self.now.stale) self.now.content.messages }
     {
         match self.messages.get(id) {

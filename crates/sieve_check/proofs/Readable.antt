@@ -136,7 +136,7 @@ command_says_so k labels args =
 module _ (context : Context) where
   -- a test of some kind or none that breaks no rule is of a kind, takes its arguments, and is read
   test_is_read : (k : Option TestKind) (args : List syntax.Argument) (ts : syntax.Tests) → ((rule : Rule) → test_breaks context k args ts rule ≡ false)
-      → let cut = parted_labelled context (test_labels k args) args in (test_takes k cut (parted_tests context ts) ≡ true) × Joins (option_map (λ kind. tests.kind_reading kind cut) k) (parted_tests context ts)
+      → let cut = parted_labelled context (test_labels k args) args in (test_takes k cut (parted_tests context ts) ≡ true) × Joins (option_map (λ kind. tests.test_kind_reading kind cut) k) (parted_tests context ts)
   test_is_read None args ts unbroken = absurd (never_both (unbroken UnknownCommand))
   test_is_read (Some k) args ts unbroken =
       let row = test_row k in
@@ -148,7 +148,7 @@ module _ (context : Context) where
   -- a command of some kind or none that breaks no rule is of a kind, takes its arguments, and stands where it may
   command_is_read : (within : Context) (k : Option CommandKind) (args : List syntax.Argument) (ts : syntax.Tests) (ending : syntax.Block) → ((rule : Rule) → command_breaks context k args ts ending rule ≡ false)
       → let cut = parted_labelled context (command_labels k args) args in
-      (command_takes k cut (parted_tests context ts) (parted_block within ending) ≡ true) × Stands context.follows_if (option_map (λ kind. commands.kind_reading kind cut) k) (parted_tests context ts) (parted_block within ending)
+      (command_takes k cut (parted_tests context ts) (parted_block within ending) ≡ true) × Stands context.follows_if (option_map (λ kind. commands.command_kind_reading kind cut) k) (parted_tests context ts) (parted_block within ending)
   command_is_read within None args ts ending unbroken = absurd (never_both (unbroken UnknownCommand))
   command_is_read within (Some k) args ts ending unbroken =
       let row = command_row k in
@@ -156,8 +156,8 @@ module _ (context : Context) where
       let used = still_used context within row args ts ending (unbroken BadTag) (unbroken BadArguments) in
       let ends = ends_well row (shapes_of row.tags cut) (tests_there (parted_tests context ts)) (has_block (parted_block within ending)) used in
       let says = command_says_so k (row_labels row cut) cut in
-      let fit : tests_fit (needs_of (commands.kind_reading k cut)).tests (parted_tests context ts) ≡ true = subst (λ i. tests_fit i (parted_tests context ts) ≡ true) (sym says.tests) ends.0 in
-      let fits : block_fits (needs_of (commands.kind_reading k cut)).block (has_block (parted_block within ending)) ≡ true = subst (λ b. block_fits b (has_block (parted_block within ending)) ≡ true) (sym says.block) ends.1 in
+      let fit : tests_fit (needs_of (commands.command_kind_reading k cut)).tests (parted_tests context ts) ≡ true = subst (λ i. tests_fit i (parted_tests context ts) ≡ true) (sym says.tests) ends.0 in
+      let fits : block_fits (needs_of (commands.command_kind_reading k cut)).block (has_block (parted_block within ending)) ≡ true = subst (λ b. block_fits b (has_block (parted_block within ending)) ≡ true) (sym says.block) ends.1 in
       (used, (fit, fits, λ needs. follows (continues_if k) context.follows_if (sym says.behind_if ∙ needs) (unbroken ElsePlace)))
     where
       follows : (continues follows_if : Bool) → continues ≡ true → (continues && not follows_if) ≡ false → follows_if ≡ true
@@ -165,7 +165,7 @@ module _ (context : Context) where
       follows continues false is fine = absurd (never_both (sym (ap (λ b. b && true) is) ∙ fine))
 
   -- a branch may go on behind a command exactly where the command is read as one that it may go on behind
-  kind_goes_on : (k : Option CommandKind) (written : List syntax.Argument) (args : List Argument) → (behind_kind context k written).follows_if ≡ may_go_on (option_map (λ kind. commands.kind_reading kind args) k)
+  kind_goes_on : (k : Option CommandKind) (written : List syntax.Argument) (args : List Argument) → (behind_kind context k written).follows_if ≡ may_go_on (option_map (λ kind. commands.command_kind_reading kind args) k)
   kind_goes_on None written args = refl
   kind_goes_on (Some k) written args = (command_says_so k (row_labels (command_row k) args) args).goes_on
 

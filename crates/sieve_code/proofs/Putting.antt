@@ -6,10 +6,8 @@ use Rattle.std.specs.declared.alloc.Global.{Global}
 use Rattle.std.specs.declared.boxed.Box.{Box}
 use Rattle.std.specs.declared.vec.Vec.{Vec}
 use Rattle.sieve_reading.specs.Reading.{TestReading, CommandReading}
-use Rattle.sieve_reading.specs.CommandReading.{command_reading}
-use Rattle.sieve_reading.specs.CommandReading as commands_read
-use Rattle.sieve_reading.specs.TestReading.{test_reading}
-use Rattle.sieve_reading.specs.TestReading as tests_read
+use Rattle.sieve_reading.specs.CommandReading.{command_reading, some_command_reading}
+use Rattle.sieve_reading.specs.TestReading.{test_reading, some_test_reading}
 use Rattle.sieve_table.specs.Table.{command_named, test_named}
 use Rattle.sieve_reading.specs.Tree.{TestList, test_list, tests, Node, node, block, nodes}
 use Rattle.sieve_syntax.specs.view.TreeOf.{as_parts}
@@ -132,7 +130,7 @@ unfolding first_before
 first_listed ts b v t rest behind is same first = sym (ap (λ x. first_before x behind) (seen_list as_parts ts b (t ∷ rest) is (sym first ∙ ap (λ x. x.items) same)))
 
 -- what is read by a test's name and arguments is read of the test
-pub test_seen : (t : one_tests.Test) → tests_read.some_reading (test_named t.name) (map argument_of t.args.items) ≡ test_reading (test_of t)
+pub test_seen : (t : one_tests.Test) → some_test_reading (test_named t.name) (map argument_of t.args.items) ≡ test_reading (test_of t)
 test_seen t = sym (ap test_reading (seen_test as_parts t))
 
 pub test_put : (t : one_tests.Test) (r : Option TestReading) (behind : Tail) → r ≡ test_reading (test_of t) → reading_before r (tests_before false (tests_of t.tests)) (tests_before true (tests_of t.tests)) (first_before (tests_of t.tests)) behind ≡ test_before (test_of t) behind
@@ -258,7 +256,7 @@ pub block_seen : (c : commands.Command) (behind : Tail) → block_before (block_
 block_seen c behind = sym (ap (λ n. block_at n behind) (seen_command as_parts c))
 
 -- what is read by a command's name and arguments is read of its node
-pub reading_seen : (c : commands.Command) → let o = command_views.out-Command c in commands_read.some_reading (command_named o.name) (map argument_of o.args.items) ≡ command_reading (node_of c)
+pub reading_seen : (c : commands.Command) → let o = command_views.out-Command c in some_command_reading (command_named o.name) (map argument_of o.args.items) ≡ command_reading (node_of c)
 reading_seen c = sym (ap command_reading (seen_command as_parts c))
 
 abbrev pub block_on : List commands.Command → Tail → Tail

@@ -1,7 +1,7 @@
 //! The operations of commands (RFC 5228, sections 3 and 4).
 ghost use Rattle.std.specs.Prelude.{◌≡◌, ◌≤◌, ◌∷◌, false, true, length, map, OnOk, IfOk};
 ghost use Rattle.std.specs.Option.{option_map};
-ghost use Rattle.sieve_reading.specs.CommandReading.{some_reading};
+ghost use Rattle.sieve_reading.specs.CommandReading.{some_command_reading};
 ghost use Rattle.sieve_reading.specs.Tree.{block, nodes};
 ghost use Rattle.sieve_reading.specs.view.Reading.{command_reading_as, leaf_as};
 ghost use Rattle.sieve_reading.specs.view.Tree.{argument_of, node_of, tests_of};
@@ -87,7 +87,7 @@ fn put_past(front: TailFront, tail: &mut Tail) -> Result<(), AllocError>
 
 /// What a command of that name and with these arguments is, where there is one of that name. Each command of a checked script is one.
 fn reading_of(alloc: Global, name: &CommandName, args: Vec<Argument>) -> Option<CommandReading>
-    ensures { option_map command_reading_as result ≡ some_reading (command_named name.now) (map argument_of args.items) }
+    ensures { option_map command_reading_as result ≡ some_command_reading (command_named name.now) (map argument_of args.items) }
 {
     match name.kind() {
         Some(kind) => Some(read_command(alloc, kind, args)),

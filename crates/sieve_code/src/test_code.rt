@@ -1,7 +1,7 @@
 //! The operations of tests (RFC 5228, section 5).
 ghost use Rattle.std.specs.Prelude.{◌≡◌, ◌∷◌, if◌then◌else◌, map, true, OnOk};
 ghost use Rattle.std.specs.Option.{option_map};
-ghost use Rattle.sieve_reading.specs.TestReading.{some_reading};
+ghost use Rattle.sieve_reading.specs.TestReading.{some_test_reading};
 ghost use Rattle.sieve_reading.specs.Tree.{test_list, tests};
 ghost use Rattle.sieve_reading.specs.view.Reading.{test_reading_as};
 ghost use Rattle.sieve_reading.specs.view.Tree.{argument_of, test_of, tests_of};
@@ -48,7 +48,7 @@ fn put_joint(follows: bool, truth: bool, end: usize, tail: &mut Tail) -> Result<
 
 /// What a test of that name and with these arguments is, where there is one of that name. Each test of a checked script is one.
 fn reading_of(alloc: Global, name: &TestName, args: Vec<Argument>) -> Option<TestReading>
-    ensures { option_map test_reading_as result ≡ some_reading (test_named name.now) (map argument_of args.items) }
+    ensures { option_map test_reading_as result ≡ some_test_reading (test_named name.now) (map argument_of args.items) }
 {
     match name.kind() {
         Some(kind) => Some(read_test(alloc, kind, args)),

@@ -94,13 +94,13 @@ command_reading_by command.Return labels args = reads_return
 command_reading_by command.Global labels args = reads_nothing
 
 -- what a command of a kind is with these arguments
-abbrev pub kind_reading : CommandKind → List Argument → CommandReading
-kind_reading kind args = command_reading_by kind (row_labels (command_row kind) args) args
+abbrev pub command_kind_reading : CommandKind → List Argument → CommandReading
+command_kind_reading kind args = command_reading_by kind (row_labels (command_row kind) args) args
 
 -- what a command of a kind is, where it is of one
-abbrev pub some_reading : Option CommandKind → List Argument → Option CommandReading
-some_reading kind args = option_map (λ k. kind_reading k args) kind
+abbrev pub some_command_reading : Option CommandKind → List Argument → Option CommandReading
+some_command_reading kind args = option_map (λ k. command_kind_reading k args) kind
 
 -- what a command is, where there is one of its name
 abbrev pub command_reading : Node → Option CommandReading
-command_reading (node name line args ts ending) = some_reading (command_named name) args
+command_reading (node name line args ts ending) = some_command_reading (command_named name) args

@@ -73,13 +73,13 @@ test_reading_by test_kind.String labels args = reads_ask (compares_by (string_so
 test_reading_by test_kind.HasFlag labels args = reads_ask (compares_by (flag_source labels args) labels args)
 
 -- what a test of a kind is with these arguments
-abbrev pub kind_reading : TestKind → List Argument → TestReading
-kind_reading kind args = test_reading_by kind (row_labels (test_row kind) args) args
+abbrev pub test_kind_reading : TestKind → List Argument → TestReading
+test_kind_reading kind args = test_reading_by kind (row_labels (test_row kind) args) args
 
 -- what a test of a kind is, where it is of one
-abbrev pub some_reading : Option TestKind → List Argument → Option TestReading
-some_reading kind args = option_map (λ k. kind_reading k args) kind
+abbrev pub some_test_reading : Option TestKind → List Argument → Option TestReading
+some_test_reading kind args = option_map (λ k. test_kind_reading k args) kind
 
 -- what a test is, where there is one of its name
 abbrev pub test_reading : Test → Option TestReading
-test_reading (test name line args ts) = some_reading (test_named name) args
+test_reading (test name line args ts) = some_test_reading (test_named name) args

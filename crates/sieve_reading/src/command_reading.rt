@@ -178,7 +178,7 @@ fn reading_by(alloc: Global, kind: CommandKind, row: &Row, args: Vec<Argument>) 
 /// What a command of that kind and with these arguments is, apart from its test and its block. What is read has the strings of the
 /// arguments. Takes no memory.
 pub fn read_command(alloc: Global, kind: CommandKind, args: Vec<Argument>) -> CommandReading
-    ensures { command_reading_as result ≡ spec.kind_reading kind (map argument_of args.items) }
+    ensures { command_reading_as result ≡ spec.command_kind_reading kind (map argument_of args.items) }
 {
     reading_by(alloc, kind, &kind.row(), args)
 }

@@ -165,7 +165,7 @@ fn reading_by(alloc: Global, kind: TestKind, row: &Row, args: Vec<Argument>) -> 
 /// What a test of that kind and with these arguments is, apart from the tests in it. What is read has the strings of the arguments.
 /// Takes no memory.
 pub fn read_test(alloc: Global, kind: TestKind, args: Vec<Argument>) -> TestReading
-    ensures { test_reading_as result ≡ spec.kind_reading kind (map argument_of args.items) }
+    ensures { test_reading_as result ≡ spec.test_kind_reading kind (map argument_of args.items) }
 {
     reading_by(alloc, kind, &kind.row(), args)
 }
