@@ -90,7 +90,7 @@ fn tell_command(rt: &impl Print, command: &Command) -> io::Result<()> {
     tell(
         rt,
         &[
-            Piece::Number(command.line),
+            Piece::Number(command.line as u64),
             Piece::Raw(b" "),
             Piece::Raw(command.name.as_slice()),
             Piece::Raw(b" "),

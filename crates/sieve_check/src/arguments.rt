@@ -162,7 +162,7 @@ fn check_text(
 {
     match first_broken(alloc, &TEXT_RULES, context, role, text.octets())? {
         Some(rule) => Err(CheckFault::Breach {
-            line: text.line,
+            line: text.line as u64,
             rule,
         }),
         None => Ok(()),
@@ -211,7 +211,7 @@ fn check_argument(
 {
     match argument {
         Argument::Strings { items, .. } => check_texts(alloc, context, role, items),
-        Argument::Number { value, line } => check_number(*value, *line),
+        Argument::Number { value, line } => check_number(*value, *line as u64),
         Argument::Tag { .. } => Ok(()),
     }
 }

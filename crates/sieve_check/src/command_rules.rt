@@ -52,7 +52,7 @@ fn check_kind(
     ensures labels { IfOk result (λ labels. labels.items ≡ row_labels (command_row kind) (map seen.argument_of (out-Command command.now).args.items)) }
     ensures found { Finds (kind_found (context_as context.entry) kind command.now) result }
 {
-    let line = command.line;
+    let line = command.line as u64;
     if is_misplaced(context, kind) {
         let rule = Rule::RequirePlace;
         return Err(CheckFault::Breach { line, rule });
@@ -90,7 +90,7 @@ fn check_command_head(
 {
     match command.name.kind() {
         None => Err(CheckFault::Breach {
-            line: command.line,
+            line: command.line as u64,
             rule: Rule::UnknownCommand,
         }),
         Some(kind) => {

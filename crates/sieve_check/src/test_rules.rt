@@ -31,7 +31,7 @@ fn check_test_head(
     ensures found { FindsIn (test_head (context_as context.entry) test.now) result }
     ensures labels { IfOk result (λ labels. labels.items ≡ test_labels (test_named (out-Test test.now).name) (map seen.argument_of (out-Test test.now).args.items)) }
 {
-    let line = test.line;
+    let line = test.line as u64;
     match test.name.kind() {
         None => Err(CheckFault::Breach {
             line,

@@ -60,7 +60,7 @@ fn put_alone(op: Op, front: TailFront, tail: &mut Tail) -> Result<TailFront, All
 /// Puts the operation of a command of a line in front of a tail, in the place of the branches there, which no `if` opens.
 fn put_act(
     leaf: Leaf,
-    line: u64,
+    line: u32,
     front: TailFront,
     tail: &mut Tail,
 ) -> Result<TailFront, AllocError>

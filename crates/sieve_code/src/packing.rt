@@ -14,16 +14,6 @@ use sieve_reading::{Ask, Comparison, FlagChange, Leaf, Settings, Text, ValueSour
 use sieve_variables::{Literal, Modifiers, Parts, Variable};
 use std::alloc::AllocError;
 
-/// A command's line as code keeps it. One past 4,294,967,295 is answered as want of memory.
-fn kept_line(line: u64) -> Result<u32, AllocError>
-    ensures { IfOk result (λ kept. kept ≡ line) }
-{
-    match u32::try_from(line) {
-        Ok(line) => Ok(line),
-        Err(_) => Err(AllocError),
-    }
-}
-
 impl Pools {
     /// The operation of an `exists`.
     fn pack_exists(&mut self, names: Vec<Text>) -> Result<Op, AllocError>
@@ -199,8 +189,8 @@ impl Pools {
         }))
     }
 
-    /// The operation of a command that acts, with its line as it is kept.
-    fn pack_leaf(&mut self, leaf: Leaf, line: u32) -> Result<Op, AllocError>
+    /// The operation of a command of a line that acts.
+    pub(crate) fn pack_act(&mut self, leaf: Leaf, line: u32) -> Result<Op, AllocError>
         ensures { IfOk result (λ op. Kept (pool_as self.old) (pool_as self.new) (λ p. op_in p op) (act_op (leaf_as leaf) line)) }
     {
         match leaf {
@@ -225,13 +215,5 @@ impl Pools {
                 name,
             } => self.pack_include(place, once, optional, name, line),
         }
-    }
-
-    /// The operation of a command of a line that acts.
-    pub(crate) fn pack_act(&mut self, leaf: Leaf, line: u64) -> Result<Op, AllocError>
-        ensures { IfOk result (λ op. Kept (pool_as self.old) (pool_as self.new) (λ p. op_in p op) (act_op (leaf_as leaf) line)) }
-    {
-        let line = kept_line(line)?;
-        self.pack_leaf(leaf, line)
     }
 }

@@ -79,7 +79,7 @@ impl Tail {
     }
 
     /// Puts the operation of a command of a line in front. An error, which is want of memory, leaves no operations.
-    pub(crate) fn put_act(&mut self, leaf: Leaf, line: u64) -> Result<(), AllocError>
+    pub(crate) fn put_act(&mut self, leaf: Leaf, line: u32) -> Result<(), AllocError>
         ensures { OnOk result (self.new ≡ act_op (leaf_as leaf) line ∷ self.old) }
     {
         match self.pools.pack_act(leaf, line) {

@@ -2,7 +2,7 @@
 use Rattle.std.proofs.Common.{◌≡◌, ℕ, ◌+◌, ◌-◌, ◌<◌, ◌≤◌, ◌++◌, List, [], ◌∷◌, length, drop, Some, None, sym, ap, ◌∙◌, subst, arith, append-nil}
 use Rattle.sieve_syntax.specs.view.Cursor.{IsCursor, GoesTo, IsNext}
 use Rattle.sieve_syntax.specs.Scan.{longest_at, token_at}
-use Rattle.sieve_syntax.specs.Token.{SpellsFrom, Spells}
+use Rattle.sieve_syntax.specs.Token.{line_at, SpellsFrom, Spells}
 use Rattle.sieve_syntax.specs.White.{white_at}
 use Rattle.sieve_syntax.specs.declared.cursor.Cursor.{Cursor}
 use Rattle.sieve_syntax.specs.declared.token.Token.{Token}
@@ -34,6 +34,7 @@ good_next text from start behind token kind n rest e l is_start is_behind low so
     record {
       is = is_behind;
       inside = record { some = omega arith; inside = omega arith };
+      line = ap (λ t. t.line) made ∙ ap (line_at text) (sym start_is);
       place = omega arith;
       forward = omega arith;
       goes = λ more h. so.goes (token ∷ more)
@@ -54,6 +55,7 @@ bad_next text from start behind token rest e l w less is_behind low so made plac
     record {
       is = is_behind;
       inside = record { some = omega arith; inside = omega arith };
+      line = ap (λ t. t.line) made ∙ ap (line_at text) (sym start_is);
       place = omega arith;
       forward = omega arith;
       goes = λ more h.

@@ -2,6 +2,7 @@ pub mod Cases
 pub mod Closing
 pub mod EachString
 pub mod Finding
+pub mod LineFits
 pub mod Lines
 pub mod Literals
 pub mod Longest

@@ -110,7 +110,8 @@ fn read_token(
     outer: &mut Outer,
     state: ParserState,
 ) -> Result<ParserState, SyntaxFault>
-    requires { IsInside text.now token }
+    requires line { token.line < 4294967296 }
+    requires inside { IsInside text.now token }
     ensures { (view : View) → SeesLiterals view → Goes view outer.new result (Machine.step test_depth block_room (state_value view outer.old state) (symbol_of text.now token)) token.line }
 {
     let symbol = read_symbol(alloc, text, token)?;

@@ -16,7 +16,7 @@ use std::alloc::{AllocError, Global};
 #[derive(Drop)]
 pub(crate) struct Head {
     pub(crate) name: SmallOctets,
-    pub(crate) line: u64,
+    pub(crate) line: u32,
     pub(crate) args: Vec<Argument>,
 }
 

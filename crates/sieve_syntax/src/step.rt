@@ -58,7 +58,7 @@ fn between(alloc: Global, outer: &mut Outer, symbol: Symbol) -> Result<ParserSta
 }
 
 /// A command or a test of which only the identifier is read.
-fn make_head(alloc: Global, name: SmallOctets, line: u64) -> Head
+fn make_head(alloc: Global, name: SmallOctets, line: u32) -> Head
     ensures name { result.name ≡ name }
     ensures line { result.line ≡ line }
     ensures args { result.args.items ≡ [] }
@@ -156,7 +156,7 @@ fn open_test(
     outer: &mut Outer,
     head: Head,
     name: SmallOctets,
-    line: u64,
+    line: u32,
 ) -> Result<ParserState, Stop>
     ensures { (view : View) → Advances view outer.new result (if nat_lt (length (levels_value view outer.old.levels.items)) test_depth then Some (Machine.in_arguments (outer_value view outer.old) (for_one (head_value view head) ∷ levels_value view outer.old.levels.items) (bare_head name.items line)) else None) }
 {

@@ -1,6 +1,6 @@
 //! Tokens as the grammar sees them, with what the tree keeps of them.
 
-ghost use Rattle.std.specs.Prelude.{◌≡◌, IfOk};
+ghost use Rattle.std.specs.Prelude.{◌≡◌, ◌<◌, IfOk};
 ghost use Rattle.sieve_syntax.specs.view.Reader.{symbol_as};
 ghost use Rattle.sieve_syntax.specs.Token.{IsInside};
 ghost use Rattle.sieve_syntax.specs.Symbol.{symbol_of};
@@ -13,10 +13,10 @@ use std::alloc::{AllocError, Global};
 /// A token without its place.
 #[derive(Drop)]
 pub(crate) enum Symbol {
-    Identifier { name: SmallOctets, line: u64 },
-    Tag { name: SmallOctets, line: u64 },
-    Number { value: Option<u64>, line: u64 },
-    String { octets: SmallOctets, line: u64 },
+    Identifier { name: SmallOctets, line: u32 },
+    Tag { name: SmallOctets, line: u32 },
+    Number { value: Option<u64>, line: u32 },
+    String { octets: SmallOctets, line: u32 },
     Semicolon,
     OpenBrace,
     CloseBrace,
@@ -31,11 +31,12 @@ pub(crate) enum Symbol {
 /// The symbol of a token of a text. The only refusal is want of memory.
 #[tactic(auto, unfolding(crate::specs::Symbol::symbol_at))]
 pub(crate) fn read_symbol(alloc: Global, text: &[u8], token: Token) -> Result<Symbol, AllocError>
-    requires { IsInside text.now token }
+    requires line { token.line < 4294967296 }
+    requires inside { IsInside text.now token }
     ensures { IfOk result (λ symbol. symbol_as symbol ≡ symbol_of text.now token) }
 {
     let octets = &text[token.start..token.end];
-    let line = token.line;
+    let line = token.line as u32;
     match token.kind {
         TokenKind::Identifier => Ok(Symbol::Identifier {
             name: SmallOctets::from_slice(alloc, octets)?,

@@ -18,7 +18,7 @@ use std::mem::size_of;
 pub struct Command {
     pub name: CommandName,
     /// The line of the identifier.
-    pub line: u64,
+    pub line: u32,
     pub args: Vec<Argument>,
     pub tests: Tests,
     /// The commands between `{` and `}`, or `None` where the command ends by `;`.
@@ -34,7 +34,7 @@ const _: () = prove!(size_of::<Command>() == 96);
 pub struct Test {
     pub name: TestName,
     /// The line of the identifier.
-    pub line: u64,
+    pub line: u32,
     pub args: Vec<Argument>,
     pub tests: Tests,
 }
@@ -55,16 +55,16 @@ pub enum Argument {
     /// A list of one or more strings in brackets, or one string without brackets.
     Strings { items: Vec<Text>, bracketed: bool },
     /// A number with its unit multiplied in, or `None` where it is past `u64::MAX`, and its line.
-    Number { value: Option<u64>, line: u64 },
+    Number { value: Option<u64>, line: u32 },
     /// A tag without its colon, as it is written, and the line of the colon.
-    Tag { name: SmallOctets, line: u64 },
+    Tag { name: SmallOctets, line: u32 },
 }
 
 /// A string: its parts in order, and the line where it begins. What the parts stand for, joined, is what the string stands for.
 #[derive(Drop)]
 pub struct Text {
     pub string: Parts,
-    pub line: u64,
+    pub line: u32,
 }
 
 /// The parts of a string that is one literal.
@@ -76,7 +76,7 @@ fn one_literal(alloc: Global, octets: SmallOctets) -> Result<Parts, AllocError>
 
 impl Text {
     /// A string of a text's tree.
-    pub(crate) fn written(alloc: Global, octets: SmallOctets, line: u64) -> Result<Text, AllocError>
+    pub(crate) fn written(alloc: Global, octets: SmallOctets, line: u32) -> Result<Text, AllocError>
         ensures { (view : View) → SeesLiterals view → IfOk result (λ text. by.text_of view text ≡ record { string = octets.items; line = line }) }
     {
         let string = one_literal(alloc, octets)?;

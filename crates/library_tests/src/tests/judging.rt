@@ -13,7 +13,7 @@ use std::process::Abort;
 use std::test::Fail;
 
 /// The name, the line and the kind of a command.
-fn check_named(rt: &impl Abort, command: &Command, name: &[u8], line: u64, kind: CommandKind) {
+fn check_named(rt: &impl Abort, command: &Command, name: &[u8], line: u32, kind: CommandKind) {
     same(rt, "the name of a command", command.name.as_slice(), name);
     holds(rt, "its line", command.line == line);
     holds(rt, "its kind", command.name.kind() == Some(kind));
@@ -147,7 +147,7 @@ fn a_sound_script_has_its_tree(rt: HostRuntime) -> Result<(), Fail> {
     Ok(())
 }
 
-fn check_text(rt: &impl Abort, text: &Text, octets: &[u8], line: u64) {
+fn check_text(rt: &impl Abort, text: &Text, octets: &[u8], line: u32) {
     match text.string.as_slice() {
         [part] => {
             match part.as_ref() {

@@ -1,6 +1,6 @@
 -- Places in a text.
 use Rattle.std.specs.Prelude.{◌≡◌, ℕ, ◌<◌, ◌≤◌, List, ◌∷◌, length, take}
-use Rattle.sieve_syntax.specs.Token.{line_feeds, IsInside, SpellsFrom}
+use Rattle.sieve_syntax.specs.Token.{line_at, line_feeds, IsInside, SpellsFrom}
 use Rattle.sieve_syntax.specs.declared.cursor.Cursor.{Cursor}
 use Rattle.sieve_syntax.specs.declared.token.Token.{Token}
 
@@ -17,6 +17,7 @@ pub record GoesTo (text : List ℕ) (from to : ℕ) : Type 0 where
 pub record IsNext (text : List ℕ) (from : ℕ) (token : Token) (behind : Cursor) : Type 0 where
   pub is : IsCursor text behind
   pub inside : IsInside text token
+  pub line : token.line ≡ line_at text token.start
   pub place : behind.place ≡ token.end
   pub forward : from < behind.place
   pub goes : (more : List Token) → SpellsFrom text behind.place more → SpellsFrom text from (token ∷ more)

@@ -36,7 +36,7 @@ fn print_text(out: &mut String, alloc: Global, text: &Text) -> Result<(), AllocE
     out.push_str("\"")?;
     print_octets(out, text.octets())?;
     out.push_str("\"")?;
-    print_number(out, alloc, text.line)
+    print_number(out, alloc, text.line as u64)
 }
 
 fn print_texts(out: &mut String, alloc: Global, texts: &[Text]) -> Result<(), AllocError> {
@@ -66,13 +66,13 @@ fn print_argument(out: &mut String, alloc: Global, argument: &Argument) -> Resul
             out.push_str("#")?;
             print_value(out, alloc, *value)?;
             out.push_str("@")?;
-            print_number(out, alloc, *line)
+            print_number(out, alloc, *line as u64)
         }
         Argument::Tag { name, line } => {
             out.push_str(":")?;
             print_octets(out, name)?;
             out.push_str("@")?;
-            print_number(out, alloc, *line)
+            print_number(out, alloc, *line as u64)
         }
     }
 }
@@ -96,7 +96,13 @@ fn print_head(
 /// A test, as `NAME@LINE ARGUMENTS TESTS`.
 #[cycle(print)]
 fn print_test(out: &mut String, alloc: Global, test: &Test) -> Result<(), AllocError> {
-    print_head(out, alloc, test.name.as_slice(), test.line, &test.args)?;
+    print_head(
+        out,
+        alloc,
+        test.name.as_slice(),
+        test.line as u64,
+        &test.args,
+    )?;
     print_tests(out, alloc, &test.tests)
 }
 
@@ -127,7 +133,7 @@ fn print_command(out: &mut String, alloc: Global, command: &Command) -> Result<(
         out,
         alloc,
         command.name.as_slice(),
-        command.line,
+        command.line as u64,
         &command.args,
     )?;
     print_tests(out, alloc, &command.tests)?;
