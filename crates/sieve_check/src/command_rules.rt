@@ -127,14 +127,14 @@ fn check_front(
     alloc: Global,
     spot: Spot,
     scope: &mut Scope,
-    head: &Head,
+    head: Head,
     args: &mut Vec<Argument>,
     tests: &mut Tests,
 ) -> Result<Spot, CheckFault>
-    requires { head.now.labels.items ≡ row_labels (command_row head.now.kind) (map seen.argument_of args.old.items) }
+    requires { head.labels.items ≡ row_labels (command_row head.kind) (map seen.argument_of args.old.items) }
     ensures found { FindsIn (tests_elements (at_spot spot scope.old) (seen.tests_of tests.old)) result }
-    ensures goes { IfOk result (λ next. at_spot next scope.new ≡ behind_kind (at_spot spot scope.old) (Some head.now.kind) (map seen.argument_of args.old.items)) }
-    ensures args { OnOk result (map argument_of args.new.items ≡ parted_labelled (at_spot spot scope.old) head.now.labels.items (map seen.argument_of args.old.items)) }
+    ensures goes { IfOk result (λ next. at_spot next scope.new ≡ behind_kind (at_spot spot scope.old) (Some head.kind) (map seen.argument_of args.old.items)) }
+    ensures args { OnOk result (map argument_of args.new.items ≡ parted_labelled (at_spot spot scope.old) head.labels.items (map seen.argument_of args.old.items)) }
     ensures tests { OnOk result (tests_of tests.new ≡ parted_tests (at_spot spot scope.old) (seen.tests_of tests.old)) }
 {
     let context = Context {
@@ -169,7 +169,7 @@ fn check_command(
         alloc,
         spot,
         &mut *scope,
-        &head,
+        head,
         &mut command.args,
         &mut command.tests,
     )?;

@@ -52,8 +52,8 @@ check_command-returns-in-Ok-clause-cut t c =
     c.in_ok-next.ensures.args (c.in_ok-head.ensures.labels ∙ ap (λ k. command_labels k args) (sym c.in_ok-head.ensures.kind)) c.in_ok-next.ensures.tests
     (block_cut _ (at_spot c.inside.result names) c.check_commands.new.commands o.block c.in-Some.commands is (within_block whole context c.in_ok-next.next c.inside.result names c.in-Some.commands goes c.inside.ensures is) c.in-Ok.ensures.cut)
 
-pub check_command-returns-clause-found : goal.check_command-returns-clause-found
-check_command-returns-clause-found t c =
+pub check_command-returns-in-Err-clause-found : goal.check_command-returns-in-Err-clause-found
+check_command-returns-in-Err-clause-found t c =
     let whole = c.args.command.now in let context = at_spot c.args.spot c.args.scope.now in
     let goes = c.in_ok-next.ensures.goes ∙ ap (λ k. behind_kind context k (map seen.argument_of (out-Command whole).args.items)) (sym c.in_ok-head.ensures.kind) in
     block_stops whole context c.in_ok-next.next c.inside.result c.check_front.new.scope c.in-Some.commands goes c.inside.ensures (sym (block_kept whole c.check_front.new.args c.check_front.new.tests) ∙ c.in-Some.is)
