@@ -3,8 +3,8 @@
 use super::{holds, same};
 use sieve_check::{CheckFault, Checked, Rule, check};
 use sieve_reading::{
-    Argument, Ask, Command, CommandKind, CommandName, CommandReading, Comparison, Leaf, MatchType, PartRef,
-    Test, TestKind, TestReading, Tests, Text, ValueSource, read_command, read_test,
+    Argument, Ask, Command, CommandKind, CommandName, CommandReading, Comparison, Leaf, MatchType,
+    PartRef, Test, TestKind, TestReading, Tests, Text, ValueSource, read_command, read_test,
 };
 use sieve_syntax::{ParsedScript, parse};
 use std::alloc::Global;
