@@ -9,6 +9,7 @@ pub mod Naming
 pub mod Order
 pub mod Parted
 pub mod Readable
+pub mod Requirement
 pub mod Scope
 pub mod Use
 pub mod view

@@ -15,6 +15,7 @@ ghost use Rattle.sieve_check.specs.Naming.{HasSetBefore, nodes_mentions, set_by}
 ghost use Rattle.sieve_check.specs.Order.{IsInTextOrder};
 ghost use Rattle.sieve_check.specs.Parted.{parted, parts_in};
 ghost use Rattle.sieve_check.specs.Readable.{IsReadable, DoesAll};
+ghost use Rattle.sieve_check.specs.Requirement.{JudgesBehindRequires};
 ghost use Rattle.sieve_table.specs.Role.{names_variable};
 ghost use Rattle.sieve_reading.specs.Tree as checked;
 ghost use Rattle.sieve_table.specs.declared.row.Role.{Role};
@@ -45,6 +46,13 @@ pub fn parts_go_by_the_role()
 /// tests and blocks of the text's tree, and in each argument as many strings, on the same lines, in brackets or not.
 pub fn parting_changes_strings_alone()
     ensures { (tree : List Node) → map bare_node (parted tree) ≡ map bare_node tree }
+{}
+
+/// After the `require` commands at the top of a script all that these name is required for each command, test and string, and nothing else
+/// is (RFC 5228, section 3.2). The rules judge by it, and strings are cut by it.
+#[tactic(auto, using(crate::proofs::Requirement::judged_behind))]
+pub fn what_is_required_is_named_at_the_top()
+    ensures { (tree : List Node) → JudgesBehindRequires tree }
 {}
 
 /// The variables that a text sets are the identifiers that it writes to set them, each once and as it is first written, but for those that

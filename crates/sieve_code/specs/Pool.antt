@@ -14,7 +14,7 @@ use Rattle.sieve_code.specs.declared.op.SourceKind.TheVariants as source
 use Rattle.sieve_code.specs.declared.pools.Target.{Target}
 
 -- strings, each by its parts; lists of strings; lists of names of fields; what commands change; names of scripts; and what tests that
--- compare and commands that store or redirect say beside
+-- compare and commands that store or redirect say beside their strings
 pub record Pool : Type 0 where
   pub strings : List (List Part)
   pub lists : Lists
@@ -50,14 +50,14 @@ given_list pool place = if place == nowhere then None else Some (list_in pool.li
 abbrev pub given_variable : Pool → ℕ → Option Variable
 given_variable pool place = if place == nowhere then None else option_map (λ target. target.variable) (slice_get pool.targets place)
 
--- what a test that compares says beside; at no place, of which no operation of code says one, it is that of a test of strings
+-- what a test that compares says beside its strings; past the end, that of a `string` test
 abbrev pub no_test : PackedTest
 no_test = record { source = source.String; comparison = record { match_type = Is; collation = Octet } }
 
 abbrev pub test_in : Pool → ℕ → PackedTest
 test_in pool place = slice_index_or pool.tests place no_test
 
--- what a command says beside that stores or redirects, if it says anything
+-- what a command that stores or redirects says beside its strings; a plain one says nothing
 abbrev pub plain_packed : PackedSettings
 plain_packed = record { flags = nowhere; copy = false }
 

@@ -30,7 +30,7 @@ pub struct Code {
     pub ghost compiled: { ∥ IsCode (ops_in (pool_as pools) ops.items) ∥₁ },
 }
 
-/// What lies at no place. No operation of code says such a place.
+/// What a place past the end says: a `string` test.
 fn no_test() -> PackedTest
     ensures { result ≡ no_test }
 {

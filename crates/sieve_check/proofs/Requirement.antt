@@ -1,0 +1,174 @@
+-- What is required behind the `require` commands at the top of a script is what they name.
+use Rattle.std.proofs.Common.{◌≡◌, suc, ◌+◌, Bool, true, false, cond, ◌&&◌, List, [], ◌∷◌, ◌++◌, take, ℕ, Option, None, Some, refl, sym, ap, ◌∙◌, subst, arith, append_assoc, drop}
+use Rattle.std.proofs.lemmas.List.Elements.{All-append, All-cons, All-nil}
+use Rattle.std.specs.List.{All, prefix_len, take_while}
+use Rattle.std.specs.Prelude.{if◌then◌else◌}
+use Rattle.sieve_syntax.specs.Tree.{Text, Argument, strings, number, tag, Test, test, Tests, no_tests, one_test, test_list, TestList, end_tests, more_tests, Block, no_block, block, Node, node, Nodes, end_nodes, more_nodes, nodes}
+use Rattle.sieve_check.specs.Context.{Context, behind, behind_block, behind_kind, inside, requiring_arguments, script_start}
+use Rattle.sieve_check.specs.Element.{Element, argument_elements, block_elements, command_arguments, labelled_elements, node_elements, nodes_elements, test_arguments, test_elements, test_list_elements, tests_elements, text_elements, the_command, the_number, the_test, the_text}
+use Rattle.sieve_check.specs.Requirement.{IsJudgedUnder, JudgesBehindRequires, is_require_command, leading_requires, requires_kind, requiring_command, requiring_commands}
+use Rattle.sieve_reading.specs.Role.{first_role}
+use Rattle.sieve_reading.specs.declared.label.Label.{Label}
+use Rattle.sieve_check.proofs.Truth.{not_both}
+use Rattle.sieve_table.specs.Required.{Required, nothing_required}
+use Rattle.sieve_table.specs.Table.{command_named, test_named}
+use Rattle.sieve_table.specs.declared.row.Role.{Role}
+use Rattle.sieve_table.specs.declared.table.CommandKind.{CommandKind}
+use Rattle.sieve_table.specs.declared.table.TestKind.{TestKind}
+
+-- ARGUMENTS AND TESTS
+
+module _ (r : Required) where
+  abbrev Judged : Element → Type 0
+  Judged = IsJudgedUnder r
+
+  texts_judged : (context : Context) (role : Option Role) (ts : List Text) → context.required ≡ r → All Judged (text_elements context role ts)
+  texts_judged context role [] same = All-nil Judged
+  texts_judged context role (t ∷ ts) same = All-cons Judged (the_text context role t) (text_elements context role ts) same (texts_judged context role ts same)
+
+  argument_judged : (context : Context) (role : Option Role) (a : Argument) → context.required ≡ r → All Judged (argument_elements context role a)
+  argument_judged context role (strings items bracketed) same = texts_judged context role items same
+  argument_judged context role (number value line) same = All-cons Judged (the_number value line) [] tt (All-nil Judged)
+  argument_judged context role (tag name line) same = All-nil Judged
+
+  arguments_judged : (context : Context) (labels : List Label) (args : List Argument) → context.required ≡ r → All Judged (labelled_elements context labels args)
+  arguments_judged context labels [] same = All-nil Judged
+  arguments_judged context labels (a ∷ args) same =
+      All-append Judged (argument_elements context (first_role labels) a) (labelled_elements context (drop 1 labels) args)
+      (argument_judged context (first_role labels) a same) (arguments_judged context (drop 1 labels) args same)
+
+  test_arguments_judged : (context : Context) (k : Option TestKind) (args : List Argument) (ts : Tests) → context.required ≡ r → All Judged (test_arguments context k args ts)
+  test_arguments_judged context None args ts same = arguments_judged context _ args same
+  test_arguments_judged context (Some kind) args ts same = arguments_judged context _ args same
+
+  command_arguments_judged : (context : Context) (k : Option CommandKind) (args : List Argument) (ts : Tests) (ending : Block) → context.required ≡ r → All Judged (command_arguments context k args ts ending)
+  command_arguments_judged context None args ts ending same = arguments_judged context _ args same
+  command_arguments_judged context (Some kind) args ts ending same = arguments_judged context _ args same
+
+  mutual
+    unfolding test_elements tests_elements test_list_elements
+
+    test_judged : (t : Test) (context : Context) → context.required ≡ r → All Judged (test_elements context t)
+    test_judged (test name line args ts) context same =
+        All-cons Judged (the_test context name line args ts) (test_arguments context (test_named name) args ts ++ tests_elements context ts) same
+        (All-append Judged (test_arguments context (test_named name) args ts) (tests_elements context ts)
+        (test_arguments_judged context (test_named name) args ts same) (tests_judged ts context same))
+
+    tests_judged : (ts : Tests) (context : Context) → context.required ≡ r → All Judged (tests_elements context ts)
+    tests_judged no_tests context same = All-nil Judged
+    tests_judged (one_test t) context same = test_judged t context same
+    tests_judged (test_list ts) context same = test_list_judged ts context same
+
+    test_list_judged : (ts : TestList) (context : Context) → context.required ≡ r → All Judged (test_list_elements context ts)
+    test_list_judged end_tests context same = All-nil Judged
+    test_list_judged (more_tests t ts) context same =
+        All-append Judged (test_elements context t) (test_list_elements context ts) (test_judged t context same) (test_list_judged ts context same)
+
+  -- COMMANDS BEHIND THE REQUIRES
+
+  -- behind a command that is no `require` at the top, no more is required
+  kind_requires_none : (context : Context) (k : Option CommandKind) (args : List Argument) → (context.leads && requires_kind k) ≡ false → context.required ≡ r → ((behind_kind context k args).leads ≡ false) × ((behind_kind context k args).required ≡ r)
+  kind_requires_none context None args other same = (refl, same)
+  kind_requires_none context (Some kind) args other same = (other, ap (λ b. if b then requiring_arguments context.required args else context.required) other ∙ same)
+
+  block_requires_none : (ending : Block) (context : Context) → (context.leads ≡ false) × (context.required ≡ r) → ((behind_block context ending).leads ≡ false) × ((behind_block context ending).required ≡ r)
+  unfolding behind_block
+  block_requires_none no_block context so = so
+  block_requires_none (block ns) context so = so
+
+  node_requires_none : (n : Node) (context : Context) → (context.leads && is_require_command n) ≡ false → context.required ≡ r → ((behind context n).leads ≡ false) × ((behind context n).required ≡ r)
+  unfolding behind
+  node_requires_none (node name line args ts ending) context other same = block_requires_none ending (behind_kind context (command_named name) args) (kind_requires_none context (command_named name) args other same)
+
+  mutual
+    unfolding node_elements block_elements nodes_elements
+
+    node_judged : (n : Node) (context : Context) → (context.leads && is_require_command n) ≡ false → context.required ≡ r → All Judged (node_elements context n)
+    node_judged (node name line args ts ending) context other same =
+        let within = tests_elements context ts ++ block_elements (behind_kind context (command_named name) args) ending in
+        All-cons Judged (the_command context name line args ts ending) (command_arguments context (command_named name) args ts ending ++ within) same
+        (All-append Judged (command_arguments context (command_named name) args ts ending) within
+        (command_arguments_judged context (command_named name) args ts ending same)
+        (All-append Judged (tests_elements context ts) (block_elements (behind_kind context (command_named name) args) ending)
+        (tests_judged ts context same)
+        (block_judged ending (behind_kind context (command_named name) args) (kind_requires_none context (command_named name) args other same).1)))
+
+    block_judged : (ending : Block) (context : Context) → context.required ≡ r → All Judged (block_elements context ending)
+    block_judged no_block context same = All-nil Judged
+    block_judged (block ns) context same = nodes_judged ns (inside context) refl same
+
+    nodes_judged : (ns : Nodes) (context : Context) → context.leads ≡ false → context.required ≡ r → All Judged (nodes_elements context ns)
+    nodes_judged end_nodes context behind_them same = All-nil Judged
+    nodes_judged (more_nodes n ns) context behind_them same =
+        let other = ap (λ b. b && is_require_command n) behind_them in
+        let next = node_requires_none n context other same in
+        All-append Judged (node_elements context n) (nodes_elements (behind context n) ns) (node_judged n context other same) (nodes_judged ns (behind context n) next.0 next.1)
+
+-- THE REQUIRES
+
+both_true : (a b : Bool) → a ≡ true → b ≡ true → (a && b) ≡ true
+both_true a b x y = ap (λ c. c && b) x ∙ y
+
+never : (b : Bool) → (b && false) ≡ false
+never true = refl
+never false = refl
+
+-- behind a `require` at the top, what its strings name is required too
+kind_requires : (context : Context) (k : Option CommandKind) (args : List Argument) → context.leads ≡ true → requires_kind k ≡ true → ((behind_kind context k args).leads ≡ true) × ((behind_kind context k args).required ≡ requiring_arguments context.required args)
+kind_requires context None args leads is = absurd (not_both is)
+kind_requires context (Some kind) args leads is =
+    let both = both_true context.leads (requires_kind (Some kind)) leads is in
+    (both, ap (λ b. if b then requiring_arguments context.required args else context.required) both)
+
+block_requires : (r : Required) (ending : Block) (context : Context) → (context.leads ≡ true) × (context.required ≡ r) → ((behind_block context ending).leads ≡ true) × ((behind_block context ending).required ≡ r)
+unfolding behind_block
+block_requires r no_block context so = so
+block_requires r (block ns) context so = so
+
+-- what is required behind a `require`
+node_requires : (n : Node) (context : Context) → context.leads ≡ true → is_require_command n ≡ true → ((behind context n).leads ≡ true) × ((behind context n).required ≡ requiring_command context.required n)
+unfolding behind
+node_requires (node name line args ts ending) context leads is = block_requires (requiring_arguments context.required args) ending (behind_kind context (command_named name) args) (kind_requires context (command_named name) args leads is)
+
+take_one : {X : Type 0} (x : X) (xs : List X) (n : ℕ) → take (1 + n) (x ∷ xs) ≡ x ∷ take n xs
+take_one x xs n = let one : 1 + n ≡ suc n = omega arith in ap (λ k. take k (x ∷ xs)) one
+
+-- what passes at the front of a list, with one item more in front
+front_passes : {X : Type 0} (p : X → Bool) (x : X) (xs : List X) → p x ≡ true → take_while p (x ∷ xs) ≡ x ∷ take_while p xs
+front_passes p x xs is = ap (λ b. take (cond b (1 + prefix_len p xs) 0) (x ∷ xs)) is ∙ take_one x xs (prefix_len p xs)
+
+front_fails : {X : Type 0} (p : X → Bool) (x : X) (xs : List X) → p x ≡ false → take_while p (x ∷ xs) ≡ []
+front_fails p x xs not = ap (λ b. take (cond b (1 + prefix_len p xs) 0) (x ∷ xs)) not
+
+-- the elements from a place at the top of a script on: those of the `require` commands there, and others for which these are required
+abbrev Splits : Context → List Node → Type 0
+Splits context tree = (rest : List Element) × (nodes_elements context (nodes tree) ≡ nodes_elements context (nodes (leading_requires tree)) ++ rest) × All (IsJudgedUnder (requiring_commands context.required (leading_requires tree))) rest
+
+splits : (tree : List Node) (context : Context) → context.leads ≡ true → Splits context tree
+unfolding nodes_elements
+splits [] context leads = ([], refl, All-nil (IsJudgedUnder context.required))
+splits (n ∷ tree) context leads = by_command (is_require_command n) refl (splits tree (behind context n))
+  where
+    by_command : (b : Bool) → is_require_command n ≡ b → ((behind context n).leads ≡ true → Splits (behind context n) tree) → Splits context (n ∷ tree)
+    by_command true is below =
+        let next = node_requires n context leads is in
+        let more = below next.0 in (
+          more.0,
+          ap (λ l. node_elements context n ++ l) more.1
+              ∙ sym (append_assoc (node_elements context n) (nodes_elements (behind context n) (nodes (leading_requires tree))) more.0)
+              ∙ sym (ap (λ l. nodes_elements context (nodes l) ++ more.0) (front_passes is_require_command n tree is)),
+          subst (λ r. All (IsJudgedUnder r) more.0) (ap (λ r. requiring_commands r (leading_requires tree)) next.1 ∙ sym (ap (requiring_commands context.required) (front_passes is_require_command n tree is))) more.2,
+        )
+    by_command false not below =
+        let other = ap (λ b. context.leads && b) not ∙ never context.leads in
+        let next = node_requires_none context.required n context other refl in (
+          nodes_elements context (nodes (n ∷ tree)),
+          sym (ap (λ l. nodes_elements context (nodes l) ++ nodes_elements context (nodes (n ∷ tree))) (front_fails is_require_command n tree not)),
+          subst (λ r. All (IsJudgedUnder r) (nodes_elements context (nodes (n ∷ tree)))) (sym (ap (requiring_commands context.required) (front_fails is_require_command n tree not)))
+              (All-append (IsJudgedUnder context.required) (node_elements context n) (nodes_elements (behind context n) (nodes tree)) (node_judged context.required n context other refl) (nodes_judged context.required (nodes tree) (behind context n) next.0 next.1)),
+        )
+
+pub judged_behind : (tree : List Node) → JudgesBehindRequires tree
+judged_behind tree =
+    let so = splits tree script_start refl in
+    record { rest = so.0; split = so.1; same = so.2 }
