@@ -1,3 +1,4 @@
+pub mod Asked
 pub mod Bare
 pub mod Breach
 pub mod CheckFault

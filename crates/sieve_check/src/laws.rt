@@ -7,6 +7,7 @@ ghost use Rattle.sieve_syntax.specs.Token.{Spells};
 ghost use Rattle.sieve_syntax.specs.Tree.{Node, Nodes};
 ghost use Rattle.sieve_syntax.specs.Symbol.{symbols_of};
 ghost use Rattle.sieve_syntax.specs.declared.token.Token.{Token};
+ghost use Rattle.sieve_check.specs.Asked.{AreAlike, asked_by_command, asked_by_test, gives_all};
 ghost use Rattle.sieve_check.specs.Bare.{bare_node};
 ghost use Rattle.sieve_check.specs.Breach.{Breach, breaches_at, breaches_of, breaks, first_breach, IsLeastBreach};
 ghost use Rattle.sieve_check.specs.Context.{Context, behind_nodes, script_start, takes_references};
@@ -17,17 +18,29 @@ ghost use Rattle.sieve_check.specs.Parted.{parted, parts_in};
 ghost use Rattle.sieve_check.specs.Readable.{IsReadable, DoesAll};
 ghost use Rattle.sieve_check.specs.Requirement.{JudgesBehindRequires};
 ghost use Rattle.sieve_table.specs.Role.{names_variable};
+ghost use Rattle.sieve_table.specs.Rule.{all_rules};
+ghost use Rattle.sieve_reading.specs.CommandReading.{command_reading_by};
+ghost use Rattle.sieve_reading.specs.Given.{tags_of};
+ghost use Rattle.sieve_reading.specs.TestReading.{test_reading_by};
 ghost use Rattle.sieve_reading.specs.Tree as checked;
+ghost use Rattle.sieve_reading.specs.declared.label.Label.{Label};
+ghost use Rattle.sieve_table.specs.Table.{command_row, test_row};
 ghost use Rattle.sieve_table.specs.declared.row.Role.{Role};
+ghost use Rattle.sieve_table.specs.declared.row.TagKind.TheVariants.{Bound};
 ghost use Rattle.sieve_table.specs.declared.rule.Rule.{Rule};
+ghost use Rattle.sieve_table.specs.declared.rule.Rule.TheVariants.{RequirePlace, UnknownCapability, UnknownCommand, NotRequired, ElsePlace, BadTag, BadArguments, UnknownComparator, BadVariableName, GlobalAfterSet, BadNamespace, MatchIndex, NumberTooLarge, BadEnvelopePart, NotAddressHeader, TooManyVariables};
+ghost use Rattle.sieve_table.specs.declared.table.CommandKind.{CommandKind};
+ghost use Rattle.sieve_table.specs.declared.table.TestKind.{TestKind};
+ghost use Rattle.sieve_table.specs.declared.table.TestKind.TheVariants.{Size};
 ghost use Rattle.sieve_variables.specs.Part.{grouped, literal, scoped_part, variable_part};
 ghost use Rattle.sieve_variables.specs.Reference.{Cuts, TextPiece};
 ghost use Rattle.sieve_variables.specs.Variable.{scoped, variable_named};
 
 /// The breaches of a script are those of its elements (its commands, tests, strings and numbers in the order of the text),
-/// each with the rules that it breaks in the order of their numbers. So the first breach is the least.
+/// each with the rules that it breaks in the order of their numbers, which is the one written here. So the first breach is the least.
 #[tactic(auto, using(crate::proofs::Least::least))]
 pub fn first_breach_is_least()
+    ensures rules { all_rules ≡ RequirePlace ∷ UnknownCapability ∷ UnknownCommand ∷ NotRequired ∷ ElsePlace ∷ BadTag ∷ BadArguments ∷ UnknownComparator ∷ BadVariableName ∷ GlobalAfterSet ∷ BadNamespace ∷ MatchIndex ∷ NumberTooLarge ∷ BadEnvelopePart ∷ NotAddressHeader ∷ TooManyVariables ∷ [] }
     ensures order { (tree : List Node) → breaches_of tree ≡ flat_map breaches_at (elements_of tree) }
     ensures least { (tree : List Node) (breach : Breach) → first_breach tree ≡ Some breach → IsLeastBreach tree breach }
 {}
@@ -75,6 +88,17 @@ pub fn a_readable_script_does_all()
 #[tactic(auto, using(crate::proofs::Unbroken::unbroken))]
 pub fn without_a_breach_no_rule_is_broken()
     ensures { (tree : List Node) → first_breach tree ≡ None → All (λ e. (rule : Rule) → breaks e rule ≡ false) (elements_of tree) }
+{}
+
+/// Each argument that the reading of a command or a test asks for is in its row: no two there are of the role, it is written as it is read,
+/// it can't be left out where it has to be given, and its strings are cut so that they are what they are read as. By these arguments and
+/// the tags alone a command and a test are read. The tags of `size` are `:over` and `:under`, and one of them is there.
+pub fn rows_give_what_readings_ask_for()
+    ensures tests { (kind : TestKind) → gives_all (test_row kind) (asked_by_test kind) ≡ true }
+    ensures commands { (kind : CommandKind) → gives_all (command_row kind) (asked_by_command kind) ≡ true }
+    ensures tests_alone { (kind : TestKind) (labels others : List Label) (args arguments : List checked.Argument) → tags_of labels ≡ tags_of others → AreAlike (asked_by_test kind) labels others args arguments → test_reading_by kind labels args ≡ test_reading_by kind others arguments }
+    ensures commands_alone { (kind : CommandKind) (labels others : List Label) (args arguments : List checked.Argument) → tags_of labels ≡ tags_of others → AreAlike (asked_by_command kind) labels others args arguments → command_reading_by kind labels args ≡ command_reading_by kind others arguments }
+    ensures bound { (test_row Size).one_of ≡ Some Bound }
 {}
 
 /// Of a script without a breach each command and each test is read as something: it has a row, its arguments are what the row
