@@ -1,9 +1,9 @@
 -- Which arguments the reading of a command or a test asks for (RFC 5228, sections 4 and 5; RFC 5229, sections 4 and 5; RFC 5232, sections 3 to
 -- 5; RFC 6609, section 3).
-use Rattle.std.specs.Prelude.{◌≡◌, Bool, true, false, not, ◌&&◌, List, [], ◌∷◌, ◌++◌, Option, Some, None, if◌then◌else◌}
+use Rattle.std.specs.Prelude.{◌≡◌, Bool, true, false, not, ◌&&◌, List, [], ◌∷◌, ◌++◌, Option, Some, None}
 use Rattle.std.specs.List.{filter, flat_map, list_all, list_any}
 use denote.Enum.Bare.{sameb}
-use Rattle.sieve_reading.specs.Given.{tags_of, in_role}
+use Rattle.sieve_reading.specs.Given.{given_texts, given_variable, in_role, literal_in, number_in, text_in, texts_in, variable_in}
 use Rattle.sieve_reading.specs.Tree.{Argument}
 use Rattle.sieve_reading.specs.declared.label.Label.{Label}
 use Rattle.sieve_table.specs.Role.{is_expanded, names_variable, same_role}
@@ -19,25 +19,35 @@ use Rattle.sieve_table.specs.declared.table.CommandKind.TheVariants as command
 use Rattle.sieve_table.specs.declared.table.TestKind.{TestKind}
 use Rattle.sieve_table.specs.declared.table.TestKind.TheVariants as test
 
--- what an argument is read as: strings, one string, one that stands for itself, the name of one variable, or a number
+-- what an argument is read as: strings, one string, one that stands for itself, the names of variables, the name of one variable, or a number
 pub data Sort : Type 0 where
   texts : Sort
   one_text : Sort
   one_literal : Sort
+  variables : Sort
   one_variable : Sort
   one_number : Sort
 
--- an argument in a role, which has to be given or may be left out
+-- whether it is there: always, or it may be left out, or the row never has it, and another command is read alike that may
+pub data Presence : Type 0 where
+  always : Presence
+  perhaps : Presence
+  never : Presence
+
+-- an argument in a role
 pub record Asked : Type 0 where
   pub sort : Sort
   pub role : Role
-  pub has_to_be : Bool
+  pub presence : Presence
 
 abbrev pub must : Sort → Role → Asked
-must sort role = record { sort = sort; role = role; has_to_be = true }
+must sort role = record { sort = sort; role = role; presence = always }
 
 abbrev pub may : Sort → Role → Asked
-may sort role = record { sort = sort; role = role; has_to_be = false }
+may sort role = record { sort = sort; role = role; presence = perhaps }
+
+abbrev pub never_is : Sort → Role → Asked
+never_is sort role = record { sort = sort; role = role; presence = never }
 
 -- a test that compares values with keys
 abbrev pub comparing : List Asked
@@ -55,7 +65,7 @@ asked_by_test test.Not = []
 asked_by_test test.True = []
 asked_by_test test.False = []
 asked_by_test test.String = must texts role.Text ∷ comparing
-asked_by_test test.HasFlag = may texts role.NamesToRead ∷ comparing
+asked_by_test test.HasFlag = may variables role.NamesToRead ∷ comparing
 
 -- a command that changes flags
 abbrev pub changing_flags : List Asked
@@ -68,7 +78,7 @@ asked_by_command command.Elsif = []
 asked_by_command command.Else = []
 asked_by_command command.Keep = may texts role.Flags ∷ []
 asked_by_command command.Fileinto = must one_text role.Mailbox ∷ may texts role.Flags ∷ []
-asked_by_command command.Redirect = must one_text role.Address ∷ may texts role.Flags ∷ []
+asked_by_command command.Redirect = must one_text role.Address ∷ never_is texts role.Flags ∷ []
 asked_by_command command.Discard = []
 asked_by_command command.Stop = []
 asked_by_command command.Set = must one_variable role.NameToSet ∷ must one_text role.Text ∷ []
@@ -81,18 +91,21 @@ asked_by_command command.Global = []
 
 -- THE ROW
 
--- how an argument is written that is read so, and whether strings in a role are cut so that they are it
+-- the form in which an argument is written that is read so
 abbrev pub form_of : Sort → Form
 form_of texts = form.List
 form_of one_text = form.One
 form_of one_literal = form.One
+form_of variables = form.List
 form_of one_variable = form.One
 form_of one_number = form.Number
 
+-- whether the strings of a role are cut as such a reading needs them
 abbrev pub is_cut_so : Sort → Role → Bool
-is_cut_so texts role = true
-is_cut_so one_text role = true
+is_cut_so texts role = is_expanded role && not (names_variable (Some role))
+is_cut_so one_text role = is_expanded role && not (names_variable (Some role))
 is_cut_so one_literal role = not (is_expanded role) && not (names_variable (Some role))
+is_cut_so variables role = names_variable (Some role)
 is_cut_so one_variable role = names_variable (Some role)
 is_cut_so one_number role = true
 
@@ -104,25 +117,47 @@ given_slot (Some slot) = slot ∷ []
 abbrev pub slots_of_row : Row → List Slot
 slots_of_row row = given_slot row.front ++ (row.slots ++ flat_map (λ t. given_slot (tag_row t).takes) row.tags)
 
--- one slot at most, and that of the form
-abbrev pub are_of_form : Form → List Slot → Bool
-are_of_form wanted [] = true
-are_of_form wanted (slot ∷ []) = sameb the_type slot.form wanted
-are_of_form wanted (slot ∷ other ∷ slots) = false
+abbrev pub is_in_role : Role → Slot → Bool
+is_in_role role slot = same_role role slot.role
 
--- A row gives what is asked: no more than one slot is of the role, and is of the form; where it has to be given it is a positional
--- argument that can't be left out; and its strings are cut so that they are what they are read as.
+-- there is exactly one slot, and that one is of the form
+abbrev pub is_one : Form → List Slot → Bool
+is_one wanted [] = false
+is_one wanted (slot ∷ []) = sameb the_type slot.form wanted
+is_one wanted (slot ∷ other ∷ slots) = false
+
+abbrev pub is_none_of : List Slot → Bool
+is_none_of [] = true
+is_none_of (slot ∷ slots) = false
+
+-- What is always there is a positional argument that can't be left out; what may be left out isn't.
+abbrev pub gives_slot : Row → Role → Form → Presence → Bool
+gives_slot row role wanted always = is_one wanted (filter (is_in_role role) (slots_of_row row)) && list_any (is_in_role role) row.slots
+gives_slot row role wanted perhaps = is_one wanted (filter (is_in_role role) (slots_of_row row)) && not (list_any (is_in_role role) row.slots)
+gives_slot row role wanted never = is_none_of (filter (is_in_role role) (slots_of_row row))
+
+-- a row gives what is asked for
 abbrev pub gives : Row → Asked → Bool
-gives row asked =
-    are_of_form (form_of asked.sort) (filter (λ slot. same_role asked.role slot.role) (slots_of_row row))
-    && ((if asked.has_to_be then list_any (λ slot. same_role asked.role slot.role) row.slots else true) && is_cut_so asked.sort asked.role)
+gives row asked = gives_slot row asked.role (form_of asked.sort) asked.presence && is_cut_so asked.sort asked.role
 
 abbrev pub gives_all : Row → List Asked → Bool
 gives_all row asked = list_all (gives row) asked
 
--- ARGUMENTS THAT ARE ALIKE
+-- ARGUMENTS THAT ARE READ ALIKE
 
--- what is asked is the same argument in both, or in neither there
+-- arguments, there or not, that are the same as what they are read as
+abbrev pub ReadsSame : Sort → Presence → (argument other : Option Argument) → Type 0
+ReadsSame texts always argument other = texts_in argument ≡ texts_in other
+ReadsSame texts perhaps argument other = given_texts argument ≡ given_texts other
+ReadsSame texts never argument other = given_texts argument ≡ given_texts other
+ReadsSame one_text presence argument other = text_in argument ≡ text_in other
+ReadsSame one_literal presence argument other = literal_in argument ≡ literal_in other
+ReadsSame variables presence argument other = given_texts argument ≡ given_texts other
+ReadsSame one_variable always argument other = variable_in argument ≡ variable_in other
+ReadsSame one_variable perhaps argument other = given_variable argument ≡ given_variable other
+ReadsSame one_variable never argument other = given_variable argument ≡ given_variable other
+ReadsSame one_number presence argument other = number_in argument ≡ number_in other
+
 abbrev pub AreAlike : List Asked → (labels others : List Label) → (args arguments : List Argument) → Type 0
 AreAlike [] labels others args arguments = Unit {0}
-AreAlike (asked ∷ rest) labels others args arguments = (in_role asked.role labels args ≡ in_role asked.role others arguments) × AreAlike rest labels others args arguments
+AreAlike (asked ∷ rest) labels others args arguments = ReadsSame asked.sort asked.presence (in_role asked.role labels args) (in_role asked.role others arguments) × AreAlike rest labels others args arguments

@@ -35,8 +35,8 @@ IsJudgedUnder required (the_test context name line args ts) = context.required �
 IsJudgedUnder required (the_text context role text) = context.required ≡ required
 IsJudgedUnder required (the_number value line) = ⊤
 
--- The elements of a script are those of the `require` commands at its top, and then others, for each of which that is required which these
--- commands name.
+-- The elements of a script are those of the `require` commands at its top, and then others; at each of these, what is required is exactly
+-- what those commands name.
 pub record JudgesBehindRequires (tree : List Node) : Type 0 where
   pub rest : List Element
   pub split : elements_of tree ≡ elements_of (leading_requires tree) ++ rest

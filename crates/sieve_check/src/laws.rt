@@ -30,6 +30,7 @@ ghost use Rattle.sieve_table.specs.declared.row.TagKind.TheVariants.{Bound};
 ghost use Rattle.sieve_table.specs.declared.rule.Rule.{Rule};
 ghost use Rattle.sieve_table.specs.declared.rule.Rule.TheVariants.{RequirePlace, UnknownCapability, UnknownCommand, NotRequired, ElsePlace, BadTag, BadArguments, UnknownComparator, BadVariableName, GlobalAfterSet, BadNamespace, MatchIndex, NumberTooLarge, BadEnvelopePart, NotAddressHeader, TooManyVariables};
 ghost use Rattle.sieve_table.specs.declared.table.CommandKind.{CommandKind};
+ghost use Rattle.sieve_table.specs.declared.table.Tag.TheVariants.{Over, Under};
 ghost use Rattle.sieve_table.specs.declared.table.TestKind.{TestKind};
 ghost use Rattle.sieve_table.specs.declared.table.TestKind.TheVariants.{Size};
 ghost use Rattle.sieve_variables.specs.Part.{grouped, literal, scoped_part, variable_part};
@@ -61,8 +62,8 @@ pub fn parting_changes_strings_alone()
     ensures { (tree : List Node) → map bare_node (parted tree) ≡ map bare_node tree }
 {}
 
-/// After the `require` commands at the top of a script all that these name is required for each command, test and string, and nothing else
-/// is (RFC 5228, section 3.2). The rules judge by it, and strings are cut by it.
+/// After the `require` commands at the top of a script, what is required where a command, a test or a string is judged is all that these
+/// name, and nothing else (RFC 5228, section 3.2).
 #[tactic(auto, using(crate::proofs::Requirement::judged_behind))]
 pub fn what_is_required_is_named_at_the_top()
     ensures { (tree : List Node) → JudgesBehindRequires tree }
@@ -90,14 +91,16 @@ pub fn without_a_breach_no_rule_is_broken()
     ensures { (tree : List Node) → first_breach tree ≡ None → All (λ e. (rule : Rule) → breaks e rule ≡ false) (elements_of tree) }
 {}
 
-/// Each argument that the reading of a command or a test asks for is in its row: no two there are of the role, it is written as it is read,
-/// it can't be left out where it has to be given, and its strings are cut so that they are what they are read as. By these arguments and
-/// the tags alone a command and a test are read. The tags of `size` are `:over` and `:under`, and one of them is there.
+/// Each argument that the reading of a command or a test asks for is in its row: exactly one there is of the role, and that one is written as
+/// it is read; it can't be left out exactly where the reading wants it always; and its strings are cut as the reading needs them. What
+/// these arguments are read as, with the tags, is all that a command or a test is read by. The tags of `size` are `:over` and `:under`, of
+/// which a script without a breach gives one.
 pub fn rows_give_what_readings_ask_for()
     ensures tests { (kind : TestKind) → gives_all (test_row kind) (asked_by_test kind) ≡ true }
     ensures commands { (kind : CommandKind) → gives_all (command_row kind) (asked_by_command kind) ≡ true }
     ensures tests_alone { (kind : TestKind) (labels others : List Label) (args arguments : List checked.Argument) → tags_of labels ≡ tags_of others → AreAlike (asked_by_test kind) labels others args arguments → test_reading_by kind labels args ≡ test_reading_by kind others arguments }
     ensures commands_alone { (kind : CommandKind) (labels others : List Label) (args arguments : List checked.Argument) → tags_of labels ≡ tags_of others → AreAlike (asked_by_command kind) labels others args arguments → command_reading_by kind labels args ≡ command_reading_by kind others arguments }
+    ensures bounds { (test_row Size).tags ≡ Over ∷ Under ∷ [] }
     ensures bound { (test_row Size).one_of ≡ Some Bound }
 {}
 
